@@ -1,0 +1,71 @@
+//! Numbers and times in text.
+ghost use Rattle.std.specs.Prelude.{◌≡◌, ◌≤◌, ◌<◌, ◌+◌, ◌-◌, ◌*◌, ℕ, ℤ, List, MatchOption, IfSome, length, take, drop, pos};
+ghost use Rattle.std.specs.Str.Parse.{AllDigits, digits_value};
+ghost use Rattle.gtfs_rows.specs.Numbers.{IsNumber, number_of, sixtieth, after_hours, clock_of, time_of};
+
+use tb_base::Sec;
+
+// The number that one to nine digits write.
+fn numeral_of(text: &[u8]) -> Option<u32>
+    ensures { MatchOption result (¬ (IsNumber text.now)) (λ n. IsNumber text.now × (n ≡ digits_value 10 text.now)) }
+{
+    if text.is_empty() || text.len() > 9 {
+        return None;
+    }
+    let mut number: u32 = 0;
+    for byte in text {
+        if !byte.is_ascii_digit() {
+            return None;
+        }
+        number = number * 10 + (*byte - b'0') as u32;
+    }
+    Some(number)
+}
+
+/// The number that one to nine digits write.
+pub(crate) fn number_of(text: &[u8]) -> Option<u32>
+    ensures number { result ≡ number_of text.now }
+    ensures small { length text.now ≤ 2 → IfSome result (λ n. n < 100) }
+{
+    numeral_of(text)
+}
+
+// Two digits below 60.
+fn sixtieth(tens: u8, ones: u8) -> Option<u32>
+    ensures number { result ≡ sixtieth tens ones }
+    ensures small { IfSome result (λ n. n < 60) }
+{
+    if tens.is_ascii_digit() && ones.is_ascii_digit() && tens <= b'5' {
+        Some((tens - b'0') as u32 * 10 + (ones - b'0') as u32)
+    } else {
+        None
+    }
+}
+
+// `:MM:SS`, in seconds.
+fn after_hours(text: &[u8]) -> Option<u32>
+    ensures seconds { result ≡ after_hours text.now }
+    ensures small { IfSome result (λ secs. secs < 3600) }
+{
+    match text {
+        [b':', m, n, b':', s, t] => {
+            let minutes = sixtieth(*m, *n)?;
+            let seconds = sixtieth(*s, *t)?;
+            Some(minutes * 60 + seconds)
+        }
+        _ => None,
+    }
+}
+
+/// The time that a text writes, in seconds.
+pub fn time_of(text: &[u8]) -> Option<Sec>
+    ensures { result ≡ time_of text.now }
+{
+    let len = text.len();
+    if len < 7 || len > 8 {
+        return None;
+    }
+    let hours = number_of(&text[..len - 6])?;
+    let seconds = after_hours(&text[len - 6..])?;
+    Some((hours * 3600 + seconds) as i32)
+}

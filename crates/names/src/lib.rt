@@ -1,0 +1,72 @@
+//! Names and their places.
+#![tactic(auto)]
+
+ghost use Rattle.std.specs.List.{list_any};
+ghost use Rattle.std.specs.Prelude.{not, ◌≡◌, ◌+◌, ◌<◌, ◌↔◌, ◌++◌, ◌||◌, ◌∷◌, [], ℕ, OnOk, List, map, position, bytes_eq, IfOk, OnErr, MatchBool, true, Contains, length, None, Some};
+
+use indexmap::IndexSet;
+use std::alloc::Global;
+use std::marker::Model;
+use tb_base::Memory;
+
+/// Names that differ, each with its place.
+#[derive(Drop)]
+pub struct NameIndex {
+    ids: IndexSet<Vec<u8>>,
+}
+
+impl Model for NameIndex {
+    ghost Value = { List (List ℕ) };
+
+    ghost view = { λ a. map (λ v. v.items) a.ids.keys };
+}
+
+impl NameIndex {
+    /// No name.
+    pub fn new(alloc: Global) -> NameIndex
+        ensures { result ≡ [] }
+    {
+        NameIndex {
+            ids: IndexSet::new(alloc),
+        }
+    }
+
+    /// The place of a name.
+    pub fn find(&self, id: &[u8]) -> Option<usize>
+        ensures { result ≡ position (bytes_eq id.now) self.now }
+    {
+        self.ids.get_index_of(id)
+    }
+
+    /// Whether a name is there.
+    pub fn contains(&self, id: &[u8]) -> bool
+        ensures { result ≡ list_any (bytes_eq id.now) self.now }
+    {
+        self.ids.contains(id)
+    }
+
+    /// Adds a name at the end, unless it is there.
+    pub fn add(&mut self, alloc: Global, id: &[u8]) -> Result<bool, Memory>
+        ensures members { OnOk result ((name : List ℕ) → list_any (bytes_eq name) self.new ≡ (list_any (bytes_eq name) self.old || bytes_eq name id.now)) }
+        ensures added { IfOk result (λ fresh. MatchBool fresh (self.new ≡ self.old ++ id.now ∷ []) (self.new ≡ self.old)) }
+        ensures fresh { IfOk result (λ fresh. fresh ≡ not (list_any (bytes_eq id.now) self.old)) }
+    {
+        let mut own: Vec<u8> = Vec::new(alloc);
+        if own.extend_from_slice(id).is_err() {
+            return Err(Memory);
+        }
+        self.insert(own)
+    }
+
+    /// Adds a name at the end, unless it is there.
+    fn insert(&mut self, id: Vec<u8>) -> Result<bool, Memory>
+        ensures added { IfOk result (λ fresh. MatchBool fresh (self.new ≡ self.old ++ id.items ∷ []) (self.new ≡ self.old)) }
+        ensures fresh { IfOk result (λ fresh. fresh ≡ not (list_any (bytes_eq id.items) self.old)) }
+        ensures memory { OnErr result (self.new ≡ self.old) }
+    {
+        match self.ids.insert_full(id) {
+            Ok((_, fresh)) => Ok(fresh),
+            Err(_) => Err(Memory),
+        }
+    }
+}

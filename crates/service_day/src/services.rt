@@ -1,0 +1,128 @@
+//! The services of a day.
+ghost use Rattle.std.specs.Prelude.{◌≡◌, ◌∷◌, [], ◌++◌, ◌||◌, ◌&&◌, ℕ, List, IfOk, OnOk, bytes_eq, slice_index_or, false, not, length, ◌<◌};
+ghost use Rattle.std.specs.List.{list_any};
+ghost use Rattle.gtfs_rows.specs.Dates.{weekday_of, day_number};
+ghost use Rattle.service_day.specs.Running.{says, holds, has, runs};
+
+use gtfs_rows::{CalendarRow, DateRow};
+use names::NameIndex;
+use std::alloc::Global;
+use std::marker::Model;
+use tb_base::Memory;
+
+/// A date, seen as the number that its eight digits write.
+#[derive(Debug, Drop)]
+pub struct Day {
+    date: u32,
+    weekday: u8,
+}
+
+impl Model for Day {
+    ghost use Rattle.std.specs.Prelude.{ℕ, ◌≡◌, ◌<◌};
+    ghost use Rattle.gtfs_rows.specs.Dates.{weekday_of};
+
+    ghost Value = { ℕ };
+
+    ghost view = { λ d. d.date };
+
+    ghost invariant = { λ d. (d.weekday ≡ weekday_of d.date) × (d.weekday < 7) };
+}
+
+impl Day {
+    /// The day of the week, from 0 for Monday.
+    pub fn weekday(&self) -> u8
+        ensures weekday { result ≡ weekday_of self.now }
+        ensures below { result < 7 }
+    {
+        self.weekday
+    }
+
+    fn date(&self) -> u32
+        ensures { result ≡ self.now }
+    {
+        self.date
+    }
+}
+
+/// The services that run on a day, seen as their ids.
+#[derive(Drop)]
+pub struct Services {
+    ids: NameIndex,
+}
+
+impl Model for Services {
+    ghost Value = { List (List ℕ) };
+
+    ghost view = { λ s. s.ids };
+}
+
+impl Services {
+    /// Whether a service runs.
+    pub fn runs(&self, service: &[u8]) -> bool
+        ensures { result ≡ list_any (bytes_eq service.now) self.now }
+    {
+        self.ids.contains(service)
+    }
+}
+
+// The services that the date rows of a day add, or those that they remove.
+fn dated(alloc: Global, day: u32, dates: &[DateRow], added: bool) -> Result<NameIndex, Memory>
+    ensures { IfOk result (λ ids. (service : List ℕ) → list_any (bytes_eq service) ids ≡ list_any (says day added service) dates.now) }
+{
+    let mut ids = NameIndex::new(alloc);
+    for row in dates {
+        if row.date == day && row.added == added {
+            if ids.add(alloc, row.service.bytes()).is_err() {
+                return Err(Memory);
+            }
+        }
+    }
+    Ok(ids)
+}
+
+fn holds(day: &Day, row: &CalendarRow) -> bool
+    ensures { result ≡ holds day.now row.now }
+{
+    row.days[day.weekday() as usize] && row.start <= day.date() && day.date() <= row.end
+}
+
+// Adds a name where a test holds.
+fn add_if(alloc: Global, ids: &mut NameIndex, id: &[u8], test: bool) -> Result<(), Memory>
+    ensures { OnOk result ((name : List ℕ) → list_any (bytes_eq name) ids.new ≡ (list_any (bytes_eq name) ids.old || (test && bytes_eq name id.now))) }
+{
+    if !test {
+        return Ok(());
+    }
+    match ids.add(alloc, id) {
+        Ok(_) => Ok(()),
+        Err(_) => Err(Memory),
+    }
+}
+
+// Whether a calendar row holds, and its service isn't removed.
+fn counts(day: &Day, row: &CalendarRow, removed: &NameIndex) -> bool
+    ensures { result ≡ (holds day.now row.now && not (list_any (bytes_eq row.now.service) removed.now)) }
+{
+    holds(day, row) && !removed.contains(row.service.bytes())
+}
+
+/// The services that run on a day.
+pub fn running(
+    alloc: Global,
+    day: &Day,
+    calendar: &[CalendarRow],
+    dates: &[DateRow],
+) -> Result<Services, Memory>
+    ensures { IfOk result (λ s. (service : List ℕ) → list_any (bytes_eq service) s ≡ runs day.now calendar.now dates.now service) }
+{
+    let removed = dated(alloc, day.date(), dates, false)?;
+    let mut ids = dated(alloc, day.date(), dates, true)?;
+    for row in calendar {
+        let service = row.service.bytes();
+        let test = counts(day, row, &removed);
+        let Ok(()) = add_if(alloc, &mut ids, service, test) else {
+            return Err(Memory);
+        };
+    }
+    Ok(Services { ids })
+}

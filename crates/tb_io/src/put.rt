@@ -1,0 +1,30 @@
+//! Whole outputs.
+ghost use Rattle.std.specs.Prelude.{◌≡◌, ◌≤◌, ℕ, Some, length, take, OnOk, OnErr};
+ghost use Rattle.std.specs.Io.KnownBytes.{Appends};
+ghost use Rattle.tb_io.specs.Causes.{Rose};
+
+use crate::Sink;
+
+/// Why bytes were not written.
+#[derive(Debug, Clone, Copy, PartialEq, Eq)]
+pub enum Put {
+    /// The sink failed.
+    WriteFault,
+}
+
+/// Writes all bytes after those that were written.
+pub fn put_all<K: Sink>(sink: &mut K, bytes: &[u8]) -> Result<(), Put>
+    ensures written { OnOk result (Appends (K.written sink.old) (K.written sink.new) bytes.now) }
+    ensures prefix { OnErr result ((n : ℕ) × (n ≤ length bytes.now) × Appends (K.written sink.old) (K.written sink.new) (take n bytes.now)) }
+    ensures fault { OnErr result (Rose (K.faults sink.old) (K.faults sink.new)) }
+    ensures kept { OnOk result (K.faults sink.new ≡ K.faults sink.old) }
+{
+    let mut at = 0;
+    while at < bytes.len() {
+        match sink.write(&bytes[at..]) {
+            Ok(count) => at += count,
+            Err(_) => return Err(Put::WriteFault),
+        }
+    }
+    Ok(())
+}

@@ -1,0 +1,71 @@
+//! Whole files.
+ghost use Rattle.std.specs.Prelude.{◌≡◌, ◌≢◌, ◌⊎◌, ◌↔◌, ◌+◌, ◌<◌, ◌≤◌, Ok, Err, Some, None, IfOk, IfSome, OnOk, IsErrOf, option_map, length, vec_len};
+ghost use Rattle.tb_io.specs.Causes.{Rose};
+ghost use Rattle.tb_io.specs.Files.{file_at};
+
+use crate::Folder;
+use std::alloc::{AllocError, Global};
+
+/// Why a file was not taken.
+#[derive(Debug, Clone, Copy, PartialEq, Eq)]
+pub enum Taken {
+    /// The folder failed.
+    ReadFault,
+    /// The file has more bytes than were allowed.
+    TooLarge,
+    /// There was no memory.
+    Memory,
+}
+
+// The bytes of one reading.
+const PIECE: usize = 65_536;
+
+/// A whole file of at most `most` bytes, or `None` where the folder has no such file.
+pub fn take_file<F: Folder>(
+    alloc: Global,
+    folder: &mut F,
+    path: &str,
+    most: u64,
+) -> Result<Option<Vec<u8>>, Taken>
+    requires { most ≤ 1_073_741_824 }
+    ensures whole { IfOk result (λ taken. IfSome (F.files folder.old) (λ fs. option_map (λ v. v.items) taken ≡ file_at fs path.now)) }
+    ensures within { IfOk result (λ taken. IfSome taken (λ v. vec_len v ≤ most)) }
+    ensures too_large { result ≡ Err Taken.TooLarge → IfSome (F.files folder.old) (λ fs. IfSome (file_at fs path.now) (λ file. most < length file)) }
+    ensures fault { result ≡ Err Taken.ReadFault → Rose (F.faults folder.old) (F.faults folder.new) }
+    ensures kept { (result ≡ Err Taken.ReadFault) ⊎ (F.faults folder.new ≡ F.faults folder.old) }
+    ensures same { F.files folder.new ≡ F.files folder.old }
+{
+    match folder.has(path) {
+        Ok(true) => {}
+        Ok(false) => return Ok(None),
+        Err(_) => return Err(Taken::ReadFault),
+    }
+    let Ok(mut room) = zeros(alloc, PIECE) else {
+        return Err(Taken::Memory);
+    };
+    let piece = room.as_mut_slice();
+    let mut bytes: Vec<u8> = Vec::new(alloc);
+    for _turn in 0..most + 2 {
+        let from = bytes.len() as u64;
+        match folder.read(path, from, piece) {
+            Err(_) => return Err(Taken::ReadFault),
+            Ok(0) => return Ok(Some(bytes)),
+            Ok(count) => {
+                if from + count as u64 > most {
+                    return Err(Taken::TooLarge);
+                }
+                if bytes.extend_from_slice(&piece[..count]).is_err() {
+                    return Err(Taken::Memory);
+                }
+            }
+        }
+    }
+    unreachable!()
+}
+
+// A buffer of a length.
+fn zeros(alloc: Global, len: usize) -> Result<Vec<u8>, AllocError>
+    ensures { IfOk result (λ v. vec_len v ≡ len) }
+{
+    vec![in alloc; 0; len]
+}

@@ -1,0 +1,263 @@
+-- A search over a sufficient set enters a segment for each best value.
+use Rattle.std.proofs.Common.{◌≡◌, ℕ, zero, suc, ◌<◌, ◌≤◌, ◌+◌, ◌⊎◌, inl, inr, List, [], ◌∷◌, ◌++◌, length, refl, sym, ap, subst, ◌∙◌, arith, ℤ, pos, ◌+ℤ◌, ◌-ℤ◌, ◌≤ℤ◌, length-append}
+use Rattle.std.specs.Prelude.{Contains}
+use Rattle.std.proofs.lemmas.Int.{ints}
+use Rattle.tb_base.specs.declared.transfer.Hop.{Hop}
+use Rattle.tb_base.specs.declared.query.Value.{Value}
+use Rattle.tb_base.specs.TimetableData.{TimetableData, events_of}
+use Rattle.tb_base.specs.Walking.{walk}
+use Rattle.tb_base.specs.Journeys.{Ride, Journey, IsJourney, IsRide, LeadsOn, Leads, LeavesNoEarlier, arrival, arrival_after, walk_secs, boarding_stop, boarding_time}
+use Rattle.tb_base.specs.BestValues.{QueryData, IsBest, value_of}
+use Rattle.tb_base.specs.Sufficiency.{SavesARide, GoesByHop, AreSufficient}
+use Rattle.tb_base.specs.Lines.{IsTripNoLater}
+use Rattle.tb_base.specs.Search.{RoundSegment, segment_at, IsReached, IsCovered, IsSearched, IsFound}
+use Rattle.tb_base.proofs.Events.{MayAlight-inside}
+use Rattle.tb_laws.proofs.Boarding.{reached_leads}
+use Rattle.tb_laws.proofs.Exchange.{≤ℤ-trans, AlightsAs, LeadsOn-alights, arrival_after-alights, Leads-at, arrival-behind}
+use Rattle.tb_laws.proofs.Triangles.{walk_secs-is}
+use Rattle.tb_laws.proofs.UTurnLaws.{some}
+
+module _ (T : TimetableData) (hops : ℕ → ℕ → List Hop) (Q : QueryData) (segments : List RoundSegment) (searched : IsSearched T hops Q.from Q.leave segments) (v : Value) (best : IsBest T Q v) where
+  abbrev trip_of : ℕ → ℕ
+  trip_of n = (segment_at segments n).trip
+
+  abbrev board_of : ℕ → ℕ
+  board_of n = (segment_at segments n).board
+
+  -- the ride of segment n that alights at i
+  abbrev ride_to : ℕ → ℕ → Ride
+  ride_to n i = record { trip = trip_of n; board = board_of n; alight = i }
+
+  -- Segment n can go on to a target with v's rides in all, in time.
+  pub record GoesWell (round n : ℕ) : Type 0 where
+    pub inside : n < length segments
+    pub round_is : (segment_at segments n).round ≡ round
+    pub alight : ℕ
+    pub rest : List Ride
+    pub target : ℕ
+    pub to : Contains Q.to target
+    pub rides : IsRide T (ride_to n alight)
+    pub on : LeadsOn T (ride_to n alight) rest target
+    pub all : round + length rest ≡ v.rides
+    pub in_time : arrival_after T (ride_to n alight) rest target ≤ℤ v.arrive
+
+  -- no journey with fewer rides arrives as early
+  no_fewer : (j : Journey) → IsJourney T Q.from Q.to j → LeavesNoEarlier T Q.leave j.origin j.rides → length j.rides < v.rides → arrival T Q.leave j.origin j.rides j.target ≤ℤ v.arrive → ⊥
+  no_fewer j journey leaves fewer in_time =
+      let same : value_of T Q.leave j ≡ v = best.undominated (value_of T Q.leave j) (j, record { journey = journey; leaves = leaves; value = refl }) (in_time, omega (arith, fewer)) in
+      let e : length j.rides ≡ v.rides = ap (λ (w : Value). w.rides) same in
+      omega (arith, e, fewer)
+
+  -- a segment of an earlier round cannot go on as well
+  no_earlier : (m i : ℕ) (rest : List Ride) (target : ℕ) → m < length segments → Contains Q.to target → IsRide T (ride_to m i) → LeadsOn T (ride_to m i) rest target → arrival_after T (ride_to m i) rest target ≤ℤ v.arrive →
+      (segment_at segments m).round + length rest < v.rides → ⊥
+  no_earlier m i rest target inside to rides on in_time fewer =
+      let r = searched.reached m inside in
+      let j = reached_leads T Q.from Q.leave (segment_at segments m).round (trip_of m) (board_of m) r i rest target rides on in
+      no_fewer (record { origin = r.origin; rides = r.before ++ ride_to m i ∷ rest; target = target }) (record { origin = r.from; target = to; leads = j.0 }) j.1
+      (omega (arith, length-append r.before (ride_to m i ∷ rest), r.rides, fewer))
+      (subst (λ a. a ≤ℤ v.arrive) (sym (arrival-behind T Q.leave r.origin r.before (ride_to m i) rest target)) in_time)
+
+  -- a ride on a trip that is no later, boarded no later
+  covering : (m : ℕ) (s : Ride) → m < length segments → IsTripNoLater T (trip_of m) s.trip → board_of m ≤ s.board → IsRide T s → IsRide T (ride_to m s.alight) × AlightsAs T s (ride_to m s.alight)
+  covering m s inside like below rides = (
+    record { onward = omega (arith, below, rides.onward); boards = (searched.reached m inside).boards; alights = (like.at s.alight).alight ∙ rides.alights },
+    record { stop = sym (like.at s.alight).stop; time = (like.at s.alight).arr },
+  )
+
+  -- What covers a ride of some round, and the ride goes on well: it goes on well in just this round.
+  take_over : (n round : ℕ) (s : Ride) (rest : List Ride) (target : ℕ) → (c : IsCovered T segments n round s.trip s.board) → c.by < length segments → Contains Q.to target → IsRide T s → LeadsOn T s rest target →
+      arrival_after T s rest target ≤ℤ v.arrive → round + length rest ≡ v.rides → GoesWell round c.by
+  take_over n round s rest target c inside to rides on in_time all =
+      by_case (less_or_same (segment_at segments c.by).round round c.by_then)
+    where
+      less_or_same : (a b : ℕ) → a ≤ b → (a < b) ⊎ (a ≡ b)
+      less_or_same a b h = grind arith
+
+      w : IsRide T (ride_to c.by s.alight) × AlightsAs T s (ride_to c.by s.alight)
+      w = covering c.by s inside c.trip c.board rides
+
+      on' : LeadsOn T (ride_to c.by s.alight) rest target
+      on' = LeadsOn-alights T s (ride_to c.by s.alight) rest target w.1 on
+
+      in_time' : arrival_after T (ride_to c.by s.alight) rest target ≤ℤ v.arrive
+      in_time' = ≤ℤ-trans _ _ _ (arrival_after-alights T s (ride_to c.by s.alight) rest target w.1) in_time
+
+      by_case : ((segment_at segments c.by).round < round) ⊎ ((segment_at segments c.by).round ≡ round) → GoesWell round c.by
+      by_case (inl earlier) = absurd (no_earlier c.by s.alight rest target inside to w.0 on' in_time' (omega (arith, earlier, all)))
+      by_case (inr same) = record { inside = inside; round_is = same; alight = s.alight; rest = rest; target = target; to = to; rides = w.0; on = on'; all = all; in_time = in_time' }
+
+  at_most_or_past : (i e : ℕ) → (i ≤ e) ⊎ (e < i)
+  at_most_or_past i e = grind arith
+
+  -- what lies past the end of a segment goes on well from a segment before it
+  before_it : (round n : ℕ) → n < length segments → (segment_at segments n).round ≡ round → (i : ℕ) (rest : List Ride) (target : ℕ) → (segment_at segments n).end < i → Contains Q.to target → IsRide T (ride_to n i) → LeadsOn T (ride_to n i) rest target →
+      arrival_after T (ride_to n i) rest target ≤ℤ v.arrive → round + length rest ≡ v.rides → (m : ℕ) × (m < n) × GoesWell round m
+  before_it round n inside round_is i rest target past to rides on in_time all = by_case (searched.ends n inside)
+    where
+      by_case : (length (events_of T (trip_of n)) ≤ suc (segment_at segments n).end) ⊎ IsCovered T segments n (segment_at segments n).round (trip_of n) (segment_at segments n).end → (m : ℕ) × (m < n) × GoesWell round m
+      by_case (inl last) = absurd (let there : i < length (events_of T (trip_of n)) = (MayAlight-inside T (trip_of n) i rides.alights).1 in omega (arith, there, last, past))
+      by_case (inr c) = (c.by, c.within, from_end (subst (λ k. IsCovered T segments n k (trip_of n) (segment_at segments n).end) round_is c) refl)
+        where
+          -- the ride from the end on is no ride of its own, so it is taken over by hand
+          from_end : (c' : IsCovered T segments n round (trip_of n) (segment_at segments n).end) → c'.by ≡ c.by → GoesWell round c.by
+          from_end c' same = subst (λ m. GoesWell round m) same (by_round (less_or_same (segment_at segments c'.by).round round c'.by_then))
+            where
+              less_or_same : (a b : ℕ) → a ≤ b → (a < b) ⊎ (a ≡ b)
+              less_or_same a b h = grind arith
+
+              m_inside : c'.by < length segments
+              m_inside = omega (arith, c'.within, inside)
+
+              here : IsRide T (ride_to c'.by i)
+              here = record { onward = omega (arith, c'.board, past); boards = (searched.reached c'.by m_inside).boards; alights = (c'.trip.at i).alight ∙ rides.alights }
+
+              alike : AlightsAs T (ride_to n i) (ride_to c'.by i)
+              alike = record { stop = sym (c'.trip.at i).stop; time = (c'.trip.at i).arr }
+
+              on' : LeadsOn T (ride_to c'.by i) rest target
+              on' = LeadsOn-alights T (ride_to n i) (ride_to c'.by i) rest target alike on
+
+              in_time' : arrival_after T (ride_to c'.by i) rest target ≤ℤ v.arrive
+              in_time' = ≤ℤ-trans _ _ _ (arrival_after-alights T (ride_to n i) (ride_to c'.by i) rest target alike) in_time
+
+              by_round : ((segment_at segments c'.by).round < round) ⊎ ((segment_at segments c'.by).round ≡ round) → GoesWell round c'.by
+              by_round (inl earlier) = absurd (no_earlier c'.by i rest target m_inside to here on' in_time' (omega (arith, earlier, all)))
+              by_round (inr same) = record { inside = m_inside; round_is = same; alight = i; rest = rest; target = target; to = to; rides = here; on = on'; all = all; in_time = in_time' }
+
+  -- the first ride of a journey with v is covered by a segment of round 1
+  first_round : 0 < v.rides → (n : ℕ) × GoesWell 1 n
+  first_round some_ride = by_rides best.attained.0.origin best.attained.0.rides best.attained.0.target best.attained.1.journey.origin best.attained.1.journey.target best.attained.1.journey.leads best.attained.1.leaves best.attained.1.value
+    where
+      by_rides : (o : ℕ) (rides : List Ride) (q : ℕ) → Contains Q.from o → Contains Q.to q → Leads T o rides q → LeavesNoEarlier T Q.leave o rides → v ≡ value_of T Q.leave (record { origin = o; rides = rides; target = q }) → (n : ℕ) × GoesWell 1 n
+      by_rides o [] q from to leads leaves value = absurd (let e : v.rides ≡ 0 = ap (λ (w : Value). w.rides) value in omega (arith, e, some_ride))
+      by_rides o (r ∷ rest) q from to leads leaves value =
+          let w = some (walk T o (boarding_stop T r)) leads.0 in
+          let secs : walk_secs T o (boarding_stop T r) ≡ pos w.0 = walk_secs-is T _ _ _ w.1 in
+          let leaves' : Q.leave ≤ℤ (boarding_time T r -ℤ pos w.0) = subst (λ z. Q.leave ≤ℤ (boarding_time T r -ℤ z)) secs leaves in
+          let inside : r.alight < length (events_of T r.trip) = (MayAlight-inside T r.trip r.alight leads.1.alights).1 in
+          let c = searched.starts o r.trip r.board w.0 from leads.1.boards (omega (arith, inside, leads.1.onward)) w.1 (moved (boarding_time T r) w.0 leaves') in
+          let e : v.rides ≡ suc (length rest) = ap (λ (w : Value). w.rides) value in
+          (c.by, take_over (length segments) 1 r rest q c c.within to leads.1 leads.2 (same (ap (λ (w : Value). w.arrive) value)) (omega (arith, e)))
+        where
+          moved : (d : ℤ) (n : ℕ) → Q.leave ≤ℤ (d -ℤ pos n) → (Q.leave +ℤ pos n) ≤ℤ d
+          moved d n h = omega (arith, ints, h)
+
+          same : {a b : ℤ} → a ≡ b → b ≤ℤ a
+          same e = omega (arith, ints, e)
+
+  module _ (sufficient : AreSufficient T hops) where
+    -- a segment that goes on well and is not in the last round leads to one of the next round, or a segment before it goes on as well
+    next_step : (round n : ℕ) → round < v.rides → (well : GoesWell round n) → ((m : ℕ) → m < n → GoesWell round m → (k : ℕ) × GoesWell (suc round) k) → (k : ℕ) × GoesWell (suc round) k
+    next_step round n more well again = by_rest well.rest well.on well.all well.in_time
+      where
+        r : IsReached T Q.from Q.leave (segment_at segments n).round (trip_of n) (board_of n)
+        r = searched.reached n well.inside
+
+        here : Ride
+        here = ride_to n well.alight
+
+        by_rest : (rest : List Ride) → LeadsOn T here rest well.target → round + length rest ≡ v.rides → arrival_after T here rest well.target ≤ℤ v.arrive → (k : ℕ) × GoesWell (suc round) k
+        by_rest [] on all in_time = absurd (omega (arith, all, more))
+        by_rest (s ∷ rest) on all in_time = by_case (sufficient.enough Q.leave r.origin well.target r.before here s rest led.0 led.1)
+          where
+            led : Leads T r.origin (r.before ++ here ∷ s ∷ rest) well.target × LeavesNoEarlier T Q.leave r.origin (r.before ++ here ∷ s ∷ rest)
+            led = reached_leads T Q.from Q.leave (segment_at segments n).round (trip_of n) (board_of n) r well.alight (s ∷ rest) well.target well.rides on
+
+            long : length (r.before ++ here ∷ s ∷ rest) ≡ v.rides
+            long = omega (arith, length-append r.before (here ∷ s ∷ rest), r.rides, well.round_is, all)
+
+            in_time' : arrival T Q.leave r.origin (r.before ++ here ∷ s ∷ rest) well.target ≤ℤ v.arrive
+            in_time' = subst (λ a. a ≤ℤ v.arrive) (sym (arrival-behind T Q.leave r.origin r.before here (s ∷ rest) well.target)) in_time
+
+            by_case : SavesARide T Q.leave r.origin well.target (r.before ++ here ∷ s ∷ rest) ⊎ GoesByHop T hops Q.leave r.origin well.target r.before here s rest → (k : ℕ) × GoesWell (suc round) k
+            by_case (inl saves) = absurd (no_fewer (record { origin = r.origin; rides = saves.new; target = well.target })
+                (record { origin = r.from; target = well.to; leads = saves.as_well.leads }) saves.as_well.leaves (omega (arith, saves.fewer, long)) (≤ℤ-trans _ _ _ saves.as_well.arrives in_time'))
+            by_case (inr goes) = by_end (at_most_or_past goes.at (segment_at segments n).end)
+              where
+                there : Ride
+                there = ride_to n goes.at
+
+                next : Ride
+                next = record { trip = goes.hop.trip; board = goes.hop.at; alight = goes.until }
+
+                at_there : IsRide T there × LeadsOn T there (next ∷ goes.others) well.target
+                at_there = Leads-at T r.origin r.before there (next ∷ goes.others) well.target goes.as_well.leads
+
+                sooner : arrival_after T there (next ∷ goes.others) well.target ≤ℤ v.arrive
+                sooner = ≤ℤ-trans _ _ _ (subst (λ a. a ≤ℤ arrival T Q.leave r.origin (r.before ++ here ∷ s ∷ rest) well.target) (arrival-behind T Q.leave r.origin r.before there (next ∷ goes.others) well.target) goes.as_well.arrives) in_time'
+
+                by_end : (goes.at ≤ (segment_at segments n).end) ⊎ ((segment_at segments n).end < goes.at) → (k : ℕ) × GoesWell (suc round) k
+                by_end (inl within) =
+                    let c : IsCovered T segments (length segments) (suc round) goes.hop.trip goes.hop.at
+                    = subst (λ k. IsCovered T segments (length segments) (suc k) goes.hop.trip goes.hop.at) well.round_is (searched.goes_on n goes.at goes.hop well.inside goes.onward within goes.in_set) in
+                    (c.by, take_over (length segments) (suc round) next goes.others well.target c c.within well.to at_there.1.1 at_there.1.2 sooner (omega (arith, all, goes.as_many)))
+                by_end (inr past) =
+                    let m = before_it round n well.inside well.round_is goes.at (next ∷ goes.others) well.target past well.to at_there.0 at_there.1 sooner (omega (arith, all, goes.as_many)) in
+                    again m.0 m.1 m.2
+
+    next_round : (bound round n : ℕ) → n < bound → round < v.rides → GoesWell round n → (m : ℕ) × GoesWell (suc round) m
+    next_round zero round n small more well = absurd (omega arith)
+    next_round (suc b) round n small more well = next_step round n more well (λ m below w. next_round b round m (omega (arith, below, small)) more w)
+
+    each_round : (round : ℕ) → suc round ≤ v.rides → (n : ℕ) × GoesWell (suc round) n
+    each_round zero small = first_round (omega (arith, small))
+    each_round (suc k) small =
+        let w : (n : ℕ) × GoesWell (suc k) n = each_round k (omega (arith, small)) in
+        next_round (suc w.0) (suc k) w.0 (omega arith) (omega (arith, small)) w.1
+
+    abbrev Found : Type 0
+    Found = IsFound T Q.to segments v
+
+    last_step : (n : ℕ) → (well : GoesWell v.rides n) → ((m : ℕ) → m < n → GoesWell v.rides m → Found) → Found
+    last_step n well again = by_rest well.rest well.on well.all well.in_time
+      where
+        r : IsReached T Q.from Q.leave (segment_at segments n).round (trip_of n) (board_of n)
+        r = searched.reached n well.inside
+
+        by_rest : (rest : List Ride) → LeadsOn T (ride_to n well.alight) rest well.target → v.rides + length rest ≡ v.rides → arrival_after T (ride_to n well.alight) rest well.target ≤ℤ v.arrive → Found
+        by_rest (s ∷ rest) on all in_time = absurd (omega (arith, all))
+        by_rest [] on all in_time = by_end (at_most_or_past well.alight (segment_at segments n).end)
+          where
+            led : Leads T r.origin (r.before ++ ride_to n well.alight ∷ []) well.target × LeavesNoEarlier T Q.leave r.origin (r.before ++ ride_to n well.alight ∷ [])
+            led = reached_leads T Q.from Q.leave (segment_at segments n).round (trip_of n) (board_of n) r well.alight [] well.target well.rides on
+
+            j : Journey
+            j = record { origin = r.origin; rides = r.before ++ ride_to n well.alight ∷ []; target = well.target }
+
+            arrives : arrival T Q.leave r.origin (r.before ++ ride_to n well.alight ∷ []) well.target ≡ arrival_after T (ride_to n well.alight) [] well.target
+            arrives = arrival-behind T Q.leave r.origin r.before (ride_to n well.alight) [] well.target
+
+            same : value_of T Q.leave j ≡ v
+            same = best.undominated (value_of T Q.leave j) (j, record { journey = record { origin = r.from; target = well.to; leads = led.0 }; leaves = led.1; value = refl })
+                (subst (λ a. a ≤ℤ v.arrive) (sym arrives) in_time, omega (arith, length-append r.before (ride_to n well.alight ∷ []), r.rides, well.round_is))
+
+            by_end : (well.alight ≤ (segment_at segments n).end) ⊎ ((segment_at segments n).end < well.alight) → Found
+            by_end (inl within) = record {
+              segment = n;
+              inside = well.inside;
+              round = well.round_is;
+              at = well.alight;
+              onward = well.rides.onward;
+              within = within;
+              alights = well.rides.alights;
+              target = well.target;
+              to = well.to;
+              walks = on;
+              arrives = sym arrives ∙ ap (λ (w : Value). w.arrive) same;
+            }
+            by_end (inr past) = let m = before_it v.rides n well.inside well.round_is well.alight [] well.target past well.to well.rides on in_time all in again m.0 m.1 m.2
+
+    last_round : (bound n : ℕ) → n < bound → GoesWell v.rides n → Found
+    last_round zero n small well = absurd (omega arith)
+    last_round (suc b) n small well = last_step n well (λ m below w. last_round b m (omega (arith, below, small)) w)
+
+    -- each best value with rides is found
+    pub best_value_found : 0 < v.rides → Found
+    best_value_found some_ride = by_rides v.rides refl
+      where
+        by_rides : (k : ℕ) → k ≡ v.rides → Found
+        by_rides zero e = absurd (omega (arith, e, some_ride))
+        by_rides (suc k) e =
+            let w : (n : ℕ) × GoesWell (suc k) n = each_round k (omega (arith, e)) in
+            last_round (suc w.0) w.0 (omega arith) (subst (λ x. GoesWell x w.0) e w.1)
