@@ -1,7 +1,7 @@
 -- A file read piece by piece.
-use Rattle.std.proofs.Common.{◌≡◌, ◌∙◌, sym, ap, ℕ, ◌+◌, ◌<◌, ◌≤◌, List, ◌++◌, length, take, drop, Option, Some, None, subst, append_assoc, arith, length-append, length-drop, length-take}
+use Rattle.std.proofs.Common.{◌≡◌, ◌∙◌, sym, ap, ℕ, ◌+◌, ◌<◌, ◌≤◌, List, [], ◌++◌, length, min, take, drop, Option, Some, None, subst, append_assoc, arith, length-append, length-drop, length-take}
 use Rattle.std.specs.Prelude.{IfSome, IsSome}
-use Rattle.std.proofs.lemmas.List.{take-append-drop}
+use Rattle.std.proofs.lemmas.List.{take-append-drop, drop-drop, nil_from_length}
 use Rattle.std.proofs.lemmas.Grind.{common_steps}
 use Rattle.std.proofs.Math.Seq.{take-append-add}
 use Rattle.std.specs.Io.KnownBytes.{Appends}
@@ -49,3 +49,12 @@ take_both at n bytes h =
     subst (λ (k : ℕ). take (k + n) bytes ≡ take at bytes ++ take n (drop at bytes)) l
     (subst (λ (f : List ℕ). take (length (take at bytes) + n) f ≡ take at bytes ++ take n (drop at bytes)) (take-append-drop at bytes)
     (take-append-add (take at bytes) (drop at bytes) n))
+
+-- the first bytes of what is unread, and then what is unread after them; none are read only at the end or for no room
+pub consumes_front : (bytes rest buf : List ℕ) (at n : ℕ) → rest ≡ drop at bytes → n ≡ min (length rest) (length buf) → take n buf ≡ take n rest →
+    (drop at bytes ≡ take n buf ++ drop (at + n) bytes) × (n ≡ 0 → 0 < length buf → drop (at + n) bytes ≡ [])
+consumes_front bytes rest buf at n is least same = (
+  subst (λ r. drop at bytes ≡ take n buf ++ r) (drop-drop n at bytes)
+      (rw same (subst (λ (r : List ℕ). drop at bytes ≡ take n r ++ drop n (drop at bytes)) (sym is) (sym (take-append-drop n (drop at bytes))))),
+  λ none room. nil_from_length (drop (at + n) bytes) (let lens : length rest ≡ length (drop at bytes) = ap length is in grind (arith, common_steps, none, room, least, lens)),
+)

@@ -1,4 +1,9 @@
-//! The outside: a folder of files that counts its faults.
+//! The outside: folders of files, sources and sinks of bytes, which count their faults.
+//!
+//! The layers above read a whole file by `take_file` and write a whole text by `put_all`. Each gives all the bytes, or a
+//! fault at which the object's count of faults rose. An object either tells its contents, as those in memory do, and then
+//! contracts say which bytes were moved; or it tells nothing, as those over the real machine, and then the counts alone
+//! speak. Nothing here reads or writes but through the object that is handed in.
 #![tactic(auto)]
 
 ghost use Rattle.std.specs.Prelude.{◌≡◌, ◌↔◌, ◌+◌, ◌-◌, ◌^◌, ◌<◌, ◌≤◌, ℕ, List, Option, Some, None, IsTrue, IsSome, IfOk, IfSome, OnOk, IsErrOf, option_map, length, take, drop, map, vec_len};
@@ -12,8 +17,8 @@ mod mem;
 mod put;
 mod take;
 
-pub use host::{HostFolder, InSource, OutSink};
-pub use mem::{MemFolder, MemSink};
+pub use host::{HostFolder, OutSink};
+pub use mem::{MemFolder, MemSink, MemSource};
 pub use put::{Put, put_all};
 pub use take::{Taken, take_file};
 
