@@ -1,6 +1,5 @@
 //! Whole files.
-ghost use Rattle.std.specs.Prelude.{◌≡◌, ◌≢◌, ◌⊎◌, ◌↔◌, ◌+◌, ◌<◌, ◌≤◌, Ok, Err, Some, None, IfOk, IfSome, OnOk, IsErrOf, option_map, length, vec_len};
-ghost use Rattle.tb_io.specs.Causes.{Rose};
+ghost use Rattle.std.specs.Prelude.{◌≡◌, ◌≢◌, ◌⊎◌, ◌↔◌, ◌+◌, ◌-◌, ◌^◌, ◌<◌, ◌≤◌, Ok, Err, Some, None, IfOk, IfSome, OnOk, IsErrOf, option_map, length, vec_len};
 ghost use Rattle.tb_io.specs.Files.{file_at};
 
 use crate::Folder;
@@ -20,18 +19,22 @@ pub enum Taken {
 // The bytes of one reading.
 const PIECE: usize = 65_536;
 
-/// A whole file of at most `most` bytes, or `None` where the folder has no such file.
+/// A whole file of at most `most` bytes, or `None` exactly where the folder says that it isn't there.
+///
+/// `TooLarge` comes exactly where the file has more bytes and the folder didn't fail, and `ReadFault` only where it did: its
+/// count of faults rose. The file is read in pieces of 64 KiB; each turn takes a byte or ends.
 pub fn take_file<F: Folder>(
     alloc: Global,
     folder: &mut F,
     path: &str,
     most: u64,
 ) -> Result<Option<Vec<u8>>, Taken>
-    requires { most ≤ 1_073_741_824 }
+    requires most { most ≤ 1_073_741_824 }
+    requires count { F.faults folder.old < 2 ^ 64 - 1 }
     ensures whole { IfOk result (λ taken. IfSome (F.files folder.old) (λ fs. option_map (λ v. v.items) taken ≡ file_at fs path.now)) }
     ensures within { IfOk result (λ taken. IfSome taken (λ v. vec_len v ≤ most)) }
     ensures too_large { result ≡ Err Taken.TooLarge → IfSome (F.files folder.old) (λ fs. IfSome (file_at fs path.now) (λ file. most < length file)) }
-    ensures fault { result ≡ Err Taken.ReadFault → Rose (F.faults folder.old) (F.faults folder.new) }
+    ensures fault { result ≡ Err Taken.ReadFault → F.faults folder.old < F.faults folder.new }
     ensures kept { (result ≡ Err Taken.ReadFault) ⊎ (F.faults folder.new ≡ F.faults folder.old) }
     ensures same { F.files folder.new ≡ F.files folder.old }
 {
