@@ -1,13 +1,17 @@
 //! What no clause says: real files and output, and that calls that take memory succeed with ample memory.
 use crate::{HostFolder, MemFolder, MemSink, MemSource, OutSink, Source, put_all, take_file};
 use std::test::Fail;
-use std::{env, fs};
+use std::{env, fs, process};
 
 #[test]
 fn real_file_is_taken_whole(rt: HostRuntime) -> Result<(), Fail> {
     let folder_of_temporaries = env::temp_dir(&rt)?;
     let folder_path = folder_of_temporaries.as_path().to_str().ok_or("no text")?;
-    let path = format!(in rt.alloc(); "{}/router_tb_io_{}", folder_path, rt.process())?;
+    let path = format!(in rt.alloc();
+        "{}/router_tb_io_{}",
+        folder_path,
+        process::id(rt.process())
+    )?;
     fs::write(&rt, path.as_str(), "stop_id\nA\n")?;
     let mut folder = HostFolder::new(&rt);
     let taken = take_file(rt.alloc(), &mut folder, path.as_str(), 10)?;
