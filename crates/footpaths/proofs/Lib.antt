@@ -1,0 +1,2 @@
+pub mod StopRows
+pub mod StopPlaces

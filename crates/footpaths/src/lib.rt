@@ -1,0 +1,10 @@
+//! Footpaths and change times, from transfers.txt and the stations of stops.txt, as the GTFS
+//! Schedule Reference has them. The layer above gets the rows of stops.txt with their numbers
+//! (`StopTable`), where nothing is wrong with them.
+#![tactic(auto)]
+
+mod found;
+mod stop_table;
+
+pub use found::{Found, StopsFault};
+pub use stop_table::StopTable;

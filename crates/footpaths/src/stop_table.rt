@@ -1,0 +1,243 @@
+//! The rows of stops.txt, with their numbers and a look-up by id.
+ghost use Rattle.std.specs.Prelude.{◌≡◌, ◌<◌, ◌≤◌, ℕ, List, Ok, IfOk, MatchResult, length, map, filter, position, bytes_eq};
+ghost use Rattle.std.specs.List.{list_any};
+ghost use Rattle.gtfs_rows.specs.StopsFile.{StopData};
+ghost use Rattle.footpaths.specs.Stops.{stop_id, has_stop_id, lacks_parent, is_platform, is_station, is_kind, platforms, stations, parent_station, check_stops, IsStopsRefused};
+
+use crate::{Found, StopsFault};
+use gtfs_rows::{Kind, StopRow};
+use names::NameIndex;
+use std::alloc::Global;
+use std::marker::Model;
+use tb_base::{Memory, Name, StopNo};
+
+fn is_platform(kind: Kind) -> bool
+    ensures { result ≡ is_platform kind }
+{
+    match kind {
+        Kind::Platform => true,
+        Kind::Station | Kind::Other => false,
+    }
+}
+
+fn is_kind(asked: Kind, kind: Kind) -> bool
+    ensures { result ≡ is_kind asked kind }
+{
+    match asked {
+        Kind::Platform => is_platform(kind),
+        Kind::Station => is_station(kind),
+        Kind::Other => !is_platform(kind) && !is_station(kind),
+    }
+}
+
+fn is_station(kind: Kind) -> bool
+    ensures { result ≡ is_station kind }
+{
+    match kind {
+        Kind::Station => true,
+        Kind::Platform | Kind::Other => false,
+    }
+}
+
+// The ids of all rows, where an id that stands twice counts once.
+fn known_ids(alloc: Global, rows: &[StopRow]) -> Result<NameIndex, Memory>
+    ensures { IfOk result (λ ids. (id : List ℕ) → list_any (bytes_eq id) ids ≡ list_any (has_stop_id id) rows.now) }
+{
+    let mut ids = NameIndex::new(alloc);
+    for row in rows {
+        ids.add(alloc, row.id.bytes())?;
+    }
+    Ok(ids)
+}
+
+// Whether a row names a parent that no row has.
+fn lacks_parent(row: &StopRow, known: &NameIndex) -> bool
+    ensures { (stops : List StopData) → ((id : List ℕ) → list_any (bytes_eq id) known.now ≡ list_any (has_stop_id id) stops) → result ≡ lacks_parent stops row.now }
+{
+    let parent = row.parent.bytes();
+    !parent.is_empty() && !known.contains(parent)
+}
+
+// The ids of all rows, which differ, where nothing is wrong with the rows.
+fn checked_ids(alloc: Global, rows: &[StopRow], known: &NameIndex) -> Result<NameIndex, StopsFault>
+    requires { (id : List ℕ) → list_any (bytes_eq id) known.now ≡ list_any (has_stop_id id) rows.now }
+    ensures { MatchResult result (λ ids. (check_stops rows.now ≡ Ok rows.now) × (ids ≡ map stop_id rows.now)) (IsStopsRefused (check_stops rows.now)) }
+{
+    let mut ids = NameIndex::new(alloc);
+    for row in rows {
+        match ids.add(alloc, row.id.bytes()) {
+            Ok(true) => {}
+            Ok(false) => return Err(StopsFault::DuplicateId(row.row)),
+            Err(_) => return Err(StopsFault::Memory),
+        }
+        if lacks_parent(row, known) {
+            return Err(StopsFault::UnknownStop(row.row));
+        }
+    }
+    Ok(ids)
+}
+
+// The ids of the rows of a kind, in file order.
+fn ids_of(alloc: Global, rows: &[StopRow], kind: Kind) -> Result<NameIndex, Memory>
+    requires { check_stops rows.now ≡ Ok rows.now }
+    ensures { IfOk result (λ ids. ids ≡ map stop_id (filter (λ s. is_kind kind s.kind) rows.now)) }
+{
+    let mut ids = NameIndex::new(alloc);
+    for row in rows {
+        if is_kind(kind, row.kind) {
+            ids.add(alloc, row.id.bytes())?;
+        }
+    }
+    Ok(ids)
+}
+
+// The place of an id, where it is there.
+fn place_of(ids: &NameIndex, id: &[u8]) -> Option<u32>
+    requires { length ids.now ≤ 100000 }
+    ensures { result ≡ position (bytes_eq id.now) ids.now }
+{
+    match ids.find(id) {
+        Some(place) => Some(place as u32),
+        None => None,
+    }
+}
+
+// The station of each platform.
+fn parents_of(
+    alloc: Global,
+    rows: &[StopRow],
+    station_ids: &NameIndex,
+) -> Result<Vec<Option<u32>>, Memory>
+    requires few { length rows.now ≤ 100000 }
+    requires ids { station_ids.now ≡ map stop_id (stations rows.now) }
+    ensures { IfOk result (λ v. v.items ≡ map (parent_station rows.now) (platforms rows.now)) }
+{
+    let mut parents = Vec::new(alloc);
+    for row in rows {
+        if is_platform(row.kind) {
+            parents.push(place_of(station_ids, row.parent.bytes()))?;
+        }
+    }
+    Ok(parents)
+}
+
+fn copy_of(alloc: Global, row: &StopRow) -> Result<StopRow, Memory>
+    ensures { IfOk result (λ copy. copy ≡ row.now) }
+{
+    let id = Name::new(alloc, row.id.bytes())?;
+    let parent = Name::new(alloc, row.parent.bytes())?;
+    Ok(StopRow {
+        row: row.row,
+        id,
+        kind: row.kind,
+        parent,
+    })
+}
+
+fn copies_of(alloc: Global, rows: &[StopRow]) -> Result<Vec<StopRow>, Memory>
+    ensures { IfOk result (λ v. v.items ≡ rows.now) }
+{
+    let mut copies = Vec::with_capacity(alloc, rows.len())?;
+    for row in rows {
+        copies.push(copy_of(alloc, row)?)?;
+    }
+    Ok(copies)
+}
+
+/// The rows of stops.txt, with the numbers of platforms and stations and a look-up by id.
+/// Contracts see it as the list of the rows.
+#[derive(Drop)]
+pub struct StopTable {
+    rows: Vec<StopRow>,
+    ids: NameIndex,
+    platforms: NameIndex,
+    stations: NameIndex,
+    parents: Vec<Option<u32>>,
+}
+
+impl Model for StopTable {
+    ghost use Rattle.std.specs.Prelude.{List};
+    ghost use Rattle.gtfs_rows.specs.StopsFile.{StopData};
+    ghost use Rattle.footpaths.specs.Stops.{IsIndexed};
+
+    ghost Value = { List StopData };
+
+    ghost view = { λ t. t.rows.items };
+
+    ghost invariant = { λ t. IsIndexed t.rows.items t.ids t.platforms t.stations t.parents.items };
+}
+
+impl StopTable {
+    ghost use Rattle.footpaths.specs.Stops.{find_stop, station_of};
+
+    /// The table of these rows. Refused exactly where a row has the id of an earlier row, or names
+    /// a parent that no row has: the first such row, and its first such fault.
+    pub fn new(alloc: Global, rows: &[StopRow]) -> Result<StopTable, StopsFault>
+        requires { length rows.now ≤ 100000 }
+        ensures { MatchResult result (λ table. (table ≡ rows.now) × (check_stops rows.now ≡ Ok rows.now)) (IsStopsRefused (check_stops rows.now)) }
+    {
+        let known = known_ids(alloc, rows)?;
+        let ids = checked_ids(alloc, rows, &known)?;
+        let table = StopTable::with_ids(alloc, rows, ids)?;
+        Ok(table)
+    }
+
+    // The table of rows with which nothing is wrong.
+    fn with_ids(alloc: Global, rows: &[StopRow], ids: NameIndex) -> Result<StopTable, Memory>
+        requires few { length rows.now ≤ 100000 }
+        requires checked { check_stops rows.now ≡ Ok rows.now }
+        requires ids { ids ≡ map stop_id rows.now }
+        ensures { IfOk result (λ table. table ≡ rows.now) }
+    {
+        let platforms = ids_of(alloc, rows, Kind::Platform)?;
+        let stations = ids_of(alloc, rows, Kind::Station)?;
+        let parents = parents_of(alloc, rows, &stations)?;
+        let rows = copies_of(alloc, rows)?;
+        Ok(StopTable {
+            rows,
+            ids,
+            platforms,
+            stations,
+            parents,
+        })
+    }
+
+    /// What every table keeps: there are at most 100,000 rows, and nothing is wrong with them.
+    pub fn soundness(&self)
+        ensures few { length self.now ≤ 100000 }
+        ensures checked { check_stops self.now ≡ Ok self.now }
+    {
+        let _rows = &self.rows;
+    }
+
+    /// How many platforms there are.
+    pub fn platforms(&self) -> u32
+        ensures { result ≡ length (platforms self.now) }
+    {
+        self.parents.len() as u32
+    }
+
+    /// What has an id; None exactly where no row has it.
+    pub fn find(&self, id: &[u8]) -> Option<Found>
+        ensures { result ≡ find_stop self.now id.now }
+    {
+        if let Some(place) = place_of(&self.platforms, id) {
+            return Some(Found::Platform(StopNo(place)));
+        }
+        if let Some(place) = place_of(&self.stations, id) {
+            return Some(Found::Station(place));
+        }
+        if self.ids.contains(id) {
+            return Some(Found::Other);
+        }
+        None
+    }
+
+    /// The number of a platform's station, where its parent is a station.
+    pub fn station_of(&self, stop: StopNo) -> Option<u32>
+        requires { stop < length (platforms self.now) }
+        ensures { result ≡ station_of self.now stop }
+    {
+        self.parents[stop.index()]
+    }
+}
