@@ -1,5 +1,5 @@
 -- How legs spell a journey, and the rules that legs may break.
-use Rattle.std.specs.Prelude.{◌≡◌, ◌≢◌, ℕ, zero, suc, ◌<◌, ◌==◌, List, [], ◌∷◌, ◌++◌, length, ℤ, pos, ◌+ℤ◌, ◌-ℤ◌, ◌≤ℤ◌, ⊤, Contains, IsSomeAnd, Some, if◌then◌else◌, unwrap_or}
+use Rattle.std.specs.Prelude.{◌≡◌, ◌≢◌, ℕ, zero, suc, ◌<◌, ◌==◌, List, [], ◌∷◌, ◌++◌, length, ℤ, pos, ◌+ℤ◌, ◌-ℤ◌, ◌≤ℤ◌, ⊤, Contains, IsSomeAnd, Option, None, Some, if◌then◌else◌, unwrap_or}
 use Rattle.tb_base.specs.declared.query.Leg.{Leg}
 use Rattle.tb_base.specs.declared.query.Leg.TheVariants.{Walk as WalkLeg, Ride as RideLeg}
 use Rattle.tb_base.specs.declared.query.Slot.{Slot}
@@ -72,41 +72,42 @@ abbrev pub AlightsAllowed : TimetableData → Leg → Type 0
 AlightsAllowed T (WalkLeg p q secs) = ⊤
 AlightsAllowed T (RideLeg t b i) = MayAlight T t i
 
--- Below, the legs before a leg are given from the last one back.
+-- Below, a leg stands behind the previous leg, and that behind an earlier one, where there are such legs.
 
 -- the first ride leaves no earlier than asked
-abbrev pub LeavesInTime : TimetableData → ℤ → List Leg → Leg → Type 0
-LeavesInTime T asked [] (RideLeg t b i) = asked ≤ℤ departure_at T t b
-LeavesInTime T asked (WalkLeg p q secs ∷ []) (RideLeg t b i) = asked ≤ℤ (departure_at T t b -ℤ pos secs)
-LeavesInTime T asked before leg = ⊤
+abbrev pub LeavesInTime : TimetableData → ℤ → Option Leg → Option Leg → Leg → Type 0
+LeavesInTime T asked None earlier (RideLeg t b i) = asked ≤ℤ departure_at T t b
+LeavesInTime T asked (Some (WalkLeg p q secs)) None (RideLeg t b i) = asked ≤ℤ (departure_at T t b -ℤ pos secs)
+LeavesInTime T asked previous earlier leg = ⊤
 
--- a ride behind an earlier one leaves no earlier than the change allows
-abbrev pub ChangesInTime : TimetableData → List Leg → Leg → Type 0
-ChangesInTime T (RideLeg s a e ∷ before) (RideLeg t b i) = IsSomeAnd (change T (stop_at T s e) (stop_at T t b)) (λ secs. (arrival_at T s e +ℤ pos secs) ≤ℤ departure_at T t b)
-ChangesInTime T (WalkLeg p q secs ∷ RideLeg s a e ∷ before) (RideLeg t b i) = (arrival_at T s e +ℤ pos secs) ≤ℤ departure_at T t b
-ChangesInTime T before leg = ⊤
+-- a ride behind an earlier ride leaves no earlier than the change allows
+abbrev pub ChangesInTime : TimetableData → Option Leg → Option Leg → Leg → Type 0
+ChangesInTime T (Some (RideLeg s a e)) earlier (RideLeg t b i) =
+    IsSomeAnd (change T (stop_at T s e) (stop_at T t b)) (λ secs. (arrival_at T s e +ℤ pos secs) ≤ℤ departure_at T t b)
+ChangesInTime T (Some (WalkLeg p q secs)) (Some (RideLeg s a e)) (RideLeg t b i) = (arrival_at T s e +ℤ pos secs) ≤ℤ departure_at T t b
+ChangesInTime T previous earlier leg = ⊤
 
--- what a rule asks of a leg, after the legs before it
-abbrev pub KeepsRule : TimetableData → QueryData → List Leg → Leg → List Leg → Rule → Type 0
-KeepsRule T Q before leg after BadNumber = HasNumbers T leg
-KeepsRule T Q [] leg after TwoWalks = ⊤
-KeepsRule T Q (last ∷ before) leg after TwoWalks = IsOnFoot last → IsOnFoot leg → ⊥
-KeepsRule T Q before leg after NoWalk = IsFootpathLeg T leg
-KeepsRule T Q before leg after NoBoarding = BoardsAllowed T leg
-KeepsRule T Q before leg after NoAlighting = AlightsAllowed T leg
-KeepsRule T Q [] leg after WrongStart = Contains Q.from (start_of T leg)
-KeepsRule T Q (last ∷ before) leg after WrongStart = ⊤
-KeepsRule T Q before leg after TooEarly = LeavesInTime T Q.leave before leg
-KeepsRule T Q [] leg after Apart = ⊤
-KeepsRule T Q (last ∷ before) leg after Apart = end_of T last ≡ start_of T leg
-KeepsRule T Q before leg after TooLate = ChangesInTime T before leg
-KeepsRule T Q before leg [] WrongEnd = Contains Q.to (end_of T leg)
-KeepsRule T Q before leg (next ∷ after) WrongEnd = ⊤
+-- what a rule asks of a leg, with the legs behind it
+abbrev pub KeepsRule : TimetableData → QueryData → Option Leg → Option Leg → Leg → List Leg → Rule → Type 0
+KeepsRule T Q previous earlier leg after BadNumber = HasNumbers T leg
+KeepsRule T Q None earlier leg after TwoWalks = ⊤
+KeepsRule T Q (Some last) earlier leg after TwoWalks = IsOnFoot last → IsOnFoot leg → ⊥
+KeepsRule T Q previous earlier leg after NoWalk = IsFootpathLeg T leg
+KeepsRule T Q previous earlier leg after NoBoarding = BoardsAllowed T leg
+KeepsRule T Q previous earlier leg after NoAlighting = AlightsAllowed T leg
+KeepsRule T Q None earlier leg after WrongStart = Contains Q.from (start_of T leg)
+KeepsRule T Q (Some last) earlier leg after WrongStart = ⊤
+KeepsRule T Q previous earlier leg after TooEarly = LeavesInTime T Q.leave previous earlier leg
+KeepsRule T Q None earlier leg after Apart = ⊤
+KeepsRule T Q (Some last) earlier leg after Apart = end_of T last ≡ start_of T leg
+KeepsRule T Q previous earlier leg after TooLate = ChangesInTime T previous earlier leg
+KeepsRule T Q previous earlier leg [] WrongEnd = Contains Q.to (end_of T leg)
+KeepsRule T Q previous earlier leg (next ∷ after) WrongEnd = ⊤
 
--- the legs, which come after those before them, keep all rules
-abbrev pub KeepAllRules : TimetableData → QueryData → List Leg → List Leg → Type 0
-KeepAllRules T Q before [] = ⊤
-KeepAllRules T Q before (leg ∷ after) = ((rule : Rule) → KeepsRule T Q before leg after rule) × KeepAllRules T Q (leg ∷ before) after
+-- the legs, which come behind the previous and the earlier one, keep all rules
+abbrev pub KeepAllRules : TimetableData → QueryData → Option Leg → Option Leg → List Leg → Type 0
+KeepAllRules T Q previous earlier [] = ⊤
+KeepAllRules T Q previous earlier (leg ∷ after) = ((rule : Rule) → KeepsRule T Q previous earlier leg after rule) × KeepAllRules T Q (Some leg) previous after
 
 -- the place of a rule in the order in which they are tried
 abbrev pub rule_number : Rule → ℕ
@@ -121,11 +122,16 @@ rule_number Apart = 8
 rule_number TooLate = 9
 rule_number WrongEnd = 10
 
+-- a leg keeps the rules that are tried before this one, and breaks it
+abbrev pub BreaksRule : TimetableData → QueryData → Option Leg → Option Leg → Leg → List Leg → Rule → Type 0
+BreaksRule T Q previous earlier leg after rule =
+    ((r : Rule) → rule_number r < rule_number rule → KeepsRule T Q previous earlier leg after r) × (KeepsRule T Q previous earlier leg after rule → ⊥)
+
 -- leg n of the legs is the first that breaks a rule, and this is the first that it breaks
-abbrev pub IsFirstBroken : TimetableData → QueryData → List Leg → List Leg → ℕ → Rule → Type 0
-IsFirstBroken T Q before [] n rule = ⊥
-IsFirstBroken T Q before (leg ∷ after) zero rule = (KeepsRule T Q before leg after rule → ⊥) × ((r : Rule) → rule_number r < rule_number rule → KeepsRule T Q before leg after r)
-IsFirstBroken T Q before (leg ∷ after) (suc n) rule = ((r : Rule) → KeepsRule T Q before leg after r) × IsFirstBroken T Q (leg ∷ before) after n rule
+abbrev pub IsFirstBroken : TimetableData → QueryData → Option Leg → Option Leg → List Leg → ℕ → Rule → Type 0
+IsFirstBroken T Q previous earlier [] n rule = ⊥
+IsFirstBroken T Q previous earlier (leg ∷ after) zero rule = BreaksRule T Q previous earlier leg after rule
+IsFirstBroken T Q previous earlier (leg ∷ after) (suc n) rule = ((r : Rule) → KeepsRule T Q previous earlier leg after r) × IsFirstBroken T Q (Some leg) previous after n rule
 
 -- no stop is both origin and target: then the empty list of legs is no journey
 abbrev pub IsJourneyless : QueryData → Type 0
@@ -134,4 +140,4 @@ IsJourneyless Q = (p : ℕ) → Contains Q.from p → Contains Q.to p → ⊥
 -- the first rule that the legs break; no legs at all end at no target, unless some origin is one
 abbrev pub BreaksFirst : TimetableData → QueryData → List Leg → ℕ → Rule → Type 0
 BreaksFirst T Q [] n rule = (n ≡ 0) × (rule ≡ WrongEnd) × IsJourneyless Q
-BreaksFirst T Q (leg ∷ legs) n rule = IsFirstBroken T Q [] (leg ∷ legs) n rule
+BreaksFirst T Q (leg ∷ legs) n rule = IsFirstBroken T Q None None (leg ∷ legs) n rule

@@ -2,8 +2,8 @@
 #![tactic(auto)]
 
 mod gate;
-mod journey_rules;
 mod memory;
+mod name_index;
 mod numbers;
 mod out_set;
 mod query;

@@ -1,10 +1,11 @@
-ghost use Rattle.std.specs.Prelude.{◌≡◌, ℕ, ◌<◌, ◌≤◌, ◌==◌, length, find, slice_get, sum_by, All, Some};
+ghost use Rattle.std.specs.Prelude.{◌≡◌, ◌≢◌, ℕ, ◌<◌, ◌≤◌, ◌==◌, length, find, map, sum_by, All, AllPairs, Some};
 ghost use Rattle.std.specs.Option.{option_map};
 ghost use Rattle.tb_base.specs.TimetableData.{TripData};
-ghost use Rattle.tb_base.specs.Walking.{walk, change, footpath_secs};
 
 use super::memory::Memory;
+use super::name_index::NameIndex;
 use super::numbers::{StopNo, TripNo};
+use super::query::Place;
 use super::table::{Parts, Path, Station, Stop, Trip};
 use std::alloc::Global;
 use std::marker::Model;
@@ -13,20 +14,21 @@ use std::marker::Model;
 #[derive(Drop)]
 pub struct Timetable {
     parts: Parts,
+    stop_names: NameIndex,
+    station_names: NameIndex,
     events: u64,
     footpaths: u64,
 }
 
 impl Model for Timetable {
-    ghost use Rattle.std.specs.Prelude.{◌≡◌};
-    ghost use Rattle.tb_base.specs.TimetableData.{TimetableData, event_total, path_total};
-    ghost use Rattle.tb_base.specs.Soundness.{IsSound};
+    ghost use Rattle.tb_base.specs.TimetableData.{TimetableData};
+    ghost use Rattle.tb_base.specs.Indexed.{IsIndexed};
 
     ghost Value = { TimetableData };
 
     ghost view = { λ t. t.parts };
 
-    ghost invariant = { λ t. IsSound t.parts × (t.events ≡ event_total t.parts) × (t.footpaths ≡ path_total t.parts) };
+    ghost invariant = { λ t. IsIndexed t.parts t.stop_names t.station_names t.events t.footpaths };
 }
 
 // How many events the trips have.
@@ -47,15 +49,18 @@ fn paths_in(rows: &[Vec<Path>]) -> u64
 
 // The seconds of the footpath to a stop, among those that leave one.
 fn path_secs(paths: &[Path], to: StopNo) -> Option<u32>
+    requires { AllPairs (λ f g. f.to < g.to) paths.now }
     ensures { result ≡ option_map (λ f. f.secs) (find (λ f. f.to == to) paths.now) }
 {
-    paths
-        .iter()
-        .find(|path| path.to.index() == to.index())
-        .map(|path| path.secs)
+    match paths.binary_search_by_key(&to.index(), |path| path.to.index()) {
+        Ok(place) => Some(paths[place].secs),
+        Err(_) => None,
+    }
 }
 
 impl Parts {
+    ghost use Rattle.std.specs.Prelude.{slice_get};
+
     // The footpaths that leave a stop.
     fn paths_from(&self, p: StopNo) -> &[Path]
         requires { p < length self.now.paths }
@@ -63,66 +68,63 @@ impl Parts {
     {
         self.paths[p.index()].as_slice()
     }
-
-    // The footpath from a stop to another.
-    fn footpath_secs(&self, p: StopNo, q: StopNo) -> Option<u32>
-        requires { p < length self.now.paths }
-        ensures { result ≡ footpath_secs self.now p q }
-    {
-        path_secs(&self.paths[p.index()], q)
-    }
 }
 
 impl Timetable {
-    ghost use Rattle.std.specs.Prelude.{IfSome, IfOk};
-    ghost use Rattle.tb_base.specs.TimetableData.{events_of, event_total, path_total};
-    ghost use Rattle.tb_base.specs.Soundness.{IsSound, IsSoundTrip, IsSoundPath};
+    ghost use Rattle.std.specs.Prelude.{IfSome, IfOk, slice_get};
+    ghost use Rattle.tb_base.specs.Places.{HasPlace, place_named, stops_of};
+    ghost use Rattle.tb_base.specs.Soundness.{IsSound, IsSoundPath, IsSoundStation, IsSoundTrip};
+    ghost use Rattle.tb_base.specs.TimetableData.{event_total, events_of, path_total};
+    ghost use Rattle.tb_base.specs.Walking.{change, footpath_secs, walk};
 
-    /// The timetable with these parts.
-    pub fn new(_alloc: Global, parts: Parts) -> Result<Timetable, Memory>
+    /// The timetable with exactly these parts. It owns them, and an index of the names of stops and stations besides.
+    /// Refused only for want of memory; the parts are dropped then.
+    pub fn new(alloc: Global, parts: Parts) -> Result<Timetable, Memory>
         requires { IsSound parts }
         ensures { IfOk result (λ table. table ≡ parts) }
     {
+        let stop_names = NameIndex::of_stops(alloc, parts.stops.as_slice())?;
+        let station_names = NameIndex::of_stations(alloc, parts.stations.as_slice())?;
         let events = events_in(parts.trips.as_slice());
         let footpaths = paths_in(parts.paths.as_slice());
         Ok(Timetable {
             parts,
+            stop_names,
+            station_names,
             events,
             footpaths,
         })
     }
 
-    /// What every timetable keeps.
+    /// Every timetable is sound. Does nothing.
     pub fn soundness(&self)
         ensures { IsSound self.now }
     {
         let _parts = &self.parts;
     }
 
-    /// How many stops there are.
+    /// How many stops there are. Their numbers are those below.
     pub fn stop_count(&self) -> u32
         ensures { result ≡ length self.now.stops }
     {
         self.parts.stops.len() as u32
     }
 
-    // How many events a trip has.
-    pub(crate) fn event_count_of(&self, t: TripNo) -> usize
-        requires { t < length self.now.trips }
-        ensures { result ≡ length (events_of self.now t) }
+    /// How many stations there are. Their numbers are those below.
+    pub fn station_count(&self) -> u32
+        ensures { result ≡ length self.now.stations }
     {
-        let trip = self.trip(t);
-        trip.events.len()
+        self.parts.stations.len() as u32
     }
 
-    /// How many trips there are.
+    /// How many trips there are. Their numbers are those below.
     pub fn trip_count(&self) -> u32
         ensures { result ≡ length self.now.trips }
     {
         self.parts.trips.len() as u32
     }
 
-    /// How many events the trips have.
+    /// How many events all trips have.
     pub fn event_count(&self) -> u64
         ensures { result ≡ event_total self.now }
     {
@@ -136,7 +138,7 @@ impl Timetable {
         self.footpaths
     }
 
-    /// A stop.
+    /// The stop with a number.
     pub fn stop(&self, p: StopNo) -> &Stop
         requires { p < length self.now.stops }
         ensures { slice_get self.now.stops p ≡ Some result.now }
@@ -144,15 +146,16 @@ impl Timetable {
         &self.parts.stops[p.index()]
     }
 
-    /// A station.
+    /// The station with a number.
     pub fn station(&self, n: u32) -> &Station
         requires { n < length self.now.stations }
-        ensures { slice_get self.now.stations n ≡ Some result.now }
+        ensures station { slice_get self.now.stations n ≡ Some result.now }
+        ensures sound { IsSoundStation (length self.now.stops) result.now }
     {
         &self.parts.stations[n as usize]
     }
 
-    /// A trip.
+    /// The trip with a number.
     pub fn trip(&self, t: TripNo) -> &Trip
         requires { t < length self.now.trips }
         ensures trip { slice_get self.now.trips t ≡ Some result.now }
@@ -162,16 +165,54 @@ impl Timetable {
         &self.parts.trips[t.index()]
     }
 
-    /// The footpaths that leave a stop.
+    /// The footpaths that leave a stop, by the numbers of the stops that they lead to.
     pub fn paths(&self, p: StopNo) -> &[Path]
         requires { p < length self.now.stops }
         ensures paths { slice_get self.now.paths p ≡ Some result.now }
         ensures sound { All (IsSoundPath (length self.now.stops) p) result.now }
+        ensures ascending { AllPairs (λ f g. f.to < g.to) result.now }
     {
         self.parts.paths_from(p)
     }
 
-    /// The seconds of the walk from one stop to another, where there is one.
+    /// The stop or the station with a name, and none exactly where no stop and no station has it. Takes no memory.
+    pub fn place(&self, name: &[u8]) -> Option<Place>
+        ensures place { result ≡ place_named self.now name.now }
+        ensures within { IfSome result (HasPlace self.now) }
+    {
+        match self.stop_names.find(name) {
+            Some(p) => Some(Place::Stop(StopNo(p as u32))),
+            None => match self.station_names.find(name) {
+                Some(n) => Some(Place::Station(n as u32)),
+                None => None,
+            },
+        }
+    }
+
+    /// The stops of a place: the stop alone, or those of the station, in ascending order.
+    /// Refused only for want of memory.
+    pub fn place_stops(&self, alloc: Global, place: Place) -> Result<Vec<StopNo>, Memory>
+        requires { HasPlace self.now place }
+        ensures stops { IfOk result (λ stops. stops.items ≡ stops_of self.now place) }
+        ensures within { IfOk result (λ stops. All (λ p. p < length self.now.stops) stops.items) }
+    {
+        match place {
+            Place::Stop(p) => Ok(vec![in alloc; p]?),
+            Place::Station(n) => Ok(Vec::from_slice(alloc, self.station(n).stops.as_slice())?),
+        }
+    }
+
+    // The seconds of the footpath from one stop to another, where there is one.
+    fn footpath_secs(&self, p: StopNo, q: StopNo) -> Option<u32>
+        requires { p < length self.now.stops }
+        ensures secs { result ≡ footpath_secs self.now p q }
+        ensures at_most_a_day { IfSome result (λ secs. secs ≤ 86400) }
+    {
+        path_secs(self.paths(p), q)
+    }
+
+    /// The seconds of the walk from one stop to another: none within one stop, else those of the footpath,
+    /// where there is one. Takes time by the logarithm of the number of footpaths that leave the first stop.
     pub fn walk(&self, p: StopNo, q: StopNo) -> Option<u32>
         requires from { p < length self.now.stops }
         requires to { q < length self.now.stops }
@@ -181,10 +222,11 @@ impl Timetable {
         if p.index() == q.index() {
             return Some(0);
         }
-        self.parts.footpath_secs(p, q)
+        self.footpath_secs(p, q)
     }
 
-    /// The seconds that a change from one stop to another takes, where it is possible.
+    /// The seconds that it takes to change from one stop to another: within one stop its change time,
+    /// else those of the footpath, where there is one. Takes time as a walk does.
     pub fn change(&self, p: StopNo, q: StopNo) -> Option<u32>
         requires from { p < length self.now.stops }
         requires to { q < length self.now.stops }
@@ -194,6 +236,6 @@ impl Timetable {
         if p.index() == q.index() {
             return self.parts.change[p.index()];
         }
-        self.parts.footpath_secs(p, q)
+        self.footpath_secs(p, q)
     }
 }
