@@ -1,9 +1,8 @@
 -- What is wrong with one row more.
-use Rattle.std.proofs.Common.{◌≡◌, ◌∙◌, sym, ap, refl, ℕ, suc, ◌+◌, ◌<◌, List, [], ◌∷◌, ◌++◌, length, take, drop, get_or, Option, Some, None, add-one, drop-cons, append_assoc}
-use Rattle.std.specs.Prelude.{Result, Ok, Err}
+use Rattle.std.proofs.Common.{◌≡◌, ◌∙◌, sym, ap, refl, ℕ, suc, ◌+◌, ◌<◌, List, [], ◌∷◌, ◌++◌, length, take, drop, get_or, Option, add-one, drop-cons}
 use Rattle.std.proofs.lemmas.List.{take_more}
 use Rattle.gtfs_rows.specs.declared.fault.FeedFault.{FeedFault}
-use Rattle.gtfs_rows.specs.Faults.{wrong_after, unless_wrong}
+use Rattle.gtfs_rows.specs.Faults.{wrong_after}
 
 pub next_row : {A : Type 0} (wrong : List A → A → List (Option FeedFault)) (xs : List A) (i : ℕ) (x : A) → i < length xs → x ≡ get_or xs i x
     → wrong_after wrong (take i xs) (drop i xs) ≡ wrong (take i xs) x ++ wrong_after wrong (take (i + 1) xs) (drop (i + 1) xs)

@@ -1,6 +1,16 @@
-//! Typed rows of one file.
+//! The rows of the files of a GTFS feed, typed, as the GTFS Schedule Reference describes them.
+//!
+//! For each file there is a reader, as [`stop_rows`]. It takes the file's bytes and gives its typed rows in file
+//! order, or exactly the file's first fault: bytes that aren't UTF-8, then required columns that the first row
+//! lacks, then the first bad row. Records are those of the `csv` crate. Row 1 is the header; columns go by name,
+//! of two equal names the first counts. Fields are cut of spaces and tabs at both ends. A row without anything in
+//! it is passed over and keeps its number. Want of memory is its own answer, [`RowsFault::Memory`].
+//!
+//! [`Lines`] gives the rows of one file one at a time, and stores none; [`Typed`] is what a new kind of row needs.
 #![tactic(auto)]
 
+mod calendar;
+mod civil;
 mod dates;
 mod fault;
 mod fields;
@@ -13,7 +23,9 @@ mod transfers;
 mod trips;
 mod typed;
 
-pub use dates::{CalendarRow, DateRow};
+pub use calendar::{CalendarRow, calendar_rows};
+pub use civil::date_of;
+pub use dates::{DateRow, date_rows};
 pub use fault::{FeedFault, FeedFile, Many, RowsFault, Spot};
 pub use lines::Lines;
 pub use numbers::time_of;
@@ -24,3 +36,6 @@ pub use times::{TimeRow, time_rows};
 pub use transfers::{PathRule, TransferRow, transfer_rows};
 pub use trips::{TripRow, trip_rows};
 pub use typed::{Typed, typed_rows};
+
+#[cfg(test)]
+mod tests;

@@ -25,7 +25,8 @@ fn numeral_of(text: &[u8]) -> Option<u32>
 /// The number that one to nine digits write.
 pub(crate) fn number_of(text: &[u8]) -> Option<u32>
     ensures number { result ≡ number_of text.now }
-    ensures small { length text.now ≤ 2 → IfSome result (λ n. n < 100) }
+    ensures two_digits { length text.now ≤ 2 → IfSome result (λ n. n < 100) }
+    ensures eight_digits { length text.now ≤ 8 → IfSome result (λ n. n < 100_000_000) }
 {
     numeral_of(text)
 }
@@ -57,7 +58,8 @@ fn after_hours(text: &[u8]) -> Option<u32>
     }
 }
 
-/// The time that a text writes, in seconds.
+/// The time that a text writes: hours in one or two digits, then `:MM:SS`. In seconds from noon minus twelve hours,
+/// from 0 to 359,999. `None` for every other text.
 pub fn time_of(text: &[u8]) -> Option<Sec>
     ensures { result ≡ time_of text.now }
 {

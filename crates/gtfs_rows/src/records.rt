@@ -1,4 +1,4 @@
-//! The records of a file, one at a time.
+//! The records of a file, one at a time: one record is filled again and again.
 ghost use Rattle.std.specs.Prelude.{◌≡◌, ◌∷◌, [], ℕ, List, IfOk, MatchBool, ◌≤◌, ◌+◌, length, get_or, false, if◌then◌else◌};
 ghost use Rattle.csv.specs.Records.{fields_of};
 ghost use Rattle.gtfs_rows.specs.Records.{file_records, records_left, Place, ReadsOn};
@@ -8,7 +8,7 @@ use std::alloc::Global;
 use std::marker::Model;
 use tb_base::Memory;
 
-/// A place among the records of a file.
+/// A place among the records of a file: the record that was read last, and those that follow it.
 #[derive(Drop)]
 pub struct Records<'a> {
     reader: Reader<&'a [u8]>,
@@ -50,7 +50,7 @@ impl<'a> Records<'a> {
         }
     }
 
-    /// Goes to the next record, where there is one.
+    /// Goes to the next record and answers `true`, or `false` where there is none. After `Memory` no record is left.
     pub fn advance(&mut self) -> Result<bool, Memory>
         ensures fewer { length self.new.left ≤ length self.old.left }
         ensures next { IfOk result (λ more. MatchBool more (self.old.left ≡ self.new.current ∷ self.new.left) ((self.old.left ≡ []) × (self.new.current ≡ []) × (self.new.left ≡ []))) }

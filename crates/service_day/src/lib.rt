@@ -1,11 +1,15 @@
-//! Which services run on a day.
+//! Which services run on a day, by calendar.txt and calendar_dates.txt of the GTFS Schedule Reference.
+//!
+//! [`day_of`] reads a date, and [`running`] gives the [`Services`] of that day: a service runs where a row of
+//! calendar_dates.txt adds it on the day, or where a row of calendar.txt has the day, both ends of its range
+//! counted, and no row of calendar_dates.txt removes it. The layer above asks [`Services::runs`] for one service.
 #![tactic(auto)]
 
-ghost use Rattle.std.specs.Prelude.{◌≡◌, ◌∷◌, [], ◌++◌, ◌||◌, ◌&&◌, ℕ, List, IfOk, OnOk, Decides, bytes_eq, slice_index_or, false, not, length, ◌<◌};
-ghost use Rattle.std.specs.List.{list_any};
-ghost use Rattle.gtfs_rows.specs.Dates.{weekday_of, day_number};
-ghost use Rattle.service_day.specs.Running.{says, holds, has, runs};
-
+mod day;
 mod services;
 
-pub use services::{Day, Services, running};
+pub use day::{BadDate, Day, day_of};
+pub use services::{Services, running};
+
+#[cfg(test)]
+mod tests;

@@ -1,48 +1,15 @@
-//! The services of a day.
+//! The services that run on a day.
 ghost use Rattle.std.specs.Prelude.{◌≡◌, ◌∷◌, [], ◌++◌, ◌||◌, ◌&&◌, ℕ, List, IfOk, OnOk, bytes_eq, slice_index_or, false, not, length, ◌<◌};
 ghost use Rattle.std.specs.List.{list_any};
 ghost use Rattle.gtfs_rows.specs.Dates.{weekday_of, day_number};
 ghost use Rattle.service_day.specs.Running.{says, holds, has, runs};
 
+use crate::Day;
 use gtfs_rows::{CalendarRow, DateRow};
 use names::NameIndex;
 use std::alloc::Global;
 use std::marker::Model;
 use tb_base::Memory;
-
-/// A date, seen as the number that its eight digits write.
-#[derive(Debug, Drop)]
-pub struct Day {
-    date: u32,
-    weekday: u8,
-}
-
-impl Model for Day {
-    ghost use Rattle.std.specs.Prelude.{ℕ, ◌≡◌, ◌<◌};
-    ghost use Rattle.gtfs_rows.specs.Dates.{weekday_of};
-
-    ghost Value = { ℕ };
-
-    ghost view = { λ d. d.date };
-
-    ghost invariant = { λ d. (d.weekday ≡ weekday_of d.date) × (d.weekday < 7) };
-}
-
-impl Day {
-    /// The day of the week, from 0 for Monday.
-    pub fn weekday(&self) -> u8
-        ensures weekday { result ≡ weekday_of self.now }
-        ensures below { result < 7 }
-    {
-        self.weekday
-    }
-
-    fn date(&self) -> u32
-        ensures { result ≡ self.now }
-    {
-        self.date
-    }
-}
 
 /// The services that run on a day, seen as their ids.
 #[derive(Drop)]
@@ -57,7 +24,7 @@ impl Model for Services {
 }
 
 impl Services {
-    /// Whether a service runs.
+    /// Whether a service runs, by its `service_id`. No memory is taken.
     pub fn runs(&self, service: &[u8]) -> bool
         ensures { result ≡ list_any (bytes_eq service.now) self.now }
     {
@@ -106,7 +73,7 @@ fn counts(day: &Day, row: &CalendarRow, removed: &NameIndex) -> bool
     holds(day, row) && !removed.contains(row.service.bytes())
 }
 
-/// The services that run on a day.
+/// The services that run on a day, by the rows of calendar.txt and calendar_dates.txt.
 pub fn running(
     alloc: Global,
     day: &Day,

@@ -1,0 +1,106 @@
+//! The rows of calendar.txt.
+ghost use Rattle.std.specs.Prelude.{◌≡◌, ◌≤◌, MatchResult, Ok, length};
+ghost use Rattle.gtfs_rows.specs.CalendarFile.{calendar_row, calendar_rows, flag_in, flag_of, week_in};
+ghost use Rattle.gtfs_rows.specs.Refused.{IsRefused};
+ghost use Rattle.gtfs_rows.specs.declared.fault.FeedFile.TheVariants as file;
+
+use crate::civil::date_of;
+use crate::fields::{digit_of, good, id_in, spot};
+use crate::{FeedFault, FeedFile, Lines, Name, RowsFault, Typed, typed_rows};
+use std::alloc::Global;
+use std::marker::Model;
+
+/// A row of calendar.txt: the days of the week on which a service runs, from Monday on, from its first date
+/// to its last one, both counted. A date is the number that its eight digits YYYYMMDD write.
+#[derive(Debug, Drop)]
+pub struct CalendarRow {
+    pub row: u32,
+    pub service: Name,
+    pub days: [bool; 7],
+    pub start: u32,
+    pub end: u32,
+}
+
+impl Model for CalendarRow {
+    ghost use Rattle.gtfs_rows.specs.CalendarFile.{CalendarData};
+
+    ghost Value = { CalendarData };
+
+    ghost view = { λ r. record { row = r.row; service = r.service; days = r.days; start = r.start; end = r.end } };
+}
+
+// Whether the service runs on a day of the week: `0` or `1`.
+fn flag_of(text: &[u8]) -> Option<bool>
+    ensures { result ≡ flag_of text.now }
+{
+    match digit_of(text) {
+        Some(digit) if digit <= 1 => Some(digit == 1),
+        _ => None,
+    }
+}
+
+fn flag_in(lines: &Lines, column: u8) -> Result<bool, RowsFault>
+    requires { 1 ≤ column }
+    ensures { MatchResult result (λ flag. flag_in lines.now.line column ≡ Ok flag) (λ f. IsRefused (flag_in lines.now.line column) f) }
+{
+    good(
+        flag_of(lines.cell(column)),
+        FeedFault::BadCode(spot(lines, FeedFile::Calendar, column)),
+    )
+}
+
+// The seven days of the week of a row, from Monday on.
+fn week_in(lines: &Lines) -> Result<[bool; 7], RowsFault>
+    ensures { MatchResult result (λ days. week_in lines.now.line ≡ Ok days) (λ f. IsRefused (week_in lines.now.line) f) }
+{
+    let monday = flag_in(lines, 2)?;
+    let tuesday = flag_in(lines, 3)?;
+    let wednesday = flag_in(lines, 4)?;
+    let thursday = flag_in(lines, 5)?;
+    let friday = flag_in(lines, 6)?;
+    let saturday = flag_in(lines, 7)?;
+    let sunday = flag_in(lines, 8)?;
+    Ok([
+        monday, tuesday, wednesday, thursday, friday, saturday, sunday,
+    ])
+}
+
+impl Typed for CalendarRow {
+    ghost file = { file.Calendar };
+
+    ghost reading = { calendar_row };
+
+    fn file() -> FeedFile {
+        FeedFile::Calendar
+    }
+
+    fn read(alloc: Global, lines: &Lines) -> Result<Option<CalendarRow>, RowsFault> {
+        let file = FeedFile::Calendar;
+        let row = lines.row();
+        let service = id_in(alloc, lines, file, 1)?;
+        let days = week_in(lines)?;
+        let start = good(
+            date_of(lines.cell(9)),
+            FeedFault::BadDate(spot(lines, file, 9)),
+        )?;
+        let end = good(
+            date_of(lines.cell(10)),
+            FeedFault::BadDate(spot(lines, file, 10)),
+        )?;
+        Ok(Some(CalendarRow {
+            row,
+            service,
+            days,
+            start,
+            end,
+        }))
+    }
+}
+
+/// The typed rows of calendar.txt in file order, or the file's first fault.
+pub fn calendar_rows(alloc: Global, bytes: &[u8]) -> Result<Vec<CalendarRow>, RowsFault>
+    requires { length bytes.now ≤ 1_073_741_824 }
+    ensures { MatchResult result (λ v. calendar_rows bytes.now ≡ Ok v.items) (λ f. IsRefused (calendar_rows bytes.now) f) }
+{
+    typed_rows::<CalendarRow>(alloc, bytes)
+}
