@@ -1,0 +1,122 @@
+-- A desk stays in step.
+use Rattle.std.proofs.Common.{◌≡◌, ◌∙◌, ℕ, zero, suc, ◌+◌, ◌-◌, ◌<◌, ◌≤◌, inl, inr, List, [], length, get_or, replicate, refl, sym, ap, subst, arith, Option, None}
+use Rattle.std.specs.Prelude.{All, AllPairs, min, sum_by, unwrap_or}
+use Rattle.std.specs.List.{concat}
+use Rattle.std.proofs.lemmas.List.{length-replicate}
+use Rattle.std.proofs.lemmas.List.Elements.{All-push, All-nil, All-get_or}
+use Rattle.std.proofs.lemmas.List.Quantifiers.{all_pairs_push}
+use Rattle.std.proofs.lemmas.List.Sums.{sum_by_push}
+use Rattle.tb_base.specs.TimetableData.{TimetableData, events_of, event_total}
+use Rattle.tb_base.specs.Lines.{AreDividedInto}
+use Rattle.tb_base.specs.Soundness.{IsSound, IsSoundTrip}
+use Rattle.tb_base.proofs.Ordered.{Member}
+use Rattle.tb_laws.proofs.LineFacts.{MayFollow, no_later}
+use Rattle.segment_queue.specs.declared.desk.Segment.{Segment}
+use Rattle.segment_queue.specs.Scans.{trips_from}
+use Rattle.segment_queue.specs.Queue.{DeskData, EntersSegment, Fits, IsFalling, IsInStep, IsSoundSegment, covered_indices, last_index, lowered, mark_of}
+use Rattle.segment_queue.proofs.Distinct.{has_member, member_or_not, all_by_member, of_member, pairs_weaker}
+use Rattle.segment_queue.proofs.LineParts.{StaysBehind, itself, later_too, member_concat, of_lines}
+use Rattle.segment_queue.proofs.LoweredMarks.{lowered-in, lowered-out, lowered-le}
+use Rattle.segment_queue.proofs.Totals.{last_le_events, length_le_covered, one_le_total, total_falls, total_le}
+
+get_or-same : {X : Type 0} (n t : ℕ) (x : X) → get_or (replicate n x) t x ≡ x
+get_or-same zero t x = refl
+get_or-same (suc n) zero x = refl
+get_or-same (suc n) (suc t) x = get_or-same n t x
+
+first_mark : (T : TimetableData) (n t : ℕ) → mark_of T (replicate n None) t ≡ last_index T t
+first_mark T n t = let none : Option ℕ = None in ap (λ o. unwrap_or o (last_index T t)) (get_or-same n t none)
+
+pub long_trip : (T : TimetableData) (t : ℕ) → IsSound T → t < length T.trips → 2 ≤ length (events_of T t)
+long_trip T t sound inside = (All-get_or (IsSoundTrip (length T.stops)) T.trips t (record { name = []; events = [] }) inside sound.trip).long
+
+-- a desk that fits is in step when it has been emptied
+pub in_step-emptied : (T : TimetableData) (lines : List (List ℕ)) (D D' : DeskData) (n : ℕ) → IsSound T → AreDividedInto T lines → Fits T D →
+    D'.marks ≡ replicate n None → n ≡ length D.marks → D'.segments ≡ [] → D'.segment_room ≡ D.segment_room → D'.hit_room ≡ D.hit_room → IsInStep T lines D'
+in_step-emptied T lines D D' n sound divided fits marks many segments segment_room hit_room = record {
+  fits = record {
+    trips = omega (arith, fits.trips, ap length marks, (let none : Option ℕ = None in length-replicate n none), many);
+    segments = omega (arith, fits.segments, segment_room);
+    hits = omega (arith, fits.hits, hit_room);
+  };
+  marks = λ t inside. omega (arith, mark t, long_trip T t sound inside);
+  segments = subst (All (IsSoundSegment T)) (sym segments) (All-nil (IsSoundSegment T));
+  above = subst (All (λ s. mark_of T D'.marks s.trip ≤ s.board)) (sym segments) (All-nil (λ s. mark_of T D'.marks s.trip ≤ s.board));
+  apart = subst (AllPairs (λ (s r : Segment). s.trip ≡ r.trip → r.end ≤ s.board)) (sym segments) (λ i j d before below. absurd (omega (arith, below)));
+  falling = all_by_member (IsFalling T D'.marks) lines (λ line h. pairs_weaker (MayFollow T) (λ t u. mark_of T D'.marks u ≤ mark_of T D'.marks t) line
+      (λ t u a b f. omega (arith, mark t, mark u, (no_later T t u (inr f)).long)) (of_member (λ l. AllPairs (MayFollow T) l) lines line divided.ordered h));
+  counted = omega (arith, ap (sum_by covered_indices) segments, total_le (last_index T) (mark_of T D'.marks) (length T.trips) (λ t h. omega (arith, mark t)));
+}
+  where
+    mark : (t : ℕ) → mark_of T D'.marks t ≡ last_index T t
+    mark t = ap (λ ms. mark_of T ms t) marks ∙ first_mark T n t
+
+-- there are at most as many segments as events, and fewer while some mark is above 0
+pub segments_and_mark : (T : TimetableData) (lines : List (List ℕ)) (D : DeskData) → IsInStep T lines D → (t : ℕ) → t < length T.trips → length D.segments + mark_of T D.marks t ≤ event_total T
+segments_and_mark T lines D step t inside =
+    omega (arith, length_le_covered T D.segments step.segments, one_le_total (mark_of T D.marks) (length T.trips) t inside, step.counted, last_le_events T)
+
+pub segments_le_events : (T : TimetableData) (lines : List (List ℕ)) (D : DeskData) → IsInStep T lines D → length D.segments ≤ event_total T
+segments_le_events T lines D step = omega (arith, length_le_covered T D.segments step.segments, step.counted, last_le_events T)
+
+-- a desk in step stays so when a trip is entered below its mark
+pub in_step-entered : (T : TimetableData) (lines : List (List ℕ)) (D D' : DeskData) (t at : ℕ) (parent : Option (ℕ × ℕ)) → AreDividedInto T lines → IsInStep T lines D → t < length T.trips → at < mark_of T D.marks t →
+    EntersSegment T lines t at parent D D' → IsInStep T lines D'
+in_step-entered T lines D D' t at parent divided step inside below enters = record {
+  fits = record {
+    trips = omega (arith, step.fits.trips, enters.trips);
+    segments = omega (arith, step.fits.segments, enters.segment_room);
+    hits = omega (arith, step.fits.hits, enters.hit_room);
+  };
+  marks = λ u h. omega (arith, falls u h, step.marks u h);
+  segments = subst (All (IsSoundSegment T)) (sym enters.segments) (All-push (IsSoundSegment T) D.segments entered step.segments (record { trip = inside; onward = below; within = step.marks t inside }));
+  above = subst (All (λ s. mark_of T D'.marks s.trip ≤ s.board)) (sym enters.segments)
+      (All-push (λ s. mark_of T D'.marks s.trip ≤ s.board) D.segments entered
+      (λ k d b. let old = step.above k d b in let sound = step.segments k d b in omega (arith, old, falls (get_or D.segments k d).trip sound.trip))
+      here);
+  apart = subst (AllPairs (λ (s r : Segment). s.trip ≡ r.trip → r.end ≤ s.board)) (sym enters.segments)
+      (all_pairs_push (λ (s r : Segment). s.trip ≡ r.trip → r.end ≤ s.board) D.segments entered step.apart
+      (λ k d b e. let old = step.above k d b in subst (λ u. mark_of T D.marks u ≤ (get_or D.segments k d).board) e old));
+  falling = all_by_member (IsFalling T D'.marks) lines (λ line h. line_falls line h);
+  counted = omega (
+    arith,
+    step.counted,
+    ap (sum_by covered_indices) enters.segments ∙ sum_by_push covered_indices D.segments entered,
+    total_falls (mark_of T D.marks) (mark_of T D'.marks) (length T.trips) t (mark_of T D.marks t - at) inside (λ u h. falls u h) (omega (arith, here, below)),
+  );
+}
+  where
+    entered : Segment
+    entered = record { trip = t; board = at; end = mark_of T D.marks t; parent = parent }
+
+    falls : (u : ℕ) → u < length T.trips → mark_of T D'.marks u ≤ mark_of T D.marks u
+    falls u h = omega (arith, enters.marks u h, lowered-le (trips_from lines t) at u (mark_of T D.marks u))
+
+    here : mark_of T D'.marks t ≤ at
+    here =
+        let low : lowered (trips_from lines t) at t (mark_of T D.marks t) ≡ min (mark_of T D.marks t) at
+        = lowered-in (trips_from lines t) at t (mark_of T D.marks t) (has_member t (trips_from lines t) (itself t lines (of_lines T lines t divided inside))) in
+        omega (arith, enters.marks t inside, low)
+
+    in_table : (u : ℕ) (line : List ℕ) → Member line lines → Member u line → u < length T.trips
+    in_table u line h k = of_member (λ x. x < length T.trips) (concat lines) u divided.trips (member_concat u line lines h k)
+
+    line_falls : (line : List ℕ) → Member line lines → IsFalling T D'.marks line
+    line_falls line h =
+        pairs_weaker (λ x y. (mark_of T D.marks y ≤ mark_of T D.marks x) × StaysBehind (trips_from lines t) x y) (λ x y. mark_of T D'.marks y ≤ mark_of T D'.marks x) line
+        (λ x y a b r. pair x y (in_table x line h a) (in_table y line h b) r.0 r.1)
+        (λ i j d before b. (of_member (IsFalling T D.marks) lines line step.falling h i j d before b, later_too t lines divided.once line h i j d before b))
+      where
+        pair : (x y : ℕ) → x < length T.trips → y < length T.trips → mark_of T D.marks y ≤ mark_of T D.marks x → StaysBehind (trips_from lines t) x y → mark_of T D'.marks y ≤ mark_of T D'.marks x
+        pair x y a b old behind =
+            elim (member_or_not x (trips_from lines t)) [
+              | inl e ↦ omega (
+                arith,
+                old,
+                enters.marks x a,
+                enters.marks y b,
+                lowered-in (trips_from lines t) at x (mark_of T D.marks x) e.1,
+                lowered-in (trips_from lines t) at y (mark_of T D.marks y) (has_member y (trips_from lines t) (behind e.0)),
+              )
+              | inr e ↦ omega (arith, old, enters.marks x a, lowered-out (trips_from lines t) at x (mark_of T D.marks x) e.1, falls y b)
+            ]

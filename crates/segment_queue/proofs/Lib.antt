@@ -1,0 +1,6 @@
+pub mod StampedMarks
+pub mod Distinct
+pub mod LineParts
+pub mod Totals
+pub mod LoweredMarks
+pub mod InStep

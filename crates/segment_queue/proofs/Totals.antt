@@ -1,0 +1,62 @@
+-- Sums over the numbers below a bound, and over segments.
+use Rattle.std.proofs.Common.{◌≡◌, ◌∙◌, ℕ, zero, suc, ◌+◌, ◌<◌, ◌≤◌, ◌⊎◌, inl, inr, List, [], ◌∷◌, length, take, get_or, refl, sym, ap, subst, arith, add-one}
+use Rattle.std.specs.Prelude.{All, sum_by}
+use Rattle.std.proofs.lemmas.List.{take_all}
+use Rattle.std.proofs.lemmas.List.Sums.{sum_by-cons, sum_by_push, sum_by_more, sum_by-le-sum_by}
+use Rattle.std.proofs.lemmas.List.Elements.{All-head, All-tail}
+use Rattle.tb_base.specs.TimetableData.{TimetableData, TripData, events_of, event_total}
+use Rattle.tb_base.specs.Transfers.{numbers_below}
+use Rattle.segment_queue.specs.declared.desk.Segment.{Segment}
+use Rattle.segment_queue.specs.Queue.{IsSoundSegment, covered_indices, last_index, last_total}
+
+below_or_last : (t n : ℕ) → t < suc n → (t < n) ⊎ (t ≡ n)
+below_or_last t n h = grind arith
+
+pub total_le : (f g : ℕ → ℕ) (n : ℕ) → ((k : ℕ) → k < n → g k ≤ f k) → sum_by g (numbers_below n) ≤ sum_by f (numbers_below n)
+total_le f g zero less = omega arith
+total_le f g (suc n) less =
+    omega (arith, total_le f g n (λ k h. less k (omega (arith, h))), less n (omega arith), sum_by_push f (numbers_below n) n, sum_by_push g (numbers_below n) n)
+
+-- where no term rises, and one falls by d, the sum falls by d
+pub total_falls : (f g : ℕ → ℕ) (n t d : ℕ) → t < n → ((k : ℕ) → k < n → g k ≤ f k) → g t + d ≤ f t → sum_by g (numbers_below n) + d ≤ sum_by f (numbers_below n)
+total_falls f g zero t d inside less falls = absurd (omega (arith, inside))
+total_falls f g (suc n) t d inside less falls =
+    elim (below_or_last t n inside) [
+      | inl h ↦ omega (arith, total_falls f g n t d h (λ k b. less k (omega (arith, b))) falls, less n (omega arith), sum_by_push f (numbers_below n) n, sum_by_push g (numbers_below n) n)
+      | inr e ↦
+          (let here : g n + d ≤ f n = subst (λ k. g k + d ≤ f k) e falls in
+          omega (arith, total_le f g n (λ k b. less k (omega (arith, b))), here, sum_by_push f (numbers_below n) n, sum_by_push g (numbers_below n) n))
+    ]
+
+-- a term is at most the sum
+pub one_le_total : (f : ℕ → ℕ) (n t : ℕ) → t < n → f t ≤ sum_by f (numbers_below n)
+one_le_total f n t inside =
+    let zero_total : (m : ℕ) → 0 ≤ sum_by (λ k. 0) (numbers_below m) = λ m. omega arith in
+    omega (arith, falls (total_falls f (λ k. 0) n t (f t) inside (λ k h. omega arith) (omega arith)))
+  where
+    falls : sum_by (λ k. 0) (numbers_below n) + f t ≤ sum_by f (numbers_below n) → f t ≤ sum_by f (numbers_below n)
+    falls h = omega (arith, h)
+
+events_below : (xs : List TripData) (d : TripData) (n : ℕ) → n ≤ length xs → sum_by (λ t. length (TripData.events (get_or xs t d))) (numbers_below n) ≡ sum_by (λ (t : TripData). length t.events) (take n xs)
+events_below xs d zero h = refl
+events_below xs d (suc n) h =
+    let more : sum_by (λ (t : TripData). length t.events) (take (n + 1) xs) ≡ sum_by (λ (t : TripData). length t.events) (take n xs) + length (TripData.events (get_or xs n d))
+    = sum_by_more (λ (t : TripData). length t.events) xs n d (omega (arith, h)) in
+    sum_by_push (λ t. length (TripData.events (get_or xs t d))) (numbers_below n) n
+    ∙ ap (λ k. k + length (TripData.events (get_or xs n d))) (events_below xs d n (omega (arith, h)))
+    ∙ sym more ∙ ap (λ k. sum_by (λ (t : TripData). length t.events) (take k xs)) (add-one n)
+
+-- the last indices of all trips are together at most the number of events
+pub last_le_events : (T : TimetableData) → last_total T ≤ event_total T
+last_le_events T =
+    let each : last_total T ≤ sum_by (λ t. length (events_of T t)) (numbers_below (length T.trips))
+    = sum_by-le-sum_by (last_index T) (λ t. length (events_of T t)) (numbers_below (length T.trips)) (λ t. omega arith) in
+    let all : sum_by (λ t. length (events_of T t)) (numbers_below (length T.trips)) ≡ event_total T
+    = events_below T.trips (record { name = []; events = [] }) (length T.trips) (omega arith) ∙ ap (λ xs. sum_by (λ (t : TripData). length t.events) xs) (take_all (length T.trips) T.trips (omega arith)) in
+    omega (arith, each, all)
+
+-- each segment covers an index
+pub length_le_covered : (T : TimetableData) (segments : List Segment) → All (IsSoundSegment T) segments → length segments ≤ sum_by covered_indices segments
+length_le_covered T [] sound = omega arith
+length_le_covered T (s ∷ ss) sound =
+    omega (arith, length_le_covered T ss (All-tail (IsSoundSegment T) s ss sound), (All-head (IsSoundSegment T) s ss sound).onward, sum_by-cons covered_indices s ss)

@@ -1,0 +1,18 @@
+use Rattle.std.proofs.Common.{◌≡◌, ℕ, ◌<◌, length}
+use Rattle.std.specs.Prelude.{IfSome}
+use Rattle.segment_queue.specs.Scans.{trips_from}
+use Rattle.segment_queue.specs.Queue.{IsFalling, lowered, mark_of}
+use Rattle.segment_queue.proofs.LineParts.{onward}
+use Rattle.segment_queue.proofs.desk.lower_marks.Given as goal
+
+abbrev pub invariant-loop-next : goal.invariant-loop-next
+invariant-loop-next g l = record {
+  trips : length l.marks ≡ length l.initial.marks;
+  inside : IfSome l.next (λ u. u < length (g.S.Scan.table l.scan).trips);
+  todo : (u : ℕ) → u < length (g.S.Scan.table l.scan).trips → lowered (trips_from (g.S.Scan.lines l.scan) l.fn.trip) l.at u (mark_of (g.S.Scan.table l.scan) l.initial.marks u)
+      ≡ lowered (onward (g.S.Scan.lines l.scan) l.next) l.at u (mark_of (g.S.Scan.table l.scan) l.marks u);
+  falling : IsFalling (g.S.Scan.table l.scan) l.marks (onward (g.S.Scan.lines l.scan) l.next);
+}
+
+abbrev pub decreases-loop-next : goal.decreases-loop-next
+decreases-loop-next g l = length (onward (g.S.Scan.lines l.scan) l.next)

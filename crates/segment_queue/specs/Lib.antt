@@ -1,0 +1,4 @@
+pub mod Stamped
+pub mod Scans
+pub mod Queue
+pub mod Traced

@@ -1,0 +1,77 @@
+-- The queue of a search: the segments that it has entered, a mark for each trip, and the hits.
+use Rattle.std.specs.Prelude.{◌≡◌, ℕ, ◌+◌, ◌-◌, ◌==◌, ◌<◌, ◌≤◌, List, [], ◌∷◌, ◌++◌, Option, None, length, min, sum_by, unwrap_or, slice_index_or, if◌then◌else◌, All, AllPairs}
+use Rattle.std.specs.List.{list_any}
+use Rattle.tb_base.specs.TimetableData.{TimetableData, events_of, event_total}
+use Rattle.tb_base.specs.Transfers.{numbers_below}
+use Rattle.segment_queue.specs.declared.desk.Segment.{Segment}
+use Rattle.segment_queue.specs.declared.desk.Hit.{Hit}
+use Rattle.segment_queue.specs.Scans.{trips_from}
+
+-- a desk: an index for each trip that has been reached, the segments and the hits in order, and room for how many of them
+pub record DeskData : Type 0 where
+  pub marks : List (Option ℕ)
+  pub segments : List Segment
+  pub hits : List Hit
+  pub segment_room : ℕ
+  pub hit_room : ℕ
+
+-- the last index of trip t
+abbrev pub last_index : TimetableData → ℕ → ℕ
+last_index T t = length (events_of T t) - 1
+
+-- the mark of trip t: behind it the trip has been entered; the first mark is the last index
+abbrev pub mark_of : TimetableData → List (Option ℕ) → ℕ → ℕ
+mark_of T marks t = unwrap_or (slice_index_or marks t None) (last_index T t)
+
+-- room for a mark for each trip, a segment for each event, and one hit more
+pub record Fits (T : TimetableData) (D : DeskData) : Type 0 where
+  pub trips : length T.trips ≤ length D.marks
+  pub segments : event_total T ≤ D.segment_room
+  pub hits : event_total T < D.hit_room
+
+-- a part of a trip, with at least one index behind its boarding
+pub record IsSoundSegment (T : TimetableData) (s : Segment) : Type 0 where
+  pub trip : s.trip < length T.trips
+  pub onward : s.board < s.end
+  pub within : s.end < length (events_of T s.trip)
+
+-- how many indices a segment covers: those behind its boarding, up to its end
+abbrev pub covered_indices : Segment → ℕ
+covered_indices s = s.end - s.board
+
+abbrev pub mark_total : TimetableData → List (Option ℕ) → ℕ
+mark_total T marks = sum_by (mark_of T marks) (numbers_below (length T.trips))
+
+abbrev pub last_total : TimetableData → ℕ
+last_total T = sum_by (last_index T) (numbers_below (length T.trips))
+
+-- along these trips the marks never rise
+abbrev pub IsFalling : TimetableData → List (Option ℕ) → List ℕ → Type 0
+IsFalling T marks trips = AllPairs (λ t u. mark_of T marks u ≤ mark_of T marks t) trips
+
+-- The desk is in step with a timetable and its lines.
+pub record IsInStep (T : TimetableData) (lines : List (List ℕ)) (D : DeskData) : Type 0 where
+  pub fits : Fits T D
+  pub marks : (t : ℕ) → t < length T.trips → mark_of T D.marks t < length (events_of T t)
+  pub segments : All (IsSoundSegment T) D.segments
+  -- what a trip's segments cover is above its mark
+  pub above : All (λ s. mark_of T D.marks s.trip ≤ s.board) D.segments
+  -- no two segments of one trip cover the same index
+  pub apart : AllPairs (λ (s r : Segment). s.trip ≡ r.trip → r.end ≤ s.board) D.segments
+  -- along a line the marks never rise
+  pub falling : All (IsFalling T D.marks) lines
+  -- the indices that are covered, and those at or below the marks, are at most all indices
+  pub counted : sum_by covered_indices D.segments + mark_total T D.marks ≤ last_total T
+
+-- the mark of trip u after these trips were entered at this index
+abbrev pub lowered : List ℕ → ℕ → ℕ → ℕ → ℕ
+lowered trips at u mark = if list_any (λ x. x == u) trips then min mark at else mark
+
+-- the trip is entered at the index: it is covered from there up to its mark, and its mark and those of later trips of its line fall
+pub record EntersSegment (T : TimetableData) (lines : List (List ℕ)) (trip at : ℕ) (parent : Option (ℕ × ℕ)) (D D' : DeskData) : Type 0 where
+  pub segments : D'.segments ≡ D.segments ++ record { trip = trip; board = at; end = mark_of T D.marks trip; parent = parent } ∷ []
+  pub marks : (u : ℕ) → u < length T.trips → mark_of T D'.marks u ≡ lowered (trips_from lines trip) at u (mark_of T D.marks u)
+  pub trips : length D'.marks ≡ length D.marks
+  pub hits : D'.hits ≡ D.hits
+  pub segment_room : D'.segment_room ≡ D.segment_room
+  pub hit_room : D'.hit_room ≡ D.hit_room

@@ -1,0 +1,230 @@
+ghost use Rattle.std.specs.Prelude.{◌≡◌, ◌+◌, ◌<◌, ◌≤◌, ◌++◌, ◌∷◌, [], ℕ, List, None, Option, Some, IsTrue, ◌↔◌, MatchBool, OnErr, OnOk, length, replicate, slice_get, slice_index_or, unwrap_or, vec_capacity, vec_len};
+ghost use Rattle.tb_base.specs.Lines.{AreDividedInto};
+ghost use Rattle.tb_base.specs.TimetableData.{TimetableData, event_total, events_of};
+ghost use Rattle.segment_queue.specs.Scans.{trips_from};
+ghost use Rattle.segment_queue.specs.Queue.{EntersSegment, Fits, IsFalling, IsInStep, lowered, mark_of};
+
+use super::marks::Marks;
+use super::scan::Scan;
+use std::alloc::Global;
+use std::marker::Model;
+use tb_base::{Memory, Query, StopNo, TripNo, Value};
+
+/// A part of a trip: boarded at `board`, and looked at up to `end`. It was hopped onto from the segment with the first
+/// number of `parent`, at the second number, an index of that segment's trip; without a parent it is a first ride.
+#[derive(Clone, Copy, Debug, PartialEq, Eq)]
+pub struct Segment {
+    pub trip: TripNo,
+    pub board: u32,
+    pub end: u32,
+    pub parent: Option<(u32, u32)>,
+}
+
+/// How a journey ends: it is a walk, or one alights from segment `entry` at index `at` and walks to a target.
+#[derive(Clone, Copy, Debug, PartialEq, Eq)]
+pub enum LastLeg {
+    OnFoot { from: StopNo, to: StopNo },
+    Aboard { entry: u32, at: u32, to: StopNo },
+}
+
+/// A value, and how a journey with it ends.
+#[derive(Clone, Copy, Debug, PartialEq, Eq)]
+pub struct Hit {
+    pub value: Value,
+    pub last: LastLeg,
+}
+
+/// What a search writes: the queue of segments, the marks and the hits. It is made once, and used for any number of queries.
+#[derive(Drop)]
+pub struct Desk {
+    marks: Marks,
+    segments: Vec<Segment>,
+    hits: Vec<Hit>,
+}
+
+impl Model for Desk {
+    ghost use Rattle.std.specs.Prelude.{vec_capacity};
+    ghost use Rattle.segment_queue.specs.Queue.{DeskData};
+
+    ghost Value = { DeskData };
+
+    ghost view = { λ d. record {
+      marks = d.marks;
+      segments = d.segments.items;
+      hits = d.hits.items;
+      segment_room = vec_capacity d.segments;
+      hit_room = vec_capacity d.hits;
+    } };
+}
+
+// Appends to a vector that has room, so that no memory is needed.
+fn push_within<T: Copy>(items: &mut Vec<T>, item: T)
+    requires { vec_len items.old < vec_capacity items.old }
+    ensures items { items.new.items ≡ items.old.items ++ item ∷ [] }
+    ensures room { vec_capacity items.new ≡ vec_capacity items.old }
+{
+    let end = items.len();
+    let _ = items.insert(end, item);
+}
+
+// Room for so many items in all.
+fn make_room_for<T>(items: &mut Vec<T>, count: usize) -> Result<(), Memory>
+    ensures items { items.new.items ≡ items.old.items }
+    ensures room { OnOk result (count ≤ vec_capacity items.new) }
+    ensures grows { vec_capacity items.old ≤ vec_capacity items.new }
+{
+    if items.len() < count {
+        items.reserve(count - items.len())?;
+    }
+    Ok(())
+}
+
+// The mark of a trip.
+fn mark_on<S: Scan>(marks: &Marks, scan: &S, trip: TripNo) -> u32
+    requires trip { trip < length (S.table scan.now).trips }
+    requires room { trip < length marks.now }
+    ensures { result ≡ mark_of (S.table scan.now) marks.now trip }
+{
+    match marks.get(trip) {
+        Some(at) => at,
+        None => scan.last_at(trip),
+    }
+}
+
+// Lowers the marks of a trip and of the later trips of its line to the index, where they are greater. Along a line marks
+// never rise, so it stops at the first that isn't greater.
+fn lower_marks<S: Scan>(marks: &mut Marks, scan: &S, trip: TripNo, at: u32)
+    requires trip { trip < length (S.table scan.now).trips }
+    requires room { length (S.table scan.now).trips ≤ length marks.old }
+    requires divided { AreDividedInto (S.table scan.now) (S.lines scan.now) }
+    requires falling { IsFalling (S.table scan.now) marks.old (trips_from (S.lines scan.now) trip) }
+    ensures trips { length marks.new ≡ length marks.old }
+    ensures marks { (u : ℕ) → u < length (S.table scan.now).trips → mark_of (S.table scan.now) marks.new u
+        ≡ lowered (trips_from (S.lines scan.now) trip) at u (mark_of (S.table scan.now) marks.old u) }
+{
+    let mut next = Some(trip);
+    while let Some(later) = next {
+        if mark_on(marks, scan, later) <= at {
+            return;
+        }
+        marks.set(later, at);
+        next = scan.after(later);
+    }
+}
+
+impl Desk {
+    /// A desk without room.
+    pub fn new(alloc: Global) -> Desk
+        ensures { result ≡ record { marks = []; segments = []; hits = []; segment_room = 0; hit_room = 0 } }
+    {
+        Desk {
+            marks: Marks::new(alloc),
+            segments: Vec::new(alloc),
+            hits: Vec::new(alloc),
+        }
+    }
+
+    /// Room for the scan: the desk fits it. At a refusal it fits what it fitted.
+    pub fn make_room<S: Scan>(&mut self, scan: &S) -> Result<(), Memory>
+        ensures fits { OnOk result (Fits (S.table scan.now) self.new) }
+        ensures still { (T : TimetableData) → Fits T self.old → Fits T self.new }
+        ensures segments { self.new.segments ≡ self.old.segments }
+        ensures hits { self.new.hits ≡ self.old.hits }
+    {
+        let shape = scan.shape();
+        self.marks.make_room(shape.trips)?;
+        make_room_for(&mut self.segments, shape.events as usize)?;
+        make_room_for(&mut self.hits, shape.events as usize + 1)?;
+        Ok(())
+    }
+
+    /// Whether there is room for the scan: a mark for each trip, a segment for each event, and one hit more.
+    pub fn fits<S: Scan>(&self, scan: &S) -> bool
+        ensures { IsTrue result ↔ Fits (S.table scan.now) self.now }
+    {
+        let shape = scan.shape();
+        shape.trips as usize <= self.marks.trips()
+            && shape.events <= self.segments.capacity() as u64
+            && shape.events < self.hits.capacity() as u64
+    }
+
+    /// Empties the queue, the marks and the hits.
+    pub fn begin<S: Scan>(&mut self, scan: &S, _query: &Query)
+        requires { Fits (S.table scan.now) self.old }
+        ensures step { IsInStep (S.table scan.now) (S.lines scan.now) self.new }
+        ensures emptied { self.new ≡ record self.old {
+          marks = replicate (length self.old.marks) None;
+          segments = [];
+          hits = [];
+        } }
+    {
+        let _shape = scan.shape();
+        self.marks.begin();
+        self.segments.clear();
+        self.hits.clear();
+    }
+
+    /// Enters a trip at an index. Where the index is below the trip's mark, the segment from there up to the mark joins the
+    /// queue, and the marks of the trip and of the later trips of its line fall to the index where they are greater.
+    pub fn reach<S: Scan>(
+        &mut self,
+        scan: &S,
+        trip: TripNo,
+        at: u32,
+        parent: Option<(u32, u32)>,
+    ) -> bool
+        requires step { IsInStep (S.table scan.now) (S.lines scan.now) self.old }
+        requires trip { trip < length (S.table scan.now).trips }
+        ensures step { IsInStep (S.table scan.now) (S.lines scan.now) self.new }
+        ensures told { IsTrue result ↔ (at < mark_of (S.table scan.now) self.old.marks trip) }
+        ensures entered { MatchBool result
+            (EntersSegment (S.table scan.now) (S.lines scan.now) trip at parent self.old self.new)
+            (self.new ≡ self.old) }
+    {
+        let end = mark_on(&self.marks, scan, trip);
+        if end <= at {
+            return false;
+        }
+        let _shape = scan.shape();
+        push_within(
+            &mut self.segments,
+            Segment {
+                trip,
+                board: at,
+                end,
+                parent,
+            },
+        );
+        lower_marks(&mut self.marks, scan, trip, at);
+        true
+    }
+
+    /// How many segments there are.
+    pub fn segment_count(&self) -> usize
+        ensures { result ≡ length self.now.segments }
+    {
+        self.segments.len()
+    }
+
+    /// Segment `n` of the queue, and none past the last.
+    pub fn segment(&self, n: u32) -> Option<Segment>
+        ensures { result ≡ slice_get self.now.segments n }
+    {
+        self.segments.get(n as usize).copied()
+    }
+
+    /// Appends a hit.
+    pub fn add_hit(&mut self, hit: Hit)
+        requires { length self.old.hits < self.old.hit_room }
+        ensures { self.new ≡ record self.old { hits = self.old.hits ++ hit ∷ [] } }
+    {
+        push_within(&mut self.hits, hit);
+    }
+
+    /// The hits, in order.
+    pub fn hits(&self) -> &[Hit]
+        ensures { result.now ≡ self.now.hits }
+    {
+        self.hits.as_slice()
+    }
+}
