@@ -1,4 +1,4 @@
-ghost use Rattle.std.specs.Prelude.{◌≡◌, ◌+◌, ◌<◌, ◌≤◌, ◌∷◌, [], ℕ, List, All, IfSome, IsTrue, Some, length, slice_get, slice_index_or};
+ghost use Rattle.std.specs.Prelude.{◌≡◌, ◌+◌, ◌<◌, ◌≤◌, ◌∷◌, [], ℕ, List, All, AllPairs, IfSome, IsTrue, Some, length, slice_get, slice_index_or};
 ghost use Rattle.tb_base.specs.Lines.{AreDividedInto};
 ghost use Rattle.tb_base.specs.Soundness.{IsSound, IsSoundPath};
 ghost use Rattle.tb_base.specs.TimetableData.{TimetableData, arrival_at, event_at, event_total, events_of, stop_at};
@@ -47,11 +47,12 @@ pub trait Scan {
         ensures sound { IsSound (table self.now) }
         ensures divided { AreDividedInto (table self.now) (lines self.now) };
 
-    /// The footpaths that leave a stop.
+    /// The footpaths that leave a stop, by the numbers of the stops that they lead to.
     fn walks(&self, p: StopNo) -> &[Path]
         requires { p < length (table self.now).stops }
         ensures paths { slice_get (table self.now).paths p ≡ Some result.now }
-        ensures sound { All (IsSoundPath (length (table self.now).stops) p) result.now };
+        ensures sound { All (IsSoundPath (length (table self.now).stops) p) result.now }
+        ensures ascending { AllPairs (λ f g. f.to < g.to) result.now };
 
     /// How many line indices are at a stop.
     fn berths(&self, p: StopNo) -> u32
