@@ -1,0 +1,45 @@
+-- The events that the stop times of each trip give.
+use Rattle.std.specs.Prelude.{ℕ, ◌+◌, ◌<◌, ◌&&◌, List, [], ◌∷◌, length, map, slice_index_or, nat_le, Bool, false, Option, Result, if◌then◌else◌}
+use Rattle.std.specs.List.{range_with_len}
+use Rattle.tb_base.specs.declared.table.Event.{Event}
+use Rattle.tb_base.specs.Soundness.{IsSoundTrip}
+use Rattle.gtfs_rows.specs.declared.fault.FeedFault.{FeedFault}
+use Rattle.trip_rides.specs.declared.stop_time.StopTime.{StopTime}
+use Rattle.trip_rides.specs.declared.times.Times.{Times}
+use Rattle.trip_rides.specs.Faults.{unless_wrong}
+use Rattle.trip_rides.specs.StopTimes.{stop_times}
+use Rattle.trip_rides.specs.TimeFaults.{wrong_trips}
+use Rattle.trip_rides.specs.Times.{times_of, times_at}
+
+-- the event that a row gives
+abbrev pub event_of : StopTime → Times → Event
+event_of r t = record { stop = r.stop; arr = t.arr; dep = t.dep; board = r.board; alight = r.alight }
+
+-- the events of rows, of which the first stands at a place
+abbrev pub events_from : List (Option Times) → ℕ → List StopTime → List Event
+events_from times k [] = []
+events_from times k (r ∷ rest) = event_of r (times_at times k) ∷ events_from times (k + 1) rest
+
+-- the events of a trip whose rows stand in order
+abbrev pub events_in : List StopTime → List Event
+events_in ordered = events_from (map times_of ordered) 0 ordered
+
+-- the events of a trip that runs and has at least two stop times; no other trip has any
+abbrev pub ride_in : Bool → List StopTime → List Event
+ride_in runs ordered = if runs && nat_le 2 (length ordered) then events_in ordered else []
+
+-- the events of a trip of the feed
+abbrev pub ride_on : List StopTime → List Bool → ℕ → List Event
+ride_on rows runs trip = ride_in (slice_index_or runs trip false) (stop_times rows trip)
+
+-- the events of each of the first so many trips
+abbrev pub rides_on : List StopTime → List Bool → ℕ → List (List Event)
+rides_on rows runs count = map (ride_on rows runs) (range_with_len 0 count)
+
+-- the events of each trip, or the first thing that is wrong with one, whether it runs or not
+abbrev pub checked_rides : List StopTime → List Bool → Result (List (List Event)) FeedFault
+checked_rides rows runs = unless_wrong (wrong_trips rows 0 (length runs)) (rides_on rows runs (length runs))
+
+-- the events, where there are any, are those of a sound trip among so many stops
+abbrev pub IsSoundRide : ℕ → List Event → Type 0
+IsSoundRide stops ride = (name : List ℕ) → 0 < length ride → IsSoundTrip stops (record { name = name; events = ride })

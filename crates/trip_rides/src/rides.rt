@@ -1,0 +1,102 @@
+//! The events that the stop times of each trip give.
+ghost use Rattle.std.specs.Prelude.{◌≡◌, ◌≢◌, ◌≤◌, ◌<◌, ◌^◌, ℕ, Ok, All, AllPairs, IfOk, MatchResult, length, map};
+ghost use Rattle.tb_base.specs.declared.table.Event.{Event};
+ghost use Rattle.trip_rides.specs.declared.stop_time.StopTime.{StopTime};
+ghost use Rattle.trip_rides.specs.Times.{HasFileTimes};
+ghost use Rattle.trip_rides.specs.Rides.{event_of, events_in, ride_in, checked_rides, IsSoundRide};
+ghost use Rattle.trip_rides.specs.Refused.{IsRefused};
+
+use crate::StopTime;
+use crate::chains::TripChains;
+use crate::faults::trip_fault;
+use crate::order::stop_times;
+use crate::times::{Timepoint, Times, first_timed, nearest_after, nearest_before, times_at};
+use gtfs_rows::FeedFault;
+use std::alloc::Global;
+use tb_base::{Event, Memory};
+
+/// Why there are no rides.
+#[derive(Debug, Drop)]
+pub enum RidesFault {
+    Feed(FeedFault),
+    Memory,
+}
+
+/// The events of each trip, none where it doesn't run or has fewer than two stop times; or the first fault over all trips in
+/// order, running or not.
+pub fn rides_of(
+    alloc: Global,
+    rows: &[StopTime],
+    runs: &[bool],
+) -> Result<Vec<Vec<Event>>, RidesFault>
+    requires trips { All (λ r. StopTime.trip r < length runs.now) rows.now }
+    requires row_count { length rows.now ≤ 20000000 }
+    requires trip_count { length runs.now ≤ 2000000 }
+    requires sequences { AllPairs (λ r s. StopTime.trip r ≡ StopTime.trip s → StopTime.sequence r ≢ StopTime.sequence s) rows.now }
+    requires times { All HasFileTimes rows.now }
+    ensures meant { MatchResult result (λ rides. checked_rides rows.now runs.now ≡ Ok (map (λ ride. ride.items) rides.items)) (λ f. IsRefused (checked_rides rows.now runs.now) f) }
+{
+    let Ok(chains) = TripChains::new(alloc, rows, runs.len()) else {
+        return Err(RidesFault::Memory);
+    };
+    let mut rides: Vec<Vec<Event>> = Vec::new(alloc);
+    let mut ordered: Vec<StopTime> = Vec::new(alloc);
+    for trip in 0..runs.len() {
+        let Ok(()) = stop_times(&chains, rows, trip as u32, &mut ordered) else {
+            return Err(RidesFault::Memory);
+        };
+        if let Some(fault) = trip_fault(&ordered) {
+            return Err(RidesFault::Feed(fault));
+        }
+        let Ok(ride) = ride_in(alloc, runs[trip], &ordered) else {
+            return Err(RidesFault::Memory);
+        };
+        let Ok(()) = rides.push(ride) else {
+            return Err(RidesFault::Memory);
+        };
+    }
+    Ok(rides)
+}
+
+// The events of a trip whose rows stand in order, where it runs and has at least two.
+fn ride_in(alloc: Global, runs: bool, rows: &[StopTime]) -> Result<Vec<Event>, Memory>
+    requires fits { length rows.now < 2 ^ 32 }
+    requires times { All HasFileTimes rows.now }
+    ensures { IfOk result (λ ride. ride.items ≡ ride_in runs rows.now) }
+{
+    if !runs || rows.len() < 2 {
+        return Ok(Vec::new(alloc));
+    }
+    events_in(alloc, rows)
+}
+
+// The events of a trip whose rows stand in order.
+fn events_in(alloc: Global, rows: &[StopTime]) -> Result<Vec<Event>, Memory>
+    requires fits { length rows.now < 2 ^ 32 }
+    requires times { All HasFileTimes rows.now }
+    ensures { IfOk result (λ events. events.items ≡ events_in rows.now) }
+{
+    let mut events: Vec<Event> = Vec::with_capacity(alloc, rows.len())?;
+    let mut before: Option<Timepoint> = None;
+    let mut after: Option<Timepoint> = first_timed(rows, 0);
+    for k in 0..rows.len() {
+        after = nearest_after(rows, k, after);
+        let times = times_at(&rows[k], k, before, after);
+        events.push(event_of(&rows[k], times))?;
+        before = nearest_before(rows, k, before);
+    }
+    Ok(events)
+}
+
+// The event that a row gives.
+fn event_of(row: &StopTime, times: Times) -> Event
+    ensures { result ≡ event_of row.now times }
+{
+    Event {
+        stop: row.stop,
+        arr: times.arr,
+        dep: times.dep,
+        board: row.board,
+        alight: row.alight,
+    }
+}
