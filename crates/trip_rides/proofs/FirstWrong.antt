@@ -1,6 +1,8 @@
 -- The first thing that is wrong, part by part.
 use Rattle.std.proofs.Common.{◌≡◌, ◌∙◌, sym, ap, refl, ℕ, suc, ◌+◌, ◌<◌, ◌≤◌, List, [], ◌∷◌, ◌++◌, length, drop, get_or, arith, Option, Some, None, ℤ}
+use Rattle.std.specs.Prelude.{Ok, Err}
 use Rattle.std.specs.Option.{option_or}
+use Rattle.gtfs_rows.specs.Faults.{unless_wrong}
 use Rattle.std.proofs.lemmas.List.{drop_more}
 use Rattle.gtfs_rows.specs.declared.fault.FeedFault.{FeedFault}
 use Rattle.trip_rides.specs.declared.stop_time.StopTime.{StopTime}
@@ -15,6 +17,24 @@ option_or_assoc (Some f) b c = refl
 pub first_wrong-append : (xs ys : List (Option FeedFault)) → first_wrong (xs ++ ys) ≡ option_or (first_wrong xs) (first_wrong ys)
 first_wrong-append [] ys = refl
 first_wrong-append (x ∷ xs) ys = ap (option_or x) (first_wrong-append xs ys) ∙ option_or_assoc x (first_wrong xs) (first_wrong ys)
+
+-- where something is wrong, the first such thing is the answer
+pub unless_wrong-some : {A : Type 0} (wrong : List (Option FeedFault)) (f : FeedFault) (x : A) → first_wrong wrong ≡ Some f → unless_wrong wrong x ≡ Err f
+unless_wrong-some [] f x h = cc
+unless_wrong-some (None ∷ rest) f x h = unless_wrong-some rest f x h
+unless_wrong-some (Some g ∷ rest) f x h = cc
+
+-- and where nothing is, the value
+pub unless_wrong-none : {A : Type 0} (wrong : List (Option FeedFault)) (x : A) → first_wrong wrong ≡ None → unless_wrong wrong x ≡ Ok x
+unless_wrong-none [] x h = refl
+unless_wrong-none (None ∷ rest) x h = unless_wrong-none rest x h
+unless_wrong-none (Some g ∷ rest) x h = cc
+
+-- and the other way round
+pub first_wrong-none : {A : Type 0} (wrong : List (Option FeedFault)) (x y : A) → unless_wrong wrong x ≡ Ok y → first_wrong wrong ≡ None
+first_wrong-none [] x y h = refl
+first_wrong-none (None ∷ rest) x y h = first_wrong-none rest x y h
+first_wrong-none (Some g ∷ rest) x y h = cc
 
 -- along the rows, one row on
 along_more : (departed : Option ℤ) (rows : List StopTime) (k : ℕ) (r : StopTime) → k < length rows → r ≡ get_or rows k r

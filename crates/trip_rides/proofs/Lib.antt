@@ -6,3 +6,6 @@ pub mod Sorted
 pub mod ChainSteps
 pub mod TripRows
 pub mod TripSteps
+pub mod Walk
+pub mod Parts
+pub mod Sound

@@ -30,23 +30,22 @@ pub first_is_later : (rows : List StopTime) (k : ℕ) (r : StopTime) → k < len
 first_is_later rows k r h e i = first_here rows k r h e ∙ ap (λ o. timed_or k o (first_timed (k + 1) (drop (k + 1) (map times_of rows)))) (sym i)
 
 -- a row's own times are within the limits of a file
-times_within : (arr dep : Option ℤ) → IfSome arr IsFileTime → IfSome dep IsFileTime → IfSome (times_by arr dep) AreFileTimes
+pub times_within : (arr dep : Option ℤ) → IfSome arr IsFileTime → IfSome dep IsFileTime → IfSome (times_by arr dep) AreFileTimes
 times_within None None a d = tt
 times_within None (Some dep) a d = record { arr = d; dep = d }
 times_within (Some arr) None a d = record { arr = a; dep = a }
 times_within (Some arr) (Some dep) a d = record { arr = a; dep = d }
 
-AllTimed : List (Option Times) → Type 0
+-- each time is within the limits of a file
+abbrev pub AllTimed : List (Option Times) → Type 0
 AllTimed [] = Unit {0}
 AllTimed (t ∷ rest) = IfSome t AreFileTimes × AllTimed rest
 
-all_timed : (rows : List StopTime) → All HasFileTimes rows → AllTimed (map times_of rows)
-unfolding AllTimed
+pub all_timed : (rows : List StopTime) → All HasFileTimes rows → AllTimed (map times_of rows)
 all_timed [] h = tt
 all_timed (r ∷ rest) h = (times_within r.arr r.dep (All-head HasFileTimes r rest h).arr (All-head HasFileTimes r rest h).dep, all_timed rest (All-tail HasFileTimes r rest h))
 
 timed_at : (times : List (Option Times)) (k : ℕ) → AllTimed times → IfSome (get_or times k None) AreFileTimes
-unfolding AllTimed
 timed_at [] k h = tt
 timed_at (t ∷ rest) zero h = h.0
 timed_at (t ∷ rest) (suc k) h = timed_at rest k h.1
@@ -60,8 +59,7 @@ before_by times (suc k) h = here (get_or times k None) (timed_at times k h) (nea
     here None t (Some i) (low, within) = (omega (arith, low), within)
     here (Some t) within i h = (omega arith, within)
 
-after_by : (times : List (Option Times)) (k : ℕ) → AllTimed times → IfSome (first_timed k times) (λ j. (k ≤ j.at) × AreFileTimes j.times)
-unfolding AllTimed
+pub after_by : (times : List (Option Times)) (k : ℕ) → AllTimed times → IfSome (first_timed k times) (λ j. (k ≤ j.at) × AreFileTimes j.times)
 after_by [] k h = tt
 after_by (None ∷ rest) k h = later (first_timed (k + 1) rest) (after_by rest (k + 1) h.1)
   where

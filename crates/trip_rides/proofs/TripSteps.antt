@@ -7,11 +7,11 @@ use Rattle.std.proofs.lemmas.List.FromFn.{map-range_with_len_more}
 use Rattle.tb_base.specs.declared.table.Event.{Event}
 use Rattle.gtfs_rows.specs.declared.fault.FeedFault.{FeedFault}
 use Rattle.trip_rides.specs.declared.stop_time.StopTime.{StopTime}
-use Rattle.trip_rides.specs.Faults.{first_wrong, unless}
+use Rattle.trip_rides.specs.Faults.{first_wrong}
 use Rattle.trip_rides.specs.StopTimes.{stop_times}
 use Rattle.trip_rides.specs.TimeFaults.{wrong_trip_times, wrong_trips}
 use Rattle.trip_rides.specs.Rides.{ride_in, ride_on, rides_on, checked_rides}
-use Rattle.trip_rides.proofs.FirstWrong.{first_wrong-append}
+use Rattle.trip_rides.proofs.FirstWrong.{first_wrong-append, unless_wrong-some, unless_wrong-none}
 
 -- what is wrong with a trip, before the trips after it
 trips_more : (rows : List StopTime) (trip count : ℕ) → trip < count
@@ -32,7 +32,7 @@ pub trip_fault : (rows ordered : List StopTime) (runs : List Bool) (trip : ℕ) 
 trip_fault rows ordered runs trip f h e wrong before =
     let found : first_wrong (wrong_trips rows 0 (length runs)) ≡ Some f =
     before ∙ trips_more rows trip (length runs) h ∙ ap (λ o. option_or o (first_wrong (wrong_trips rows (trip + 1) (length runs - (trip + 1))))) (sym (wrong ∙ ap (λ ordered. first_wrong (wrong_trip_times ordered)) e)) in
-    ap (λ o. unless o (rides_on rows runs (length runs))) found
+    unless_wrong-some (wrong_trips rows 0 (length runs)) f (rides_on rows runs (length runs)) found
 
 -- after the last trip nothing is wrong
 pub all_right : (rows : List StopTime) (runs : List Bool) (trip : ℕ) (rides : List (List Event)) → trip ≡ length runs
@@ -40,7 +40,7 @@ pub all_right : (rows : List StopTime) (runs : List Bool) (trip : ℕ) (rides : 
 all_right rows runs trip rides e right made =
     let none : length runs - trip ≡ 0 = omega arith in
     let found : first_wrong (wrong_trips rows 0 (length runs)) ≡ None = right ∙ ap (λ n. first_wrong (wrong_trips rows trip n)) none in
-    ap (λ o. unless o (rides_on rows runs (length runs))) found ∙ ap Ok (sym (made ∙ ap (rides_on rows runs) e))
+    unless_wrong-none (wrong_trips rows 0 (length runs)) (rides_on rows runs (length runs)) found ∙ ap Ok (sym (made ∙ ap (rides_on rows runs) e))
 
 -- the events of one trip more
 pub rides_more : {V : Type 0} (events : V → List Event) (rows ordered : List StopTime) (runs : List Bool) (trip : ℕ) (rides new : List V) (ride : V)

@@ -6,7 +6,7 @@ use Rattle.tb_base.specs.Soundness.{IsSoundTrip}
 use Rattle.gtfs_rows.specs.declared.fault.FeedFault.{FeedFault}
 use Rattle.trip_rides.specs.declared.stop_time.StopTime.{StopTime}
 use Rattle.trip_rides.specs.declared.times.Times.{Times}
-use Rattle.trip_rides.specs.Faults.{unless_wrong}
+use Rattle.gtfs_rows.specs.Faults.{unless_wrong}
 use Rattle.trip_rides.specs.StopTimes.{stop_times}
 use Rattle.trip_rides.specs.TimeFaults.{wrong_trips}
 use Rattle.trip_rides.specs.Times.{times_of, times_at}

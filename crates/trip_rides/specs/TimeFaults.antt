@@ -6,7 +6,7 @@ use Rattle.gtfs_rows.specs.declared.fault.FeedFault.{FeedFault}
 use Rattle.gtfs_rows.specs.declared.fault.FeedFault.TheVariants as fault
 use Rattle.trip_rides.specs.declared.stop_time.StopTime.{StopTime}
 use Rattle.trip_rides.specs.declared.times.Times.{Times}
-use Rattle.trip_rides.specs.Faults.{spot, fault_if}
+use Rattle.gtfs_rows.specs.Faults.{spot, fault_if}
 use Rattle.trip_rides.specs.StopTimes.{stop_times}
 use Rattle.trip_rides.specs.Times.{times_of}
 

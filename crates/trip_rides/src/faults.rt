@@ -1,7 +1,8 @@
 //! What is wrong with the times of a trip.
 ghost use Rattle.std.specs.Prelude.{◌≡◌, None};
 ghost use Rattle.gtfs_rows.specs.declared.fault.FeedFile.TheVariants as file;
-ghost use Rattle.trip_rides.specs.Faults.{spot, first_wrong};
+ghost use Rattle.gtfs_rows.specs.Faults.{spot};
+ghost use Rattle.trip_rides.specs.Faults.{first_wrong};
 ghost use Rattle.trip_rides.specs.TimeFaults.{wrong_end, wrong_times, departed_by, wrong_along, wrong_trip_times};
 
 use crate::StopTime;

@@ -35,6 +35,7 @@ pub fn rides_of(
     requires sequences { AllPairs (λ r s. StopTime.trip r ≡ StopTime.trip s → StopTime.sequence r ≢ StopTime.sequence s) rows.now }
     requires times { All HasFileTimes rows.now }
     ensures meant { MatchResult result (λ rides. checked_rides rows.now runs.now ≡ Ok (map (λ ride. ride.items) rides.items)) (λ f. IsRefused (checked_rides rows.now runs.now) f) }
+    ensures sound { IfOk result (λ rides. (stops : ℕ) → All (λ r. StopTime.stop r < stops) rows.now → All (λ ride. IsSoundRide stops ride.items) rides.items) }
 {
     let Ok(chains) = TripChains::new(alloc, rows, runs.len()) else {
         return Err(RidesFault::Memory);

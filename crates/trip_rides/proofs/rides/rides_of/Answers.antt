@@ -1,13 +1,14 @@
-use Rattle.std.proofs.Common.{◌∙◌, length, arith}
+use Rattle.std.proofs.Common.{◌∙◌, length, map, arith}
 use Rattle.trip_rides.specs.Times.{HasFileTimes}
 use Rattle.trip_rides.proofs.TripRows.{All-stop_times, length-stop_times-le}
-use Rattle.trip_rides.proofs.TripSteps.{trip_right, trip_fault, rides_more}
+use Rattle.trip_rides.proofs.TripSteps.{trip_right, trip_fault, all_right, rides_more}
+use Rattle.trip_rides.proofs.Sound.{rides_sound}
 use Rattle.trip_rides.proofs.rides.rides_of.Goals as goal
 
-pub returns-in-Some : goal.returns-in-Some
-returns-in-Some c =
+pub returns-in-Some-clause-meant : goal.returns-in-Some-clause-meant
+returns-in-Some-clause-meant c =
     let ordered = c.deref.ensures.value ∙ c.in-Ok-stop_times.ensures in
-    record { meant = trip_fault c.args.rows.now c.deref.result.now c.args.runs.now c.loop-trip.trip c.in-Some.fault c.loop-trip-test.true ordered c.in-Some.ensures c.loop-trip.invariant.right }
+    trip_fault c.args.rows.now c.deref.result.now c.args.runs.now c.loop-trip.trip c.in-Some.fault c.loop-trip-test.true ordered c.in-Some.ensures c.loop-trip.invariant.right
 
 pub ride_in-requires-clause-fits : goal.ride_in-requires-clause-fits
 ride_in-requires-clause-fits c =
@@ -30,3 +31,12 @@ loop-trip-preserved c =
       rides = rides_more (λ ride. ride.items) c.args.rows.now c.deref-in-loop-trip.result.now c.args.runs.now c.loop-trip.trip c.loop-trip.rides.items c.push.new.self.items c.in-Ok-ride_in.ride
           second c.in-Ok-ride_in.ensures c.loop-trip.invariant.rides c.in-Ok-push.ensures.items;
     }
+
+pub returns-clause-meant : goal.returns-clause-meant
+returns-clause-meant c =
+    all_right c.args.rows.now c.args.runs.now c.loop-trip.trip (map (λ ride. ride.items) c.loop-trip.rides.items) (omega arith) c.loop-trip.invariant.right c.loop-trip.invariant.rides
+
+pub returns-clause-sound : goal.returns-clause-sound
+returns-clause-sound c = λ stops within.
+    rides_sound (λ ride. ride.items) c.args.rows.now c.args.runs.now c.loop-trip.rides.items stops c.requires.times within
+    (all_right c.args.rows.now c.args.runs.now c.loop-trip.trip (map (λ ride. ride.items) c.loop-trip.rides.items) (omega arith) c.loop-trip.invariant.right c.loop-trip.invariant.rides)
