@@ -76,33 +76,54 @@ AlightsAllowed T (RideLeg t b i) = MayAlight T t i
 
 -- the first ride leaves no earlier than asked
 abbrev pub LeavesInTime : TimetableData → ℤ → Option Leg → Option Leg → Leg → Type 0
+LeavesInTime T asked previous earlier (WalkLeg p q secs) = ⊤
 LeavesInTime T asked None earlier (RideLeg t b i) = asked ≤ℤ departure_at T t b
+LeavesInTime T asked (Some (RideLeg s a e)) earlier (RideLeg t b i) = ⊤
 LeavesInTime T asked (Some (WalkLeg p q secs)) None (RideLeg t b i) = asked ≤ℤ (departure_at T t b -ℤ pos secs)
-LeavesInTime T asked previous earlier leg = ⊤
+LeavesInTime T asked (Some (WalkLeg p q secs)) (Some leg) (RideLeg t b i) = ⊤
 
 -- a ride behind an earlier ride leaves no earlier than the change allows
 abbrev pub ChangesInTime : TimetableData → Option Leg → Option Leg → Leg → Type 0
+ChangesInTime T previous earlier (WalkLeg p q secs) = ⊤
+ChangesInTime T None earlier (RideLeg t b i) = ⊤
 ChangesInTime T (Some (RideLeg s a e)) earlier (RideLeg t b i) =
     IsSomeAnd (change T (stop_at T s e) (stop_at T t b)) (λ secs. (arrival_at T s e +ℤ pos secs) ≤ℤ departure_at T t b)
+ChangesInTime T (Some (WalkLeg p q secs)) None (RideLeg t b i) = ⊤
+ChangesInTime T (Some (WalkLeg p q secs)) (Some (WalkLeg u v w)) (RideLeg t b i) = ⊤
 ChangesInTime T (Some (WalkLeg p q secs)) (Some (RideLeg s a e)) (RideLeg t b i) = (arrival_at T s e +ℤ pos secs) ≤ℤ departure_at T t b
-ChangesInTime T previous earlier leg = ⊤
+
+-- a walk doesn't follow a walk
+abbrev pub FollowsNoWalk : Option Leg → Leg → Type 0
+FollowsNoWalk None leg = ⊤
+FollowsNoWalk (Some last) leg = IsOnFoot last → IsOnFoot leg → ⊥
+
+-- the first leg begins at an origin
+abbrev pub BeginsAtOrigin : TimetableData → List ℕ → Option Leg → Leg → Type 0
+BeginsAtOrigin T origins None leg = Contains origins (start_of T leg)
+BeginsAtOrigin T origins (Some last) leg = ⊤
+
+-- each other leg begins where the one before it ended
+abbrev pub Joins : TimetableData → Option Leg → Leg → Type 0
+Joins T None leg = ⊤
+Joins T (Some last) leg = end_of T last ≡ start_of T leg
+
+-- the last leg, behind which there is no other, ends at a target
+abbrev pub EndsAtTarget : TimetableData → List ℕ → Leg → List Leg → Type 0
+EndsAtTarget T targets leg [] = Contains targets (end_of T leg)
+EndsAtTarget T targets leg (next ∷ after) = ⊤
 
 -- what a rule asks of a leg, with the legs behind it
 abbrev pub KeepsRule : TimetableData → QueryData → Option Leg → Option Leg → Leg → List Leg → Rule → Type 0
 KeepsRule T Q previous earlier leg after BadNumber = HasNumbers T leg
-KeepsRule T Q None earlier leg after TwoWalks = ⊤
-KeepsRule T Q (Some last) earlier leg after TwoWalks = IsOnFoot last → IsOnFoot leg → ⊥
+KeepsRule T Q previous earlier leg after TwoWalks = FollowsNoWalk previous leg
 KeepsRule T Q previous earlier leg after NoWalk = IsFootpathLeg T leg
 KeepsRule T Q previous earlier leg after NoBoarding = BoardsAllowed T leg
 KeepsRule T Q previous earlier leg after NoAlighting = AlightsAllowed T leg
-KeepsRule T Q None earlier leg after WrongStart = Contains Q.from (start_of T leg)
-KeepsRule T Q (Some last) earlier leg after WrongStart = ⊤
+KeepsRule T Q previous earlier leg after WrongStart = BeginsAtOrigin T Q.from previous leg
 KeepsRule T Q previous earlier leg after TooEarly = LeavesInTime T Q.leave previous earlier leg
-KeepsRule T Q None earlier leg after Apart = ⊤
-KeepsRule T Q (Some last) earlier leg after Apart = end_of T last ≡ start_of T leg
+KeepsRule T Q previous earlier leg after Apart = Joins T previous leg
 KeepsRule T Q previous earlier leg after TooLate = ChangesInTime T previous earlier leg
-KeepsRule T Q previous earlier leg [] WrongEnd = Contains Q.to (end_of T leg)
-KeepsRule T Q previous earlier leg (next ∷ after) WrongEnd = ⊤
+KeepsRule T Q previous earlier leg after WrongEnd = EndsAtTarget T Q.to leg after
 
 -- the legs, which come behind the previous and the earlier one, keep all rules
 abbrev pub KeepAllRules : TimetableData → QueryData → Option Leg → Option Leg → List Leg → Type 0

@@ -6,7 +6,7 @@ use super::memory::Memory;
 use super::name_index::NameIndex;
 use super::numbers::{StopNo, TripNo};
 use super::query::Place;
-use super::table::{Parts, Path, Station, Stop, Trip};
+use super::table::{Event, Parts, Path, Station, Stop, Trip};
 use std::alloc::Global;
 use std::marker::Model;
 
@@ -73,8 +73,8 @@ impl Parts {
 impl Timetable {
     ghost use Rattle.std.specs.Prelude.{IfSome, IfOk, slice_get};
     ghost use Rattle.tb_base.specs.Places.{HasPlace, place_named, stops_of};
-    ghost use Rattle.tb_base.specs.Soundness.{IsSound, IsSoundPath, IsSoundStation, IsSoundTrip};
-    ghost use Rattle.tb_base.specs.TimetableData.{event_total, events_of, path_total};
+    ghost use Rattle.tb_base.specs.Soundness.{IsSound, IsSoundEvent, IsSoundPath, IsSoundStation, IsSoundTrip};
+    ghost use Rattle.tb_base.specs.TimetableData.{event_at, event_total, events_of, path_total};
     ghost use Rattle.tb_base.specs.Walking.{change, footpath_secs, walk};
 
     /// The timetable with exactly these parts. It owns them, and an index of the names of stops and stations besides.
@@ -163,6 +163,16 @@ impl Timetable {
         ensures sound { IsSoundTrip (length self.now.stops) result.now }
     {
         &self.parts.trips[t.index()]
+    }
+
+    /// The event of a trip with an index, counted from 0.
+    pub fn event(&self, t: TripNo, i: u32) -> Event
+        requires trip { t < length self.now.trips }
+        requires at { i < length (events_of self.now t) }
+        ensures event { result ≡ event_at self.now t i }
+        ensures sound { IsSoundEvent (length self.now.stops) result }
+    {
+        self.trip(t).events[i as usize]
     }
 
     /// The footpaths that leave a stop, by the numbers of the stops that they lead to.
