@@ -1,0 +1,61 @@
+-- How many lines there are, and how many trips they have.
+use Rattle.std.proofs.Common.{◌≡◌, ◌∙◌, sym, ap, subst, refl, ℕ, zero, suc, ◌+◌, ◌<◌, ◌≤◌, ◌⊎◌, inl, inr, Bool, true, false, cond, List, [], ◌∷◌, ◌++◌, length, get_or, fold, Some, arith, length-append}
+use Rattle.std.specs.Prelude.{All, Contains, slice_get}
+use Rattle.std.specs.List.{concat}
+use Rattle.std.proofs.lemmas.List.{length_push}
+use Rattle.std.proofs.lemmas.List.Elements.{All-nil, All-cons, All-append, All-contains}
+use Rattle.tb_base.specs.TimetableData.{TimetableData, events_of}
+use Rattle.tb_base.specs.Lines.{may_follow, place_trip, last_trip, AreDividedInto}
+use Rattle.tb_base.proofs.Ordered.{Member, Member-from_Contains, Contains-from_Member}
+use Rattle.tb_laws.proofs.Members.{Member-left, Member-right}
+use Rattle.tb_laws.proofs.LineFacts.{line_of}
+use Rattle.line_split.specs.LinesOf.{StandsAt}
+
+module _ (T : TimetableData) where
+  place_trip-total : (lines : List (List ℕ)) (t : ℕ) → length (concat (place_trip T lines t)) ≡ length (concat lines) + 1
+  place_trip-total [] t = refl
+  place_trip-total ([] ∷ lines) t = place_trip-total lines t
+  place_trip-total ((u ∷ us) ∷ lines) t = by_test (place_trip-total lines t) (may_follow (events_of T (last_trip u us)) (events_of T t))
+    where
+      by_test : length (concat (place_trip T lines t)) ≡ length (concat lines) + 1 → (b : Bool) → length (concat (cond b (((u ∷ us) ++ t ∷ []) ∷ lines) ((u ∷ us) ∷ place_trip T lines t))) ≡ length ((u ∷ us) ++ concat lines) + 1
+      by_test more true = omega (arith, length-append ((u ∷ us) ++ t ∷ []) (concat lines), length_push (u ∷ us) t, length-append (u ∷ us) (concat lines))
+      by_test more false = omega (arith, length-append (u ∷ us) (concat (place_trip T lines t)), length-append (u ∷ us) (concat lines), more)
+
+  pub placed-total : (order : List ℕ) (lines : List (List ℕ)) → length (concat (fold (place_trip T) lines order)) ≡ length (concat lines) + length order
+  placed-total [] lines = omega arith
+  placed-total (t ∷ ts) lines = omega (arith, placed-total ts (place_trip T lines t), place_trip-total lines t)
+
+pub filled-count : (lines : List (List ℕ)) → ((k : ℕ) → k < length lines → 0 < length (get_or lines k [])) → length lines ≤ length (concat lines)
+filled-count [] full = omega arith
+filled-count (line ∷ lines) full = omega (arith, full 0 (omega arith), filled-count lines (λ k h. full (suc k) (omega arith)), length-append line (concat lines))
+
+pub row-count : (lines : List (List ℕ)) (n : ℕ) → length (concat lines) ≤ n → All (λ line. length line ≤ n) lines
+row-count [] n h = All-nil (λ line. length line ≤ n)
+row-count (line ∷ lines) n h = All-cons (λ line. length line ≤ n) line lines (omega (arith, h, length-append line (concat lines))) (row-count lines n (omega (arith, h, length-append line (concat lines))))
+
+-- what holds of all trips holds of those of each line
+pub rows-all : (P : ℕ → Type 0) (lines : List (List ℕ)) → All P (concat lines) → All (λ line. All P line) lines
+rows-all P [] h = All-nil (λ line. All P line)
+rows-all P (line ∷ lines) h =
+    All-cons (λ line. All P line) line lines (from_members line (λ x m. All-contains P (line ++ concat lines) x h (Contains-from_Member x (line ++ concat lines) (Member-left x line (concat lines) m))))
+    (rows-all P lines (from_members (concat lines) (λ x m. All-contains P (line ++ concat lines) x h (Contains-from_Member x (line ++ concat lines) (Member-right x line (concat lines) m)))))
+  where
+    from_members : (xs : List ℕ) → ((x : ℕ) → Member x xs → P x) → All P xs
+    from_members [] f = All-nil P
+    from_members (x ∷ xs) f = All-cons P x xs (f x (inl refl)) (from_members xs (λ y m. f y (inr m)))
+
+member_at : {X : Type 0} (xs : List X) (x d : X) → Member x xs → (k : ℕ) × (k < length xs) × (get_or xs k d ≡ x)
+member_at [] x d m = absurd m
+member_at (y ∷ ys) x d (inl e) = (0, omega arith, e)
+member_at (y ∷ ys) x d (inr m) = let r = member_at ys x d m in (suc r.0, omega (arith, r.1), r.2)
+
+-- each trip stands at its place, if each of each line does
+pub all_stand : (T : TimetableData) (lines : List (List ℕ)) (places : List (ℕ × ℕ)) → AreDividedInto T lines
+    → ((l k : ℕ) → l < length lines → k < length (get_or lines l []) → StandsAt lines (get_or (get_or lines l []) k 0) (get_or places (get_or (get_or lines l []) k 0) (0, 0)))
+    → (t : ℕ) → t < length T.trips → StandsAt lines t (get_or places t (0, 0))
+all_stand T lines places divided stand t h =
+    let own = line_of lines t (Member-from_Contains t (concat lines) (divided.complete t h)) in
+    let at_line = member_at lines own.0 [] own.1 in
+    let at_place = member_at own.0 t 0 own.2 in
+    let row : get_or (get_or lines at_line.0 []) at_place.0 0 ≡ t = ap (λ line. get_or line at_place.0 0) at_line.2 ∙ at_place.2 in
+    subst (λ u. StandsAt lines u (get_or places u (0, 0))) row (stand at_line.0 at_place.0 at_line.1 (subst (λ line. at_place.0 < length line) (sym at_line.2) at_place.1))

@@ -1,0 +1,173 @@
+-- The departures of a line at an index are one run, and the first in time is found along it.
+use Rattle.std.proofs.Common.{◌≡◌, ◌≢◌, ◌∙◌, sym, ap, subst, refl, ℕ, zero, suc, ◌+◌, ◌*◌, ◌<◌, ◌≤◌, ◌⊎◌, inl, inr, Bool, true, false, cond, List, [], ◌∷◌, ◌++◌, length, map, get_or, take, drop, find, Some, None, ℤ, ◌≤ℤ◌, ◌<ℤ◌, arith, append_assoc, length-append}
+use Rattle.std.specs.Prelude.{AllPairs, flat_map, int_le, int_lt, slice_get}
+use Rattle.std.specs.List.{AllWithin, range_with_len}
+use Rattle.std.specs.List.Sorted.{IsPartitionedBy}
+use Rattle.std.proofs.lemmas.Int.{ints}
+use Rattle.std.proofs.lemmas.Bool.{cases_eq, cases_lt}
+use Rattle.std.proofs.lemmas.List.{append-nil, length-map, map-append, take-append-drop, drop_more, take_at, drop_at, take_more, flat_map_more, get_or-map}
+use Rattle.std.proofs.lemmas.List.FromFn.{get_or-map-range_with_len, map-range_with_len_more}
+use Rattle.std.proofs.lemmas.List.Concat.{flat_map-append}
+use Rattle.tb_base.specs.TimetableData.{TimetableData, departure_at}
+use Rattle.tb_base.specs.Transfers.{numbers_below, earliest_trip}
+use Rattle.tb_base.specs.Lines.{AreDividedInto}
+use Rattle.tb_laws.proofs.LineFacts.{MayFollow, no_later}
+use Rattle.line_split.specs.LinesOf.{departures_at, line_departures, line_events}
+use Rattle.line_split.proofs.CallLemmas.{numbers_below-more}
+
+-- ---- a part of a list
+
+pub middle : {X : Type 0} (a b r c : List X) (n m : ℕ) → n ≡ length a + length b → m ≡ length r → take m (drop n (a ++ (b ++ (r ++ c)))) ≡ r
+middle a b r c n m e f =
+    ap (λ xs. take m (drop n xs)) (sym (append_assoc a b (r ++ c)))
+    ∙ ap (take m) (drop_at (a ++ b) (r ++ c) n (length-append a b ∙ sym e)) ∙ take_at r c m (sym f)
+
+pub middle_within : {X : Type 0} (a b r c : List X) (n m : ℕ) → n ≡ length a + length b → m ≡ length r → n + m ≤ length (a ++ (b ++ (r ++ c)))
+middle_within a b r c n m e f = omega (arith, e, f, length-append a (b ++ (r ++ c)), length-append b (r ++ c), length-append r c)
+
+flat_map-at : {X A : Type 0} (f : X → List A) (xs : List X) (i : ℕ) (d : X) → i < length xs → flat_map f xs ≡ flat_map f (take i xs) ++ (f (get_or xs i d) ++ flat_map f (drop (i + 1) xs))
+flat_map-at f xs i d h =
+    ap (flat_map f) (sym (take-append-drop i xs)) ∙ flat_map-append f (take i xs) (drop i xs) ∙ ap (λ ys. flat_map f (take i xs) ++ flat_map f ys) (drop_more xs i d h)
+
+record BelowSplit (n i : ℕ) : Type 0 where
+  pub rest : List ℕ
+  pub is : numbers_below n ≡ numbers_below i ++ i ∷ rest
+
+below_split : (n i : ℕ) → i < n → BelowSplit n i
+below_split zero i h = absurd (omega arith)
+below_split (suc n) i h = by_case (λ k. below_split n i k) (same_or_below i n h)
+  where
+    same_or_below : (i n : ℕ) → i < suc n → (i < n) ⊎ (i ≡ n)
+    same_or_below i n h = grind arith
+
+    by_case : (i < n → BelowSplit n i) → (i < n) ⊎ (i ≡ n) → BelowSplit (suc n) i
+    by_case more (inl k) = let r : BelowSplit n i = more k in record { rest = r.rest ++ n ∷ []; is = ap (λ xs. xs ++ n ∷ []) r.is ∙ append_assoc (numbers_below i) (i ∷ r.rest) (n ∷ []) }
+    by_case more (inr e) = record { rest = []; is = ap (λ k. numbers_below k ++ k ∷ []) (sym e) }
+
+length-runs : (T : TimetableData) (line : List ℕ) (n : ℕ) → length (flat_map (departures_at T line) (numbers_below n)) ≡ n * length line
+length-runs T line zero = omega arith
+length-runs T line (suc n) =
+    ap length (flat_map-append (departures_at T line) (numbers_below n) (n ∷ []))
+    ∙ length-append (flat_map (departures_at T line) (numbers_below n)) (departures_at T line n ++ [])
+    ∙ added (length-runs T line n) (ap length (append-nil (departures_at T line n)) ∙ length-map line (λ u. departure_at T u n))
+  where
+    added : {a b : ℕ} → a ≡ n * length line → b ≡ length line → a + b ≡ suc n * length line
+    added e f = grind arith
+
+-- the run of line l at index i
+pub record IsRun (T : TimetableData) (lines : List (List ℕ)) (l i start count : ℕ) (departures : List ℤ) : Type 0 where
+  pub within : start + i * count + count ≤ length departures
+  pub is : take count (drop (start + i * count) departures) ≡ departures_at T (get_or lines l []) i
+
+pub run_of : (T : TimetableData) (lines : List (List ℕ)) (l i start count : ℕ) (departures : List ℤ) → l < length lines → i < length (line_events T (get_or lines l [])) →
+    start ≡ length (flat_map (line_departures T) (take l lines)) → count ≡ length (get_or lines l []) → departures ≡ flat_map (line_departures T) lines → IsRun T lines l i start count departures
+run_of T lines l i start count departures h k s n e =
+    let line : List ℕ = get_or lines l [] in
+    let split : BelowSplit (length (line_events T line)) i = below_split (length (line_events T line)) i k in
+    let before : List ℤ = flat_map (line_departures T) (take l lines) in
+    let others : List ℤ = flat_map (line_departures T) (drop (l + 1) lines) in
+    let runs : List ℤ = flat_map (departures_at T line) (numbers_below i) in
+    let later : List ℤ = flat_map (departures_at T line) split.rest in
+    let own : line_departures T line ≡ runs ++ (departures_at T line i ++ later) = ap (flat_map (departures_at T line)) split.is ∙ flat_map-append (departures_at T line) (numbers_below i) (i ∷ split.rest) in
+    let all : departures ≡ before ++ (runs ++ (departures_at T line i ++ (later ++ others))) =
+        e ∙ flat_map-at (line_departures T) lines l [] h ∙ ap (λ xs. before ++ (xs ++ others)) own
+        ∙ ap (λ xs. before ++ xs) (append_assoc runs (departures_at T line i ++ later) others ∙ ap (λ xs. runs ++ xs) (append_assoc (departures_at T line i) later others)) in
+    let at : start + i * count ≡ length before + length runs = rw (s, n, length-runs T line i) refl in
+    let long : count ≡ length (departures_at T line i) = n ∙ sym (length-map line (λ u. departure_at T u i)) in
+    record {
+      within = rw all (middle_within before runs (departures_at T line i) (later ++ others) (start + i * count) count at long);
+      is = rw all (middle before runs (departures_at T line i) (later ++ others) (start + i * count) count at long);
+    }
+
+-- ---- the first departure in time
+
+lt_true : (a b : ℤ) → a <ℤ b → int_lt a b ≡ true
+lt_true a b h = grind (arith, ints)
+
+true_lt : (a b : ℤ) → int_lt a b ≡ true → a <ℤ b
+true_lt a b h = grind (arith, ints, h)
+
+false_le : (a b : ℤ) → int_lt a b ≡ false → b ≤ℤ a
+false_le a b h = grind (arith, ints, h)
+
+pub partitioned : (xs : List ℤ) (time : ℤ) → AllPairs (λ x y. x ≤ℤ y) xs → IsPartitionedBy (λ x. int_lt x time) xs
+partitioned xs time up i j d h k t = by_case (same_or_before i j h)
+  where
+    same_or_before : (i j : ℕ) → i ≤ j → (i < j) ⊎ (j ≡ i)
+    same_or_before i j h = grind arith
+
+    below : (a b c : ℤ) → a ≤ℤ b → b <ℤ c → a <ℤ c
+    below a b c g h = omega (arith, ints, g, h)
+
+    by_case : (i < j) ⊎ (j ≡ i) → int_lt (get_or xs i d) time ≡ true
+    by_case (inl before) = lt_true (get_or xs i d) time (below (get_or xs i d) (get_or xs j d) time (up i j d before k) (true_lt (get_or xs j d) time t))
+    by_case (inr e) = subst (λ n. int_lt (get_or xs n d) time ≡ true) e t
+
+pub all_earlier : (xs : List ℤ) (time : ℤ) (n : ℕ) → AllWithin (λ x. int_lt x time ≡ true) xs 0 n → AllWithin (λ x. x <ℤ time) xs 0 n
+all_earlier xs time n h k d low high = true_lt (get_or xs k d) time (h k d low high)
+
+pub all_from : (xs : List ℤ) (time : ℤ) (n : ℕ) → AllWithin (λ x. int_lt x time ≡ false) xs n (length xs) → AllWithin (λ x. time ≤ℤ x) xs n (length xs)
+all_from xs time n h k d low high = false_le (get_or xs k d) time (h k d low high)
+
+pub earliest_at : (T : TimetableData) (line : List ℕ) (at : ℕ) (time : ℤ) (place : ℕ) → AllWithin (λ x. x <ℤ time) (departures_at T line at) 0 place →
+    AllWithin (λ x. time ≤ℤ x) (departures_at T line at) place (length (departures_at T line at)) → earliest_trip T line at time ≡ slice_get line place
+earliest_at T [] at time place g h = refl
+earliest_at T (u ∷ us) at time zero g h = ap (λ b. cond b (Some u) (earliest_trip T us at time)) (in_time time (departure_at T u at) (h 0 time (omega arith) (omega arith)))
+  where
+    in_time : (a b : ℤ) → a ≤ℤ b → int_le a b ≡ true
+    in_time a b h = grind (arith, ints)
+earliest_at T (u ∷ us) at time (suc place) g h =
+    ap (λ b. cond b (Some u) (earliest_trip T us at time)) (too_early time (departure_at T u at) (g 0 time (omega arith) (omega arith)))
+    ∙ earliest_at T us at time place (λ k d low high. g (suc k) d (omega arith) (omega arith)) (λ k d low high. h (suc k) d (omega arith) (omega arith))
+  where
+    too_early : (a b : ℤ) → b <ℤ a → int_le a b ≡ false
+    too_early a b h = grind (arith, ints)
+
+-- where the departures of a line begin
+pub start_at : (T : TimetableData) (lines : List (List ℕ)) (starts : List ℕ) (l x : ℕ) → starts ≡ map (λ k. length (flat_map (line_departures T) (take k lines))) (range_with_len 0 (length lines)) → l < length lines
+    → x ≡ get_or starts l x → x ≡ length (flat_map (line_departures T) (take l lines))
+start_at T lines starts l x e h is = is ∙ ap (λ xs. get_or xs l x) e ∙ get_or-map-range_with_len (λ k. length (flat_map (line_departures T) (take k lines))) 0 (length lines) l l x h (zero_more l)
+  where
+    zero_more : (n : ℕ) → 0 + n ≡ n
+    zero_more n = omega arith
+
+-- along a line departures do not fall
+pub run_ascends : (T : TimetableData) (lines : List (List ℕ)) (l i : ℕ) → AreDividedInto T lines → l < length lines → AllPairs (λ x y. x ≤ℤ y) (departures_at T (get_or lines l []) i)
+run_ascends T lines l i divided h j k d before below =
+    let line : List ℕ = get_or lines l [] in
+    let inside : k < length line = omega (arith, below, length-map line (λ u. departure_at T u i)) in
+    let pairs : AllPairs (MayFollow T) line = divided.ordered l [] h in
+    let later = no_later T (get_or line j 0) (get_or line k 0) (inr (pairs j k 0 before inside)) in
+    rw (get_or-map (λ u. departure_at T u i) line j 0 d (omega (arith, before, inside)), get_or-map (λ u. departure_at T u i) line k 0 d inside) (later.at i).dep
+
+-- one index more
+pub runs_more : {X : Type 0} (f : ℕ → List X) (n : ℕ) (old before new : List X) → before ≡ old ++ flat_map f (numbers_below n) → new ≡ before ++ f n → new ≡ old ++ flat_map f (numbers_below (n + 1))
+runs_more f n old before new e h =
+    h ∙ ap (λ xs. xs ++ f n) e ∙ flat_map_more f old (numbers_below n) n ∙ ap (λ ns. old ++ flat_map f ns) (sym (numbers_below-more n))
+
+-- one line more
+pub lines_more : {X : Type 0} (f : List ℕ → List X) (lines : List (List ℕ)) (n : ℕ) (before new : List X) → n < length lines → before ≡ flat_map f (take n lines) → new ≡ before ++ f (get_or lines n []) → new ≡ flat_map f (take (n + 1) lines)
+lines_more f lines n before new h e k =
+    k ∙ ap (λ xs. xs ++ f (get_or lines n [])) e ∙ flat_map_more f [] (take n lines) (get_or lines n []) ∙ ap (flat_map f) (sym (take_more lines n [] h))
+
+pub starts_more : (T : TimetableData) (lines : List (List ℕ)) (n x : ℕ) (old new : List ℕ) → old ≡ map (λ k. length (flat_map (line_departures T) (take k lines))) (range_with_len 0 n) → new ≡ old ++ x ∷ []
+    → x ≡ length (flat_map (line_departures T) (take n lines)) → new ≡ map (λ k. length (flat_map (line_departures T) (take k lines))) (range_with_len 0 (n + 1))
+starts_more T lines n x old new e h is =
+    h ∙ (λ i. e i ++ is i ∷ []) ∙ sym (map-range_with_len_more (λ k. length (flat_map (line_departures T) (take k lines))) 0 n n (zero_more n))
+  where
+    zero_more : (n : ℕ) → 0 + n ≡ n
+    zero_more n = omega arith
+
+-- what a search along the departures found is the line's first trip in time
+pub found_at : (T : TimetableData) (line row : List ℕ) (at place : ℕ) (time asked : ℤ) (departures : List ℤ) → asked ≡ time → departures ≡ departures_at T line at → row ≡ line →
+    AllWithin (λ x. x <ℤ asked) departures 0 place → AllWithin (λ x. asked ≤ℤ x) departures place (length departures) → earliest_trip T line at time ≡ slice_get row place
+found_at T line row at place time asked departures t e r g h =
+    earliest_at T line at time place
+    (subst (λ ds. AllWithin (λ x. x <ℤ time) ds 0 place) e (subst (λ s. AllWithin (λ x. x <ℤ s) departures 0 place) t g))
+    (subst (λ ds. AllWithin (λ x. time ≤ℤ x) ds place (length ds)) e (subst (λ s. AllWithin (λ x. s ≤ℤ x) departures place (length departures)) t h))
+    ∙ ap (λ xs. slice_get xs place) (sym r)
+
+pub slice_get-past : {X : Type 0} (xs : List X) (i : ℕ) → length xs ≤ i → slice_get xs i ≡ None
+slice_get-past [] i h = refl
+slice_get-past (x ∷ xs) zero h = absurd (omega arith)
+slice_get-past (x ∷ xs) (suc i) h = slice_get-past xs i (omega arith)

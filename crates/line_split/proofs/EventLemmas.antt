@@ -1,0 +1,53 @@
+-- Two trips, event for event.
+use Rattle.std.proofs.Common.{◌≡◌, ◌∙◌, ℕ, ◌+◌, ◌<◌, ◌≤◌, ◌==◌, ◌&&◌, Bool, List, length, drop, get_or, ap, refl, sym, arith, zero, suc, [], ◌∷◌, ◌⊎◌, inl, inr}
+use Rattle.std.specs.Prelude.{int_le}
+use Rattle.std.specs.Ordering.{int_cmp, nat_cmp, ordering_then}
+use Rattle.std.specs.declared.cmp.Ordering.{Ordering}
+use Rattle.std.specs.declared.cmp.Ordering.TheVariants.{Less, Equal, Greater}
+use Rattle.std.specs.Cmp.Lexicographic.{slice_cmp}
+use Rattle.std.proofs.lemmas.List.{drop_more, drop_all}
+use Rattle.tb_base.specs.declared.table.Event.{Event}
+use Rattle.tb_base.specs.Lines.{may_follow, same_mark, times_of}
+
+-- the test of one event and the next
+abbrev pub follows : Event → Event → Bool
+follows e f = (e.stop == f.stop) && same_mark e.board f.board && same_mark e.alight f.alight && int_le e.arr f.arr && int_le e.dep f.dep
+
+pub may_follow-more : (es fs : List Event) (i : ℕ) (d e : Event) → i < length es → i < length fs →
+    may_follow (drop i es) (drop i fs) ≡ (follows (get_or es i d) (get_or fs i e) && may_follow (drop (i + 1) es) (drop (i + 1) fs))
+may_follow-more es fs i d e h k = rw (drop_more es i d h, drop_more fs i e k) refl
+
+pub may_follow-all : (es fs : List Event) (i : ℕ) → length es ≤ i → length fs ≤ i → may_follow (drop i es) (drop i fs) ≡ may_follow [] []
+may_follow-all es fs i h k = rw (drop_all i es h, drop_all i fs k) refl
+
+ordering_then_assoc : (a b c : Ordering) → ordering_then a (ordering_then b c) ≡ ordering_then (ordering_then a b) c
+ordering_then_assoc Less b c = refl
+ordering_then_assoc Equal b c = refl
+ordering_then_assoc Greater b c = refl
+
+-- the times of two trips from event i on
+pub times-more : (es fs : List Event) (i : ℕ) (d e : Event) → i < length es → i < length fs →
+    slice_cmp int_cmp (times_of (drop i es)) (times_of (drop i fs))
+    ≡ ordering_then (ordering_then (int_cmp (get_or es i d).arr (get_or fs i e).arr) (int_cmp (get_or es i d).dep (get_or fs i e).dep)) (slice_cmp int_cmp (times_of (drop (i + 1) es)) (times_of (drop (i + 1) fs)))
+times-more es fs i d e h k = rw (drop_more es i d h, drop_more fs i e k) (ordering_then_assoc (int_cmp (get_or es i d).arr (get_or fs i e).arr) (int_cmp (get_or es i d).dep (get_or fs i e).dep) (slice_cmp int_cmp (times_of (drop (i + 1) es)) (times_of (drop (i + 1) fs))))
+
+less : (n : ℕ) → Less ≡ nat_cmp 0 (suc n)
+less n = grind arith
+
+greater : (n : ℕ) → Greater ≡ nat_cmp (suc n) 0
+greater n = grind arith
+
+one_more : (m n : ℕ) → nat_cmp m n ≡ nat_cmp (suc m) (suc n)
+one_more m n = grind arith
+
+-- past the end of one of them
+pub times-end : (i : ℕ) (es fs : List Event) → i ≤ length es → i ≤ length fs → (i ≡ length es) ⊎ (i ≡ length fs) →
+    slice_cmp int_cmp (times_of (drop i es)) (times_of (drop i fs)) ≡ nat_cmp (length es) (length fs)
+times-end zero [] [] g h k = refl
+times-end zero [] (f ∷ fs) g h k = less (length fs)
+times-end zero (e ∷ es) [] g h k = greater (length es)
+times-end zero (e ∷ es) (f ∷ fs) g h k = absurd (elim k [ inl a ↦ omega (arith, a) | inr a ↦ omega (arith, a) ])
+times-end (suc i) [] fs g h k = absurd (omega arith)
+times-end (suc i) (e ∷ es) [] g h k = absurd (omega arith)
+times-end (suc i) (e ∷ es) (f ∷ fs) g h k =
+    times-end i es fs (omega arith) (omega arith) (elim k [ inl a ↦ inl (omega (arith, a)) | inr a ↦ inr (omega (arith, a)) ]) ∙ one_more (length es) (length fs)

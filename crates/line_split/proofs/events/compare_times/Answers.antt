@@ -1,0 +1,13 @@
+use Rattle.std.proofs.Common.{◌≡◌, ◌≤◌, ◌⊎◌, length, arith, ◌∙◌, sym}
+use Rattle.line_split.proofs.EventLemmas.{times-end}
+use Rattle.line_split.proofs.events.compare_times.Goals as goal
+
+pub returns : goal.returns
+returns c =
+    let first = c.args.first.now in
+    let second = c.args.second.now in
+    let a : c.loop-i.i ≤ length first = omega arith in
+    let b : c.loop-i.i ≤ length second = omega arith in
+    let d : (c.loop-i.i ≡ length first) ⊎ (c.loop-i.i ≡ length second) = grind arith in
+    let e = times-end c.loop-i.i first second a b d in
+    cc

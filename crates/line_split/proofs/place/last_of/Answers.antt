@@ -1,0 +1,8 @@
+use Rattle.std.proofs.Common.{◌≡◌, ◌<◌, length, arith, sym, ◌∙◌, [], refl}
+use Rattle.std.proofs.lemmas.List.{nil_from_length}
+use Rattle.line_split.specs.Buckets.{last_of}
+use Rattle.line_split.proofs.Placing.{last_of-is}
+use Rattle.line_split.proofs.place.last_of.Goals as goal
+
+pub returns : goal.returns
+returns c = c.index-trips-trips.is ∙ last_of-is c.args.trips.now _ (grind arith)

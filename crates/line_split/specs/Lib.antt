@@ -1,0 +1,6 @@
+pub mod Patterns
+pub mod Buckets
+pub mod LinesData
+pub mod LinesOf
+pub mod Places
+pub mod Calls

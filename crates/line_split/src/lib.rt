@@ -1,0 +1,38 @@
+//! The lines of a timetable, as the first step of Trip-Based Public Transit Routing (Witt, ESA 2015).
+#![tactic(auto)]
+
+ghost use Rattle.std.specs.Prelude.{IfOk};
+ghost use Rattle.line_split.specs.LinesOf.{AreLinesOf};
+
+mod berths;
+mod departures;
+mod events;
+mod lines;
+mod order;
+mod place;
+mod places;
+mod rows;
+
+pub use lines::{Berth, Lines};
+
+use berths::berths_of;
+use departures::departures_of;
+use order::trip_order;
+use place::place_trips;
+use places::places_of;
+use std::alloc::Global;
+use tb_base::{Memory, Timetable};
+
+/// The lines of a timetable: trips of one pattern of stops and marks, none of which overtakes another. Each trip, in the order of
+/// all times and then of the numbers, joins the first line whose last trip is nowhere later, else it opens the next line.
+pub fn split(alloc: Global, table: &Timetable) -> Result<Lines, Memory>
+    ensures { IfOk result (λ lines. AreLinesOf table.now lines) }
+{
+    table.soundness();
+    let order = trip_order(alloc, table)?;
+    let lines = place_trips(alloc, table, order.as_slice())?;
+    let places = places_of(alloc, table.trip_count(), &lines)?;
+    let berths = berths_of(alloc, table, &lines)?;
+    let (starts, departures) = departures_of(alloc, table, &lines)?;
+    Ok(Lines::new(lines, places, berths, starts, departures))
+}

@@ -1,0 +1,85 @@
+//! A list of rows, each of which grows.
+ghost use Rattle.std.specs.Prelude.{◌≡◌, ◌<◌, ◌++◌, ◌∷◌, [], OnOk, IfOk, length, replicate, set, slice_index_or};
+
+use std::alloc::Global;
+use std::marker::Model;
+use tb_base::Memory;
+
+/// Rows of items.
+#[derive(Drop)]
+pub(crate) struct Rows<T> {
+    rows: Vec<Vec<T>>,
+}
+
+impl<T> Model for Rows<T> {
+    ghost use Rattle.std.specs.Prelude.{List, map};
+
+    ghost Value = { List (List T) };
+
+    ghost view = { λ p. map (λ v. v.items) p.rows.items };
+}
+
+impl<T: Drop> Rows<T> {
+    /// No row.
+    pub(crate) fn new(alloc: Global) -> Rows<T>
+        ensures { result ≡ [] }
+    {
+        Rows {
+            rows: Vec::new(alloc),
+        }
+    }
+
+    /// So many rows without an item.
+    pub(crate) fn with_rows(alloc: Global, count: usize) -> Result<Rows<T>, Memory>
+        ensures { IfOk result (λ rows. rows ≡ replicate count []) }
+    {
+        let mut rows = Rows::new(alloc);
+        for _row in 0..count {
+            rows.open(alloc)?;
+        }
+        Ok(rows)
+    }
+
+    /// How many rows there are.
+    pub(crate) fn len(&self) -> usize
+        ensures { result ≡ length self.now }
+    {
+        self.rows.len()
+    }
+
+    /// A row.
+    pub(crate) fn row(&self, i: usize) -> &[T]
+        requires { i < length self.now }
+        ensures { result.now ≡ slice_index_or self.now i [] }
+    {
+        self.rows[i].as_slice()
+    }
+
+    /// A row more, behind the others, without an item.
+    pub(crate) fn open(&mut self, alloc: Global) -> Result<(), Memory>
+        ensures { OnOk result (self.new ≡ self.old ++ [] ∷ []) }
+    {
+        self.rows.push(Vec::new(alloc))?;
+        Ok(())
+    }
+
+    /// A row more, behind the others, with one item.
+    pub(crate) fn open_with(&mut self, alloc: Global, item: T) -> Result<(), Memory>
+        ensures { OnOk result (self.new ≡ self.old ++ (item ∷ []) ∷ []) }
+    {
+        let mut row = Vec::new(alloc);
+        row.push(item)?;
+        self.rows.push(row)?;
+        Ok(())
+    }
+
+    /// An item more, at the end of a row.
+    pub(crate) fn add(&mut self, i: usize, item: T) -> Result<(), Memory>
+        requires { i < length self.old }
+        ensures { OnOk result (self.new ≡ set self.old i (slice_index_or self.old i [] ++ item ∷ [])) }
+    {
+        let row = &mut self.rows[i];
+        row.push(item)?;
+        Ok(())
+    }
+}
