@@ -1,17 +1,15 @@
 -- One call more, and one line more.
-use Rattle.std.proofs.Common.{◌≡◌, ◌≢◌, ◌∙◌, sym, ap, subst, refl, ℕ, zero, suc, ◌+◌, ◌<◌, ◌≤◌, ◌⊎◌, inl, inr, Bool, true, false, ◌==◌, List, [], ◌∷◌, ◌++◌, length, map, get_or, set, arith, append_assoc, length-set, get_or-set_same, get_or-set_other}
-use Rattle.std.specs.Prelude.{All, filter, flat_map, sum_by, slice_index_or}
-use Rattle.std.proofs.lemmas.Bool.{cases_eq, cases_lt, eq-eqb, ne_eqb}
-use Rattle.std.proofs.lemmas.List.{append-nil, map-append, get_or_past}
-use Rattle.std.proofs.lemmas.List.Elements.{filter-append, All-nil}
+use Rattle.std.proofs.Common.{◌≡◌, ◌≢◌, ◌∙◌, sym, ap, refl, ℕ, suc, ◌+◌, ◌<◌, ◌⊎◌, inl, inr, true, false, ◌==◌, List, [], ◌∷◌, ◌++◌, length, map, get_or, set, arith, append_assoc, get_or-set_same, get_or-set_other}
+use Rattle.std.specs.Prelude.{filter, flat_map, slice_index_or}
+use Rattle.std.proofs.lemmas.Bool.{cases_eq, eq-eqb, ne_eqb}
+use Rattle.std.proofs.lemmas.List.{append-nil, map-append}
+use Rattle.std.proofs.lemmas.List.Elements.{filter-append}
 use Rattle.std.proofs.lemmas.List.Concat.{flat_map-append}
-use Rattle.std.proofs.lemmas.List.Sums.{sum_by-cons}
 use Rattle.tb_base.specs.declared.table.Event.{Event}
-use Rattle.tb_base.specs.TimetableData.{TripData, TimetableData, no_event, events_of, stop_at}
-use Rattle.tb_base.specs.Soundness.{IsSound, IsSoundTrip, IsSoundEvent}
+use Rattle.tb_base.specs.TimetableData.{TimetableData, no_event}
 use Rattle.tb_base.specs.Transfers.{numbers_below}
 use Rattle.line_split.specs.declared.lines.Berth.{Berth}
-use Rattle.line_split.specs.LinesOf.{calls_at, berths_at, line_events}
+use Rattle.line_split.specs.LinesOf.{calls_at, line_events}
 use Rattle.line_split.specs.Calls.{calls_of}
 
 pub numbers_below-more : (n : ℕ) → numbers_below (n + 1) ≡ numbers_below n ++ n ∷ []
@@ -55,24 +53,3 @@ line_more T lines q n old new events is k e =
     = ap (flat_map (λ l. map (λ j. record { line = l; at = j }) (calls_at T (get_or lines l []) q))) (numbers_below-more n) ∙ flat_map-append (λ l. map (λ j. record { line = l; at = j }) (calls_at T (get_or lines l []) q)) (numbers_below n) (n ∷ []) in
     e ∙ ap (λ es. old ++ calls_of n es q (length es)) is ∙ ap (λ bs. bs ++ calls_of n (line_events T (get_or lines n [])) q (length (line_events T (get_or lines n [])))) k
     ∙ sym (more ∙ ap (λ bs. berths_before T lines q n ++ bs) (append-nil (map (λ j. record { line = n; at = j }) (calls_at T (get_or lines n []) q))))
-
--- ---- what soundness says of the events of a trip
-
-pub stops_inside : (T : TimetableData) → IsSound T → (t : ℕ) → All (λ e. e.stop < length T.stops) (events_of T t)
-stops_inside T sound t = by_case (cases_lt t (length T.trips))
-  where
-    by_case : (t < length T.trips) ⊎ (length T.trips ≤ t) → All (λ e. e.stop < length T.stops) (events_of T t)
-    by_case (inl h) = λ k d below. (IsSoundTrip.events (sound.trip t (record { name = []; events = [] }) h) k d below).stop
-    by_case (inr h) = subst (λ (trip : TripData). All (λ e. e.stop < length T.stops) trip.events) (sym (get_or_past T.trips t (record { name = []; events = [] }) h)) (All-nil (λ (e : Event). e.stop < length T.stops))
-
-one_of_sum : {X : Type 0} (f : X → ℕ) (xs : List X) (i : ℕ) (d : X) → i < length xs → f (get_or xs i d) ≤ sum_by f xs
-one_of_sum f [] i d h = absurd (omega arith)
-one_of_sum f (x ∷ xs) zero d h = omega (arith, sum_by-cons f x xs)
-one_of_sum f (x ∷ xs) (suc i) d h = omega (arith, sum_by-cons f x xs, one_of_sum f xs i d (omega arith))
-
-pub events_few : (T : TimetableData) → IsSound T → (t : ℕ) → length (events_of T t) ≤ 10000000
-events_few T sound t = by_case (cases_lt t (length T.trips))
-  where
-    by_case : (t < length T.trips) ⊎ (length T.trips ≤ t) → length (events_of T t) ≤ 10000000
-    by_case (inl h) = omega (arith, one_of_sum (λ (trip : TripData). length trip.events) T.trips t (record { name = []; events = [] }) h, sound.events)
-    by_case (inr h) = let none : length (events_of T t) ≡ 0 = ap (λ (trip : TripData). length trip.events) (get_or_past T.trips t (record { name = []; events = [] }) h) in omega (arith, none)

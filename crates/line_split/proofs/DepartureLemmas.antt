@@ -1,11 +1,10 @@
 -- The departures of a line at an index are one run, and the first in time is found along it.
-use Rattle.std.proofs.Common.{◌≡◌, ◌≢◌, ◌∙◌, sym, ap, subst, refl, ℕ, zero, suc, ◌+◌, ◌*◌, ◌<◌, ◌≤◌, ◌⊎◌, inl, inr, Bool, true, false, cond, List, [], ◌∷◌, ◌++◌, length, map, get_or, take, drop, find, Some, None, ℤ, ◌≤ℤ◌, ◌<ℤ◌, arith, append_assoc, length-append}
+use Rattle.std.proofs.Common.{◌≡◌, ◌∙◌, sym, ap, subst, refl, ℕ, zero, suc, ◌+◌, ◌*◌, ◌<◌, ◌≤◌, ◌⊎◌, inl, inr, true, false, cond, List, [], ◌∷◌, ◌++◌, length, map, get_or, take, drop, Some, None, ℤ, ◌≤ℤ◌, ◌<ℤ◌, arith, append_assoc, length-append}
 use Rattle.std.specs.Prelude.{AllPairs, flat_map, int_le, int_lt, slice_get}
 use Rattle.std.specs.List.{AllWithin, range_with_len}
 use Rattle.std.specs.List.Sorted.{IsPartitionedBy}
 use Rattle.std.proofs.lemmas.Int.{ints}
-use Rattle.std.proofs.lemmas.Bool.{cases_eq, cases_lt}
-use Rattle.std.proofs.lemmas.List.{append-nil, length-map, map-append, take-append-drop, drop_more, take_at, drop_at, take_more, flat_map_more, get_or-map}
+use Rattle.std.proofs.lemmas.List.{append-nil, length-map, take-append-drop, drop_more, take_at, drop_at, take_more, flat_map_more, get_or-map}
 use Rattle.std.proofs.lemmas.List.FromFn.{get_or-map-range_with_len, map-range_with_len_more}
 use Rattle.std.proofs.lemmas.List.Concat.{flat_map-append}
 use Rattle.tb_base.specs.TimetableData.{TimetableData, departure_at}
@@ -70,8 +69,8 @@ run_of T lines l i start count departures h k s n e =
     let later : List ℤ = flat_map (departures_at T line) split.rest in
     let own : line_departures T line ≡ runs ++ (departures_at T line i ++ later) = ap (flat_map (departures_at T line)) split.is ∙ flat_map-append (departures_at T line) (numbers_below i) (i ∷ split.rest) in
     let all : departures ≡ before ++ (runs ++ (departures_at T line i ++ (later ++ others))) =
-        e ∙ flat_map-at (line_departures T) lines l [] h ∙ ap (λ xs. before ++ (xs ++ others)) own
-        ∙ ap (λ xs. before ++ xs) (append_assoc runs (departures_at T line i ++ later) others ∙ ap (λ xs. runs ++ xs) (append_assoc (departures_at T line i) later others)) in
+    e ∙ flat_map-at (line_departures T) lines l [] h ∙ ap (λ xs. before ++ (xs ++ others)) own
+    ∙ ap (λ xs. before ++ xs) (append_assoc runs (departures_at T line i ++ later) others ∙ ap (λ xs. runs ++ xs) (append_assoc (departures_at T line i) later others)) in
     let at : start + i * count ≡ length before + length runs = rw (s, n, length-runs T line i) refl in
     let long : count ≡ length (departures_at T line i) = n ∙ sym (length-map line (λ u. departure_at T u i)) in
     record {

@@ -1,5 +1,5 @@
 -- Two trips, event for event.
-use Rattle.std.proofs.Common.{◌≡◌, ◌∙◌, ℕ, ◌+◌, ◌<◌, ◌≤◌, ◌==◌, ◌&&◌, Bool, List, length, drop, get_or, ap, refl, sym, arith, zero, suc, [], ◌∷◌, ◌⊎◌, inl, inr}
+use Rattle.std.proofs.Common.{◌≡◌, ◌∙◌, ℕ, ◌+◌, ◌<◌, ◌≤◌, ◌==◌, ◌&&◌, Bool, List, length, drop, get_or, refl, arith, zero, suc, [], ◌∷◌, ◌⊎◌, inl, inr}
 use Rattle.std.specs.Prelude.{int_le}
 use Rattle.std.specs.Ordering.{int_cmp, nat_cmp, ordering_then}
 use Rattle.std.specs.declared.cmp.Ordering.{Ordering}

@@ -22,7 +22,11 @@ pub(crate) fn first_of(trips: &[TripNo]) -> TripNo
 }
 
 /// For each stop where lines call, by line, then by index.
-pub(crate) fn berths_of(alloc: Global, table: &Timetable, lines: &Rows<TripNo>) -> Result<Rows<Berth>, Memory>
+pub(crate) fn berths_of(
+    alloc: Global,
+    table: &Timetable,
+    lines: &Rows<TripNo>,
+) -> Result<Rows<Berth>, Memory>
     requires { length lines.now < 2 ^ 32 }
     ensures length { IfOk result (λ berths. length berths ≡ length table.now.stops) }
     ensures berths { IfOk result (λ berths. (q : ℕ) → q < length table.now.stops →

@@ -11,7 +11,11 @@ use std::alloc::Global;
 use tb_base::{Memory, Sec, Timetable, TripNo};
 
 /// The departures, line after line and within a line index after index, behind the places where each line's begin.
-pub(crate) fn departures_of(alloc: Global, table: &Timetable, lines: &Rows<TripNo>) -> Result<(Vec<usize>, Vec<Sec>), Memory>
+pub(crate) fn departures_of(
+    alloc: Global,
+    table: &Timetable,
+    lines: &Rows<TripNo>,
+) -> Result<(Vec<usize>, Vec<Sec>), Memory>
     ensures starts { IfOk result (λ all. all.0.items
         ≡ map (λ l. length (flat_map (line_departures table.now) (take l lines.now))) (range_with_len 0 (length lines.now))) }
     ensures departures { IfOk result (λ all. all.1.items ≡ flat_map (line_departures table.now) lines.now) }
@@ -37,7 +41,12 @@ fn add_line(departures: &mut Vec<Sec>, table: &Timetable, trips: &[TripNo]) -> R
 }
 
 // Adds the departures of a line at one index.
-fn add_index(departures: &mut Vec<Sec>, table: &Timetable, trips: &[TripNo], at: usize) -> Result<(), Memory>
+fn add_index(
+    departures: &mut Vec<Sec>,
+    table: &Timetable,
+    trips: &[TripNo],
+    at: usize,
+) -> Result<(), Memory>
     ensures { OnOk result (departures.new.items ≡ departures.old.items ++ departures_at table.now trips.now at) }
 {
     for trip in trips {
@@ -50,9 +59,5 @@ fn departure(table: &Timetable, trip: TripNo, at: usize) -> Sec
     ensures { result ≡ departure_at table.now trip at }
 {
     let events = events_of(table, trip);
-    if at < events.len() {
-        events[at].dep
-    } else {
-        0
-    }
+    if at < events.len() { events[at].dep } else { 0 }
 }

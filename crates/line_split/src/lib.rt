@@ -1,4 +1,9 @@
-//! The lines of a timetable, as the first step of Trip-Based Public Transit Routing (Witt, ESA 2015).
+//! The lines of a timetable, as Trip-Based Public Transit Routing (Witt, ESA 2015) has them: trips with one sequence of stops and of
+//! boarding and alighting marks, none of which overtakes another.
+//!
+//! `split` makes the lines. The layer above is promised that they are the lines of the timetable (`AreLinesOf`), and finds in them
+//! without taking memory: the line of a trip and its place there, the trips of a line, where lines call at a stop, and the first
+//! trip of a line that departs at an index no earlier than a time, by one binary search along a run of departures.
 #![tactic(auto)]
 
 ghost use Rattle.std.specs.Prelude.{IfOk};
@@ -7,16 +12,16 @@ ghost use Rattle.line_split.specs.LinesOf.{AreLinesOf};
 mod berths;
 mod departures;
 mod events;
+pub mod laws;
 mod lines;
 mod order;
 mod place;
 mod places;
 mod rows;
 
-pub use lines::{Berth, Lines};
-
 use berths::berths_of;
 use departures::departures_of;
+pub use lines::{Berth, Lines};
 use order::trip_order;
 use place::place_trips;
 use places::places_of;

@@ -53,7 +53,12 @@ impl Lines {
     ) -> Lines
         requires { length lines < 2 ^ 32 }
         ensures { result ≡ record {
-            lines = lines; places = places.items; berths = berths; starts = starts.items; departures = departures.items } }
+          lines = lines;
+          places = places.items;
+          berths = berths;
+          starts = starts.items;
+          departures = departures.items;
+        } }
     {
         Lines {
             lines,

@@ -11,7 +11,11 @@ use std::alloc::Global;
 use tb_base::{Event, Memory, Timetable, TripNo};
 
 /// The lines: each trip in turn joins the first line that it may follow the last trip of, else it opens a new one.
-pub(crate) fn place_trips(alloc: Global, table: &Timetable, order: &[TripNo]) -> Result<Rows<TripNo>, Memory>
+pub(crate) fn place_trips(
+    alloc: Global,
+    table: &Timetable,
+    order: &[TripNo],
+) -> Result<Rows<TripNo>, Memory>
     ensures placed { IfOk result (λ lines. lines ≡ fold (place_trip table.now) [] order.now) }
     ensures count { IfOk result (λ lines. length lines ≤ length order.now) }
     ensures rows { IfOk result (λ lines. All (λ line. length line ≤ length order.now) lines) }
@@ -69,7 +73,12 @@ fn last_of(trips: &[TripNo]) -> TripNo
 }
 
 // The first of these lines that a trip with the events may join.
-fn first_line(table: &Timetable, lines: &Rows<TripNo>, among: &[usize], events: &[Event]) -> Option<usize>
+fn first_line(
+    table: &Timetable,
+    lines: &Rows<TripNo>,
+    among: &[usize],
+    events: &[Event],
+) -> Option<usize>
     requires { All (λ l. l < length lines.now) among.now }
     ensures { result ≡ find (λ l.
         may_follow (events_of table.now (last_of (slice_index_or lines.now l []))) events.now) among.now }

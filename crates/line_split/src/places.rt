@@ -8,14 +8,18 @@ use std::alloc::Global;
 use tb_base::{LineNo, Memory, TripNo};
 
 /// For each of so many trips its line and its place in it, counted from 0.
-pub(crate) fn places_of(alloc: Global, count: u32, lines: &Rows<TripNo>) -> Result<Vec<(LineNo, u32)>, Memory>
+pub(crate) fn places_of(
+    alloc: Global,
+    count: u32,
+    lines: &Rows<TripNo>,
+) -> Result<Vec<(LineNo, u32)>, Memory>
     requires fits { length lines.now < 2 ^ 32 }
     requires rows { All (λ line. length line < 2 ^ 32) lines.now }
     requires trips { All (λ line. All (λ t. t < count) line) lines.now }
     ensures length { IfOk result (λ places. length places.items ≡ count) }
     ensures places { IfOk result (λ places. (l k : ℕ) → l < length lines.now → k < length (slice_index_or lines.now l []) →
         StandsAt lines.now (slice_index_or (slice_index_or lines.now l []) k 0)
-            (slice_index_or places.items (slice_index_or (slice_index_or lines.now l []) k 0) (0, 0))) }
+        (slice_index_or places.items (slice_index_or (slice_index_or lines.now l []) k 0) (0, 0))) }
 {
     let mut places = Vec::new(alloc);
     places.resize(count as usize, (LineNo(0), 0))?;

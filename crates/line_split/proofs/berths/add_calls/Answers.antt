@@ -1,4 +1,4 @@
-use Rattle.std.proofs.Common.{◌≡◌, ◌∙◌, sym, ap, arith, length-set}
+use Rattle.std.proofs.Common.{◌∙◌, ap, length-set}
 use Rattle.std.proofs.lemmas.List.{get_or_default}
 use Rattle.tb_base.specs.declared.table.Event.{Event}
 use Rattle.tb_base.specs.TimetableData.{no_event}

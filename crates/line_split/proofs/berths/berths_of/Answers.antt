@@ -1,4 +1,4 @@
-use Rattle.std.proofs.Common.{◌≡◌, ◌∙◌, sym, ap, arith, get_or}
+use Rattle.std.proofs.Common.{◌∙◌, ap, arith, get_or}
 use Rattle.tb_base.specs.TimetableData.{events_of}
 use Rattle.line_split.proofs.CallLemmas.{line_more}
 use Rattle.line_split.proofs.berths.berths_of.Goals as goal

@@ -1,4 +1,4 @@
-use Rattle.std.proofs.Common.{◌≡◌, ◌≤◌, ◌⊎◌, length, arith, ◌∙◌, sym}
+use Rattle.std.proofs.Common.{◌≡◌, ◌≤◌, ◌⊎◌, length, arith}
 use Rattle.line_split.proofs.EventLemmas.{times-end}
 use Rattle.line_split.proofs.events.compare_times.Goals as goal
 

@@ -1,4 +1,3 @@
-use Rattle.std.proofs.Common.{◌≡◌, sym, ◌∙◌}
 use Rattle.line_split.proofs.TripOrders.{range_one_more}
 use Rattle.line_split.proofs.order.all_trips.Goals as goal
 

@@ -1,5 +1,5 @@
 use Rattle.std.specs.List.{range_with_len}
-use Rattle.std.proofs.Common.{IsPermutation, ◌≡◌, ◌∙◌, ap, length, rules, subst}
+use Rattle.std.proofs.Common.{IsPermutation, ◌∙◌, ap, length, rules, subst}
 use Rattle.std.proofs.lemmas.List.FromFn.{length-range_with_len}
 use Rattle.std.proofs.lemmas.List.Sorted.{length_permutation}
 use Rattle.std.proofs.lemmas.Fn.{always_returns_same}

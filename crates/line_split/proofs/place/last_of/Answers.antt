@@ -1,6 +1,4 @@
-use Rattle.std.proofs.Common.{◌≡◌, ◌<◌, length, arith, sym, ◌∙◌, [], refl}
-use Rattle.std.proofs.lemmas.List.{nil_from_length}
-use Rattle.line_split.specs.Buckets.{last_of}
+use Rattle.std.proofs.Common.{arith, ◌∙◌}
 use Rattle.line_split.proofs.Placing.{last_of-is}
 use Rattle.line_split.proofs.place.last_of.Goals as goal
 

@@ -1,4 +1,4 @@
-use Rattle.std.proofs.Common.{◌≡◌, arith, sym, subst, ◌∙◌, ap, ◌<◌, length}
+use Rattle.std.proofs.Common.{◌≡◌, arith, ◌∙◌, ◌<◌, length}
 use Rattle.line_split.specs.Patterns.{bucket_of}
 use Rattle.tb_base.specs.TimetableData.{events_of}
 use Rattle.line_split.specs.Buckets.{AreBucketed}

@@ -1,4 +1,4 @@
-use Rattle.std.proofs.Common.{◌≡◌, ◌∙◌, ◌<◌, length, refl, arith}
+use Rattle.std.proofs.Common.{◌∙◌, ◌<◌, length, refl, arith}
 use Rattle.std.proofs.lemmas.List.{get_or_read}
 use Rattle.line_split.proofs.PlaceLemmas.{notes_more}
 use Rattle.line_split.proofs.places.note_line.Goals as goal

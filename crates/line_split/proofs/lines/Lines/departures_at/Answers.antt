@@ -1,4 +1,4 @@
-use Rattle.std.proofs.Common.{◌≡◌, ◌∙◌, sym, ap, arith, ◌<◌, ◌-◌, ◌+◌, ◌*◌, length, [], get_or, vec_len, take, drop, flat_map}
+use Rattle.std.proofs.Common.{◌≡◌, ◌∙◌, ap, arith, ◌+◌, ◌*◌, length, [], get_or, vec_len, take, drop, flat_map}
 use Rattle.std.proofs.lemmas.Grind.{common_steps}
 use Rattle.std.proofs.lemmas.List.FromFn.{length-map-range_with_len}
 use Rattle.line_split.specs.LinesOf.{line_departures}
@@ -10,8 +10,8 @@ pub index-requires-3 : goal.index-requires-3
 index-requires-3 c =
     let lines = c.args.self.now.lines in
     let starts : length c.self.inside.starts.items ≡ length c.args.self.now.lines =
-        ap (λ (l : LinesData). length l.starts) c.self.view_is ∙ ap length c.requires.lines.starts
-        ∙ length-map-range_with_len (λ k. length (flat_map (line_departures c.args.table.now) (take k lines))) 0 (length lines) in
+    ap (λ (l : LinesData). length l.starts) c.self.view_is ∙ ap length c.requires.lines.starts
+    ∙ length-map-range_with_len (λ k. length (flat_map (line_departures c.args.table.now) (take k lines))) 0 (length lines) in
     let same : vec_len c.self.inside.starts ≡ length c.self.inside.starts.items = grind (arith, common_steps) in
     omega (arith, starts, same, c.index-2.ensures, c.requires.line)
 

@@ -1,6 +1,5 @@
-use Rattle.std.proofs.Common.{◌≡◌, ◌∙◌, sym, ap, arith, ◌<◌, ◌≤◌, length, [], get_or, Some}
+use Rattle.std.proofs.Common.{◌∙◌, sym, ap, arith, ◌<◌, ◌≤◌, length, [], get_or, Some}
 use Rattle.std.proofs.lemmas.Int.{to_z-of_z}
-use Rattle.std.proofs.lemmas.List.{get_or_default}
 use Rattle.std.specs.Int.{w32}
 use Rattle.std.proofs.lemmas.Option.{slice_get-get_or}
 use Rattle.tb_laws.proofs.LineLaws.{lines_divide}

@@ -1,0 +1,5 @@
+use Rattle.tb_laws.proofs.LineLaws.{lines_divide}
+use Rattle.line_split.proofs.laws.lines_divide.Goals as goal
+
+pub returns : goal.returns
+returns c = λ T lines are. lines_divide T lines.lines are.lines
