@@ -6,7 +6,7 @@ ghost use Rattle.gtfs_rows.specs.declared.fault.FeedFile.TheVariants as file;
 
 use crate::civil::date_of;
 use crate::fields::{digit_of, good, id_in, spot};
-use crate::{FeedFault, FeedFile, Lines, Name, RowsFault, Typed, typed_rows};
+use crate::{FeedFault, FeedFile, Lines, Name, RowReader, RowsFault, typed_rows};
 use std::alloc::Global;
 use std::marker::Model;
 
@@ -65,16 +65,22 @@ fn week_in(lines: &Lines) -> Result<[bool; 7], RowsFault>
     ])
 }
 
-impl Typed for CalendarRow {
+/// Reads the rows of calendar.txt.
+#[derive(Debug, Clone, Copy, PartialEq, Eq)]
+pub struct CalendarReader;
+
+impl RowReader for CalendarReader {
+    type Row = CalendarRow;
+
     ghost file = { file.Calendar };
 
-    ghost reading = { calendar_row };
+    ghost reading = { λ _. calendar_row };
 
-    fn file() -> FeedFile {
+    fn file(&self) -> FeedFile {
         FeedFile::Calendar
     }
 
-    fn read(alloc: Global, lines: &Lines) -> Result<Option<CalendarRow>, RowsFault> {
+    fn read(&self, alloc: Global, lines: &Lines) -> Result<Option<CalendarRow>, RowsFault> {
         let file = FeedFile::Calendar;
         let row = lines.row();
         let service = id_in(alloc, lines, file, 1)?;
@@ -102,5 +108,5 @@ pub fn calendar_rows(alloc: Global, bytes: &[u8]) -> Result<Vec<CalendarRow>, Ro
     requires { length bytes.now ≤ 1_073_741_824 }
     ensures { MatchResult result (λ v. calendar_rows bytes.now ≡ Ok v.items) (λ f. IsRefused (calendar_rows bytes.now) f) }
 {
-    typed_rows::<CalendarRow>(alloc, bytes)
+    typed_rows(alloc, &CalendarReader, bytes)
 }

@@ -6,7 +6,7 @@
 //! of two equal names the first counts. Fields are cut of spaces and tabs at both ends. A row without anything in
 //! it is passed over and keeps its number. Want of memory is its own answer, [`RowsFault::Memory`].
 //!
-//! [`Lines`] gives the rows of one file one at a time, and stores none; [`Typed`] is what a new kind of row needs.
+//! [`Lines`] gives the rows of one file one at a time, and stores none; [`RowReader`] is what a new kind of row needs.
 #![tactic(auto)]
 
 mod calendar;
@@ -23,19 +23,19 @@ mod transfers;
 mod trips;
 mod typed;
 
-pub use calendar::{CalendarRow, calendar_rows};
+pub use calendar::{CalendarReader, CalendarRow, calendar_rows};
 pub use civil::date_of;
-pub use dates::{DateRow, date_rows};
+pub use dates::{DateReader, DateRow, date_rows};
 pub use fault::{FeedFault, FeedFile, Many, RowsFault, Spot};
 pub use lines::Lines;
 pub use numbers::time_of;
 pub use records::Records;
-pub use stops::{Kind, StopRow, stop_rows};
+pub use stops::{Kind, StopReader, StopRow, stop_rows};
 pub use tb_base::{Memory, Name, Sec};
-pub use times::{TimeRow, time_rows};
-pub use transfers::{PathRule, TransferRow, transfer_rows};
-pub use trips::{TripRow, trip_rows};
-pub use typed::{Typed, typed_rows};
+pub use times::{TimeFields, TimeReader, TimeRow, time_fields, time_rows};
+pub use transfers::{PathRule, TransferReader, TransferRow, transfer_rows};
+pub use trips::{TripReader, TripRow, trip_rows};
+pub use typed::{RowReader, typed_rows};
 
 #[cfg(test)]
 mod tests;
