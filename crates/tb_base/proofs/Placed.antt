@@ -16,18 +16,18 @@ place_named-is T name stops stations p n =
     (sym (ap (position (bytes_eq name)) p ∙ position-map (bytes_eq name) (λ s. s.name) T.stops))
     ∙ ap (λ o. option_or (option_map StopPlace (position (bytes_eq name) stops)) (option_map StationPlace o)) (sym (ap (position (bytes_eq name)) n ∙ position-map (bytes_eq name) StationData.name T.stations))
 
+pub get_or-left : {X : Type 0} (xs ys : List X) (i : ℕ) (d : X) → i < length xs → get_or (xs ++ ys) i d ≡ get_or xs i d
+get_or-left [] ys i d h = absurd (omega arith)
+get_or-left (x ∷ xs) ys zero d h = refl
+get_or-left (x ∷ xs) ys (suc i) d h = get_or-left xs ys i d (omega arith)
+
 -- of a list that is in order both parts are
 pub AllPairs-left : {X : Type 0} (R : X → X → Type 0) (xs ys : List X) → AllPairs R (xs ++ ys) → AllPairs R xs
 AllPairs-left R xs ys h i j d before below =
-    let here : get_or (xs ++ ys) i d ≡ get_or xs i d = at_left xs ys i d (omega arith) in
-    let there : get_or (xs ++ ys) j d ≡ get_or xs j d = at_left xs ys j d below in
+    let here : get_or (xs ++ ys) i d ≡ get_or xs i d = get_or-left xs ys i d (omega arith) in
+    let there : get_or (xs ++ ys) j d ≡ get_or xs j d = get_or-left xs ys j d below in
     let long : length (xs ++ ys) ≡ length xs + length ys = length-append xs ys in
     rw (here, there) at (h i j d before (omega arith))
-  where
-    at_left : {X : Type 0} (xs ys : List X) (i : ℕ) (d : X) → i < length xs → get_or (xs ++ ys) i d ≡ get_or xs i d
-    at_left [] ys i d h = absurd (omega arith)
-    at_left (x ∷ xs) ys zero d h = refl
-    at_left (x ∷ xs) ys (suc i) d h = at_left xs ys i d (omega arith)
 
 pub AllPairs-right : {X : Type 0} (R : X → X → Type 0) (xs ys : List X) → AllPairs R (xs ++ ys) → AllPairs R ys
 AllPairs-right R [] ys h = h

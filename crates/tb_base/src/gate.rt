@@ -3,7 +3,7 @@
 /// A piece of work: a piece of the reduction, the publication of an edition, or a request of a lane. All numbers count from 0.
 #[derive(Clone, Copy, PartialEq, Eq, Debug)]
 pub enum Work {
-    /// So many trips of the reduction, by the number of the piece.
+    /// Some trips of the reduction, by the number of the piece.
     Piece(u32),
     /// The publication of an item of a plan.
     Publication(u32),

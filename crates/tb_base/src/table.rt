@@ -5,7 +5,7 @@ use super::numbers::{Sec, StopNo};
 use std::alloc::Global;
 use std::marker::Model;
 
-/// A name, as its bytes.
+/// A name of a stop, a station or a trip, as its bytes.
 #[derive(Debug, Drop)]
 pub struct Name(Vec<u8>);
 
@@ -18,7 +18,7 @@ impl Model for Name {
 }
 
 impl Name {
-    /// The name with these bytes.
+    /// The name with exactly these bytes. Refused only for want of memory.
     pub fn new(alloc: Global, bytes: &[u8]) -> Result<Name, Memory>
         ensures { IfOk result (λ name. name ≡ bytes.now) }
     {
@@ -34,7 +34,7 @@ impl Name {
     }
 }
 
-/// One stop of a trip.
+/// An event: one stop of a trip, with the times of arrival and departure, and whether one may board and alight there.
 #[derive(Clone, Copy, Debug, PartialEq, Eq)]
 pub struct Event {
     pub stop: StopNo,
@@ -50,14 +50,14 @@ pub struct Stop {
     pub name: Name,
 }
 
-/// A footpath to another stop.
+/// A footpath to another stop, with its seconds.
 #[derive(Clone, Copy, Debug, PartialEq, Eq)]
 pub struct Path {
     pub to: StopNo,
     pub secs: u32,
 }
 
-/// A trip with its events in order.
+/// A trip: its name, and its events in order.
 #[derive(Drop)]
 pub struct Trip {
     pub name: Name,
@@ -72,7 +72,7 @@ impl Model for Trip {
     ghost view = { λ t. record { name = t.name; events = t.events.items } };
 }
 
-/// A station: the stops that belong to it.
+/// A station: its name, and the stops that belong to it, in ascending order.
 #[derive(Drop)]
 pub struct Station {
     pub name: Name,
@@ -87,7 +87,8 @@ impl Model for Station {
     ghost view = { λ t. record { name = t.name; stops = t.stops.items } };
 }
 
-/// The parts of a timetable.
+/// The parts of a timetable. For each stop, by its number, the change time if it has one, in seconds, and the footpaths that
+/// leave it, by the stop that they lead to.
 #[derive(Drop)]
 pub struct Parts {
     pub stops: Vec<Stop>,
