@@ -20,7 +20,8 @@ pub fn trip_fault(rows: &[StopTime]) -> Option<FeedFault>
     if let Some(fault) = end_fault(&rows[0]) {
         return Some(fault);
     }
-    if let Some(fault) = end_fault(&rows[rows.len() - 1]) {
+    let last = rows.len() - 1;
+    if let Some(fault) = end_fault(&rows[last]) {
         return Some(fault);
     }
     fault_along(rows)

@@ -15,3 +15,6 @@ mod times;
 
 pub use rides::{RidesFault, rides_of};
 pub use stop_time::StopTime;
+
+#[cfg(test)]
+mod tests;
