@@ -14,6 +14,7 @@ mod civil;
 mod dates;
 mod fault;
 mod fields;
+mod file_names;
 mod lines;
 mod numbers;
 mod records;

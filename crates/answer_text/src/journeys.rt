@@ -1,0 +1,200 @@
+//! Journeys as texts.
+ghost use Rattle.std.specs.Prelude.{◌≡◌, ◌++◌, ◌<◌, All, IfOk, OnOk, codes, length};
+ghost use Rattle.tb_base.specs.TimetableData.{events_of, event_at};
+ghost use Rattle.tb_base.specs.BestValues.{ChoiceData};
+ghost use Rattle.tb_base.specs.JourneyRules.{HasNumbers};
+ghost use Rattle.answer_text.specs.Times.{time_text};
+ghost use Rattle.answer_text.specs.Journeys.{stop_name, trip_name, place_text, walk_text, ride_text, leg_text, legs_text, choice_text, choices_text, arrival_text, no_journey, unknown_text};
+
+use crate::text::Text;
+use std::alloc::Global;
+use tb_base::{Choice, Event, Leg, Memory, Sec, StopNo, Timetable, TripNo};
+
+const NO_JOURNEY: &[u8] = b"no journey\n";
+
+// An event of a trip.
+fn event_at(table: &Timetable, trip: TripNo, at: u32) -> Event
+    requires trip { trip < length table.now.trips }
+    requires at { at < length (events_of table.now trip) }
+    ensures event { result ≡ event_at table.now trip at }
+    ensures stop { result.stop < length table.now.stops }
+{
+    let trip = table.trip(trip);
+    trip.events[at as usize]
+}
+
+impl Text {
+    // Adds the name of a stop, behind a space.
+    fn stop(&mut self, table: &Timetable, p: StopNo) -> Result<(), Memory>
+        requires { p < length table.now.stops }
+        ensures { OnOk result (self.new ≡ self.old ++ (codes " " ++ stop_name table.now p)) }
+    {
+        let stop = table.stop(p);
+        self.add(b" ")?;
+        self.add(stop.name.bytes())
+    }
+
+    // Adds the name of a trip.
+    fn trip(&mut self, table: &Timetable, t: TripNo) -> Result<(), Memory>
+        requires { t < length table.now.trips }
+        ensures { OnOk result (self.new ≡ self.old ++ trip_name table.now t) }
+    {
+        let trip = table.trip(t);
+        self.add(trip.name.bytes())
+    }
+
+    // Adds the name of a stop and a time, each behind a space.
+    fn place(&mut self, table: &Timetable, p: StopNo, time: Sec) -> Result<(), Memory>
+        requires { p < length table.now.stops }
+        ensures { OnOk result (self.new ≡ self.old ++ place_text table.now p time) }
+    {
+        self.stop(table, p)?;
+        self.add(b" ")?;
+        self.time(time)
+    }
+
+    // Adds where and when an event is boarded.
+    fn boarding(&mut self, table: &Timetable, event: &Event) -> Result<(), Memory>
+        requires { event.now.stop < length table.now.stops }
+        ensures { OnOk result (self.new ≡ self.old ++ place_text table.now event.now.stop event.now.dep) }
+    {
+        self.place(table, event.stop, event.dep)
+    }
+
+    // Adds where and when an event is left.
+    fn alighting(&mut self, table: &Timetable, event: &Event) -> Result<(), Memory>
+        requires { event.now.stop < length table.now.stops }
+        ensures { OnOk result (self.new ≡ self.old ++ place_text table.now event.now.stop event.now.arr) }
+    {
+        self.place(table, event.stop, event.arr)
+    }
+
+    // Adds the line of a walk.
+    fn walk(&mut self, table: &Timetable, from: StopNo, to: StopNo, secs: u32) -> Result<(), Memory>
+        requires from { from < length table.now.stops }
+        requires to { to < length table.now.stops }
+        ensures { OnOk result (self.new ≡ self.old ++ walk_text table.now from to secs) }
+    {
+        self.add(b"  walk")?;
+        self.stop(table, from)?;
+        self.stop(table, to)?;
+        self.add(b" ")?;
+        self.number(secs)?;
+        self.add(b"\n")
+    }
+
+    // Adds the line of a ride.
+    fn ride(
+        &mut self,
+        table: &Timetable,
+        trip: TripNo,
+        board: u32,
+        alight: u32,
+    ) -> Result<(), Memory>
+        requires trip { trip < length table.now.trips }
+        requires board { board < length (events_of table.now trip) }
+        requires alight { alight < length (events_of table.now trip) }
+        ensures { OnOk result (self.new ≡ self.old ++ ride_text table.now trip board alight) }
+    {
+        let boarded = event_at(table, trip, board);
+        let left = event_at(table, trip, alight);
+        self.add(b"  ride ")?;
+        self.trip(table, trip)?;
+        self.boarding(table, &boarded)?;
+        self.alighting(table, &left)?;
+        self.add(b"\n")
+    }
+
+    // Adds the line of a leg.
+    fn leg(&mut self, table: &Timetable, leg: Leg) -> Result<(), Memory>
+        requires { HasNumbers table.now leg }
+        ensures { OnOk result (self.new ≡ self.old ++ leg_text table.now leg) }
+    {
+        match leg {
+            Leg::Walk { from, to, secs } => self.walk(table, from, to, secs),
+            Leg::Ride {
+                trip,
+                board,
+                alight,
+            } => self.ride(table, trip, board, alight),
+        }
+    }
+
+    // Adds the lines of legs.
+    fn legs(&mut self, table: &Timetable, legs: &[Leg]) -> Result<(), Memory>
+        requires { All (HasNumbers table.now) legs.now }
+        ensures { OnOk result (self.new ≡ self.old ++ legs_text table.now legs.now) }
+    {
+        for leg in legs {
+            self.leg(table, *leg)?;
+        }
+        Ok(())
+    }
+
+    // Adds the lines of a choice.
+    fn choice(&mut self, table: &Timetable, choice: &Choice) -> Result<(), Memory>
+        requires { All (HasNumbers table.now) choice.now.legs }
+        ensures { OnOk result (self.new ≡ self.old ++ choice_text table.now choice.now) }
+    {
+        self.add(b"arrive ")?;
+        self.time(choice.value.arrive)?;
+        self.add(b" rides ")?;
+        self.number(choice.value.rides)?;
+        self.add(b"\n")?;
+        self.legs(table, choice.legs.as_slice())
+    }
+}
+
+/// One line a leg, in order: `  walk STOP STOP SECONDS`, or `  ride TRIP STOP DEPARTURE STOP ARRIVAL`.
+/// The numbers of the legs exist in the timetable.
+pub fn legs_text(alloc: Global, table: &Timetable, legs: &[Leg]) -> Result<Vec<u8>, Memory>
+    requires { All (HasNumbers table.now) legs.now }
+    ensures { IfOk result (λ v. v.items ≡ legs_text table.now legs.now) }
+{
+    let mut text = Text::new(alloc);
+    text.legs(table, legs)?;
+    Ok(text.into_bytes())
+}
+
+/// Each choice as `arrive TIME rides N` and its legs, or `no journey` where there is none.
+/// The numbers of the legs exist in the timetable.
+pub fn choices_text(alloc: Global, table: &Timetable, choices: &[Choice]) -> Result<Vec<u8>, Memory>
+    requires { All (λ c. All (HasNumbers table.now) (ChoiceData.legs c)) choices.now }
+    ensures { IfOk result (λ v. v.items ≡ choices_text table.now choices.now) }
+{
+    let mut text = Text::new(alloc);
+    if choices.is_empty() {
+        text.add(NO_JOURNEY)?;
+    }
+    for choice in choices {
+        text.choice(table, choice)?;
+    }
+    Ok(text.into_bytes())
+}
+
+/// `arrive TIME`, or `no journey`.
+pub fn arrival_text(alloc: Global, arrival: Option<Sec>) -> Result<Vec<u8>, Memory>
+    ensures { IfOk result (λ v. v.items ≡ arrival_text arrival) }
+{
+    let mut text = Text::new(alloc);
+    match arrival {
+        Some(time) => {
+            text.add(b"arrive ")?;
+            text.time(time)?;
+            text.add(b"\n")?;
+        }
+        None => text.add(NO_JOURNEY)?,
+    }
+    Ok(text.into_bytes())
+}
+
+/// `unknown stop NAME`.
+pub fn unknown_text(alloc: Global, name: &[u8]) -> Result<Vec<u8>, Memory>
+    ensures { IfOk result (λ v. v.items ≡ unknown_text name.now) }
+{
+    let mut text = Text::new(alloc);
+    text.add(b"unknown stop ")?;
+    text.add(name)?;
+    text.add(b"\n")?;
+    Ok(text.into_bytes())
+}

@@ -1,0 +1,104 @@
+//! A text that grows.
+ghost use Rattle.std.specs.Prelude.{◌≡◌, ◌++◌, ◌<◌, [], OnOk};
+ghost use Rattle.std.specs.Fmt.{decimal};
+ghost use Rattle.answer_text.specs.Times.{two_digits, padded, clock_text, time_text};
+
+use std::alloc::Global;
+use std::marker::Model;
+use tb_base::{Memory, Sec};
+
+// A text that grows at its end, seen as its bytes.
+#[derive(Drop)]
+pub(crate) struct Text {
+    bytes: Vec<u8>,
+    alloc: Global,
+}
+
+impl Model for Text {
+    ghost use Rattle.std.specs.Prelude.{List, ℕ};
+
+    ghost Value = { List ℕ };
+
+    ghost view = { λ t. t.bytes.items };
+}
+
+impl Text {
+    // No bytes.
+    pub(crate) fn new(alloc: Global) -> Text
+        ensures { result ≡ [] }
+    {
+        Text {
+            bytes: Vec::new(alloc),
+            alloc,
+        }
+    }
+
+    // The bytes, to keep.
+    pub(crate) fn into_bytes(self) -> Vec<u8>
+        ensures { result.items ≡ self }
+    {
+        self.bytes
+    }
+
+    // Adds bytes.
+    pub(crate) fn add(&mut self, bytes: &[u8]) -> Result<(), Memory>
+        ensures { OnOk result (self.new ≡ self.old ++ bytes.now) }
+    {
+        match self.bytes.extend_from_slice(bytes) {
+            Ok(()) => Ok(()),
+            Err(_) => Err(Memory),
+        }
+    }
+
+    // Adds a number in decimal digits.
+    pub(crate) fn number(&mut self, n: u32) -> Result<(), Memory>
+        ensures { OnOk result (self.new ≡ self.old ++ decimal n) }
+    {
+        match format!(in self.alloc; "{n}") {
+            Ok(digits) => self.add(digits.as_bytes()),
+            Err(_) => Err(Memory),
+        }
+    }
+
+    // Adds a number below 100, in two digits.
+    fn two_digits(&mut self, n: u32) -> Result<(), Memory>
+        requires { n < 100 }
+        ensures { OnOk result (self.new ≡ self.old ++ two_digits n) }
+    {
+        let tens = b'0' + (n / 10) as u8;
+        let ones = b'0' + (n % 10) as u8;
+        self.add(&[tens, ones])
+    }
+
+    // Adds a number in at least two digits.
+    fn padded(&mut self, n: u32) -> Result<(), Memory>
+        ensures { OnOk result (self.new ≡ self.old ++ padded n) }
+    {
+        if n < 100 {
+            self.two_digits(n)
+        } else {
+            self.number(n)
+        }
+    }
+
+    // Adds seconds as hours, minutes and seconds.
+    fn clock(&mut self, secs: u32) -> Result<(), Memory>
+        ensures { OnOk result (self.new ≡ self.old ++ clock_text secs) }
+    {
+        self.padded(secs / 3600)?;
+        self.add(b":")?;
+        self.two_digits(secs / 60 % 60)?;
+        self.add(b":")?;
+        self.two_digits(secs % 60)
+    }
+
+    // Adds a time.
+    pub(crate) fn time(&mut self, time: Sec) -> Result<(), Memory>
+        ensures { OnOk result (self.new ≡ self.old ++ time_text time) }
+    {
+        if time < 0 {
+            self.add(b"-")?;
+        }
+        self.clock(time.unsigned_abs())
+    }
+}
