@@ -1,0 +1,3 @@
+pub mod Sparse
+pub mod OwnLine
+pub mod ByBerth
