@@ -1,6 +1,7 @@
 -- The rows of each trip from the last one back. A row is named by how many rows end with it, so 0 is none.
 use Rattle.std.specs.Prelude.{◌≡◌, ℕ, suc, ◌<◌, ◌≤◌, List, length, take, filter, slice_index, slice_index_or}
 use Rattle.trip_rides.specs.declared.stop_time.StopTime.{StopTime}
+use Rattle.trip_rides.specs.declared.chains.TripChains.{TripChains}
 use Rattle.trip_rides.specs.StopTimes.{is_of_trip}
 
 -- of the first n rows, the last one of a trip
@@ -15,3 +16,7 @@ pub record AreChains (rows : List StopTime) (n trips : ℕ) (last_rows earlier_r
   pub row_count : length earlier_rows ≡ n
   pub last : (trip : ℕ) → trip < trips → IsLastRow rows trip n (slice_index last_rows trip)
   pub earlier : (k : ℕ) (d : StopTime) → k < n → IsLastRow rows (StopTime.trip (slice_index_or rows k d)) k (slice_index earlier_rows k)
+
+-- the rows of each of so many trips, from the last one back
+abbrev pub ChainsOf : List StopTime → ℕ → TripChains → Type 0
+ChainsOf rows trips chains = AreChains rows (length rows) trips chains.last.items chains.earlier.items

@@ -1,5 +1,5 @@
 -- The stop times of a trip, in order.
-use Rattle.std.specs.Prelude.{ℕ, ◌==◌, List, [], ◌∷◌, filter, nat_lt, Bool, if◌then◌else◌}
+use Rattle.std.specs.Prelude.{◌≡◌, ◌≢◌, ℕ, AllPairs, ◌==◌, List, [], ◌∷◌, filter, nat_lt, Bool, if◌then◌else◌}
 use Rattle.trip_rides.specs.declared.stop_time.StopTime.{StopTime}
 
 -- a stop time of the trip
@@ -19,3 +19,7 @@ in_sequence (r ∷ rest) = placed r (in_sequence rest)
 -- the stop times of a trip, in order
 abbrev pub stop_times : List StopTime → ℕ → List StopTime
 stop_times rows trip = in_sequence (filter (is_of_trip trip) rows)
+
+-- two rows of one trip have different sequence numbers
+abbrev pub DifferWithinTrips : List StopTime → Type 0
+DifferWithinTrips rows = AllPairs (λ r s. StopTime.trip r ≡ StopTime.trip s → StopTime.sequence r ≢ StopTime.sequence s) rows

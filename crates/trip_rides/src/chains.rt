@@ -2,7 +2,7 @@
 ghost use Rattle.std.specs.Prelude.{◌≡◌, ◌<◌, ◌^◌, All, IfOk, OnOk, filter, length};
 ghost use Rattle.trip_rides.specs.declared.stop_time.StopTime.{StopTime};
 ghost use Rattle.trip_rides.specs.StopTimes.{is_of_trip};
-ghost use Rattle.trip_rides.specs.Chains.{AreChains};
+ghost use Rattle.trip_rides.specs.Chains.{ChainsOf};
 
 use crate::StopTime;
 use std::alloc::Global;
@@ -22,7 +22,7 @@ impl TripChains {
     pub fn new(alloc: Global, rows: &[StopTime], trips: usize) -> Result<TripChains, Memory>
         requires trips { All (λ r. StopTime.trip r < trips) rows.now }
         requires fits { length rows.now < 2 ^ 32 }
-        ensures { IfOk result (λ c. AreChains rows.now (length rows.now) trips c.last.items c.earlier.items) }
+        ensures { IfOk result (ChainsOf rows.now trips) }
     {
         let mut last: Vec<u32> = vec![in alloc; 0; trips]?;
         let mut earlier: Vec<u32> = Vec::with_capacity(alloc, rows.len())?;
@@ -41,7 +41,7 @@ impl TripChains {
         trip: u32,
         found: &mut Vec<StopTime>,
     ) -> Result<(), Memory>
-        requires chains { AreChains rows.now (length rows.now) (length self.now.last.items) self.now.last.items self.now.earlier.items }
+        requires chains { ChainsOf rows.now (length self.now.last.items) self.now }
         requires trip { trip < length self.now.last.items }
         ensures { OnOk result (found.new.items ≡ filter (is_of_trip trip) rows.now) }
     {

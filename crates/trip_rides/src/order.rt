@@ -1,8 +1,8 @@
 //! The rows of a trip in order of their sequence numbers.
 ghost use Rattle.std.specs.Prelude.{◌≡◌, ◌≢◌, ◌<◌, ◌↔◌, IsTrue, AllPairs, OnOk, length};
 ghost use Rattle.trip_rides.specs.declared.stop_time.StopTime.{StopTime};
-ghost use Rattle.trip_rides.specs.StopTimes.{in_sequence, stop_times};
-ghost use Rattle.trip_rides.specs.Chains.{AreChains};
+ghost use Rattle.trip_rides.specs.StopTimes.{in_sequence, stop_times, DifferWithinTrips};
+ghost use Rattle.trip_rides.specs.Chains.{ChainsOf};
 
 use crate::StopTime;
 use crate::chains::TripChains;
@@ -15,9 +15,9 @@ pub fn stop_times(
     trip: u32,
     found: &mut Vec<StopTime>,
 ) -> Result<(), Memory>
-    requires chains { AreChains rows.now (length rows.now) (length chains.now.last.items) chains.now.last.items chains.now.earlier.items }
+    requires chains { ChainsOf rows.now (length chains.now.last.items) chains.now }
     requires trip { trip < length chains.now.last.items }
-    requires sequences { AllPairs (λ r s. StopTime.trip r ≡ StopTime.trip s → StopTime.sequence r ≢ StopTime.sequence s) rows.now }
+    requires sequences { DifferWithinTrips rows.now }
     ensures { OnOk result (found.new.items ≡ stop_times rows.now trip) }
 {
     chains.rows_of(rows, trip, found)?;
@@ -37,7 +37,8 @@ fn put_in_sequence(rows: &mut Vec<StopTime>)
 
 // Whether each row's number is less than those of the rows after it.
 fn ascends(rows: &[StopTime]) -> bool
-    ensures { IsTrue result ↔ AllPairs (λ r s. StopTime.sequence r < StopTime.sequence s) rows.now }
+    ensures { IsTrue result
+        ↔ AllPairs (λ r s. StopTime.sequence r < StopTime.sequence s) rows.now }
 {
     for k in 1..rows.len() {
         if rows[k].sequence <= rows[k - 1].sequence {

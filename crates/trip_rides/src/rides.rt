@@ -1,10 +1,12 @@
 //! The events that the stop times of each trip give.
-ghost use Rattle.std.specs.Prelude.{◌≡◌, ◌≢◌, ◌≤◌, ◌<◌, ◌^◌, ℕ, Ok, All, AllPairs, IfOk, MatchResult, length, map};
+ghost use Rattle.std.specs.Prelude.{◌≡◌, ◌≤◌, ◌<◌, ◌^◌, ℕ, Ok, All, IfOk, MatchResult, length, map};
 ghost use Rattle.tb_base.specs.declared.table.Event.{Event};
 ghost use Rattle.trip_rides.specs.declared.stop_time.StopTime.{StopTime};
+ghost use Rattle.trip_rides.specs.StopTimes.{DifferWithinTrips};
 ghost use Rattle.trip_rides.specs.Times.{HasFileTimes};
 ghost use Rattle.trip_rides.specs.Rides.{event_of, events_in, ride_in, checked_rides, IsSoundRide};
 ghost use Rattle.trip_rides.specs.Refused.{IsRefused};
+ghost use Rattle.trip_rides.specs.declared.rides.RidesFault.TheVariants as why;
 
 use crate::StopTime;
 use crate::chains::TripChains;
@@ -12,7 +14,7 @@ use crate::faults::trip_fault;
 use crate::order::stop_times;
 use crate::times::{Timepoint, Times, first_timed, nearest_after, nearest_before, times_at};
 use gtfs_rows::FeedFault;
-use std::alloc::Global;
+use std::alloc::{AllocFailed, Global};
 use tb_base::{Event, Memory};
 
 /// Why there are no rides.
@@ -22,8 +24,26 @@ pub enum RidesFault {
     Memory,
 }
 
-/// The events of each trip, none where it doesn't run or has fewer than two stop times; or the first fault over all trips in
-/// order, running or not.
+impl From<Memory> for RidesFault {
+    ghost from_gives = { λ _ fault. fault ≡ why.Memory };
+
+    fn from(_refusal: Memory) -> RidesFault {
+        RidesFault::Memory
+    }
+}
+
+impl<T: Drop> From<AllocFailed<T>> for RidesFault {
+    ghost from_gives = { λ _ fault. fault ≡ why.Memory };
+
+    fn from(_refusal: AllocFailed<T>) -> RidesFault {
+        RidesFault::Memory
+    }
+}
+
+/// The events of each trip, in the order of trips.txt: none where it doesn't run or has fewer than two stop times. `runs` says
+/// which trips run. Or else the first fault over all trips in that order, running or not: `NoEndTime` of the first row, then of
+/// the last, then `TimeRunsBack`, along the rows. Two rows of a trip have different sequence numbers, and a row's times are from
+/// 0 to 359,999 (99:59:59).
 pub fn rides_of(
     alloc: Global,
     rows: &[StopTime],
@@ -32,29 +52,26 @@ pub fn rides_of(
     requires trips { All (λ r. StopTime.trip r < length runs.now) rows.now }
     requires row_count { length rows.now ≤ 20000000 }
     requires trip_count { length runs.now ≤ 2000000 }
-    requires sequences { AllPairs (λ r s. StopTime.trip r ≡ StopTime.trip s → StopTime.sequence r ≢ StopTime.sequence s) rows.now }
+    requires sequences { DifferWithinTrips rows.now }
     requires times { All HasFileTimes rows.now }
-    ensures meant { MatchResult result (λ rides. checked_rides rows.now runs.now ≡ Ok (map (λ ride. ride.items) rides.items)) (λ f. IsRefused (checked_rides rows.now runs.now) f) }
-    ensures sound { IfOk result (λ rides. (stops : ℕ) → All (λ r. StopTime.stop r < stops) rows.now → All (λ ride. IsSoundRide stops ride.items) rides.items) }
+    ensures meant { MatchResult result
+        (λ rides. checked_rides rows.now runs.now ≡ Ok (map (λ ride. ride.items) rides.items))
+        (λ f. IsRefused (checked_rides rows.now runs.now) f) }
+
+    // Whatever number of stops the rows name, the trips are sound among so many.
+    ensures sound { IfOk result (λ rides. (stops : ℕ) → All (λ r. StopTime.stop r < stops) rows.now
+        → All (λ ride. IsSoundRide stops ride.items) rides.items) }
 {
-    let Ok(chains) = TripChains::new(alloc, rows, runs.len()) else {
-        return Err(RidesFault::Memory);
-    };
+    let chains = TripChains::new(alloc, rows, runs.len())?;
     let mut rides: Vec<Vec<Event>> = Vec::new(alloc);
     let mut ordered: Vec<StopTime> = Vec::new(alloc);
     for trip in 0..runs.len() {
-        let Ok(()) = stop_times(&chains, rows, trip as u32, &mut ordered) else {
-            return Err(RidesFault::Memory);
-        };
+        stop_times(&chains, rows, trip as u32, &mut ordered)?;
         if let Some(fault) = trip_fault(&ordered) {
             return Err(RidesFault::Feed(fault));
         }
-        let Ok(ride) = ride_in(alloc, runs[trip], &ordered) else {
-            return Err(RidesFault::Memory);
-        };
-        let Ok(()) = rides.push(ride) else {
-            return Err(RidesFault::Memory);
-        };
+        let ride = ride_in(alloc, runs[trip], &ordered)?;
+        rides.push(ride)?;
     }
     Ok(rides)
 }
