@@ -1,2 +1,10 @@
 pub mod StopRows
 pub mod StopPlaces
+pub mod TransferRows
+pub mod MarkLaws
+pub mod NetworkLaws
+pub mod VerdictLaws
+pub mod NumberLists
+pub mod RowLaws
+pub mod BuildLaws
+pub mod LinkEnds

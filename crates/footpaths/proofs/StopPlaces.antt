@@ -1,10 +1,11 @@
 -- The rows of one kind, one row more.
 use Rattle.std.proofs.Common.{◌≡◌, ◌∙◌, sym, ap, refl, ℕ, ◌+◌, ◌<◌, ◌≤◌, suc, Option, Some, None, List, [], ◌∷◌, ◌++◌, length, map, take, get_or, Bool, true, false, not, ◌||◌, cond, arith}
-use Rattle.std.specs.Prelude.{bytes_eq, filter, MatchBool, Ok, position, option_map}
+use Rattle.std.specs.Prelude.{bytes_eq, filter, MatchBool, Ok, position, option_map, IfSome}
 use Rattle.std.specs.Option.{option_or}
 use Rattle.std.specs.List.{list_any}
 use Rattle.std.proofs.lemmas.List.{take_more, map-append, length-map, append-nil}
 use Rattle.std.proofs.lemmas.List.Elements.{filter-append}
+use Rattle.std.proofs.lemmas.List.Quantifiers.{position-Some}
 use Rattle.names.proofs.Places.{list_any-over_map, position-map}
 use Rattle.gtfs_rows.specs.StopsFile.{StopData}
 use Rattle.footpaths.specs.declared.found.Found.TheVariants as found
@@ -75,3 +76,17 @@ find_stop-by stops id ids platform_ids station_ids a b c e p s x y z =
     let y' : b ≡ position (has_stop_id id) (stations stops) = y ∙ id_place station_ids (λ s. is_station s.kind) stops id s in
     let z' : c ≡ list_any (has_stop_id id) stops = z ∙ ap (list_any (bytes_eq id)) e ∙ list_any-over_map (bytes_eq id) stop_id stops in
     rw (x', y', z') refl
+
+-- the place of an id among all ids is that of its row
+pub row_place : (ids : List (List ℕ)) (stops : List StopData) (id : List ℕ) → ids ≡ map stop_id stops → position (bytes_eq id) ids ≡ position (has_stop_id id) stops
+row_place ids stops id e = ap (position (bytes_eq id)) e ∙ position-map (bytes_eq id) stop_id stops
+
+pub few_rows : (ids : List (List ℕ)) (stops : List StopData) (n : ℕ) → ids ≡ map stop_id stops → length stops ≤ n → length ids ≤ n
+few_rows ids stops n e h = omega (arith, ap length e, length-map stops stop_id)
+
+-- a place is below the length
+pub place_below : {X : Type 0} (p : X → Bool) (xs : List X) (n : ℕ) (o : Option ℕ) → o ≡ position p xs → length xs ≤ n → IfSome o (λ k. k < n)
+place_below p [] n None e h = tt
+place_below p [] n (Some k) e h = cc
+place_below p (x ∷ xs) n None e h = tt
+place_below p (x ∷ xs) n (Some k) e h = let w = position-Some p (x ∷ xs) k x (sym e) in omega (arith, w.0)

@@ -1,1 +1,5 @@
 pub mod Stops
+pub mod Links
+pub mod Footpaths
+pub mod Marks
+pub mod Network

@@ -12,6 +12,14 @@ pub enum Found {
     Other,
 }
 
+// A row of transfers.txt by the numbers of its ends: None where the way is forbidden.
+#[derive(Debug, Clone, Copy, PartialEq, Eq)]
+pub struct Link {
+    pub from: Found,
+    pub to: Found,
+    pub secs: Option<u32>,
+}
+
 /// Why there is no table of stops. The number is the row in stops.txt.
 #[derive(Debug, Clone, Copy, PartialEq, Eq)]
 pub enum StopsFault {

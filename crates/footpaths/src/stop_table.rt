@@ -1,5 +1,5 @@
 //! The rows of stops.txt, with their numbers and a look-up by id.
-ghost use Rattle.std.specs.Prelude.{◌≡◌, ◌<◌, ◌≤◌, ℕ, List, Ok, IfOk, MatchResult, length, map, filter, position, bytes_eq};
+ghost use Rattle.std.specs.Prelude.{◌≡◌, ◌<◌, ◌≤◌, ℕ, List, Ok, IfOk, MatchResult, length, map, filter, position, bytes_eq, is_some, IfSome};
 ghost use Rattle.std.specs.List.{list_any};
 ghost use Rattle.gtfs_rows.specs.StopsFile.{StopData};
 ghost use Rattle.footpaths.specs.Stops.{stop_id, has_stop_id, lacks_parent, is_platform, is_station, is_kind, platforms, stations, parent_station, check_stops, IsStopsRefused};
@@ -208,6 +208,22 @@ impl StopTable {
         ensures checked { check_stops self.now ≡ Ok self.now }
     {
         let _rows = &self.rows;
+    }
+
+    /// How many rows there are.
+    pub fn row_count(&self) -> u32
+        ensures { result ≡ length self.now }
+    {
+        self.rows.len() as u32
+    }
+
+    // The place of the row with an id, where there is one.
+    pub(crate) fn place(&self, id: &[u8]) -> Option<u32>
+        ensures place { result ≡ position (has_stop_id id.now) self.now }
+        ensures there { is_some result ≡ list_any (has_stop_id id.now) self.now }
+        ensures few { IfSome result (λ place. place < 100000) }
+    {
+        place_of(&self.ids, id)
     }
 
     /// How many platforms there are.
