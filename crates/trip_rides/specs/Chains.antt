@@ -1,4 +1,5 @@
--- The rows of each trip from the last one back. A row is named by how many rows end with it, so 0 is none.
+-- The rows of each trip from the last one back.
+-- A row is named by how many rows end with it, so 0 is none.
 use Rattle.std.specs.Prelude.{◌≡◌, ℕ, suc, ◌<◌, ◌≤◌, List, length, take, filter, slice_index, slice_index_or}
 use Rattle.trip_rides.specs.declared.stop_time.StopTime.{StopTime}
 use Rattle.trip_rides.specs.declared.chains.TripChains.{TripChains}
@@ -10,7 +11,7 @@ pub record IsLastRow (rows : List StopTime) (trip n last : ℕ) : Type 0 where
   pub none_after : filter (is_of_trip trip) (take n rows) ≡ filter (is_of_trip trip) (take last rows)
   pub own : (k : ℕ) (d : StopTime) → last ≡ suc k → StopTime.trip (slice_index_or rows k d) ≡ trip
 
--- the last row of each trip among the first n rows, and for each of them the one before it of the same trip
+-- the last row of each trip among the first n rows, and for each of them the one before it of its trip
 pub record AreChains (rows : List StopTime) (n trips : ℕ) (last_rows earlier_rows : List ℕ) : Type 0 where
   pub trip_count : length last_rows ≡ trips
   pub row_count : length earlier_rows ≡ n

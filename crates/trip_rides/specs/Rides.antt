@@ -38,8 +38,10 @@ rides_on rows runs count = map (ride_on rows runs) (range_with_len 0 count)
 
 -- the events of each trip, or the first thing that is wrong with one, whether it runs or not
 abbrev pub checked_rides : List StopTime → List Bool → Result (List (List Event)) FeedFault
-checked_rides rows runs = unless_wrong (wrong_trips rows 0 (length runs)) (rides_on rows runs (length runs))
+checked_rides rows runs =
+    unless_wrong (wrong_trips rows 0 (length runs)) (rides_on rows runs (length runs))
 
 -- the events, where there are any, are those of a sound trip among so many stops
 abbrev pub IsSoundRide : ℕ → List Event → Type 0
-IsSoundRide stops ride = (name : List ℕ) → 0 < length ride → IsSoundTrip stops (record { name = name; events = ride })
+IsSoundRide stops ride =
+    (name : List ℕ) → 0 < length ride → IsSoundTrip stops (record { name = name; events = ride })

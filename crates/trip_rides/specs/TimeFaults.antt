@@ -35,7 +35,8 @@ departed_by departed (Some t) = Some t.dep
 -- where times run back, along rows after a departure
 abbrev pub wrong_along : Option ℤ → List StopTime → List (Option FeedFault)
 wrong_along departed [] = []
-wrong_along departed (r ∷ rest) = wrong_times departed r (times_of r) ++ wrong_along (departed_by departed (times_of r)) rest
+wrong_along departed (r ∷ rest) =
+    wrong_times departed r (times_of r) ++ wrong_along (departed_by departed (times_of r)) rest
 
 -- the last of rows, of which one comes first
 abbrev pub last_row : StopTime → List StopTime → StopTime
@@ -46,8 +47,10 @@ last_row r (s ∷ rest) = last_row s rest
 abbrev pub wrong_trip_times : List StopTime → List (Option FeedFault)
 wrong_trip_times [] = []
 wrong_trip_times (r ∷ []) = []
-wrong_trip_times (r ∷ s ∷ rest) = wrong_end r ∷ wrong_end (last_row s rest) ∷ wrong_along None (r ∷ s ∷ rest)
+wrong_trip_times (r ∷ s ∷ rest) =
+    wrong_end r ∷ wrong_end (last_row s rest) ∷ wrong_along None (r ∷ s ∷ rest)
 
 -- what may be wrong with so many trips, from a first one on, in order
 abbrev pub wrong_trips : List StopTime → ℕ → ℕ → List (Option FeedFault)
-wrong_trips rows first count = flat_map (λ trip. wrong_trip_times (stop_times rows trip)) (range_with_len first count)
+wrong_trips rows first count =
+    flat_map (λ trip. wrong_trip_times (stop_times rows trip)) (range_with_len first count)

@@ -51,7 +51,8 @@ nearest_after times k = first_timed (k + 1) (drop (k + 1) times)
 -- The first and the last row of a trip are timed, so both rows are there.
 abbrev pub between : Option Timepoint → Option Timepoint → ℕ → Times
 between (Some i) (Some j) k =
-    let t = i.times.dep +ℤ pos (unsigned_abs (j.times.arr -ℤ i.times.dep) * (k - i.at) / (j.at - i.at)) in
+    let span = unsigned_abs (j.times.arr -ℤ i.times.dep) in
+    let t = i.times.dep +ℤ pos (span * (k - i.at) / (j.at - i.at)) in
     record { arr = t; dep = t }
 between (Some i) None k = i.times
 between None j k = record { arr = pos 0; dep = pos 0 }
@@ -63,4 +64,5 @@ own_or (Some own) other = own
 
 -- the times at a place: the row's own, or else those between its neighbours
 abbrev pub times_at : List (Option Times) → ℕ → Times
-times_at times k = own_or (slice_index_or times k None) (between (nearest_before times k) (nearest_after times k) k)
+times_at times k =
+    own_or (slice_index_or times k None) (between (nearest_before times k) (nearest_after times k) k)

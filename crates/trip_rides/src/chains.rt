@@ -1,4 +1,4 @@
-//! The rows of each trip, in linear time: each row leads back to the one before it of the same trip.
+//! The rows of each trip, in linear time: each row leads back to the one before it of its trip.
 ghost use Rattle.std.specs.Prelude.{◌≡◌, ◌<◌, ◌^◌, All, IfOk, OnOk, filter, length};
 ghost use Rattle.trip_rides.specs.declared.stop_time.StopTime.{StopTime};
 ghost use Rattle.trip_rides.specs.StopTimes.{is_of_trip};
@@ -8,7 +8,8 @@ use crate::StopTime;
 use std::alloc::Global;
 use tb_base::Memory;
 
-/// The rows of each trip from the last one back. A row is named by how many rows end with it, so 0 is none.
+/// The rows of each trip from the last one back. A row is named by how many rows end with it, so
+/// 0 is none.
 #[derive(Drop)]
 pub struct TripChains {
     // The last row of each trip.

@@ -40,10 +40,12 @@ impl<T: Drop> From<AllocFailed<T>> for RidesFault {
     }
 }
 
-/// The events of each trip, in the order of trips.txt: none where it doesn't run or has fewer than two stop times. `runs` says
-/// which trips run. Or else the first fault over all trips in that order, running or not: `NoEndTime` of the first row, then of
-/// the last, then `TimeRunsBack`, along the rows. Two rows of a trip have different sequence numbers, and a row's times are from
-/// 0 to 359,999 (99:59:59).
+/// The events of each trip, in the order of trips.txt: none where it doesn't run or has fewer than
+/// two stop times. `runs` says which trips run.
+///
+/// Or else the first fault over all trips in that order, running or not: `NoEndTime` of the first
+/// row, then of the last, then `TimeRunsBack` along the rows. Two rows of a trip have different
+/// sequence numbers, and each time that a row gives is from 0 to 359,999 seconds (99:59:59).
 pub fn rides_of(
     alloc: Global,
     rows: &[StopTime],

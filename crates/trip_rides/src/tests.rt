@@ -14,7 +14,16 @@ fn row(
     dep: Option<Sec>,
     sequence: u32,
 ) -> StopTime
-    ensures { result ≡ record { row = row; trip = trip; stop = stop; arr = arr; dep = dep; sequence = sequence; board = true; alight = true } }
+    ensures { result ≡ record {
+      row = row;
+      trip = trip;
+      stop = stop;
+      arr = arr;
+      dep = dep;
+      sequence = sequence;
+      board = true;
+      alight = true;
+    } }
 {
     StopTime {
         row,
@@ -38,8 +47,8 @@ fn event(stop: u32, arr: Sec, dep: Sec) -> Event {
     }
 }
 
-// A trip out of order with a stop without times between 08:00:00 and 08:21:00, a trip that doesn't run, a trip of one row,
-// and a trip with two stops without times between 08:00:00 and 08:00:10.
+// A trip out of order with a stop without times between 08:00:00 and 08:21:00, a trip that doesn't
+// run, a trip of one row, and a trip with two stops without times between 08:00:00 and 08:00:10.
 #[test]
 fn rides(rt: HostRuntime) -> Result<(), Fail> {
     let rows = [
