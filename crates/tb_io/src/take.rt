@@ -1,5 +1,5 @@
 //! Whole files.
-ghost use Rattle.std.specs.Prelude.{◌≡◌, ◌≢◌, ◌⊎◌, ◌↔◌, ◌+◌, ◌-◌, ◌^◌, ◌<◌, ◌≤◌, Ok, Err, Some, None, IfOk, IfSome, OnOk, IsErrOf, option_map, length, vec_len};
+ghost use Rattle.std.specs.Prelude.{◌≡◌, ◌≢◌, ◌⊎◌, ◌↔◌, ◌+◌, ◌-◌, ◌^◌, ◌<◌, ◌≤◌, Ok, Err, Some, None, IfOk, IfSome, IsSome, OnOk, IsErrOf, option_map, length, vec_len};
 ghost use Rattle.tb_io.specs.Files.{file_at};
 
 use crate::Folder;
@@ -34,6 +34,7 @@ pub fn take_file<F: Folder>(
     ensures whole { IfOk result (λ taken. IfSome (F.files folder.old) (λ fs. option_map (λ v. v.items) taken ≡ file_at fs path.now)) }
     ensures within { IfOk result (λ taken. IfSome taken (λ v. vec_len v ≤ most)) }
     ensures too_large { result ≡ Err Taken.TooLarge → IfSome (F.files folder.old) (λ fs. IfSome (file_at fs path.now) (λ file. most < length file)) }
+    ensures there { result ≡ Err Taken.TooLarge → IfSome (F.files folder.old) (λ fs. IsSome (file_at fs path.now)) }
     ensures fault { result ≡ Err Taken.ReadFault → F.faults folder.old < F.faults folder.new }
     ensures kept { (result ≡ Err Taken.ReadFault) ⊎ (F.faults folder.new ≡ F.faults folder.old) }
     ensures same { F.files folder.new ≡ F.files folder.old }

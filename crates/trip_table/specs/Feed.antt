@@ -1,5 +1,5 @@
--- The files of a feed, and steps that look at them.
-use Rattle.std.specs.Prelude.{ℕ, List, [], ◌∷◌, ◌++◌, length, codes, nat_le, Bool, Option, Some, None, ok_or, Result, Ok, Err, if◌then◌else◌}
+-- The files of a feed, and the rows that they have.
+use Rattle.std.specs.Prelude.{ℕ, List, [], ◌++◌, length, codes, nat_le, is_some, Bool, Option, Some, None, Result, Ok, Err, if◌then◌else◌}
 use Rattle.tb_io.specs.Files.{FileList, file_at}
 use Rattle.gtfs_rows.specs.Steps.{and_then}
 use Rattle.gtfs_rows.specs.Lines.{Line, typed_rows}
@@ -7,7 +7,6 @@ use Rattle.gtfs_rows.specs.declared.fault.FeedFile.{FeedFile}
 use Rattle.gtfs_rows.specs.declared.fault.FeedFile.TheVariants as file
 use Rattle.gtfs_rows.specs.declared.fault.FeedFault.{FeedFault}
 use Rattle.gtfs_rows.specs.declared.fault.FeedFault.TheVariants as fault
-use Rattle.gtfs_rows.specs.declared.fault.Spot.{Spot}
 
 -- a feed: the bytes of each of its files that is there
 abbrev pub Feed : Type 0
@@ -22,48 +21,39 @@ file_name file.StopTimes = codes "stop_times.txt"
 file_name file.Transfers = codes "transfers.txt"
 file_name file.Frequencies = codes "frequencies.txt"
 
+-- the path of a file: the directory, a slash and the file's name
+abbrev pub path_in : List ℕ → FeedFile → List ℕ
+path_in dir file = dir ++ codes "/" ++ file_name file
+
 -- the feed in a directory of a folder
 abbrev pub feed_in : FileList → List ℕ → Feed
-feed_in files dir file = file_at files (dir ++ codes "/" ++ file_name file)
+feed_in files dir file = file_at files (path_in dir file)
 
 abbrev pub check_size : FeedFile → List ℕ → Result (List ℕ) FeedFault
 check_size file bytes = if nat_le (length bytes) 1073741824 then Ok bytes else Err (fault.FileTooLarge file)
 
--- the typed rows of a file that is there
-abbrev pub rows_in : {A : Type 0} → FeedFile → (Line → Result (Option A) FeedFault) → List ℕ → Result (List A) FeedFault
-rows_in file read bytes = and_then (check_size file bytes) (typed_rows file read)
+-- the bytes of a file, where it is there
+abbrev pub sized : FeedFile → Option (List ℕ) → Result (Option (List ℕ)) FeedFault
+sized file None = Ok None
+sized file (Some bytes) = and_then (check_size file bytes) (λ text. Ok (Some text))
+
+-- the rows in a file's bytes, where it is there
+abbrev pub rows_in : {A : Type 0} → FeedFile → (Line → Result (Option A) FeedFault) → Option (List ℕ) → Result (Option (List A)) FeedFault
+rows_in file read None = Ok None
+rows_in file read (Some bytes) = and_then (typed_rows file read bytes) (λ rows. Ok (Some rows))
+
+-- the typed rows of a file, where it is there
+abbrev pub file_rows : {A : Type 0} → Feed → FeedFile → (Line → Result (Option A) FeedFault) → Result (Option (List A)) FeedFault
+file_rows feed file read = and_then (sized file (feed file)) (rows_in file read)
+
+abbrev pub or_missing : {A : Type 0} → FeedFile → Option (List A) → Result (List A) FeedFault
+or_missing file None = Err (fault.MissingFile file)
+or_missing file (Some rows) = Ok rows
 
 -- the typed rows of a file that has to be there
 abbrev pub required : {A : Type 0} → Feed → FeedFile → (Line → Result (Option A) FeedFault) → Result (List A) FeedFault
-required feed file read = and_then (ok_or (feed file) (fault.MissingFile file)) (rows_in file read)
+required feed file read = and_then (file_rows feed file read) (or_missing file)
 
-abbrev pub rows_if_there : {A : Type 0} → FeedFile → (Line → Result (Option A) FeedFault) → Option (List ℕ) → Result (List A) FeedFault
-rows_if_there file read None = Ok []
-rows_if_there file read (Some bytes) = rows_in file read bytes
-
--- the typed rows of a file that has none where it isn't there
-abbrev pub optional : {A : Type 0} → Feed → FeedFile → (Line → Result (Option A) FeedFault) → Result (List A) FeedFault
-optional feed file read = rows_if_there file read (feed file)
-
--- a place in a file
-abbrev pub spot : FeedFile → ℕ → ℕ → Spot
-spot file row column = record { file = file; row = row; column = column }
-
--- what is wrong where a test holds
-abbrev pub fault_if : Bool → FeedFault → Option FeedFault
-fault_if test f = if test then Some f else None
-
--- the first thing that is wrong, or else a value
-abbrev pub unless_wrong : {A : Type 0} → List (Option FeedFault) → A → Result A FeedFault
-unless_wrong [] x = Ok x
-unless_wrong (None ∷ rest) x = unless_wrong rest x
-unless_wrong (Some f ∷ rest) x = Err f
-
--- what is wrong with each item in order, given the items before it
-abbrev pub wrong_after : {A : Type 0} → (List A → A → List (Option FeedFault)) → List A → List A → List (Option FeedFault)
-wrong_after wrong earlier [] = []
-wrong_after wrong earlier (x ∷ xs) = wrong earlier x ++ wrong_after wrong (earlier ++ x ∷ []) xs
-
--- the typed rows of a file, if nothing is wrong with one of them beside the others
-abbrev pub check_rows : {A : Type 0} → (List A → List A → A → List (Option FeedFault)) → List A → Result (List A) FeedFault
-check_rows wrong rows = unless_wrong (wrong_after (wrong rows) [] rows) rows
+-- nothing is wrong with a file that isn't there; one that is there isn't read yet
+abbrev pub check_unbuilt : Feed → FeedFile → Result (Unit {0}) FeedFault
+check_unbuilt feed file = if is_some (feed file) then Err (fault.NotBuilt file) else Ok tt

@@ -1,0 +1,25 @@
+use Rattle.std.proofs.Common.{◌∙◌, ap}
+use Rattle.gtfs_rows.specs.declared.fault.FeedFault.TheVariants as fault
+use Rattle.std.specs.Prelude.{Err}
+use Rattle.gtfs_rows.specs.declared.fault.Spot.{Spot}
+use Rattle.gtfs_rows.specs.declared.fault.FeedFault.{FeedFault}
+use Rattle.trip_table.proofs.NextTime.{IsNext, passes, stands_twice, places_more}
+use Rattle.trip_table.proofs.times.check_times.Goals as goal
+
+pub returns-in-Ok-false : goal.returns-in-Ok-false
+returns-in-Ok-false c =
+    let f = rw c.place_of.ensures at c.in-Ok-false.ensures.fresh in
+    let next : IsNext c.loop-row.seen c.args.rows.now c.loop-row.row-index c.row-item.result c.in-Ok-false.field-0 =
+    record { places = c.loop-row.invariant.places; within = c.loop-row-test.true; here = c.row-item.is; good = c.in-None.ensures; told = f } in
+    rw c.spot-spot.ensures (c.loop-row.invariant.right ∙ stands_twice _ _ _ _ _ next c.in-Ok-false.field-0-test)
+
+pub loop-row-preserved : goal.loop-row-preserved
+loop-row-preserved c =
+    let f = rw c.place_of.ensures at c.in-Ok-true.ensures.fresh in
+    let added = rw (c.place_of.ensures, c.in-Ok-true.field-0-test) at c.in-Ok-true.ensures.added in
+    let next : IsNext c.loop-row.seen c.args.rows.now c.loop-row.row-index c.row-item.result c.in-Ok-true.field-0 =
+    record { places = c.loop-row.invariant.places; within = c.loop-row-test.true; here = c.row-item.is; good = c.in-None.ensures; told = f } in
+    record {
+      places = places_more _ c.add.new.self _ _ _ _ next added;
+      right = c.loop-row.invariant.right ∙ passes _ _ _ _ _ next c.in-Ok-true.field-0-test;
+    }
