@@ -1,0 +1,84 @@
+-- What stays true of a queue that grows.
+use Rattle.std.proofs.Common.{◌≡◌, ◌∙◌, ℕ, suc, ◌+◌, ◌<◌, ◌≤◌, ◌⊎◌, inl, inr, List, [], ◌∷◌, ◌++◌, length, refl, sym, ap, subst, arith, Option, None, Some, length-append}
+use Rattle.std.specs.Prelude.{Contains}
+use Rattle.std.proofs.lemmas.List.{append_assoc, append-nil}
+use Rattle.tb_base.specs.declared.transfer.Hop.{Hop}
+use Rattle.tb_base.specs.TimetableData.{TimetableData, events_of}
+use Rattle.tb_base.specs.BestValues.{QueryData}
+use Rattle.tb_base.specs.Lines.{IsTripNoLater}
+use Rattle.tb_base.specs.Search.{RoundSegment, IsCovered, segment_at}
+use Rattle.tb_base.specs.Sufficiency.{IsPossibleHop}
+use Rattle.segment_queue.specs.declared.desk.Segment.{Segment}
+use Rattle.segment_queue.specs.Queue.{DeskData, mark_of}
+use Rattle.segment_queue.specs.Traced.{IsEntered, IsHoppedOnto, UsesHops, round_after, round_of, round_segments, segment_of}
+use Rattle.earliest_query.specs.UnderWay.{Extends, IsQueue, IsReachedBy}
+use Rattle.earliest_query.proofs.Rounds.{length-round_segments, segment_at-kept, segment_of-kept, round_of-kept}
+
+pub covered-kept : (T : TimetableData) (segments more : List Segment) (n m round top t b : ℕ) → IsCovered T (round_segments segments) n round t b → n ≤ length segments → n ≤ m → round ≤ top
+    → IsCovered T (round_segments (segments ++ more)) m top t b
+covered-kept T segments more n m round top t b c inside onward later =
+    let same : segment_at (round_segments (segments ++ more)) c.by ≡ segment_at (round_segments segments) c.by = segment_at-kept segments more c.by (omega (arith, c.within, inside)) in
+    record {
+      by = c.by;
+      within = omega (arith, c.within, onward);
+      by_then = omega (arith, ap (λ (r : RoundSegment). r.round) same, c.by_then, later);
+      trip = subst (λ (r : RoundSegment). IsTripNoLater T r.trip t) (sym same) c.trip;
+      board = omega (arith, ap (λ (r : RoundSegment). r.board) same, c.board);
+    }
+
+pub covered-later : (T : TimetableData) (segments : List Segment) (n m round top t b : ℕ) → IsCovered T (round_segments segments) n round t b → n ≤ m → round ≤ top → IsCovered T (round_segments segments) m top t b
+covered-later T segments n m round top t b c onward later =
+    record { by = c.by; within = omega (arith, c.within, onward); by_then = omega (arith, c.by_then, later); trip = c.trip; board = c.board }
+
+pub extends-refl : (D : DeskData) (round : ℕ) → Extends D D round
+extends-refl D round = record { more = []; segments = sym (append-nil D.segments); rounds = λ n h k. absurd (omega (arith, h, k)); hits = refl }
+
+pub extends-trans : (D E F : DeskData) (round : ℕ) → Extends D E round → Extends E F round → Extends D F round
+extends-trans D E F round p q = record {
+  more = p.more ++ q.more;
+  segments = q.segments ∙ ap (λ xs. xs ++ q.more) p.segments ∙ append_assoc D.segments p.more q.more;
+  rounds = λ n h k. elim (before_or_not n (length E.segments)) [
+    | inl before ↦ ap (λ xs. round_of xs n) q.segments ∙ round_of-kept E.segments q.more n before ∙ p.rounds n h before
+    | inr behind ↦ q.rounds n behind k
+  ];
+  hits = q.hits ∙ p.hits;
+}
+  where
+    before_or_not : (n m : ℕ) → (n < m) ⊎ (m ≤ n)
+    before_or_not n m = grind arith
+
+pub extends-long : (D D' : DeskData) (round : ℕ) → Extends D D' round → length D.segments ≤ length D'.segments
+extends-long D D' round e = omega (arith, ap length e.segments, length-append D.segments e.more)
+
+pub extends-segment : (D D' : DeskData) (round : ℕ) → Extends D D' round → (n : ℕ) → n < length D.segments → segment_of D'.segments n ≡ segment_of D.segments n
+extends-segment D D' round e n inside = ap (λ xs. segment_of xs n) e.segments ∙ segment_of-kept D.segments e.more n inside
+
+pub extends-round : (D D' : DeskData) (round : ℕ) → Extends D D' round → (n : ℕ) → n < length D.segments → round_of D'.segments n ≡ round_of D.segments n
+extends-round D D' round e n inside = ap (λ xs. round_of xs n) e.segments ∙ round_of-kept D.segments e.more n inside
+
+-- what a segment has reached stays reached
+pub extends-reached : (T : TimetableData) (D D' : DeskData) (joined n m round top t b : ℕ) → Extends D D' joined → IsReachedBy T D n round t b → n ≤ length D.segments → n ≤ m → round ≤ top → IsReachedBy T D' m top t b
+extends-reached T D D' joined n m round top t b e c inside onward later =
+    subst (λ xs. IsCovered T (round_segments xs) m top t b) (sym e.segments) (covered-kept T D.segments e.more n m round top t b c inside onward later)
+
+pub entered-kept : (T : TimetableData) (Q : QueryData) (segments more : List Segment) (n : ℕ) (parent : Option (ℕ × ℕ)) (trip board : ℕ) → n ≤ length segments → IsEntered T Q segments n parent trip board → IsEntered T Q (segments ++ more) n parent trip board
+entered-kept T Q segments more n None trip board inside h = h
+entered-kept T Q segments more n (Some p) trip board inside h =
+    let same : segment_of (segments ++ more) p.0 ≡ segment_of segments p.0 = segment_of-kept segments more p.0 (omega (arith, h.earlier, inside)) in
+    record {
+      earlier = h.earlier;
+      onward = omega (arith, h.onward, ap (λ (s : Segment). s.board) same);
+      within = omega (arith, h.within, ap (λ (s : Segment). s.end) same);
+      possible = subst (λ (s : Segment). IsPossibleHop T s.trip p.1 (record { trip = trip; at = board })) (sym same) h.possible;
+    }
+
+-- the rounds may have come further
+pub queue-later : (T : TimetableData) (lines : List (List ℕ)) (hops : ℕ → ℕ → List Hop) (Q : QueryData) (D : DeskData) (round top : ℕ) → round ≤ top → IsQueue T lines hops Q D round → IsQueue T lines hops Q D top
+queue-later T lines hops Q D round top later q = record {
+  step = q.step;
+  entered = q.entered;
+  by_hops = q.by_hops;
+  rounds = λ n h. omega (arith, q.rounds n h, later);
+  marked = λ t h. elim (q.marked t h) [ inl e ↦ inl e | inr c ↦ inr (covered-later T D.segments (length D.segments) (length D.segments) round top t (mark_of T D.marks t) c (omega arith) later) ];
+  ends = q.ends;
+}

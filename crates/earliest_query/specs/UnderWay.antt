@@ -1,0 +1,79 @@
+-- A search under way: what its desk keeps while the queue grows.
+use Rattle.std.specs.Prelude.{◌≡◌, ℕ, suc, ◌+◌, ◌<◌, ◌≤◌, ◌⊎◌, List, ◌++◌, length, take, sum_by, Option, Some, All, Contains, IfSome, IsSomeAnd, ℤ, pos, ◌+ℤ◌, ◌≤ℤ◌, ◌<ℤ◌}
+use Rattle.tb_base.specs.declared.query.Value.{Value}
+use Rattle.tb_base.specs.declared.transfer.Hop.{Hop}
+use Rattle.tb_base.specs.TimetableData.{TimetableData, arrival_at, departure_at, events_of, stop_at, MayAlight, MayBoard}
+use Rattle.tb_base.specs.Walking.{walk}
+use Rattle.tb_base.specs.BestValues.{IsNoWorse, QueryData}
+use Rattle.tb_base.specs.Search.{IsCovered}
+use Rattle.segment_queue.specs.declared.desk.Hit.{Hit}
+use Rattle.segment_queue.specs.declared.desk.Segment.{Segment}
+use Rattle.segment_queue.specs.Queue.{DeskData, IsInStep, covered_indices, mark_of}
+use Rattle.segment_queue.specs.Traced.{IsEntered, IsTracedHit, UsesHops, round_of, round_segments, segment_of}
+use Rattle.earliest_query.specs.Choices.{ArrivesBy}
+
+-- segments of this round have joined the queue, and the hits are as before
+pub record Extends (D D' : DeskData) (round : ℕ) : Type 0 where
+  pub more : List Segment
+  pub segments : D'.segments ≡ D.segments ++ more
+  pub rounds : (n : ℕ) → length D.segments ≤ n → n < length D'.segments → round_of D'.segments n ≡ round
+  pub hits : D'.hits ≡ D.hits
+
+-- one of the first n segments, in this round or an earlier one, is of a trip that is no later than t, and boarded at b or before
+abbrev pub IsReachedBy : TimetableData → DeskData → ℕ → ℕ → ℕ → ℕ → Type 0
+IsReachedBy T D n round t b = IsCovered T (round_segments D.segments) n round t b
+
+-- The queue of a search whose rounds have come up to this one.
+pub record IsQueue (T : TimetableData) (lines : List (List ℕ)) (hops : ℕ → ℕ → List Hop) (Q : QueryData) (D : DeskData) (round : ℕ) : Type 0 where
+  pub step : IsInStep T lines D
+  pub entered : (n : ℕ) → n < length D.segments → IsEntered T Q D.segments n (segment_of D.segments n).parent (segment_of D.segments n).trip (segment_of D.segments n).board
+  pub by_hops : UsesHops hops D.segments
+  pub rounds : (n : ℕ) → n < length D.segments → round_of D.segments n ≤ round
+  -- a trip's mark is its last index, or at it a segment has reached the trip
+  pub marked : (t : ℕ) → t < length T.trips → (length (events_of T t) ≤ suc (mark_of T D.marks t)) ⊎ IsReachedBy T D (length D.segments) round t (mark_of T D.marks t)
+  -- the end of a segment is its trip's last index, or at it a segment before it has reached the trip
+  pub ends : (n : ℕ) → n < length D.segments → (length (events_of T (segment_of D.segments n).trip) ≤ suc (segment_of D.segments n).end)
+      ⊎ IsReachedBy T D n (round_of D.segments n) (segment_of D.segments n).trip (segment_of D.segments n).end
+
+-- segment n covers index i of its trip
+pub record Covers (D : DeskData) (n i : ℕ) : Type 0 where
+  pub onward : (segment_of D.segments n).board < i
+  pub within : i ≤ (segment_of D.segments n).end
+
+-- each hop from index i of segment n has been followed
+abbrev pub IsFollowed : TimetableData → (ℕ → ℕ → List Hop) → DeskData → ℕ → ℕ → Type 0
+IsFollowed T hops D n i = (h : Hop) → Contains (hops (segment_of D.segments n).trip i) h → IsReachedBy T D (length D.segments) (suc (round_of D.segments n)) h.trip h.at
+
+-- to alight from segment n at index i, and walk to a target
+pub record IsOffered (T : TimetableData) (Q : QueryData) (D : DeskData) (n i q secs : ℕ) : Type 0 where
+  pub alights : MayAlight T (segment_of D.segments n).trip i
+  pub target : Contains Q.to q
+  pub walks : walk T (stop_at T (segment_of D.segments n).trip i) q ≡ Some secs
+
+-- the best hit so far arrives no later than by alighting from segment n at index i
+abbrev pub IsBounded : TimetableData → QueryData → DeskData → Option Hit → ℕ → ℕ → Type 0
+IsBounded T Q D best n i = (q secs : ℕ) → IsOffered T Q D n i q secs → ArrivesBy best (arrival_at T (segment_of D.segments n).trip i +ℤ pos secs)
+
+-- a hit of this round that arrives before the best so far
+pub record IsNewHit (T : TimetableData) (Q : QueryData) (D : DeskData) (round : ℕ) (best : Option Hit) (h : Hit) : Type 0 where
+  pub traced : IsTracedHit T Q D.segments h
+  pub rides : h.value.rides ≡ round
+  pub sooner : IfSome best (λ b. h.value.arrive <ℤ b.value.arrive)
+
+-- the best hit is as before, or an earlier one of this round
+abbrev pub IsImproved : TimetableData → QueryData → DeskData → ℕ → Option Hit → Option Hit → Type 0
+IsImproved T Q D round best result = (result ≡ best) ⊎ IsSomeAnd result (IsNewHit T Q D round best)
+
+-- how many indices the first n segments cover
+abbrev pub covered_before : List Segment → ℕ → ℕ
+covered_before segments n = sum_by covered_indices (take n segments)
+
+-- some hit is no worse than this value
+pub record IsHit (hits : List Hit) (v : Value) : Type 0 where
+  pub by : Hit
+  pub one : Contains hits by
+  pub no_worse : IsNoWorse by.value v
+
+-- whoever boards at the stop after a walk of so many seconds has been reached
+abbrev pub IsBoarded : TimetableData → QueryData → DeskData → ℕ → ℕ → Type 0
+IsBoarded T Q D stop secs = (t b : ℕ) → MayBoard T t b → b + 1 < length (events_of T t) → stop_at T t b ≡ stop → (Q.leave +ℤ pos secs) ≤ℤ departure_at T t b → IsReachedBy T D (length D.segments) 1 t b
