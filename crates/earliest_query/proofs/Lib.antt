@@ -4,3 +4,6 @@ pub mod OneMore
 pub mod Nearest
 pub mod Following
 pub mod BestSoFar
+pub mod LineBoarding
+pub mod StopSums
+pub mod FromOrigins

@@ -27,6 +27,12 @@ pub record IsFirstChoice (T : TimetableData) (origins : List ℕ) (place stop se
   pub nearest : (b s : ℕ) → b < length origins → walk T (slice_index origins b) stop ≡ Some s → secs ≤ s
   pub first : (b s : ℕ) → b < place → walk T (slice_index origins b) stop ≡ Some s → secs < s
 
+-- an origin has a walk of so many seconds to the stop
+pub record IsNear (T : TimetableData) (origins : List ℕ) (stop secs : ℕ) : Type 0 where
+  pub origin : ℕ
+  pub from : Contains origins origin
+  pub walks : walk T origin stop ≡ Some secs
+
 -- the stops with a walk from an origin
 abbrev pub stops_near : TimetableData → List ℕ → List ℕ
 stops_near T origins = filter (λ p. list_any (λ o. is_some (walk T o p)) origins) (numbers_below (length T.stops))

@@ -1,6 +1,7 @@
 -- A search under way: what its desk keeps while the queue grows.
-use Rattle.std.specs.Prelude.{◌≡◌, ℕ, suc, ◌+◌, ◌<◌, ◌≤◌, ◌⊎◌, List, ◌++◌, length, take, sum_by, Option, Some, All, Contains, IfSome, IsSomeAnd, ℤ, pos, ◌+ℤ◌, ◌≤ℤ◌, ◌<ℤ◌}
+use Rattle.std.specs.Prelude.{◌≡◌, ◌≢◌, ℕ, suc, ◌+◌, ◌<◌, ◌≤◌, ◌⊎◌, List, ◌++◌, length, take, sum_by, Option, Some, All, AllPairs, slice_index, slice_index_or, Contains, IfSome, IsSomeAnd, ℤ, pos, ◌+ℤ◌, ◌≤ℤ◌, ◌<ℤ◌}
 use Rattle.tb_base.specs.declared.query.Value.{Value}
+use Rattle.tb_base.specs.declared.table.Path.{Path}
 use Rattle.tb_base.specs.declared.transfer.Hop.{Hop}
 use Rattle.tb_base.specs.TimetableData.{TimetableData, arrival_at, departure_at, events_of, stop_at, MayAlight, MayBoard}
 use Rattle.tb_base.specs.Walking.{walk}
@@ -10,7 +11,8 @@ use Rattle.segment_queue.specs.declared.desk.Hit.{Hit}
 use Rattle.segment_queue.specs.declared.desk.Segment.{Segment}
 use Rattle.segment_queue.specs.Queue.{DeskData, IsInStep, covered_indices, mark_of}
 use Rattle.segment_queue.specs.Traced.{IsEntered, IsTracedHit, UsesHops, round_of, round_segments, segment_of}
-use Rattle.earliest_query.specs.Choices.{ArrivesBy}
+use Rattle.segment_queue.specs.Scans.{line_indices_at}
+use Rattle.earliest_query.specs.Choices.{ArrivesBy, IsFirstChoice}
 
 -- segments of this round have joined the queue, and the hits are as before
 pub record Extends (D D' : DeskData) (round : ℕ) : Type 0 where
@@ -77,3 +79,37 @@ pub record IsHit (hits : List Hit) (v : Value) : Type 0 where
 -- whoever boards at the stop after a walk of so many seconds has been reached
 abbrev pub IsBoarded : TimetableData → QueryData → DeskData → ℕ → ℕ → Type 0
 IsBoarded T Q D stop secs = (t b : ℕ) → MayBoard T t b → b + 1 < length (events_of T t) → stop_at T t b ≡ stop → (Q.leave +ℤ pos secs) ≤ℤ departure_at T t b → IsReachedBy T D (length D.segments) 1 t b
+
+-- all stops that are boarded from the origin at this place have been boarded
+abbrev pub AreBoarded : TimetableData → QueryData → DeskData → ℕ → Type 0
+AreBoarded T Q D place = (stop secs : ℕ) → walk T (slice_index Q.from place) stop ≡ Some secs → IsFirstChoice T Q.from place stop secs → IsBoarded T Q D stop secs
+
+-- so many steps for a stop that is boarded, and none for one that isn't
+abbrev pub BoardsOnce : TimetableData → List (List ℕ) → List ℕ → ℕ → ℕ → ℕ → ℕ → ℕ → Type 0
+BoardsOnce T lines origins place stop secs before after = (after ≡ before) ⊎ (IsFirstChoice T origins place stop secs × (after ≡ before + length (line_indices_at T lines stop)))
+
+-- a stop that is boarded from an origin at a place from this one up to another
+pub record IsChosen (T : TimetableData) (origins : List ℕ) (low high stop : ℕ) : Type 0 where
+  pub inside : stop < length T.stops
+  pub place : ℕ
+  pub from_low : low ≤ place
+  pub below : place < high
+  pub within : place < length origins
+  pub secs : ℕ
+  pub walks : walk T (slice_index origins place) stop ≡ Some secs
+  pub first : IsFirstChoice T origins place stop secs
+
+-- the steps are the line indices at some stops that differ, each boarded from an origin at one of these places
+pub record BoardsStops (T : TimetableData) (lines : List (List ℕ)) (origins : List ℕ) (low high before after : ℕ) : Type 0 where
+  pub stops : List ℕ
+  pub distinct : AllPairs (λ p q. p ≢ q) stops
+  pub chosen : All (IsChosen T origins low high) stops
+  pub steps : after ≡ before + sum_by (λ p. length (line_indices_at T lines p)) stops
+
+-- the same, where each of the stops is the origin or one that the first paths lead to
+pub record BoardsAmong (T : TimetableData) (lines : List (List ℕ)) (origins : List ℕ) (place origin : ℕ) (paths : List Path) (count before after : ℕ) : Type 0 where
+  pub stops : List ℕ
+  pub distinct : AllPairs (λ p q. p ≢ q) stops
+  pub chosen : All (IsChosen T origins place (place + 1)) stops
+  pub steps : after ≡ before + sum_by (λ p. length (line_indices_at T lines p)) stops
+  pub among : (q : ℕ) → Contains stops q → (q ≡ origin) ⊎ ((k : ℕ) × (k < count) × ((d : Path) → (slice_index_or paths k d).to ≡ q))

@@ -1,0 +1,139 @@
+-- Each stop is boarded from one origin.
+use Rattle.std.proofs.Common.{◌≡◌, ◌≢◌, ◌∙◌, ℕ, zero, suc, ◌+◌, ◌<◌, ◌≤◌, ◌⊎◌, inl, inr, List, [], ◌∷◌, ◌++◌, Bool, true, length, get_or, refl, sym, ap, subst, arith, Option, Some, None}
+use Rattle.std.specs.Prelude.{All, AllPairs, Contains, filter, is_some, slice_index, sum_by}
+use Rattle.std.specs.List.{list_any}
+use Rattle.std.proofs.lemmas.List.Elements.{All-append, All-nil, All-push, All-weaker}
+use Rattle.std.proofs.lemmas.List.Folds.{list_any_at}
+use Rattle.std.proofs.lemmas.List.Sums.{sum_by-append, sum_by-cons, sum_by_push}
+use Rattle.tb_base.specs.declared.table.Path.{Path}
+use Rattle.tb_base.specs.TimetableData.{TimetableData}
+use Rattle.tb_base.specs.Transfers.{numbers_below}
+use Rattle.tb_base.specs.Walking.{walk}
+use Rattle.tb_base.proofs.Ordered.{Member, Member-from_Contains, Contains-from_Member, AllPairs-tail}
+use Rattle.tb_laws.proofs.Members.{Member-append, Member-left, Member-right, Member-filter, Member-numbers_below}
+use Rattle.segment_queue.specs.Scans.{line_indices_at}
+use Rattle.segment_queue.proofs.Distinct.{before_member, of_member, pairs_from_head}
+use Rattle.earliest_query.specs.Choices.{IsFirstChoice, lines_near, stops_near}
+use Rattle.earliest_query.specs.UnderWay.{BoardsAmong, BoardsOnce, BoardsStops, IsChosen}
+
+member_split : (x : ℕ) (ys : List ℕ) → Member x ys → (before after : List ℕ) × (ys ≡ before ++ x ∷ after)
+member_split x [] h = absurd h
+member_split x (y ∷ ys) (inl e) = ([], ys, ap (λ z. z ∷ ys) e)
+member_split x (y ∷ ys) (inr h) = let r : (before after : List ℕ) × (ys ≡ before ++ x ∷ after) = member_split x ys h in (y ∷ r.0, r.1, ap (λ zs. y ∷ zs) r.2)
+
+-- the sum over numbers that differ is at most that over a list with all of them
+distinct_sum : (f : ℕ → ℕ) (xs ys : List ℕ) → AllPairs (λ p q. p ≢ q) xs → ((x : ℕ) → Member x xs → Member x ys) → sum_by f xs ≤ sum_by f ys
+distinct_sum f [] ys distinct inside = omega arith
+distinct_sum f (x ∷ xs) ys distinct inside =
+    let s : (before after : List ℕ) × (ys ≡ before ++ x ∷ after) = member_split x ys (inside x (inl refl)) in
+    let rest : sum_by f xs ≤ sum_by f (s.0 ++ s.1)
+    = distinct_sum f xs (s.0 ++ s.1) (AllPairs-tail (λ p q. p ≢ q) x xs distinct)
+    (λ z h. without s.0 s.1 z (λ e. before_member (λ p q. p ≢ q) x xs z distinct h (sym e)) (subst (λ l. Member z l) s.2 (inside z (inr h)))) in
+    omega (arith, rest, sum_by-cons f x xs, ap (sum_by f) s.2, sum_by-append f s.0 (x ∷ s.1), sum_by-cons f x s.1, sum_by-append f s.0 s.1)
+  where
+    without : (before after : List ℕ) (z : ℕ) → z ≢ x → Member z (before ++ x ∷ after) → Member z (before ++ after)
+    without before after z other h =
+        elim (Member-append z before (x ∷ after) h) [
+          | inl k ↦ Member-left z before after k
+          | inr k ↦ Member-right z before after (elim k [ inl e ↦ absurd (other (sym e)) | inr m ↦ m ])
+        ]
+
+pairs_append : {X : Type 0} (R : X → X → Type 0) (xs ys : List X) → AllPairs R xs → AllPairs R ys → ((x y : X) → Member x xs → Member y ys → R x y) → AllPairs R (xs ++ ys)
+pairs_append R [] ys p q cross = q
+pairs_append R (x ∷ xs) ys p q cross =
+    pairs_from_head R x (xs ++ ys) (λ y h. elim (Member-append y xs ys h) [ inl k ↦ before_member R x xs y p k | inr k ↦ cross x y (inl refl) k ])
+    (pairs_append R xs ys (AllPairs-tail R x xs p) q (λ a b h k. cross a b (inr h) k))
+
+module _ (T : TimetableData) (lines : List (List ℕ)) (origins : List ℕ) where
+  same_secs : (o q r s w : ℕ) → q ≡ r → walk T o q ≡ Some s → walk T o r ≡ Some w → s ≡ w
+  same_secs o q r s w e f g = let k : walk T o q ≡ walk T o r = ap (walk T o) e in cc
+
+  -- no stop is chosen at two places
+  chosen_once : (low mid high q r : ℕ) → IsChosen T origins low mid q → IsChosen T origins mid high r → q ≢ r
+  chosen_once low mid high q r a b e =
+      let there : walk T (slice_index origins b.place) q ≡ Some b.secs = ap (walk T (slice_index origins b.place)) e ∙ b.walks in
+      let here : walk T (slice_index origins a.place) r ≡ Some a.secs = ap (walk T (slice_index origins a.place)) (sym e) ∙ a.walks in
+      omega (arith, a.first.nearest b.place b.secs b.within there, b.first.first a.place a.secs (omega (arith, a.below, b.from_low)) here)
+
+  chosen-wider : (low high low' high' q : ℕ) → low' ≤ low → high ≤ high' → IsChosen T origins low high q → IsChosen T origins low' high' q
+  chosen-wider low high low' high' q l h c = record { inside = c.inside; place = c.place; from_low = omega (arith, l, c.from_low); below = omega (arith, h, c.below); within = c.within; secs = c.secs; walks = c.walks; first = c.first }
+
+  abbrev pub boards_none : (low high steps : ℕ) → BoardsStops T lines origins low high steps steps
+  boards_none low high steps = record { stops = []; distinct = λ i j d before below. absurd (omega (arith, below)); chosen = All-nil (IsChosen T origins low high); steps = omega arith }
+
+  pub boards_join : (low mid high a b c : ℕ) → low ≤ mid → mid ≤ high → BoardsStops T lines origins low mid a b → BoardsStops T lines origins mid high b c → BoardsStops T lines origins low high a c
+  boards_join low mid high a b c l h x y = record {
+    stops = x.stops ++ y.stops;
+    distinct = pairs_append (λ p q. p ≢ q) x.stops y.stops x.distinct y.distinct (λ q r k m. chosen_once low mid high q r (of_member (IsChosen T origins low mid) x.stops q x.chosen k) (of_member (IsChosen T origins mid high) y.stops r y.chosen m));
+    chosen = All-append (IsChosen T origins low high) x.stops y.stops
+        (All-weaker (IsChosen T origins low mid) (IsChosen T origins low high) (λ q k. chosen-wider low mid low high q (omega arith) h k) x.stops x.chosen)
+        (All-weaker (IsChosen T origins mid high) (IsChosen T origins low high) (λ q k. chosen-wider mid high low high q l (omega arith) k) y.stops y.chosen);
+    steps = omega (arith, x.steps, y.steps, sum_by-append (λ p. length (line_indices_at T lines p)) x.stops y.stops);
+  }
+
+  near_stop : (low high q : ℕ) → IsChosen T origins low high q → Member q (stops_near T origins)
+  near_stop low high q c =
+      Member-filter (λ p. list_any (λ o. is_some (walk T o p)) origins) q (numbers_below (length T.stops)) (Member-numbers_below q (length T.stops) c.inside)
+      (list_any_at (λ o. is_some (walk T o q)) origins c.place 0 c.within (ap is_some c.walks))
+
+  -- the steps are at most the line indices at the stops with a walk from an origin
+  pub boards_bounded : (low high a b : ℕ) → BoardsStops T lines origins low high a b → b ≤ a + lines_near T lines origins
+  boards_bounded low high a b x =
+      omega (arith, x.steps, distinct_sum (λ p. length (line_indices_at T lines p)) x.stops (stops_near T origins) x.distinct (λ q h. near_stop low high q (of_member (IsChosen T origins low high) x.stops q x.chosen h)))
+
+  -- one stop more, or none
+  abbrev boards_push : (place q a b c : ℕ) → (x : BoardsStops T lines origins place (place + 1) a b) → (Contains x.stops q → ⊥) → IsChosen T origins place (place + 1) q → c ≡ b + length (line_indices_at T lines q) → BoardsStops T lines origins place (place + 1) a c
+  boards_push place q a b c x fresh chosen steps = record {
+    stops = x.stops ++ q ∷ [];
+    distinct = pairs_append (λ p r. p ≢ r) x.stops (q ∷ []) x.distinct (λ i j d before below. absurd (omega (arith, before, below)))
+        (λ p r h k. elim k [ inl e ↦ (λ f. fresh (Contains-from_Member q x.stops (subst (λ z. Member z x.stops) (f ∙ sym e) h))) | inr none ↦ absurd none ]);
+    chosen = All-push (IsChosen T origins place (place + 1)) x.stops q x.chosen chosen;
+    steps = omega (arith, x.steps, steps, sum_by_push (λ p. length (line_indices_at T lines p)) x.stops q);
+  }
+
+  chosen_here : (place q secs : ℕ) → place < length origins → q < length T.stops → walk T (slice_index origins place) q ≡ Some secs → IsFirstChoice T origins place q secs → IsChosen T origins place (place + 1) q
+  chosen_here place q secs within inside walks first = record { inside = inside; place = place; from_low = omega arith; below = omega arith; within = within; secs = secs; walks = walks; first = first }
+
+  module _ (place origin : ℕ) (paths : List Path) (within : place < length origins) where
+    abbrev AmongPaths : ℕ → ℕ → Type 0
+    AmongPaths count q = (q ≡ origin) ⊎ ((k : ℕ) × (k < count) × ((d : Path) → (get_or paths k d).to ≡ q))
+
+    pub among_start : (secs a b : ℕ) → origin < length T.stops → walk T (slice_index origins place) origin ≡ Some secs → BoardsOnce T lines origins place origin secs a b → BoardsAmong T lines origins place origin paths 0 a b
+    among_start secs a b inside walks (inl same) = record {
+      stops = [];
+      distinct = λ i j d before below. absurd (omega (arith, below));
+      chosen = All-nil (IsChosen T origins place (place + 1));
+      steps = omega (arith, same);
+      among = λ q h. absurd (omega (arith, h.1));
+    }
+    among_start secs a b inside walks (inr once) =
+        let x = boards_push place origin a a b (boards_none place (place + 1) a) (λ h. omega (arith, h.1)) (chosen_here place origin secs within inside walks once.0) once.1 in
+        record { stops = x.stops; distinct = x.distinct; chosen = x.chosen; steps = x.steps; among = λ q h. inl (only q (Member-from_Contains q (origin ∷ []) h)) }
+      where
+        only : (q : ℕ) → Member q (origin ∷ []) → q ≡ origin
+        only q (inl e) = sym e
+        only q (inr none) = absurd none
+
+    abbrev pub among_all : (count a b : ℕ) → BoardsAmong T lines origins place origin paths count a b → BoardsStops T lines origins place (place + 1) a b
+    among_all count a b x = record { stops = x.stops; distinct = x.distinct; chosen = x.chosen; steps = x.steps }
+
+    wider : (count q : ℕ) → AmongPaths count q → AmongPaths (count + 1) q
+    wider count q (inl e) = inl e
+    wider count q (inr (k, below, at)) = inr (k, omega (arith, below), at)
+
+    pub among_more : (count secs a b c : ℕ) (f : Path) → ((d : Path) → get_or paths count d ≡ f) → f.to < length T.stops → f.to ≢ origin → ((k : ℕ) (d : Path) → k < count → (get_or paths k d).to ≢ f.to) →
+        walk T (slice_index origins place) f.to ≡ Some secs → BoardsAmong T lines origins place origin paths count a b → BoardsOnce T lines origins place f.to secs b c → BoardsAmong T lines origins place origin paths (count + 1) a c
+    among_more count secs a b c f is inside away earlier walks x (inl same) =
+        record { stops = x.stops; distinct = x.distinct; chosen = x.chosen; steps = omega (arith, x.steps, same); among = λ q h. wider count q (x.among q h) }
+    among_more count secs a b c f is inside away earlier walks x (inr once) =
+        let y = boards_push place f.to a b c (among_all count a b x) (λ h. fresh (x.among f.to h)) (chosen_here place f.to secs within inside walks once.0) once.1 in
+        record { stops = y.stops; distinct = y.distinct; chosen = y.chosen; steps = y.steps; among = λ q h. by_member q (Member-append q x.stops (f.to ∷ []) (Member-from_Contains q (x.stops ++ f.to ∷ []) h)) }
+      where
+        fresh : AmongPaths count f.to → ⊥
+        fresh (inl e) = away e
+        fresh (inr (k, below, at)) = earlier k f below (at f)
+
+        by_member : (q : ℕ) → Member q x.stops ⊎ Member q (f.to ∷ []) → AmongPaths (count + 1) q
+        by_member q (inl h) = wider count q (x.among q (Contains-from_Member q x.stops h))
+        by_member q (inr (inl e)) = inr (count, omega arith, λ d. ap (λ (g : Path). g.to) (is d) ∙ e)
+        by_member q (inr (inr none)) = absurd none
