@@ -1,8 +1,7 @@
 -- Hits and bounds of a ride, while the queue grows.
-use Rattle.std.proofs.Common.{◌≡◌, ◌∙◌, ℕ, zero, suc, ◌+◌, ◌<◌, ◌≤◌, ◌⊎◌, inl, inr, List, [], ◌∷◌, ◌++◌, length, get_or, take, Bool, true, false, cond, refl, sym, ap, subst, arith, Option, None, Some, ℤ, pos, ◌+ℤ◌, ◌≤ℤ◌, ◌<ℤ◌}
-use Rattle.std.specs.Prelude.{Contains, IfSome, IsSomeAnd, IsTrue, int_lt, slice_get, sum_by}
+use Rattle.std.proofs.Common.{◌≡◌, ◌∙◌, ℕ, ◌<◌, ◌≤◌, ◌⊎◌, inl, inr, List, length, Bool, true, false, cond, refl, sym, ap, subst, arith, Option, None, Some, ℤ, pos, ◌+ℤ◌, ◌≤ℤ◌, ◌<ℤ◌}
+use Rattle.std.specs.Prelude.{Contains, IfSome, IsSomeAnd, IsTrue, int_lt}
 use Rattle.std.proofs.lemmas.Int.{ints}
-use Rattle.std.proofs.Math.ListN.{get_or-append}
 use Rattle.tb_base.specs.declared.table.Path.{Path}
 use Rattle.tb_base.specs.TimetableData.{TimetableData, arrival_at, stop_at, event_at, MayAlight}
 use Rattle.tb_base.specs.Walking.{walk}
@@ -12,9 +11,9 @@ use Rattle.segment_queue.specs.declared.desk.Hit.{Hit}
 use Rattle.segment_queue.specs.declared.desk.LastLeg.{LastLeg}
 use Rattle.segment_queue.specs.declared.desk.LastLeg.TheVariants.{OnFoot, Aboard}
 use Rattle.segment_queue.specs.Queue.{DeskData}
-use Rattle.segment_queue.specs.Traced.{IsRideHit, IsTracedBy, IsTracedHit, round_of, segment_of}
-use Rattle.earliest_query.specs.Choices.{ArrivesBy, IsBetterHit, IsNearest, IsNearestTarget, IsWeighed, alighting_hit, arrival_of, earlier_hit}
-use Rattle.earliest_query.specs.UnderWay.{Covers, Extends, IsBounded, IsImproved, IsNewHit, IsOffered}
+use Rattle.segment_queue.specs.Traced.{IsTracedBy, IsTracedHit, round_of, segment_of}
+use Rattle.earliest_query.specs.Choices.{ArrivesBy, IsBetterHit, IsNearestTarget, IsWalked, IsWeighed, alighting_hit, earlier_hit, walking_hit}
+use Rattle.earliest_query.specs.UnderWay.{Covers, Extends, IsBounded, IsImproved, IsNewHit}
 use Rattle.earliest_query.proofs.Growing.{extends-long, extends-round, extends-segment}
 
 pub traced-kept : (T : TimetableData) (Q : QueryData) (D D' : DeskData) (joined : ℕ) (h : Hit) → Extends D D' joined → IsTracedHit T Q D.segments h → IsTracedHit T Q D'.segments h
@@ -85,13 +84,13 @@ weighed_nearest T Q stop arr alight n i round None f allowed target = record {
 weighed_nearest T Q stop arr alight n i round (Some b) f allowed target =
     elim (int_lt_cases (arr +ℤ pos f.secs) b.value.arrive) [
       | inl e ↦ subst (λ t. IsWeighed T Q stop arr alight n i round (Some b) (cond t (Some (alighting_hit arr f n i round)) (Some b))) (sym e.1) (record {
-          kept = inr (allowed, record { to = f.to; secs = f.secs; target = target; is = refl; sooner = e.0 });
-          bounded = λ _ q s to w. (let less = target.nearest q s to w in omega (arith, ints, less));
-        })
+        kept = inr (allowed, record { to = f.to; secs = f.secs; target = target; is = refl; sooner = e.0 });
+        bounded = λ _ q s to w. (let less = target.nearest q s to w in omega (arith, ints, less));
+      })
       | inr e ↦ subst (λ t. IsWeighed T Q stop arr alight n i round (Some b) (cond t (Some (alighting_hit arr f n i round)) (Some b))) (sym e.1) (record {
-          kept = inl refl;
-          bounded = λ _ q s to w. (let less = target.nearest q s to w in omega (arith, ints, less, e.0));
-        })
+        kept = inl refl;
+        bounded = λ _ q s to w. (let less = target.nearest q s to w in omega (arith, ints, less, e.0));
+      })
     ]
 
 module _ (T : TimetableData) (Q : QueryData) (D D' : DeskData) (joined n i round : ℕ) (best result : Option Hit) (extends : Extends D D' joined) (inside : n < length D.segments) (covers : Covers D n i) (is_round : round_of D.segments n ≡ round)
@@ -135,3 +134,51 @@ bounded-same T Q E D best n i same bounded = λ q secs offer.
 pub weighed_as : (T : TimetableData) (Q : QueryData) (p q : ℕ) (a b : ℤ) (x y : Bool) (n i round : ℕ) (best result : Option Hit) → p ≡ q → a ≡ b → x ≡ y → IsWeighed T Q p a x n i round best result → IsWeighed T Q q b y n i round best result
 weighed_as T Q p q a b x y n i round best result e f g w =
     subst (λ z. IsWeighed T Q q b z n i round best result) g (subst (λ z. IsWeighed T Q q z x n i round best result) f (subst (λ z. IsWeighed T Q z a x n i round best result) e w))
+
+earlier_kept : (best : Option Hit) (h : Hit) → (earlier_hit best h ≡ best) ⊎ (earlier_hit best h ≡ Some h)
+earlier_kept None h = inr refl
+earlier_kept (Some b) h = elim (int_lt_cases h.value.arrive b.value.arrive) [ inl e ↦ inr (ap (λ t. cond t (Some h) (Some b)) e.1) | inr e ↦ inl (ap (λ t. cond t (Some h) (Some b)) e.1) ]
+
+earlier_still : (best : Option Hit) (h : Hit) (time : ℤ) → ArrivesBy best time → ArrivesBy (earlier_hit best h) time
+earlier_still None h time by = absurd by
+earlier_still (Some b) h time by =
+    elim (int_lt_cases h.value.arrive b.value.arrive) [
+      | inl e ↦ subst (λ t. ArrivesBy (cond t (Some h) (Some b)) time) (sym e.1) (let less = e.0 in omega (arith, ints, less, by))
+      | inr e ↦ subst (λ t. ArrivesBy (cond t (Some h) (Some b)) time) (sym e.1) by
+    ]
+
+earlier_by : (best : Option Hit) (h : Hit) (time : ℤ) → h.value.arrive ≤ℤ time → ArrivesBy (earlier_hit best h) time
+earlier_by None h time by = by
+earlier_by (Some b) h time by =
+    elim (int_lt_cases h.value.arrive b.value.arrive) [
+      | inl e ↦ subst (λ t. ArrivesBy (cond t (Some h) (Some b)) time) (sym e.1) by
+      | inr e ↦ subst (λ t. ArrivesBy (cond t (Some h) (Some b)) time) (sym e.1) (let more = e.0 in omega (arith, ints, more, by))
+    ]
+
+some_first : {X : Type 0} (P : X → Type 0) (o : Option X) (x : X) → o ≡ Some x → P x → IsSomeAnd o P
+some_first P o x e p = subst (λ r. IsSomeAnd r P) (sym e) p
+
+-- the walks from an origin are weighed by the walk to the nearest target
+pub walked_nearest : (T : TimetableData) (Q : QueryData) (origin : ℕ) (best : Option Hit) (f : Path) → IsNearestTarget T origin Q.to f.to f.secs → IsWalked T Q origin best (earlier_hit best (walking_hit Q.leave origin f))
+walked_nearest T Q origin best f target = record {
+  kept = elim (earlier_kept best (walking_hit Q.leave origin f)) [
+    | inl e ↦ inl e
+    | inr e ↦ inr (some_first (λ h. (f : Path) × IsNearestTarget T origin Q.to f.to f.secs × (h ≡ walking_hit Q.leave origin f)) (earlier_hit best (walking_hit Q.leave origin f)) (walking_hit Q.leave origin f) e (f, target, refl))
+  ];
+  bounded = λ q s to w. earlier_by best (walking_hit Q.leave origin f) (Q.leave +ℤ pos s) (let less = target.nearest q s to w in omega (arith, ints, less));
+  still = λ time by. earlier_still best (walking_hit Q.leave origin f) time by;
+}
+
+-- the best walk so far
+abbrev pub IsWalkHit : TimetableData → QueryData → Hit → Type 0
+IsWalkHit T Q h = ((segments : List Segment) → IsTracedHit T Q segments h) × (h.value.rides ≡ 0)
+
+pub walked_traced : (T : TimetableData) (Q : QueryData) (origin : ℕ) (best result : Option Hit) → Contains Q.from origin → IfSome best (IsWalkHit T Q) → IsWalked T Q origin best result → IfSome result (IsWalkHit T Q)
+walked_traced T Q origin best result from old walked = elim walked.kept [ inl e ↦ subst (λ o. IfSome o (IsWalkHit T Q)) (sym e) old | inr new ↦ fresh result new ]
+  where
+    fresh : (o : Option Hit) → IsSomeAnd o (λ h. (f : Path) × IsNearestTarget T origin Q.to f.to f.secs × (h ≡ walking_hit Q.leave origin f)) → IfSome o (IsWalkHit T Q)
+    fresh None h = tt
+    fresh (Some h) (f, target, is) = (
+      λ segments. subst (IsTracedHit T Q segments) (sym is) (record { origin = from; target = target.target; secs = f.secs; walks = target.walks; arrives = refl; no_ride = refl }),
+      ap (λ (x : Hit). x.value.rides) is,
+    )

@@ -1,5 +1,5 @@
 -- A hop of the set is followed.
-use Rattle.std.proofs.Common.{◌≡◌, ◌∙◌, ℕ, zero, suc, ◌+◌, ◌<◌, ◌≤◌, ◌⊎◌, inl, inr, List, [], ◌∷◌, ◌++◌, length, get_or, refl, sym, ap, subst, arith, Option, None, Some}
+use Rattle.std.proofs.Common.{◌≡◌, ℕ, zero, suc, ◌+◌, ◌<◌, List, [], ◌∷◌, length, get_or, refl, sym, ap, subst, arith, Option, Some}
 use Rattle.std.specs.Prelude.{Contains}
 use Rattle.tb_base.specs.declared.transfer.Hop.{Hop}
 use Rattle.tb_base.specs.TimetableData.{TimetableData, event_at, events_of, no_event}
@@ -9,7 +9,7 @@ use Rattle.tb_base.proofs.Events.{MayBoard-inside}
 use Rattle.segment_queue.specs.declared.desk.Segment.{Segment}
 use Rattle.segment_queue.specs.Queue.{DeskData}
 use Rattle.segment_queue.specs.Traced.{IsHoppedOnto, round_of, segment_of}
-use Rattle.earliest_query.specs.UnderWay.{Covers, Extends, IsFollowed, IsReachedBy}
+use Rattle.earliest_query.specs.UnderWay.{Covers, Extends, IsFollowed}
 use Rattle.earliest_query.proofs.Growing.{extends-long, extends-reached, extends-round, extends-segment}
 
 -- within a list the default of a look-up does not matter

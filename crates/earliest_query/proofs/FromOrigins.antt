@@ -1,19 +1,17 @@
 -- The stops that an origin walks to, and who is boarded there.
-use Rattle.std.proofs.Common.{◌≡◌, ◌≢◌, ◌∙◌, ℕ, zero, suc, ◌+◌, ◌<◌, ◌≤◌, ◌⊎◌, inl, inr, ◌==◌, List, [], ◌∷◌, Bool, true, false, cond, length, get_or, find, refl, sym, ap, subst, arith, Option, Some, None, ℤ, pos, ◌+ℤ◌, ◌≤ℤ◌}
-use Rattle.std.specs.Prelude.{AllPairs, Contains, slice_get, slice_index}
+use Rattle.std.proofs.Common.{◌≡◌, ◌≢◌, ◌∙◌, ℕ, zero, suc, ◌<◌, ◌⊎◌, inl, inr, ◌==◌, List, [], ◌∷◌, true, false, cond, length, get_or, find, refl, sym, ap, subst, arith, Option, Some, None}
+use Rattle.std.specs.Prelude.{AllPairs, slice_get}
 use Rattle.std.specs.Option.{option_map}
 use Rattle.std.proofs.lemmas.Bool.Decides.{nat_tests}
 use Rattle.std.proofs.lemmas.Option.{get_or_from_slice_get}
 use Rattle.tb_base.specs.declared.table.Path.{Path}
-use Rattle.tb_base.specs.declared.transfer.Hop.{Hop}
 use Rattle.tb_base.specs.TimetableData.{TimetableData}
 use Rattle.tb_base.specs.BestValues.{QueryData}
 use Rattle.tb_base.specs.Walking.{walk}
-use Rattle.tb_base.proofs.Ordered.{Member, AllPairs-head, AllPairs-tail, Contains-from_Member}
+use Rattle.tb_base.proofs.Ordered.{Member, AllPairs-head, AllPairs-tail}
 use Rattle.tb_laws.proofs.Members.{find_found}
 use Rattle.tb_laws.proofs.Triangles.{equal_or_not, walk-same, walk-other}
 use Rattle.segment_queue.specs.Queue.{DeskData}
-use Rattle.earliest_query.specs.Choices.{IsFirstChoice}
 use Rattle.earliest_query.specs.UnderWay.{AreBoarded, Extends, IsBoarded}
 use Rattle.earliest_query.proofs.Growing.{extends-long, extends-reached}
 use Rattle.earliest_query.proofs.Following.{get_or-inside}

@@ -1,18 +1,17 @@
 -- What stays true of a queue that grows.
-use Rattle.std.proofs.Common.{◌≡◌, ◌∙◌, ℕ, suc, ◌+◌, ◌<◌, ◌≤◌, ◌⊎◌, inl, inr, List, [], ◌∷◌, ◌++◌, length, refl, sym, ap, subst, arith, Option, None, Some, length-append}
-use Rattle.std.specs.Prelude.{Contains}
+use Rattle.std.proofs.Common.{◌≡◌, ◌∙◌, ℕ, ◌<◌, ◌≤◌, ◌⊎◌, inl, inr, List, [], ◌++◌, length, refl, sym, ap, subst, arith, Option, None, Some, length-append}
 use Rattle.std.proofs.lemmas.List.{append_assoc, append-nil}
 use Rattle.tb_base.specs.declared.transfer.Hop.{Hop}
-use Rattle.tb_base.specs.TimetableData.{TimetableData, events_of}
+use Rattle.tb_base.specs.TimetableData.{TimetableData}
 use Rattle.tb_base.specs.BestValues.{QueryData}
 use Rattle.tb_base.specs.Lines.{IsTripNoLater}
 use Rattle.tb_base.specs.Search.{RoundSegment, IsCovered, segment_at}
 use Rattle.tb_base.specs.Sufficiency.{IsPossibleHop}
 use Rattle.segment_queue.specs.declared.desk.Segment.{Segment}
 use Rattle.segment_queue.specs.Queue.{DeskData, mark_of}
-use Rattle.segment_queue.specs.Traced.{IsEntered, IsHoppedOnto, UsesHops, round_after, round_of, round_segments, segment_of}
+use Rattle.segment_queue.specs.Traced.{IsEntered, round_of, round_segments, segment_of}
 use Rattle.earliest_query.specs.UnderWay.{Extends, IsQueue, IsReachedBy}
-use Rattle.earliest_query.proofs.Rounds.{length-round_segments, segment_at-kept, segment_of-kept, round_of-kept}
+use Rattle.earliest_query.proofs.Rounds.{segment_at-kept, segment_of-kept, round_of-kept}
 
 pub covered-kept : (T : TimetableData) (segments more : List Segment) (n m round top t b : ℕ) → IsCovered T (round_segments segments) n round t b → n ≤ length segments → n ≤ m → round ≤ top
     → IsCovered T (round_segments (segments ++ more)) m top t b

@@ -7,3 +7,5 @@ pub mod BestSoFar
 pub mod LineBoarding
 pub mod StopSums
 pub mod FromOrigins
+pub mod Keeping
+pub mod Answering

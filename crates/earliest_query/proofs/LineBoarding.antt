@@ -1,6 +1,6 @@
 -- Who boards the lines at a stop.
-use Rattle.std.proofs.Common.{◌≡◌, ◌∙◌, ℕ, zero, suc, ◌+◌, ◌<◌, ◌≤◌, ◌⊎◌, inl, inr, ◌==◌, ◌&&◌, List, [], ◌∷◌, ◌++◌, Bool, true, false, cond, length, map, get_or, refl, sym, ap, subst, arith, Option, Some, None, ℤ, pos, ◌+ℤ◌, ◌≤ℤ◌}
-use Rattle.std.specs.Prelude.{AllPairs, Contains, filter, find, flat_map, int_le, nat_lt}
+use Rattle.std.proofs.Common.{◌≡◌, ◌∙◌, ℕ, zero, suc, ◌+◌, ◌<◌, inl, inr, ◌==◌, ◌&&◌, List, [], ◌∷◌, Bool, true, false, cond, length, map, get_or, refl, sym, ap, subst, arith, Option, Some, None, ℤ, ◌≤ℤ◌}
+use Rattle.std.specs.Prelude.{AllPairs, filter, int_le, nat_lt}
 use Rattle.std.specs.List.{concat}
 use Rattle.std.specs.Option.{option_map}
 use Rattle.std.proofs.lemmas.Bool.Decides.{nat_tests}
@@ -12,7 +12,7 @@ use Rattle.tb_base.specs.Lines.{AreDividedInto, IsEventNoLater, IsTripNoLater}
 use Rattle.tb_base.specs.Search.{RoundSegment, IsCovered}
 use Rattle.tb_base.specs.Transfers.{earliest_trip, may_be_boarded, numbers_below}
 use Rattle.tb_base.proofs.Events.{MayBoard-inside}
-use Rattle.tb_base.proofs.Ordered.{Member, Member-from_Contains, Contains-from_Member}
+use Rattle.tb_base.proofs.Ordered.{Member, Member-from_Contains}
 use Rattle.tb_laws.proofs.Exchange.{≤ℤ-trans}
 use Rattle.tb_laws.proofs.LineFacts.{MayFollow, first_no_later, line_of, no_later}
 use Rattle.tb_laws.proofs.Members.{both_true, find_first, find_found, Member-filter, Member-filter_back, Member-flat_map, Member-flat_map_back, Member-numbers_below}
@@ -24,7 +24,7 @@ member_map f x [] h = h
 member_map f x (y ∷ ys) (inl e) = inl (ap f e)
 member_map f x (y ∷ ys) (inr h) = inr (member_map f x ys h)
 
-member_map_back : {X Y : Type 0} (f : X → Y) (y : Y) (xs : List X) → Member y (map f xs) → (x : X) × Member x xs × (f x ≡ y)
+pub member_map_back : {X Y : Type 0} (f : X → Y) (y : Y) (xs : List X) → Member y (map f xs) → (x : X) × Member x xs × (f x ≡ y)
 member_map_back f y [] h = absurd h
 member_map_back f y (x ∷ xs) (inl e) = (x, inl refl, e)
 member_map_back {X} {Y} f y (x ∷ xs) (inr h) = let r : (z : X) × Member z xs × (f z ≡ y) = member_map_back f y xs h in (r.0, inr r.1, r.2)
@@ -76,8 +76,7 @@ module _ (T : TimetableData) (lines : List (List ℕ)) (p : ℕ) (divided : AreD
       let r : (line : List ℕ) × Member line lines × Member b (indices_at T p line) = Member-flat_map_back (indices_at T p) b lines h in
       let m : (j : ℕ) × Member j (filter (λ j. stop_at T (first_trip r.0) j == p) (numbers_below (length (events_of T (first_trip r.0))))) × (record { line = r.0; at = j } ≡ b)
       = member_map_back (λ j. record { line = r.0; at = j }) b (filter (λ j. stop_at T (first_trip r.0) j == p) (numbers_below (length (events_of T (first_trip r.0))))) r.2 in
-      let f = Member-filter_back (λ j. stop_at T (first_trip r.0) j == p) m.0 (numbers_below (length (events_of T (first_trip r.0)))) m.1 in
-      (
+      let f = Member-filter_back (λ j. stop_at T (first_trip r.0) j == p) m.0 (numbers_below (length (events_of T (first_trip r.0)))) m.1 in (
         subst (λ l. Member l lines) (ap (λ (x : LineIndex). x.line) m.2) r.1,
         subst (λ (x : LineIndex). stop_at T (first_trip x.line) x.at ≡ p) m.2 (same_number _ _ f.1),
       )

@@ -1,13 +1,13 @@
 -- The nearest of targets that are looked at in turn.
-use Rattle.std.proofs.Common.{◌≡◌, ◌∙◌, ℕ, zero, suc, ◌+◌, ◌<◌, ◌≤◌, ◌⊎◌, inl, inr, ◌==◌, List, [], ◌∷◌, ◌++◌, Bool, true, false, cond, length, take, get_or, refl, sym, ap, subst, arith, Option, Some, None, find, nat_le}
-use Rattle.std.specs.Prelude.{All, Contains, IfSome, IsTrue, nat_lt, ◌↔◌, slice_index}
+use Rattle.std.proofs.Common.{◌≡◌, ℕ, ◌+◌, ◌<◌, ◌≤◌, ◌⊎◌, inl, inr, List, [], ◌∷◌, ◌++◌, Bool, true, false, cond, length, take, get_or, refl, sym, ap, subst, arith, Option, Some, None, nat_le}
+use Rattle.std.specs.Prelude.{Contains, IfSome, nat_lt}
 use Rattle.std.proofs.lemmas.Bool.Decides.{nat_tests}
 use Rattle.tb_base.specs.declared.table.Path.{Path}
 use Rattle.tb_base.specs.TimetableData.{TimetableData}
 use Rattle.tb_base.specs.Walking.{walk}
-use Rattle.tb_base.proofs.Ordered.{Member, Member-from_Contains, Contains-from_Member}
+use Rattle.tb_base.proofs.Ordered.{Member-from_Contains, Contains-from_Member}
 use Rattle.tb_laws.proofs.Members.{Member-append, Member-left, Member-right}
-use Rattle.earliest_query.specs.Choices.{IsNearest, IsNearestTarget, IsPreferred, IsFirstChoice, nearer_of}
+use Rattle.earliest_query.specs.Choices.{IsNearest, IsPreferred, IsFirstChoice, nearer_of}
 
 pub contains_push : (xs : List ℕ) (x q : ℕ) → Contains (xs ++ x ∷ []) q → Contains xs q ⊎ (x ≡ q)
 contains_push xs x q h =

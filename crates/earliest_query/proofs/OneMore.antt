@@ -1,5 +1,5 @@
 -- A queue stays one when a trip is entered.
-use Rattle.std.proofs.Common.{Bool, true, false, IsTrue, ◌↔◌, MatchBool, ◌≡◌, ◌∙◌, ℕ, suc, ◌+◌, ◌<◌, ◌≤◌, ◌⊎◌, inl, inr, List, [], ◌∷◌, ◌++◌, length, refl, sym, ap, subst, arith, Option, None, Some, length-append}
+use Rattle.std.proofs.Common.{Bool, true, false, IsTrue, ◌↔◌, MatchBool, ◌≡◌, ◌∙◌, ℕ, suc, ◌+◌, ◌<◌, ◌≤◌, ◌⊎◌, inl, inr, List, [], ◌∷◌, ◌++◌, length, refl, sym, ap, subst, arith, Option, Some, length-append}
 use Rattle.std.specs.Prelude.{Contains, min}
 use Rattle.tb_base.specs.declared.transfer.Hop.{Hop}
 use Rattle.tb_base.specs.TimetableData.{TimetableData, events_of}
@@ -9,7 +9,7 @@ use Rattle.tb_base.specs.Search.{RoundSegment, IsCovered, segment_at}
 use Rattle.tb_laws.proofs.LineFacts.{no_later}
 use Rattle.segment_queue.specs.declared.desk.Segment.{Segment}
 use Rattle.segment_queue.specs.Scans.{trips_from}
-use Rattle.segment_queue.specs.Queue.{DeskData, EntersSegment, IsInStep, lowered, mark_of}
+use Rattle.segment_queue.specs.Queue.{DeskData, EntersSegment, IsInStep, mark_of}
 use Rattle.segment_queue.specs.Traced.{IsEntered, UsesHops, round_after, round_of, round_segments, segment_of}
 use Rattle.segment_queue.proofs.Distinct.{member_or_not}
 use Rattle.segment_queue.proofs.LineParts.{trips_no_later}

@@ -1,14 +1,14 @@
 -- Which stops a search boards at, and what it makes of an event where one may alight.
-use Rattle.std.specs.Prelude.{◌≡◌, ℕ, ◌+◌, ◌<◌, ◌≤◌, ◌⊎◌, List, Option, None, Some, length, filter, sum_by, slice_index, nat_le, if◌then◌else◌, Bool, IsTrue, IfSome, IsSomeAnd, is_some, Contains, ℤ, pos, ◌+ℤ◌, ◌≤ℤ◌, ◌<ℤ◌, int_lt}
+use Rattle.std.specs.Prelude.{◌≡◌, ℕ, ◌-◌, ◌<◌, ◌≤◌, ◌==◌, ◌⊎◌, List, [], ◌∷◌, Option, None, Some, length, filter, sum_by, slice_index, slice_get, nat_le, if◌then◌else◌, Bool, IsTrue, IfSome, IsSomeAnd, is_some, Contains, ℤ, pos, ◌+ℤ◌, ◌≤ℤ◌, ◌<ℤ◌, int_lt}
 use Rattle.std.specs.List.{list_any}
 use Rattle.std.specs.Option.{option_map}
 use Rattle.tb_base.specs.declared.table.Path.{Path}
-use Rattle.tb_base.specs.TimetableData.{TimetableData, stop_at, departure_at, MayBoard, events_of}
+use Rattle.tb_base.specs.TimetableData.{TimetableData}
 use Rattle.tb_base.specs.Transfers.{numbers_below}
 use Rattle.tb_base.specs.Walking.{walk}
 use Rattle.tb_base.specs.BestValues.{QueryData}
 use Rattle.segment_queue.specs.declared.desk.Hit.{Hit}
-use Rattle.segment_queue.specs.declared.desk.LastLeg.TheVariants.{Aboard}
+use Rattle.segment_queue.specs.declared.desk.LastLeg.TheVariants.{Aboard, OnFoot}
 use Rattle.segment_queue.specs.Scans.{line_indices_at}
 
 -- a target with a walk from the stop, than which none is nearer
@@ -81,3 +81,22 @@ earlier_hit (Some b) h = if int_lt h.value.arrive b.value.arrive then Some h els
 -- to alight at an event of a segment, and to walk on by this path
 abbrev pub alighting_hit : ℤ → Path → ℕ → ℕ → ℕ → Hit
 alighting_hit arr f n i round = record { value = record { arrive = arr +ℤ pos f.secs; rides = round }; last = Aboard n i f.to }
+
+-- a walk from an origin by this path
+abbrev pub walking_hit : ℤ → ℕ → Path → Hit
+walking_hit leave origin f = record { value = record { arrive = leave +ℤ pos f.secs; rides = 0 }; last = OnFoot origin f.to }
+
+-- the best walk, once the walks from an origin have been weighed
+pub record IsWalked (T : TimetableData) (Q : QueryData) (origin : ℕ) (best result : Option Hit) : Type 0 where
+  pub kept : (result ≡ best) ⊎ IsSomeAnd result (λ h. (f : Path) × IsNearestTarget T origin Q.to f.to f.secs × (h ≡ walking_hit Q.leave origin f))
+  pub bounded : (q s : ℕ) → Contains Q.to q → walk T origin q ≡ Some s → ArrivesBy result (Q.leave +ℤ pos s)
+  pub still : (time : ℤ) → ArrivesBy best time → ArrivesBy result time
+
+-- the last hit
+abbrev pub last_of : List Hit → Option Hit
+last_of hits = slice_get hits (length hits - 1)
+
+-- the hit, if it is of this round
+abbrev pub hits_of : ℕ → Option Hit → List Hit
+hits_of round None = []
+hits_of round (Some h) = if h.value.rides == round then h ∷ [] else []

@@ -1,2 +1,3 @@
 pub mod Choices
 pub mod UnderWay
+pub mod Ridden

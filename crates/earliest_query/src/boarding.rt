@@ -31,7 +31,7 @@ impl<S: Scan> Search<'_, S> {
         ensures extends { Extends desk.old desk.new 1 }
         ensures reached { (h : Hop) →
             boarding_hop (S.table self.now.scan.now) (slice_index_or (line_indices_at (S.table self.now.scan.now) (S.lines self.now.scan.now) stop) berth no_line_index)
-                (self.now.query.now.leave +ℤ pos secs) ≡ Some h →
+            (self.now.query.now.leave +ℤ pos secs) ≡ Some h →
             IsReachedBy (S.table self.now.scan.now) desk.new (length desk.new.segments) 1 h.trip h.at }
         ensures step { steps.new ≡ steps.old + 1 }
     {
@@ -44,13 +44,7 @@ impl<S: Scan> Search<'_, S> {
     }
 
     // Boards each line at a stop, after a walk of so many seconds from an origin.
-    fn board_stop<L: Ledger>(
-        &self,
-        desk: &mut Desk,
-        stop: StopNo,
-        secs: u32,
-        steps: &mut Steps<L>,
-    )
+    fn board_stop<L: Ledger>(&self, desk: &mut Desk, stop: StopNo, secs: u32, steps: &mut Steps<L>)
         requires queue { IsQueue (S.table self.now.scan.now) (S.lines self.now.scan.now) (S.hops self.now.scan.now) self.now.query.now desk.old 1 }
         requires stop { stop < length (S.table self.now.scan.now).stops }
         requires near { IsNear (S.table self.now.scan.now) self.now.query.now.from stop secs }

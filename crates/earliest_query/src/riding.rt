@@ -115,7 +115,7 @@ impl<S: Scan> Search<'_, S> {
     }
 
     // Rides the segments of a round, from one number up to another.
-    fn ride_round<L: Ledger>(
+    pub(crate) fn ride_round<L: Ledger>(
         &self,
         desk: &mut Desk,
         from: u32,

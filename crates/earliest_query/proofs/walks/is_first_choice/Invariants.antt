@@ -1,5 +1,4 @@
-use Rattle.std.proofs.Common.{◌≡◌, ◌<◌, ◌≤◌, ◌==◌, Bool, true, ℕ, get_or, nat_lt}
-use Rattle.std.specs.Prelude.{Some}
+use Rattle.std.proofs.Common.{◌<◌, ℕ, get_or, nat_lt}
 use Rattle.tb_base.specs.Walking.{walk}
 use Rattle.earliest_query.specs.Choices.{IsPreferred}
 use Rattle.earliest_query.proofs.walks.is_first_choice.Given as goal

@@ -1,4 +1,4 @@
-use Rattle.std.proofs.Common.{◌≡◌, ◌≤◌, ℕ, take}
+use Rattle.std.proofs.Common.{◌≤◌, take}
 use Rattle.std.specs.Prelude.{IfSome}
 use Rattle.earliest_query.specs.Choices.{IsNearest}
 use Rattle.earliest_query.proofs.walks.nearest.Given as goal

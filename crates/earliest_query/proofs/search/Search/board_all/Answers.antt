@@ -1,4 +1,4 @@
-use Rattle.std.proofs.Common.{◌≡◌, ℕ, ◌+◌, ◌<◌, ◌≤◌, ◌⊎◌, inl, inr, length, subst, ap, arith}
+use Rattle.std.proofs.Common.{◌≡◌, ℕ, ◌+◌, ◌<◌, ◌⊎◌, inl, inr, subst, arith}
 use Rattle.earliest_query.specs.UnderWay.{AreBoarded}
 use Rattle.earliest_query.proofs.Growing.{extends-refl, extends-trans}
 use Rattle.earliest_query.proofs.FromOrigins.{are_boarded-kept}

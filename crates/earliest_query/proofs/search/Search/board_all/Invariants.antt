@@ -1,4 +1,4 @@
-use Rattle.std.proofs.Common.{◌≡◌, ℕ, ◌<◌}
+use Rattle.std.proofs.Common.{ℕ, ◌<◌}
 use Rattle.earliest_query.specs.UnderWay.{AreBoarded, BoardsStops, Extends, IsQueue}
 use Rattle.earliest_query.proofs.search.Search.board_all.Given as goal
 

@@ -1,5 +1,5 @@
-use Rattle.std.proofs.Common.{◌≡◌, ◌≢◌, ◌∙◌, ℕ, ◌+◌, ◌<◌, ◌⊎◌, inl, inr, length, get_or, sym, ap, subst, arith}
-use Rattle.std.specs.Prelude.{Some, slice_get, slice_index}
+use Rattle.std.proofs.Common.{◌≡◌, ◌∙◌, ℕ, ◌+◌, ◌<◌, ◌⊎◌, inl, inr, length, get_or, sym, ap, subst, arith}
+use Rattle.std.specs.Prelude.{Some}
 use Rattle.tb_base.specs.declared.table.Path.{Path}
 use Rattle.tb_base.specs.TimetableData.{TimetableData}
 use Rattle.tb_base.specs.BestValues.{QueryData}
@@ -8,7 +8,7 @@ use Rattle.tb_base.specs.Walking.{walk}
 use Rattle.tb_laws.proofs.Triangles.{walk-same}
 use Rattle.segment_queue.specs.Queue.{DeskData}
 use Rattle.earliest_query.specs.Choices.{IsFirstChoice}
-use Rattle.earliest_query.specs.UnderWay.{BoardsAmong, BoardsOnce, Extends, IsBoarded}
+use Rattle.earliest_query.specs.UnderWay.{BoardsOnce, IsBoarded}
 use Rattle.earliest_query.proofs.Growing.{extends-trans}
 use Rattle.earliest_query.proofs.Following.{get_or-inside}
 use Rattle.earliest_query.proofs.FromOrigins.{boarded-kept, earlier_other, origin_is, path_walk, walked_to}

@@ -1,4 +1,4 @@
-use Rattle.std.proofs.Common.{◌≡◌, ℕ, ◌+◌, ◌<◌, length, get_or}
+use Rattle.std.proofs.Common.{ℕ, ◌<◌, get_or}
 use Rattle.tb_base.specs.declared.table.Path.{Path}
 use Rattle.earliest_query.specs.Choices.{IsFirstChoice}
 use Rattle.earliest_query.specs.UnderWay.{BoardsAmong, Extends, IsBoarded, IsQueue}

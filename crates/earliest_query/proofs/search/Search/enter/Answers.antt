@@ -1,4 +1,4 @@
-use Rattle.std.proofs.Common.{refl, ◌+◌}
+use Rattle.std.proofs.Common.{refl}
 use Rattle.segment_queue.specs.Traced.{round_after, round_segments}
 use Rattle.earliest_query.proofs.OneMore.{queue-reached}
 use Rattle.earliest_query.proofs.search.Search.enter.Goals as goal

@@ -1,10 +1,10 @@
-use Rattle.std.proofs.Common.{◌≡◌, ◌∙◌, ℕ, suc, ◌+◌, ◌-◌, ◌<◌, ◌≤◌, ◌⊎◌, inl, inr, length, sym, ap, subst, refl, arith}
+use Rattle.std.proofs.Common.{◌≡◌, ◌∙◌, ℕ, suc, ◌+◌, ◌<◌, ◌≤◌, ◌⊎◌, inl, inr, length, sym, ap, subst, refl, arith}
 use Rattle.std.proofs.lemmas.Int.{ints}
 use Rattle.std.proofs.lemmas.Option.{get_or_from_slice_get}
 use Rattle.tb_base.specs.TimetableData.{TimetableData, arrival_at, event_at, stop_at}
 use Rattle.tb_base.specs.BestValues.{QueryData}
 use Rattle.segment_queue.specs.declared.desk.Segment.{Segment}
-use Rattle.segment_queue.specs.Queue.{DeskData, IsSoundSegment, covered_indices}
+use Rattle.segment_queue.specs.Queue.{DeskData, IsSoundSegment}
 use Rattle.segment_queue.specs.Traced.{no_segment, round_of, segment_of}
 use Rattle.earliest_query.specs.UnderWay.{Covers, Extends, IsBounded, IsFollowed, IsImproved, IsQueue}
 use Rattle.earliest_query.proofs.Growing.{extends-long, extends-refl, extends-round, extends-segment, extends-trans}
@@ -99,9 +99,9 @@ loop-before-preserved g c =
     let whole : Extends D F top = extends-trans D E F top old.extends joined in
     let inside : n < length E.segments = omega (arith, c.requires.segment, extends-long D E top old.extends) in
     let weighed = weighed_as T Q _ (stop_at T (segment_of D.segments n).trip at) _ (arrival_at T (segment_of D.segments n).trip at) _ (event_at T (segment_of D.segments n).trip at).alight n at c.args.round c.loop-before.best c.weigh-best.result
-        (c.visit-visit.ensures.stop ∙ ap (λ (s : Segment). stop_at T s.trip at) (sym same))
-        (c.visit-visit.ensures.arr ∙ ap (λ (s : Segment). arrival_at T s.trip at) (sym same))
-        (c.visit-visit.ensures.alight ∙ ap (λ (s : Segment). (event_at T s.trip at).alight) (sym same)) c.weigh-best.ensures in
+    (c.visit-visit.ensures.stop ∙ ap (λ (s : Segment). stop_at T s.trip at) (sym same))
+    (c.visit-visit.ensures.arr ∙ ap (λ (s : Segment). arrival_at T s.trip at) (sym same))
+    (c.visit-visit.ensures.alight ∙ ap (λ (s : Segment). (event_at T s.trip at).alight) (sym same)) c.weigh-best.ensures in
     let improved : IsImproved T Q F c.args.round c.loop-before.best c.weigh-best.result = weighed_improved T Q D F top n at c.args.round c.loop-before.best c.weigh-best.result whole c.requires.segment covers c.requires.round weighed in
     record {
       queue = subst (λ r. IsQueue T (g.S.Scan.lines c.args.self.now.scan.now) hops Q F r) round c.follow.ensures.queue;

@@ -1,9 +1,7 @@
-use Rattle.std.proofs.Common.{◌≡◌, ◌∙◌, ℕ, suc, ◌+◌, ◌<◌, ◌≤◌, ◌⊎◌, inl, inr, length, take, sym, ap, subst, arith}
-use Rattle.std.specs.Prelude.{sum_by}
+use Rattle.std.proofs.Common.{◌≡◌, ◌∙◌, ℕ, suc, ◌+◌, ◌<◌, ◌⊎◌, inl, inr, length, sym, ap, subst, arith}
 use Rattle.std.proofs.lemmas.List.Sums.{sum_by_more}
-use Rattle.segment_queue.specs.declared.desk.Segment.{Segment}
 use Rattle.segment_queue.specs.Queue.{DeskData, covered_indices}
-use Rattle.segment_queue.specs.Traced.{no_segment, round_of, segment_of}
+use Rattle.segment_queue.specs.Traced.{no_segment, segment_of}
 use Rattle.earliest_query.specs.UnderWay.{Covers, IsBounded, IsFollowed}
 use Rattle.earliest_query.proofs.Growing.{extends-long, extends-round, extends-segment, extends-trans}
 use Rattle.earliest_query.proofs.Following.{followed-kept}

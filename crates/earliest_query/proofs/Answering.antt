@@ -1,0 +1,313 @@
+-- A search that has ridden all segments holds the answer.
+use Rattle.std.proofs.Common.{◌≡◌, ◌∙◌, ℕ, zero, suc, ◌+◌, ◌<◌, ◌≤◌, ◌⊎◌, inl, inr, List, [], ◌∷◌, ◌++◌, length, map, take, drop, refl, sym, ap, subst, arith, Option, Some, None, ℤ, pos, ◌+ℤ◌, ◌≤ℤ◌, length-append}
+use Rattle.std.specs.Prelude.{All, AllPairs, Contains, IfSome, IsSome, slice_index, sum_by}
+use Rattle.std.proofs.lemmas.Int.{ints}
+use Rattle.std.proofs.lemmas.List.{append_assoc, take-append-drop, take_all, take_more}
+use Rattle.std.proofs.lemmas.List.Elements.{All-map, All-weaker, All-contains, All-nil, All-cons}
+use Rattle.tb_base.specs.declared.transfer.Hop.{Hop}
+use Rattle.tb_base.specs.declared.query.Value.{Value}
+use Rattle.tb_base.specs.TimetableData.{TimetableData, arrival_at, departure_at, event_total, events_of, stop_at, MayAlight}
+use Rattle.tb_base.specs.Walking.{walk}
+use Rattle.tb_base.specs.Journeys.{Ride, Leads, walk_secs}
+use Rattle.tb_base.specs.BestValues.{IsAttained, IsBest, IsStep, QueryData, value_of}
+use Rattle.tb_base.specs.Search.{IsCovered, IsFound, IsReached, IsSearched, RoundSegment, segment_at}
+use Rattle.tb_base.specs.Soundness.{IsSound}
+use Rattle.tb_base.specs.Sufficiency.{AreSufficient}
+use Rattle.tb_base.proofs.Ordered.{Member, Member-from_Contains, Contains-from_Member, AllPairs-tail}
+use Rattle.segment_queue.proofs.Distinct.{before_member, pairs_from_head}
+use Rattle.earliest_query.proofs.LineBoarding.{member_map_back}
+use Rattle.tb_laws.proofs.ReachedLaws.{reached_by_hop, reached_first, reached_value}
+use Rattle.tb_laws.proofs.SearchLaws.{best_value_found}
+use Rattle.tb_laws.proofs.StaircaseLaws.{best_values_from_staircase}
+use Rattle.tb_laws.proofs.Triangles.{walk_secs-is}
+use Rattle.tb_laws.proofs.UTurnLaws.{some}
+use Rattle.segment_queue.specs.declared.desk.Segment.{Segment}
+use Rattle.segment_queue.specs.declared.desk.Hit.{Hit}
+use Rattle.segment_queue.specs.declared.desk.LastLeg.{LastLeg}
+use Rattle.segment_queue.specs.declared.desk.LastLeg.TheVariants.{OnFoot, Aboard}
+use Rattle.segment_queue.specs.Queue.{DeskData, IsInStep, covered_indices}
+use Rattle.segment_queue.specs.Traced.{IsAnswered, IsEntered, IsTracedBy, IsTracedHit, no_segment, round_after, round_of, round_segments, segment_of}
+use Rattle.segment_queue.proofs.Totals.{last_le_events}
+use Rattle.earliest_query.specs.Choices.{ArrivesBy, hits_of}
+use Rattle.earliest_query.specs.UnderWay.{AreBoarded, Extends, IsHit, IsQueue, covered_before}
+use Rattle.earliest_query.specs.Ridden.{IsRidden}
+use Rattle.earliest_query.proofs.Rounds.{board_of, end_of, length-round_segments, round_of-kept, segment_at-kept, segment_at-last, trip_of}
+use Rattle.earliest_query.proofs.Following.{get_or-inside}
+use Rattle.earliest_query.proofs.BestSoFar.{IsWalkHit}
+use Rattle.earliest_query.proofs.Keeping.{hits_of-same}
+
+-- the round of a segment is that behind its parent
+round_behind : (segments : List Segment) (n : ℕ) → n < length segments → (parent : Option (ℕ × ℕ)) → (segment_of segments n).parent ≡ parent → IfSome parent (λ p. p.0 < n) → round_of segments n ≡ round_after (round_segments segments) parent
+round_behind segments n inside parent is earlier =
+    let before : List Segment = take n segments in
+    let s : Segment = segment_of segments n in
+    let after : List Segment = drop (n + 1) segments in
+    let whole : segments ≡ (before ++ s ∷ []) ++ after = split segments n inside in
+    let long : length before ≡ n = taken segments n inside in
+    let longer : length (before ++ s ∷ []) ≡ n + 1 = omega (arith, length-append before (s ∷ []), long) in
+    ap (λ xs. round_of xs n) whole
+    ∙ round_of-kept (before ++ s ∷ []) after n (omega (arith, longer))
+    ∙ ap (round_of (before ++ s ∷ [])) (sym long)
+    ∙ ap (λ (r : RoundSegment). r.round) (segment_at-last before s)
+    ∙ ap (round_after (round_segments before)) is
+    ∙ by_parent parent earlier before after s whole long
+  where
+    taken : (xs : List Segment) (n : ℕ) → n < length xs → length (take n xs) ≡ n
+    taken [] n h = absurd (omega (arith, h))
+    taken (x ∷ xs) zero h = refl
+    taken (x ∷ xs) (suc n) h = omega (arith, taken xs n (omega (arith, h)))
+
+    split : (xs : List Segment) (n : ℕ) → n < length xs → xs ≡ (take n xs ++ segment_of xs n ∷ []) ++ drop (n + 1) xs
+    split xs n h = sym (take-append-drop (n + 1) xs) ∙ ap (λ ys. ys ++ drop (n + 1) xs) (take_more xs n no_segment h)
+
+    by_parent : (o : Option (ℕ × ℕ)) → IfSome o (λ p. p.0 < n) → (before after : List Segment) (s : Segment) → segments ≡ (before ++ s ∷ []) ++ after → length before ≡ n → round_after (round_segments before) o ≡ round_after (round_segments segments) o
+    by_parent None h before after s whole long = refl
+    by_parent (Some p) h before after s whole long =
+        ap suc (ap (λ (r : RoundSegment). r.round) (sym (ap (λ xs. segment_at (round_segments xs) p.0) (whole ∙ append_assoc before (s ∷ []) after) ∙ segment_at-kept before (s ∷ [] ++ after) p.0 (omega (arith, h, long)))))
+
+same_values : (a b : ℤ) (m n : ℕ) → a ≡ b → m ≡ n → ◌≡◌ {A = Value} (record { arrive = a; rides = m }) (record { arrive = b; rides = n })
+same_values a b m n e f = cc
+
+-- the origin that a stop is boarded from
+record BestOf (T : TimetableData) (origins : List ℕ) (stop n : ℕ) : Type 0 where
+  pub place : ℕ
+  pub below : place < n
+  pub secs : ℕ
+  pub walks : walk T (slice_index origins place) stop ≡ Some secs
+  pub nearest : (b s : ℕ) → b < n → walk T (slice_index origins b) stop ≡ Some s → secs ≤ s
+  pub first : (b s : ℕ) → b < place → walk T (slice_index origins b) stop ≡ Some s → secs < s
+
+below_or_at : (k n : ℕ) → k < suc n → (k < n) ⊎ (n ≡ k)
+below_or_at k n h = grind arith
+
+at_most_or_less : (a b : ℕ) → (a ≤ b) ⊎ (b < a)
+at_most_or_less a b = grind arith
+
+module _ (T : TimetableData) (origins : List ℕ) (stop : ℕ) where
+  same_secs : (a b s w : ℕ) → a ≡ b → walk T (slice_index origins a) stop ≡ Some s → walk T (slice_index origins b) stop ≡ Some w → s ≡ w
+  same_secs a b s w e f g = let k : walk T (slice_index origins a) stop ≡ walk T (slice_index origins b) stop = ap (λ m. walk T (slice_index origins m) stop) e in cc
+
+  no_secs : (a b w : ℕ) → a ≡ b → walk T (slice_index origins a) stop ≡ None → walk T (slice_index origins b) stop ≡ Some w → ⊥
+  no_secs a b w e f g = let k : walk T (slice_index origins a) stop ≡ walk T (slice_index origins b) stop = ap (λ m. walk T (slice_index origins m) stop) e in cc
+
+  abbrev NoneOf : ℕ → Type 0
+  NoneOf n = (b s : ℕ) → b < n → walk T (slice_index origins b) stop ≡ Some s → ⊥
+
+  one_more : (n : ℕ) (o : Option ℕ) → walk T (slice_index origins n) stop ≡ o → NoneOf n ⊎ BestOf T origins stop n → NoneOf (suc n) ⊎ BestOf T origins stop (suc n)
+  one_more n None is (inl none) = inl (λ b s h w. elim (below_or_at b n h) [ inl k ↦ none b s k w | inr e ↦ no_secs n b s e is w ])
+  one_more n None is (inr best) = inr (record {
+    place = best.place;
+    below = omega (arith, best.below);
+    secs = best.secs;
+    walks = best.walks;
+    nearest = λ b s h w. elim (below_or_at b n h) [ inl k ↦ best.nearest b s k w | inr e ↦ absurd (no_secs n b s e is w) ];
+    first = best.first;
+  })
+  one_more n (Some t) is (inl none) = inr (record {
+    place = n;
+    below = omega arith;
+    secs = t;
+    walks = is;
+    nearest = λ b s h w. elim (below_or_at b n h) [ inl k ↦ absurd (none b s k w) | inr e ↦ omega (arith, same_secs n b t s e is w) ];
+    first = λ b s h w. absurd (none b s h w);
+  })
+  one_more n (Some t) is (inr best) =
+      elim (at_most_or_less best.secs t) [
+        | inl keep ↦ inr (record {
+          place = best.place;
+          below = omega (arith, best.below);
+          secs = best.secs;
+          walks = best.walks;
+          nearest = λ b s h w. elim (below_or_at b n h) [ inl k ↦ best.nearest b s k w | inr e ↦ omega (arith, keep, same_secs n b t s e is w) ];
+          first = best.first;
+        })
+        | inr less ↦ inr (record {
+          place = n;
+          below = omega arith;
+          secs = t;
+          walks = is;
+          nearest = λ b s h w. elim (below_or_at b n h) [ inl k ↦ (let m = best.nearest b s k w in omega (arith, less, m)) | inr e ↦ omega (arith, same_secs n b t s e is w) ];
+          first = λ b s h w. (let m = best.nearest b s h w in omega (arith, less, m));
+        })
+      ]
+
+  best_of : (n : ℕ) → NoneOf n ⊎ BestOf T origins stop n
+  best_of zero = inl (λ b s h w. omega (arith, h))
+  best_of (suc n) = one_more n (walk T (slice_index origins n) stop) refl (best_of n)
+
+  -- a stop with a walk from an origin is boarded from some origin, after a walk that is no longer
+  first_choice : (p secs : ℕ) → Contains origins p → walk T p stop ≡ Some secs → (best : BestOf T origins stop (length origins)) × (best.secs ≤ secs)
+  first_choice p secs from walks =
+      let here : walk T (slice_index origins from.0) stop ≡ Some secs = ap (λ o. walk T o stop) (get_or-inside origins from.0 0 p from.1 ∙ from.2) ∙ walks in
+      elim (best_of (length origins)) [
+        | inl none ↦ absurd (none from.0 secs from.1 here)
+        | inr best ↦ (best, best.nearest from.0 secs from.1 here)
+      ]
+
+module _ (T : TimetableData) (lines : List (List ℕ)) (hops : ℕ → ℕ → List Hop) (Q : QueryData) (D : DeskData) (round : ℕ) (ridden : IsRidden T lines hops Q D (length D.segments) round) where
+  abbrev Reached : ℕ → Type 0
+  Reached n = IsReached T Q.from Q.leave (round_of D.segments n) (segment_of D.segments n).trip (segment_of D.segments n).board
+
+  -- each segment leads back to an origin
+  reached_below : (bound n : ℕ) → n < bound → n < length D.segments → Reached n
+  reached_below zero n small inside = absurd (omega (arith, small))
+  reached_below (suc b) n small inside = by_parent (segment_of D.segments n).parent refl (ridden.queue.entered n inside) (λ m below. reached_below b m (omega (arith, small, below)) (omega (arith, below, inside)))
+    where
+      by_parent : (o : Option (ℕ × ℕ)) → (segment_of D.segments n).parent ≡ o → IsEntered T Q D.segments n o (segment_of D.segments n).trip (segment_of D.segments n).board → ((m : ℕ) → m < n → Reached m) → Reached n
+      by_parent None is e earlier =
+          subst (λ r. IsReached T Q.from Q.leave r (segment_of D.segments n).trip (segment_of D.segments n).board) (sym (round_behind D.segments n inside None is tt))
+          (reached_first T Q.from Q.leave e.origin (segment_of D.segments n).trip (segment_of D.segments n).board e.secs e.from e.boards e.walks e.in_time)
+      by_parent (Some p) is e earlier =
+          subst (λ r. IsReached T Q.from Q.leave r (segment_of D.segments n).trip (segment_of D.segments n).board) (sym (round_behind D.segments n inside (Some p) is e.earlier))
+          (reached_by_hop T Q.from Q.leave (round_of D.segments p.0) (segment_of D.segments p.0).trip (segment_of D.segments p.0).board p.1 (record { trip = (segment_of D.segments n).trip; at = (segment_of D.segments n).board }) (earlier p.0 e.earlier) e.onward e.possible)
+
+  reached_all : (n : ℕ) → n < length D.segments → Reached n
+  reached_all n inside = reached_below (suc n) n (omega arith) inside
+
+  attained : (h : Hit) → IsTracedHit T Q D.segments h → IsAttained T Q h.value
+  attained h traced = by_leg h.last traced
+    where
+      by_leg : (last : LastLeg) → IsTracedBy T Q D.segments last h.value.arrive h.value.rides → IsAttained T Q h.value
+      by_leg (OnFoot from to) k = (
+        record { origin = from; rides = []; target = to },
+        record {
+          journey = record { origin = k.origin; target = k.target; leads = subst (λ o. IsSome o) (sym k.walks) refl };
+          leaves = tt;
+          value = same h.value _ _ (k.arrives ∙ ap (λ z. Q.leave +ℤ z) (sym (walk_secs-is T from to k.secs k.walks))) k.no_ride;
+        },
+      )
+        where
+          same : (v : Value) (a : ℤ) (n : ℕ) → v.arrive ≡ a → v.rides ≡ n → v ≡ record { arrive = a; rides = n }
+          same v a n e f = same_values v.arrive a v.rides n e f
+      by_leg (Aboard n i to) k =
+          subst (IsAttained T Q) (sym (same h.value _ _ (k.arrives ∙ ap (λ z. arrival_at T (segment_of D.segments n).trip i +ℤ z) (sym (walk_secs-is T (stop_at T (segment_of D.segments n).trip i) to k.secs k.walks))) k.rounds))
+          (reached_value T Q.from Q.leave Q refl refl (round_of D.segments n) (segment_of D.segments n).trip (segment_of D.segments n).board i to (reached_all n k.inside) k.onward k.alights k.target (subst (λ o. IsSome o) (sym k.walks) refl))
+        where
+          same : (v : Value) (a : ℤ) (n : ℕ) → v.arrive ≡ a → v.rides ≡ n → v ≡ record { arrive = a; rides = n }
+          same v a n e f = same_values v.arrive a v.rides n e f
+
+  abbrev rounds : List RoundSegment
+  rounds = round_segments D.segments
+
+  long : length rounds ≡ length D.segments
+  long = length-round_segments D.segments
+
+  pub searched : IsSearched T hops Q.from Q.leave rounds
+  searched = record {
+    reached = λ n h. let inside : n < length D.segments = omega (arith, h, long) in
+        subst (λ t. IsReached T Q.from Q.leave (round_of D.segments n) t (segment_at rounds n).board) (sym (trip_of D.segments n inside))
+        (subst (λ b. IsReached T Q.from Q.leave (round_of D.segments n) (segment_of D.segments n).trip b) (sym (board_of D.segments n inside)) (reached_all n inside));
+    starts = λ p t b secs from boards not_last walks in_time.
+        let choice = first_choice T Q.from (stop_at T t b) p secs from walks in
+        subst (λ m. IsCovered T rounds m 1 t b) (sym long)
+        (ridden.boarded choice.0.place choice.0.below (stop_at T t b) choice.0.secs choice.0.walks (record { nearest = choice.0.nearest; first = choice.0.first }) t b boards not_last refl (sooner choice.0.secs secs (departure_at T t b) choice.1 in_time));
+    goes_on = λ n i h inside onward within in_set.
+        let below : n < length D.segments = omega (arith, inside, long) in
+        subst (λ m. IsCovered T rounds m (suc (segment_at rounds n).round) h.trip h.at) (sym long)
+        (ridden.followed n i below (record { onward = omega (arith, onward, board_of D.segments n below); within = omega (arith, within, end_of D.segments n below) }) h (subst (λ t. Contains (hops t i) h) (trip_of D.segments n below) in_set));
+    ends = λ n inside.
+        let below : n < length D.segments = omega (arith, inside, long) in
+        subst (λ t. (length (events_of T t) ≤ suc (segment_at rounds n).end) ⊎ IsCovered T rounds n (segment_at rounds n).round t (segment_at rounds n).end) (sym (trip_of D.segments n below))
+        (subst (λ e. (length (events_of T (segment_of D.segments n).trip) ≤ suc e) ⊎ IsCovered T rounds n (segment_at rounds n).round (segment_of D.segments n).trip e) (sym (end_of D.segments n below)) (ridden.queue.ends n below));
+  }
+    where
+      sooner : (a b : ℕ) (d : ℤ) → a ≤ b → (Q.leave +ℤ pos b) ≤ℤ d → (Q.leave +ℤ pos a) ≤ℤ d
+      sooner a b d h k = omega (arith, ints, h, k)
+
+  abbrev values : List Value
+  values = map (λ (h : Hit). h.value) D.hits
+
+  value_member : (h : Hit) (hs : List Hit) → Member h hs → Member h.value (map (λ (x : Hit). x.value) hs)
+  value_member h [] m = m
+  value_member h (x ∷ xs) (inl e) = inl (ap (λ (y : Hit). y.value) e)
+  value_member h (x ∷ xs) (inr m) = inr (value_member h xs m)
+
+  -- a best value that some hit is no worse than is the value of the hit
+  best_hit : (v : Value) → IsBest T Q v → IsHit D.hits v → Contains values v
+  best_hit v best hit =
+      let same : hit.by.value ≡ v = best.undominated hit.by.value (attained hit.by (All-contains (IsTracedHit T Q D.segments) D.hits hit.by ridden.traced hit.one)) hit.no_worse in
+      Contains-from_Member v values (subst (λ w. Member w values) same (value_member hit.by D.hits (Member-from_Contains hit.by D.hits hit.one)))
+
+  module _ (sound : IsSound T) (sufficient : AreSufficient T hops) where
+    complete : (v : Value) → IsBest T Q v → Contains values v
+    complete v best = by_rides v.rides refl
+      where
+        value_is : (w : Value) (a : ℤ) (n : ℕ) → a ≡ w.arrive → n ≡ w.rides → record { arrive = a; rides = n } ≡ w
+        value_is w a n e f = same_values a w.arrive n w.rides e f
+
+        from_walk : (o : ℕ) (rides : List Ride) (q : ℕ) → Contains Q.from o → Contains Q.to q → Leads T o rides q → v ≡ value_of T Q.leave (record { origin = o; rides = rides; target = q }) → v.rides ≡ 0 → IsHit D.hits v
+        from_walk o [] q from to leads is none =
+            let w = some (walk T o q) leads in
+            subst (IsHit D.hits) (value_is v _ _ (ap (λ z. Q.leave +ℤ z) (sym (walk_secs-is T o q w.0 w.1)) ∙ sym (ap (λ (x : Value). x.arrive) is)) (sym none)) (ridden.walks o q w.0 from to w.1)
+        from_walk o (r ∷ rest) q from to leads is none = absurd (let e : v.rides ≡ suc (length rest) = ap (λ (x : Value). x.rides) is in omega (arith, e, none))
+
+        by_rides : (k : ℕ) → k ≡ v.rides → Contains values v
+        by_rides zero e =
+            let j = best.attained.0 in
+            best_hit v best (from_walk j.origin j.rides j.target best.attained.1.journey.origin best.attained.1.journey.target best.attained.1.journey.leads best.attained.1.value (sym e))
+        by_rides (suc k) e =
+            let found : IsFound T Q.to rounds v = best_value_found T hops Q rounds searched v best sufficient (omega (arith, e)) in
+            let n : ℕ = found.segment in
+            let below : n < length D.segments = omega (arith, found.inside, long) in
+            let trip : (segment_at rounds n).trip ≡ (segment_of D.segments n).trip = trip_of D.segments n below in
+            let walks : IsSome (walk T (stop_at T (segment_of D.segments n).trip found.at) found.target) = subst (λ t. IsSome (walk T (stop_at T t found.at) found.target)) trip found.walks in
+            let w = some (walk T (stop_at T (segment_of D.segments n).trip found.at) found.target) walks in
+            let hit = ridden.values n found.at found.target w.0 below
+            (record { onward = omega (arith, found.onward, board_of D.segments n below); within = omega (arith, found.within, end_of D.segments n below) })
+            (record { alights = subst (λ t. MayAlight T t found.at) trip found.alights; target = found.to; walks = w.1 }) in
+            best_hit v best (subst (IsHit D.hits) (value_is v _ _
+            (ap (λ z. arrival_at T (segment_of D.segments n).trip found.at +ℤ z) (sym (walk_secs-is T (stop_at T (segment_of D.segments n).trip found.at) found.target w.0 w.1))
+            ∙ subst (λ t. (arrival_at T t found.at +ℤ walk_secs T (stop_at T t found.at) found.target) ≡ v.arrive) trip found.arrives)
+            found.round) hit)
+
+    map_pairs : (hs : List Hit) → AllPairs (λ (h k : Hit). IsStep h.value k.value) hs → AllPairs IsStep (map (λ (h : Hit). h.value) hs)
+    map_pairs [] pairs = λ i j d a b. absurd (omega (arith, b))
+    map_pairs (x ∷ xs) pairs =
+        pairs_from_head IsStep x.value (map (λ (h : Hit). h.value) xs)
+        (λ v m. (let r : (h : Hit) × Member h xs × (h.value ≡ v) = member_map_back (λ (h : Hit). h.value) v xs m in subst (λ w. IsStep x.value w) r.2 (before_member (λ (h k : Hit). IsStep h.value k.value) x xs r.0 pairs r.1)))
+        (map_pairs xs (AllPairs-tail (λ (h k : Hit). IsStep h.value k.value) x xs pairs))
+
+    pub answered : IsAnswered T hops Q D
+    answered = record {
+      traced = record { sound = ridden.queue.step.segments; entered = ridden.queue.entered; hits = ridden.traced };
+      by_hops = ridden.queue.by_hops;
+      best = best_values_from_staircase T Q values sound (All-map (IsAttained T Q) (λ (h : Hit). h.value) D.hits (All-weaker (IsTracedHit T Q D.segments) (λ (h : Hit). IsAttained T Q h.value) (λ h t. attained h t) D.hits ridden.traced)) complete (map_pairs D.hits ridden.stairs);
+    }
+
+-- the desk when the first rides have been boarded
+pub first_ridden : (T : TimetableData) (lines : List (List ℕ)) (hops : ℕ → ℕ → List Hop) (Q : QueryData) (C D E : DeskData) (walked : Option Hit) → C.segments ≡ [] → C.hits ≡ [] → D ≡ record C { hits = C.hits ++ hits_of 0 walked } →
+    IsQueue T lines hops Q E 1 → Extends D E 1 → ((place : ℕ) → place < length Q.from → AreBoarded T Q E place) → IfSome walked (IsWalkHit T Q) →
+    ((p q secs : ℕ) → Contains Q.from p → Contains Q.to q → walk T p q ≡ Some secs → ArrivesBy walked (Q.leave +ℤ pos secs)) → IsRidden T lines hops Q E 0 1
+first_ridden T lines hops Q C D E walked no_segment no_hit is queue extends boarded traced bounded =
+    let hits : E.hits ≡ hits_of 0 walked = extends.hits ∙ ap (λ (d : DeskData). d.hits) is ∙ ap (λ hs. hs ++ hits_of 0 walked) no_hit in
+    let none : length D.segments ≡ 0 = ap (λ (d : DeskData). length d.segments) is ∙ ap length no_segment in
+    let first = walk_facts walked traced in
+    record {
+      queue = queue;
+      some_round = omega arith;
+      few_rounds = omega arith;
+      within = omega arith;
+      this_round = λ n h inside. extends.rounds n (omega (arith, none)) inside;
+      boarded = boarded;
+      followed = λ n i h. absurd (omega (arith, h));
+      walks = λ p q secs a b w. subst (λ hs. IsHit hs (record { arrive = Q.leave +ℤ pos secs; rides = 0 })) (sym hits) (first.2 (Q.leave +ℤ pos secs) (bounded p q secs a b w));
+      values = λ n i q secs h. absurd (omega (arith, h));
+      traced = subst (All (IsTracedHit T Q E.segments)) (sym hits) first.0;
+      stairs = subst (AllPairs (λ (h k : Hit). IsStep h.value k.value)) (sym hits) (λ i j d a b. absurd (omega (arith, a, b, first.3)));
+      fewer = subst (All (λ (h : Hit). h.value.rides < 1)) (sym hits) first.1;
+      few_hits = omega (arith, ap length hits, first.3);
+    }
+  where
+    walk_facts : (o : Option Hit) → IfSome o (IsWalkHit T Q) → All (IsTracedHit T Q E.segments) (hits_of 0 o) × All (λ (h : Hit). h.value.rides < 1) (hits_of 0 o) × ((time : ℤ) → ArrivesBy o time → IsHit (hits_of 0 o) (record { arrive = time; rides = 0 })) × (length (hits_of 0 o) ≤ 1)
+    walk_facts None w = (All-nil (IsTracedHit T Q E.segments), All-nil (λ (h : Hit). h.value.rides < 1), λ time by. absurd by, omega arith)
+    walk_facts (Some h) w =
+        subst (λ hs. All (IsTracedHit T Q E.segments) hs × All (λ (x : Hit). x.value.rides < 1) hs × ((time : ℤ) → ArrivesBy (Some h) time → IsHit hs (record { arrive = time; rides = 0 })) × (length hs ≤ 1)) (sym (hits_of-same 0 h w.1)) (
+          All-cons (IsTracedHit T Q E.segments) h [] (w.0 E.segments) (All-nil (IsTracedHit T Q E.segments)),
+          All-cons (λ (x : Hit). x.value.rides < 1) h [] (omega (arith, w.1)) (All-nil (λ (x : Hit). x.value.rides < 1)),
+          λ time by. record { by = h; one = Contains-from_Member h (h ∷ []) (inl refl); no_worse = (by, omega (arith, w.1)) },
+          omega arith,
+        )
+
+-- what all segments cover is at most all events
+pub covered_all : (T : TimetableData) (lines : List (List ℕ)) (D : DeskData) → IsInStep T lines D → covered_before D.segments (length D.segments) ≤ event_total T
+covered_all T lines D step = omega (arith, ap (λ xs. sum_by covered_indices xs) (take_all (length D.segments) D.segments (omega arith)), step.counted, last_le_events T)
