@@ -1,0 +1,4 @@
+pub mod Lesser
+pub mod Walks
+pub mod Improvement
+pub mod Steps

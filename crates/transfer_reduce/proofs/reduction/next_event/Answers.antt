@@ -1,0 +1,14 @@
+use Rattle.std.proofs.Common.{◌≡◌, ◌-◌, suc, arith, subst}
+use Rattle.transfer_reduce.specs.Reduced.{HasRowAt, Reduces}
+use Rattle.transfer_reduce.proofs.Steps.{next_step}
+use Rattle.transfer_reduce.proofs.reduction.next_event.Goals as goal
+
+pub returns-clause-reduces : goal.returns-clause-reduces
+returns-clause-reduces c =
+    let T = c.args.table.now in
+    let done = c.args.done in
+    let one_less : c.args.done.at ≡ suc (c.args.done.at - 1) = omega arith in
+    λ lines rows away r.
+    next_step T c.soundness.ensures lines c.args.trip rows c.args.labels.now c.offer_stay.new.labels (done.at - 1) done.taken done.kept
+    (subst (λ n. HasRowAt rows n done.taken → ⊥) one_less away) c.requires.labels c.offer_stay.ensures.labels
+    (subst (λ n. Reduces T lines c.args.trip rows c.args.labels.now n done.taken done.kept) one_less r)

@@ -1,0 +1,38 @@
+-- How far a reduction has come.
+use Rattle.std.specs.Prelude.{◌≡◌, ◌⊎◌, ℕ, ◌<◌, List, [], ◌++◌, length, map, take, drop, filter_map, flat_map, ℤ, Option, None, Some, slice_index_or}
+use Rattle.std.specs.Option.{option_map}
+use Rattle.tb_base.specs.declared.table.Event.{Event}
+use Rattle.tb_base.specs.declared.transfer.Hop.{Hop}
+use Rattle.tb_base.specs.declared.transfer.Transfer.{Transfer}
+use Rattle.tb_base.specs.TimetableData.{TimetableData}
+use Rattle.tb_base.specs.Transfers.{Alternative, alternatives_at, candidates_without_u_turns, improving_alternatives, kept_alternatives, numbers_down}
+use Rattle.tb_base.specs.Walking.{walk}
+use Rattle.tb_laws.specs.Labels.{label}
+
+-- row n is one of event i
+abbrev pub HasRowAt : List Transfer → ℕ → ℕ → Type 0
+HasRowAt rows i n = (n < length rows) × (Transfer.at (slice_index_or rows n (record { trip = 0; at = 0; to_trip = 0; to_at = 0 })) ≡ i)
+
+-- the transfer from t@i by a hop
+abbrev pub row_of : ℕ → ℕ → Hop → Transfer
+row_of t i h = record { trip = t; at = i; to_trip = h.trip; to_at = h.at }
+
+-- the transfer by an alternative of trip t, if it hops
+abbrev pub alternative_row : ℕ → Alternative → Option Transfer
+alternative_row t a = option_map (row_of t a.at) a.hop
+
+-- the alternative of hopping at event i
+abbrev pub hop_from : ℕ → Hop → Alternative
+hop_from i h = record { at = i; hop = Some h }
+
+-- Of the rows the first ones are kept; from a place on they are those of some hops of event i, and of the events before it.
+-- The alternatives until then have been looked at, and the labels are what they offer.
+pub record Reduces (T : TimetableData) (lines : List (List ℕ)) (t : ℕ) (rows : List Transfer) (labels : List (Option ℤ)) (i taken kept : ℕ) : Type 0 where
+  pub hops : List Hop
+  pub earlier : List (List Event)
+  pub left : drop taken rows ≡ map (row_of t i) hops ++ flat_map (λ j. map (row_of t j) (candidates_without_u_turns T lines t j)) (numbers_down i)
+  pub done : filter_map (alternative_row t) (kept_alternatives T lines t)
+      ≡ take kept rows ++ filter_map (alternative_row t) (improving_alternatives T t earlier (map (hop_from i) hops ++ flat_map (alternatives_at T lines t) (numbers_down i)))
+  pub shown : (p : ℕ) → p < length T.stops → slice_index_or labels p None ≡ label (walk T) earlier p
+  pub begun : (hops ≡ []) ⊎ (0 < length earlier)
+  pub first : i ≡ 0 → hops ≡ []
