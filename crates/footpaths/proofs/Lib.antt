@@ -8,3 +8,5 @@ pub mod NumberLists
 pub mod RowLaws
 pub mod BuildLaws
 pub mod LinkEnds
+pub mod LawLaws
+pub mod Sound

@@ -3,3 +3,4 @@ pub mod Links
 pub mod Footpaths
 pub mod Marks
 pub mod Network
+pub mod Law

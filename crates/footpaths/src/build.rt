@@ -1,9 +1,11 @@
 //! Change times and footpaths from the rows of transfers.txt.
 ghost use Rattle.std.specs.Prelude.{◌≡◌, ◌<◌, ◌≤◌, ◌++◌, ℕ, [], Ok, None, All, IfOk, IfSome, OnOk, MatchResult, length, get_or};
 ghost use Rattle.std.specs.Option.{option_to_list};
+ghost use Rattle.gtfs_rows.specs.TransfersFile.{TransferData};
 ghost use Rattle.footpaths.specs.Stops.{platforms};
-ghost use Rattle.footpaths.specs.Links.{IsPathsRefused};
+ghost use Rattle.footpaths.specs.Links.{TakesAtMostADay, IsPathsRefused};
 ghost use Rattle.footpaths.specs.Footpaths.{footpaths, path_to, paths_of, check_count, secs_between};
+ghost use Rattle.footpaths.specs.Law.{AreSoundPaths};
 ghost use Rattle.footpaths.specs.Marks.{slot, verdict_secs};
 
 use crate::links::links_of;
@@ -102,8 +104,10 @@ pub fn build_paths(
 ) -> Result<Paths, PathsFault>
     requires change { options.now.change ≤ 86400 }
     requires station { IfSome options.now.station (λ secs. secs ≤ 86400) }
-    ensures { MatchResult result (λ paths. footpaths stops.now options.now rows.now ≡ Ok paths) (IsPathsRefused (footpaths stops.now options.now rows.now)) }
+    ensures told { MatchResult result (λ paths. footpaths stops.now options.now rows.now ≡ Ok paths) (IsPathsRefused (footpaths stops.now options.now rows.now)) }
+    ensures sound { IfOk result (λ paths. All (λ r. TakesAtMostADay (TransferData.rule r)) rows.now → AreSoundPaths paths) }
 {
+    stops.soundness();
     let links = match links_of(alloc, rows, stops, options.change) {
         Ok(links) => links,
         Err(fault) => return Err(fault),

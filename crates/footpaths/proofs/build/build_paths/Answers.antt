@@ -1,5 +1,26 @@
+use Rattle.std.proofs.Common.{◌≡◌, ◌≤◌, ℕ, length, arith}
+use Rattle.std.proofs.lemmas.Result.{MatchResult-weaker}
+use Rattle.std.specs.Prelude.{IfSome, Ok, Err, Result, IfOk, MatchResult, All}
+use Rattle.gtfs_rows.specs.TransfersFile.{TransferData}
+use Rattle.footpaths.specs.Stops.{is_platform, platforms}
+use Rattle.footpaths.specs.Links.{links_of, TakesAtMostADay}
+use Rattle.footpaths.specs.Footpaths.{PathsData, secs_between, paths_of, check_count}
+use Rattle.footpaths.specs.Law.{AreSoundPaths}
 use Rattle.footpaths.proofs.LinkEnds.{links_have_ends}
+use Rattle.footpaths.proofs.Sound.{secs_day, sound_paths}
+use Rattle.footpaths.proofs.StopPlaces.{length_kept}
 use Rattle.footpaths.proofs.build.build_paths.Goals as goal
 
 pub new-requires : goal.new-requires
 new-requires c = rw c.in-Ok.ensures.1 (links_have_ends c.args.stops.now c.args.options.now.change c.args.rows.now)
+
+pub returns-clause-sound : goal.returns-clause-sound
+returns-clause-sound c =
+    let stops = c.args.stops.now in
+    let options = c.args.options.now in
+    let rows = c.args.rows.now in
+    let few : length (platforms stops) ≤ 100000 = omega (arith, length_kept (λ s. is_platform s.kind) stops, c.soundness.ensures.few) in
+    let filled = rw (c.in_ok-network.ensures, c.in-Ok.ensures.1, c.platforms.ensures) at c.fill.ensures in
+    MatchResult-weaker c.fill.result filled
+    (λ paths e days. sound_paths (secs_between stops options (links_of stops options.change rows)) (length (platforms stops)) paths few (λ p q. secs_day stops options rows p q c.requires.change c.requires.station days) e)
+    (λ f k. tt)

@@ -1,0 +1,16 @@
+//! Laws of closed footpaths. Each function does nothing: its contract is the law.
+ghost use Rattle.std.specs.Prelude.{◌≡◌, ℕ};
+ghost use Rattle.tb_base.specs.Walking.{KeepsFootpathLaw};
+ghost use Rattle.footpaths.specs.Footpaths.{Changes, PathsData};
+ghost use Rattle.footpaths.specs.Law.{walking};
+ghost use Rattle.foot_close.specs.Closure.{IsClosure, IsClosed};
+
+/// What is closed keeps the law on footpaths.
+pub fn closed_keeps_law()
+    ensures { (given closed : PathsData) → IsClosed given closed → KeepsFootpathLaw (walking closed) }
+{}
+
+/// There is at most one closure.
+pub fn closure_unique()
+    ensures { (given one other : Changes) → IsClosure given one → IsClosure given other → (p r : ℕ) → one p r ≡ other p r }
+{}

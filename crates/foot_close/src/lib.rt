@@ -1,0 +1,4 @@
+//! Closure of footpaths over chains.
+#![tactic(auto)]
+
+pub mod laws;

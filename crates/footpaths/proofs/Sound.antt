@@ -1,0 +1,138 @@
+-- Change times and footpaths of platforms are sound, the law aside.
+use Rattle.std.proofs.Common.{◌≡◌, ◌≢◌, ◌∙◌, sym, ap, subst, refl, ℕ, zero, suc, ◌+◌, ◌<◌, ◌≤◌, List, [], ◌∷◌, ◌++◌, length, map, get_or, Bool, true, false, ◌&&◌, cond, max, Option, Some, None, arith, inl, inr}
+use Rattle.std.specs.Prelude.{◌==◌, All, AllPairs, IfSome, filter, filter_map, nat_lt, unwrap_or, option_map, Ok}
+use Rattle.std.specs.Option.{option_or, option_to_list}
+use Rattle.std.specs.List.{range_with_len}
+use Rattle.std.proofs.lemmas.Bool.{cases_Bool}
+use Rattle.std.proofs.lemmas.Bool.Decides.{nat_tests}
+use Rattle.std.proofs.lemmas.List.Elements.{All-filter, All-map, All-head, All-tail, All-cons, All-nil}
+use Rattle.std.proofs.lemmas.List.Kept.{AllPairs-cons}
+use Rattle.std.proofs.lemmas.List.FromFn.{length-map-range_with_len, get_or-map-range_with_len}
+use Rattle.tb_base.specs.declared.table.Path.{Path}
+use Rattle.tb_base.specs.Soundness.{IsSoundPath}
+use Rattle.gtfs_rows.specs.StopsFile.{StopData}
+use Rattle.gtfs_rows.specs.TransfersFile.{TransferData}
+use Rattle.gtfs_rows.specs.declared.transfers.PathRule.{PathRule}
+use Rattle.gtfs_rows.specs.declared.transfers.PathRule.TheVariants as rule
+use Rattle.footpaths.specs.declared.found.Link.{Link}
+use Rattle.footpaths.specs.declared.paths.Options.{Options}
+use Rattle.footpaths.specs.Stops.{platforms, station_of}
+use Rattle.footpaths.specs.Links.{secs_by, link_of, links_of, TakesAtMostADay}
+use Rattle.footpaths.specs.Footpaths.{Changes, PathsData, longer, longer_said, longest, said, unsaid, fits, rank, have_one_station, secs_between, path_to, paths_from, paths_of, path_total, numbers, check_count}
+use Rattle.footpaths.specs.Law.{AreSoundPaths}
+
+abbrev IsDay : Option ℕ → Type 0
+IsDay o = IfSome o (λ secs. secs ≤ 86400)
+
+abbrev AreDays : Option (Option ℕ) → Type 0
+AreDays o = IfSome o IsDay
+
+longer_day : (a b : Option ℕ) → IsDay a → IsDay b → IsDay (longer a b)
+longer_day None b h k = tt
+longer_day (Some a) None h k = tt
+longer_day (Some a) (Some b) h k = omega arith
+
+said_day : (a b : Option (Option ℕ)) → AreDays a → AreDays b → AreDays (longer_said a b)
+said_day None b h k = k
+said_day (Some a) None h k = h
+said_day (Some a) (Some b) h k = longer_day a b h k
+
+longest_day : (xs : List (Option ℕ)) → All IsDay xs → AreDays (longest xs)
+longest_day [] h = tt
+longest_day (x ∷ xs) h = said_day (Some x) (longest xs) (All-head IsDay x xs h) (longest_day xs (All-tail IsDay x xs h))
+
+chosen_day : (a b c : Option (Option ℕ)) (d : Option ℕ) → AreDays a → AreDays b → AreDays c → IsDay d → IsDay (unwrap_or (option_or a (option_or b c)) d)
+chosen_day (Some a) b c d h k l m = h
+chosen_day None (Some b) c d h k l m = k
+chosen_day None None (Some c) d h k l m = l
+chosen_day None None None d h k l m = m
+
+default_day : (own near : Bool) (change : ℕ) (station : Option ℕ) → change ≤ 86400 → IsDay station → IsDay (cond own (Some change) (cond near station None))
+default_day true near change station h k = h
+default_day false true change station h k = k
+default_day false false change station h k = tt
+
+rule_day : (change : ℕ) (r : PathRule) → change ≤ 86400 → TakesAtMostADay r → IsDay (secs_by change r)
+rule_day change (rule.Secs s) h k = k
+rule_day change rule.Default h k = h
+rule_day change rule.Forbidden h k = tt
+
+-- the seconds from one platform to another are at most a day
+pub secs_day : (stops : List StopData) (options : Options) (rows : List TransferData) (p q : ℕ) → options.change ≤ 86400 → IfSome options.station (λ secs. secs ≤ 86400) → All (λ r. TakesAtMostADay (TransferData.rule r)) rows
+    → IfSome (secs_between stops options (links_of stops options.change rows) p q) (λ secs. secs ≤ 86400)
+secs_day stops options rows p q h k days =
+    let links = links_of stops options.change rows in
+    let each : All (λ l. IsDay (Link.secs l)) links = All-map (λ l. IsDay (Link.secs l)) (link_of stops options.change) rows (λ i d below. rule_day options.change _ h (days i d below)) in
+    let of_rank : (r : ℕ) → AreDays (said stops links p q r) = (λ r. longest_day _ (All-map IsDay (λ l. Link.secs l) (filter (λ l. fits stops p q l && (rank l == r)) links) (All-filter (λ l. fits stops p q l && (rank l == r)) (λ l. IsDay (Link.secs l)) links each))) in
+    chosen_day (said stops links p q 0) (said stops links p q 1) (said stops links p q 2) (unsaid stops options p q) (of_rank 0) (of_rank 1) (of_rank 2)
+    (default_day (p == q) (have_one_station (station_of stops q) (station_of stops p)) options.change options.station h k)
+
+-- a footpath that is given is sound, and leads to its stop
+path_is : (n p q : ℕ) (o : Option ℕ) (f : Path) → path_to p q o ≡ Some f → IfSome o (λ secs. secs ≤ 86400) → q < n → IsSoundPath n p f × (f.to ≡ q)
+path_is n p q o f e k h =
+    elim (cases_Bool (p == q)) [
+      | inl t ↦ absurd (let c : None ≡ Some f = rw t at e in cc)
+      | inr m ↦ by_secs o k (rw m at e) (λ s. absurd (let t : (p == q) ≡ true = grind (arith, nat_tests, s) in let c : false ≡ true = sym m ∙ t in cc))
+    ]
+  where
+    by_secs : (o : Option ℕ) → IfSome o (λ secs. secs ≤ 86400) → option_map (λ s. record { to = q; secs = s }) o ≡ Some f → (q ≡ p → ⊥) → IsSoundPath n p f × (f.to ≡ q)
+    by_secs None k e l = cc
+    by_secs (Some s) k e l =
+        let is : record { to = q; secs = s } ≡ f = cc in
+        (subst (λ g. IsSoundPath n p g) is (record { to = h; away = l; secs = k }), sym (ap (λ (g : Path). g.to) is))
+
+-- the footpaths to so many stops, from one on: sound, in order, and to none before
+abbrev paths_in : Changes → ℕ → ℕ → ℕ → List Path
+paths_in given p a k = filter_map (λ q. path_to p q (given p q)) (range_with_len a k)
+
+record IsSoundRow (n p a : ℕ) (row : List Path) : Type 0 where
+  paths : All (IsSoundPath n p) row
+  after : All (λ (f : Path). a ≤ f.to) row
+  ascending : AllPairs (λ (f g : Path). f.to < g.to) row
+
+none_sound : (n p a : ℕ) → IsSoundRow n p a []
+none_sound n p a = record { paths = All-nil (IsSoundPath n p); after = All-nil (λ (f : Path). a ≤ f.to); ascending = λ i j d h k. absurd (omega arith) }
+
+later : (n p a : ℕ) (row : List Path) → IsSoundRow n p (a + 1) row → IsSoundRow n p a row
+later n p a row h = record { paths = h.paths; after = λ i d k. (let w = h.after i d k in omega arith); ascending = h.ascending }
+
+row_cons : (n p a : ℕ) (f : Path) (row : List Path) → IsSoundPath n p f → f.to ≡ a → IsSoundRow n p (a + 1) row → IsSoundRow n p a (f ∷ row)
+row_cons n p a f row s e h = record {
+  paths = All-cons (IsSoundPath n p) f row s h.paths;
+  after = All-cons (λ (f : Path). a ≤ f.to) f row (omega arith) (λ i d k. (let w = h.after i d k in omega arith));
+  ascending = AllPairs-cons (λ (f g : Path). f.to < g.to) f row (λ i d k. (let w = h.after i d k in omega arith)) h.ascending;
+}
+
+row_sound : (given : Changes) (n p : ℕ) → ((q : ℕ) → IfSome (given p q) (λ secs. secs ≤ 86400)) → (k a : ℕ) → a + k ≤ n → IsSoundRow n p a (paths_in given p a k)
+row_sound given n p day zero a h = none_sound n p a
+row_sound given n p day (suc k) a h = by_path (path_to p a (given p a)) refl (row_sound given n p day k (a + 1) (omega arith))
+  where
+    by_path : (o : Option Path) → path_to p a (given p a) ≡ o → IsSoundRow n p (a + 1) (paths_in given p (a + 1) k) → IsSoundRow n p a (paths_in given p a (suc k))
+    by_path None e rest = rw e (later n p a (paths_in given p (a + 1) k) rest)
+    by_path (Some f) e rest = (let w = path_is n p a (given p a) f e (day a) (omega arith) in rw e (row_cons n p a f (paths_in given p (a + 1) k) w.0 w.1 rest))
+
+small_total : (P Q : PathsData) → check_count P ≡ Ok Q → (path_total P ≤ 2000000) × (P ≡ Q)
+small_total P Q e =
+    elim (cases_Bool (nat_lt 2000000 (path_total P))) [
+      | inl t ↦ absurd (let c = rw t at e in cc)
+      | inr f ↦ (let few : path_total P ≤ 2000000 = grind (arith, nat_tests, f) in let c : Ok P ≡ Ok Q = rw f at e in (few, cc))
+    ]
+
+-- change times and footpaths that are few enough are sound
+pub sound_paths : (given : Changes) (n : ℕ) (P : PathsData) → n ≤ 100000 → ((p q : ℕ) → IfSome (given p q) (λ secs. secs ≤ 86400)) → check_count (paths_of n given) ≡ Ok P → AreSoundPaths P
+sound_paths given n P few day e =
+    let c = small_total (paths_of n given) P e in
+    let many : length (PathsData.change (paths_of n given)) ≡ n = length-map-range_with_len (λ p. given p p) 0 n in
+    let rows : length (PathsData.paths (paths_of n given)) ≡ n = length-map-range_with_len (paths_from n given) 0 n in
+    subst AreSoundPaths c.1 (record {
+      few = omega arith;
+      rows = rows ∙ sym many;
+      footpaths = c.0;
+      change_secs = All-map (λ c. IfSome c (λ secs. secs ≤ 86400)) (λ p. given p p) (numbers n) (λ i d h. day _ _);
+      paths = λ p h.
+          (let below : p < n = omega arith in
+          let row : get_or (map (paths_from n given) (numbers n)) p [] ≡ paths_from n given p = get_or-map-range_with_len (paths_from n given) 0 n p p [] below (omega arith) in
+          let sound : All (IsSoundPath n p) (paths_from n given p) = (row_sound given n p (day p) n 0 (omega arith)).paths in
+          rw (row, many) sound);
+      ascending = All-map (λ (row : List Path). AllPairs (λ (f g : Path). f.to < g.to) row) (paths_from n given) (numbers n) (λ i d h. (row_sound given n _ (day _) n 0 (omega arith)).ascending);
+    })
