@@ -1,13 +1,11 @@
 -- A time of a file is at most 99:59:59.
-use Rattle.std.proofs.Common.{◌≡◌, refl, ℕ, ◌+◌, ◌-◌, ◌*◌, ◌<◌, ◌≤◌, List, [], ◌∷◌, length, take, drop, Option, Some, None, Bool, true, false, inl, inr, arith, ◌&&◌, length-take}
-use Rattle.std.specs.Prelude.{◌==◌, nat_le, nat_lt, pos, ℤ, option_map, option_and_then, IfSome, ◌≤ℤ◌}
+use Rattle.std.proofs.Common.{◌≡◌, refl, ℕ, ◌+◌, ◌-◌, ◌*◌, ◌<◌, ◌≤◌, List, [], ◌∷◌, length, take, drop, Option, Some, None, Bool, true, false, arith, ◌&&◌, length-take}
+use Rattle.std.specs.Prelude.{◌==◌, nat_le, pos, ℤ, option_map, option_and_then, IfSome}
 use Rattle.std.specs.Char.{is_ascii_digit}
-use Rattle.std.specs.Str.Parse.{digits_value}
 use Rattle.std.specs.Bool.{if◌then◌else◌}
-use Rattle.std.proofs.lemmas.Bool.{cases_Bool}
 use Rattle.std.proofs.lemmas.Bool.Decides.{nat_tests}
 use Rattle.std.proofs.lemmas.Int.{ints}
-use Rattle.gtfs_rows.specs.Numbers.{IsNumber, number_of, sixtieth, after_hours, clock_of, time_of}
+use Rattle.gtfs_rows.specs.Numbers.{number_of, sixtieth, after_hours, clock_of, time_of}
 use Rattle.gtfs_rows.specs.Fields.{or_empty}
 use Rattle.gtfs_rows.proofs.NumberTests.{is_number}
 use Rattle.gtfs_rows.proofs.Digits.{small}

@@ -3,10 +3,9 @@ use Rattle.std.proofs.Common.{◌≡◌, ◌≢◌, ◌∙◌, refl, sym, ap, su
 use Rattle.std.specs.Prelude.{Result, Ok, Err, All, AllPairs, ok_or, option_map, position, is_none, unwrap_or, IfSome, ◌==◌}
 use Rattle.std.specs.Option.{option_or}
 use Rattle.std.specs.List.{list_any}
-use Rattle.std.proofs.lemmas.Bool.{cases_Bool}
 use Rattle.std.proofs.lemmas.Bool.Decides.{nat_tests}
 use Rattle.std.proofs.lemmas.List.{length-map}
-use Rattle.std.proofs.lemmas.List.Elements.{All-cons, All-nil, All-map}
+use Rattle.std.proofs.lemmas.List.Elements.{All-cons, All-nil}
 use Rattle.std.proofs.lemmas.List.Kept.{AllPairs-cons}
 use Rattle.std.proofs.lemmas.List.Quantifiers.{position-Some}
 use Rattle.tb_base.proofs.Ordered.{Member}
@@ -14,18 +13,18 @@ use Rattle.gtfs_rows.specs.Steps.{and_then}
 use Rattle.gtfs_rows.specs.Faults.{unless_wrong, wrong_after, fault_if, check_rows}
 use Rattle.gtfs_rows.specs.Lines.{Line, cell, typed_rows}
 use Rattle.gtfs_rows.specs.Numbers.{number_of, time_of}
-use Rattle.gtfs_rows.specs.Fields.{column, id_of, or_empty, mark_of}
+use Rattle.gtfs_rows.specs.Fields.{id_of, or_empty, mark_of}
 use Rattle.gtfs_rows.specs.StopsFile.{StopData}
 use Rattle.gtfs_rows.specs.TripsFile.{TripData}
 use Rattle.gtfs_rows.specs.TimesFile.{TimeData, time_row}
 use Rattle.gtfs_rows.specs.declared.fault.FeedFile.TheVariants as file
 use Rattle.gtfs_rows.specs.declared.fault.FeedFault.{FeedFault}
-use Rattle.footpaths.specs.Stops.{platforms, stations, find_stop, has_stop_id}
+use Rattle.footpaths.specs.Stops.{platforms, stations, has_stop_id}
 use Rattle.footpaths.specs.declared.found.Found.{Found}
 use Rattle.footpaths.specs.declared.found.Found.TheVariants as found
 use Rattle.trip_rides.specs.declared.stop_time.StopTime.{StopTime}
 use Rattle.trip_rides.specs.Times.{IsFileTime, HasFileTimes}
-use Rattle.trip_table.specs.References.{resolved, resolved_if, resolved_row, has_trip_id, wrong_ids, wrong_time, repeats, same_number, same_place, is_no_platform, numbered, platform_number}
+use Rattle.trip_table.specs.References.{resolved, resolved_if, resolved_row, has_trip_id, wrong_ids, wrong_time, repeats, same_number, is_no_platform, numbered, platform_number}
 use Rattle.trip_table.specs.GoodTimes.{AreGoodTimes}
 use Rattle.trip_table.specs.declared.resolved.ResolvedTime.{ResolvedTime}
 use Rattle.trip_table.proofs.RowFacts.{rows_all}

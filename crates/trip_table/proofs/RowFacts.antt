@@ -1,5 +1,5 @@
 -- What holds of each row that a reader gives holds of all rows of a file.
-use Rattle.std.proofs.Common.{◌≡◌, ◌≢◌, refl, sym, ap, subst, ℕ, zero, suc, List, [], ◌∷◌, ◌++◌, Option, Some, None}
+use Rattle.std.proofs.Common.{◌≡◌, ◌≢◌, refl, ap, subst, ℕ, zero, suc, List, [], ◌∷◌, Option, Some, None}
 use Rattle.std.specs.Prelude.{Result, Ok, Err, All, ok_or, option_to_list}
 use Rattle.std.proofs.lemmas.List.Elements.{All-cons, All-nil}
 use Rattle.gtfs_rows.specs.Steps.{and_then, prepend}
@@ -11,7 +11,6 @@ use Rattle.gtfs_rows.specs.declared.stops.Kind.{Kind}
 use Rattle.gtfs_rows.specs.declared.fault.FeedFile.{FeedFile}
 use Rattle.gtfs_rows.specs.declared.fault.FeedFile.TheVariants as file
 use Rattle.gtfs_rows.specs.declared.fault.FeedFault.{FeedFault}
-use Rattle.gtfs_rows.specs.declared.fault.FeedFault.TheVariants as fault
 
 row_all : {A : Type 0} (P : A → Type 0) (row : Result (Option A) FeedFault) (rest : Result (List A) FeedFault) (xs : List A) → ((x : A) → row ≡ Ok (Some x) → P x) → ((ys : List A) → rest ≡ Ok ys → All P ys)
     → and_then row (λ o. prepend (option_to_list o) rest) ≡ Ok xs → All P xs

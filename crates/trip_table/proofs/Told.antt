@@ -1,6 +1,6 @@
 -- What a step refuses is what all that begins with it refuses.
-use Rattle.std.proofs.Common.{◌≡◌, refl, ℕ, ◌<◌, List, length, Option, Some, None, Bool, true, false, arith, sym, ◌∙◌, ap}
-use Rattle.std.specs.Prelude.{Result, Ok, Err, nat_le, IsSome, IfSome, unwrap_or, MatchResult}
+use Rattle.std.proofs.Common.{◌≡◌, refl, ℕ, ◌<◌, List, length, Option, Some, None, true, false, arith}
+use Rattle.std.specs.Prelude.{Result, Err, nat_le, IsSome, IfSome}
 use Rattle.std.proofs.lemmas.Bool.Decides.{nat_tests}
 use Rattle.tb_io.specs.Files.{FileList, file_at}
 use Rattle.gtfs_rows.specs.Steps.{and_then}

@@ -1,5 +1,5 @@
 -- The files of a feed, and the rows that they have.
-use Rattle.std.specs.Prelude.{ℕ, List, [], ◌++◌, length, codes, nat_le, is_some, Bool, Option, Some, None, Result, Ok, Err, if◌then◌else◌}
+use Rattle.std.specs.Prelude.{ℕ, List, ◌++◌, length, codes, nat_le, is_some, Option, Some, None, Result, Ok, Err, if◌then◌else◌}
 use Rattle.tb_io.specs.Files.{FileList, file_at}
 use Rattle.gtfs_rows.specs.Steps.{and_then}
 use Rattle.gtfs_rows.specs.Lines.{Line, typed_rows}

@@ -1,4 +1,4 @@
-use Rattle.std.proofs.Common.{◌∙◌, ap, Bool}
+use Rattle.std.proofs.Common.{◌∙◌, ap}
 use Rattle.gtfs_rows.specs.Faults.{spot}
 use Rattle.gtfs_rows.specs.CalendarFile.{CalendarData}
 use Rattle.gtfs_rows.specs.declared.fault.FeedFile.TheVariants as file

@@ -1,8 +1,4 @@
-use Rattle.std.proofs.Common.{◌∙◌, ap}
-use Rattle.gtfs_rows.specs.declared.fault.FeedFault.TheVariants as fault
-use Rattle.std.specs.Prelude.{Err}
-use Rattle.gtfs_rows.specs.declared.fault.Spot.{Spot}
-use Rattle.gtfs_rows.specs.declared.fault.FeedFault.{FeedFault}
+use Rattle.std.proofs.Common.{◌∙◌}
 use Rattle.trip_table.proofs.NextTime.{IsNext, passes, stands_twice, places_more}
 use Rattle.trip_table.proofs.times.check_times.Goals as goal
 
