@@ -12,31 +12,10 @@ use Rattle.tb_base.specs.Walking.{walk}
 use Rattle.tb_base.proofs.Ordered.{Member, Member-from_Contains, Contains-from_Member, AllPairs-tail}
 use Rattle.tb_laws.proofs.Members.{Member-append, Member-left, Member-right, Member-filter, Member-numbers_below}
 use Rattle.segment_queue.specs.Scans.{line_indices_at}
+use Rattle.segment_queue.proofs.Totals.{distinct_sum}
 use Rattle.segment_queue.proofs.Distinct.{before_member, of_member, pairs_from_head}
 use Rattle.earliest_query.specs.Choices.{IsFirstChoice, lines_near, stops_near}
 use Rattle.earliest_query.specs.UnderWay.{BoardsAmong, BoardsOnce, BoardsStops, IsChosen}
-
-member_split : (x : ℕ) (ys : List ℕ) → Member x ys → (before after : List ℕ) × (ys ≡ before ++ x ∷ after)
-member_split x [] h = absurd h
-member_split x (y ∷ ys) (inl e) = ([], ys, ap (λ z. z ∷ ys) e)
-member_split x (y ∷ ys) (inr h) = let r : (before after : List ℕ) × (ys ≡ before ++ x ∷ after) = member_split x ys h in (y ∷ r.0, r.1, ap (λ zs. y ∷ zs) r.2)
-
--- the sum over numbers that differ is at most that over a list with all of them
-distinct_sum : (f : ℕ → ℕ) (xs ys : List ℕ) → AllPairs (λ p q. p ≢ q) xs → ((x : ℕ) → Member x xs → Member x ys) → sum_by f xs ≤ sum_by f ys
-distinct_sum f [] ys distinct inside = omega arith
-distinct_sum f (x ∷ xs) ys distinct inside =
-    let s : (before after : List ℕ) × (ys ≡ before ++ x ∷ after) = member_split x ys (inside x (inl refl)) in
-    let rest : sum_by f xs ≤ sum_by f (s.0 ++ s.1)
-    = distinct_sum f xs (s.0 ++ s.1) (AllPairs-tail (λ p q. p ≢ q) x xs distinct)
-    (λ z h. without s.0 s.1 z (λ e. before_member (λ p q. p ≢ q) x xs z distinct h (sym e)) (subst (λ l. Member z l) s.2 (inside z (inr h)))) in
-    omega (arith, rest, sum_by-cons f x xs, ap (sum_by f) s.2, sum_by-append f s.0 (x ∷ s.1), sum_by-cons f x s.1, sum_by-append f s.0 s.1)
-  where
-    without : (before after : List ℕ) (z : ℕ) → z ≢ x → Member z (before ++ x ∷ after) → Member z (before ++ after)
-    without before after z other h =
-        elim (Member-append z before (x ∷ after) h) [
-          | inl k ↦ Member-left z before after k
-          | inr k ↦ Member-right z before after (elim k [ inl e ↦ absurd (other (sym e)) | inr m ↦ m ])
-        ]
 
 pub pairs_append : {X : Type 0} (R : X → X → Type 0) (xs ys : List X) → AllPairs R xs → AllPairs R ys → ((x y : X) → Member x xs → Member y ys → R x y) → AllPairs R (xs ++ ys)
 pairs_append R [] ys p q cross = q

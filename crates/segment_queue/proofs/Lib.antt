@@ -4,3 +4,4 @@ pub mod LineParts
 pub mod Totals
 pub mod LoweredMarks
 pub mod InStep
+pub mod LineViews

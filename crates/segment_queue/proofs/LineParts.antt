@@ -12,16 +12,16 @@ use Rattle.tb_laws.proofs.LineFacts.{MayFollow, no_later}
 use Rattle.segment_queue.specs.Scans.{trips_from}
 use Rattle.segment_queue.proofs.Distinct.{has, has_member, same_or_other, member_or_not, before_member, pairs_from_head, pairs_left, pairs_right, AreDistinct, in_one_part}
 
-line_from-same : (t x : ℕ) (xs : List ℕ) → (x == t) ≡ true → line_from t (x ∷ xs) ≡ x ∷ xs
+pub line_from-same : (t x : ℕ) (xs : List ℕ) → (x == t) ≡ true → line_from t (x ∷ xs) ≡ x ∷ xs
 line_from-same t x xs e = ap (λ b. cond b (x ∷ xs) (line_from t xs)) e
 
-line_from-other : (t x : ℕ) (xs : List ℕ) → (x == t) ≡ false → line_from t (x ∷ xs) ≡ line_from t xs
+pub line_from-other : (t x : ℕ) (xs : List ℕ) → (x == t) ≡ false → line_from t (x ∷ xs) ≡ line_from t xs
 line_from-other t x xs e = ap (λ b. cond b (x ∷ xs) (line_from t xs)) e
 
-trips_from-here : (line : List ℕ) (lines : List (List ℕ)) (t : ℕ) → has t line ≡ true → trips_from (line ∷ lines) t ≡ line_from t line
+pub trips_from-here : (line : List ℕ) (lines : List (List ℕ)) (t : ℕ) → has t line ≡ true → trips_from (line ∷ lines) t ≡ line_from t line
 trips_from-here line lines t e = ap (λ b. cond b (line_from t line) (trips_from lines t)) e
 
-trips_from-past : (line : List ℕ) (lines : List (List ℕ)) (t : ℕ) → has t line ≡ false → trips_from (line ∷ lines) t ≡ trips_from lines t
+pub trips_from-past : (line : List ℕ) (lines : List (List ℕ)) (t : ℕ) → has t line ≡ false → trips_from (line ∷ lines) t ≡ trips_from lines t
 trips_from-past line lines t e = ap (λ b. cond b (line_from t line) (trips_from lines t)) e
 
 -- the part of a line is of the line

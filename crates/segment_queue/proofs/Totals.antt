@@ -1,11 +1,14 @@
 -- Sums over the numbers below a bound, and over segments.
-use Rattle.std.proofs.Common.{◌≡◌, ◌∙◌, ℕ, zero, suc, ◌+◌, ◌<◌, ◌≤◌, ◌⊎◌, inl, inr, List, [], ◌∷◌, length, take, get_or, refl, sym, ap, subst, arith, add-one}
-use Rattle.std.specs.Prelude.{All, sum_by}
+use Rattle.std.proofs.Common.{◌≡◌, ◌≢◌, ◌∙◌, ℕ, zero, suc, ◌+◌, ◌<◌, ◌≤◌, ◌⊎◌, inl, inr, List, [], ◌∷◌, ◌++◌, length, take, get_or, refl, sym, ap, subst, arith, add-one}
+use Rattle.std.specs.Prelude.{All, AllPairs, sum_by}
 use Rattle.std.proofs.lemmas.List.{take_all}
-use Rattle.std.proofs.lemmas.List.Sums.{sum_by-cons, sum_by_push, sum_by_more, sum_by-le-sum_by}
+use Rattle.std.proofs.lemmas.List.Sums.{sum_by-append, sum_by-cons, sum_by_push, sum_by_more, sum_by-le-sum_by}
 use Rattle.std.proofs.lemmas.List.Elements.{All-head, All-tail}
 use Rattle.tb_base.specs.TimetableData.{TimetableData, TripData, events_of, event_total}
 use Rattle.tb_base.specs.Transfers.{numbers_below}
+use Rattle.tb_base.proofs.Ordered.{Member, AllPairs-tail}
+use Rattle.tb_laws.proofs.Members.{Member-append, Member-left, Member-right}
+use Rattle.segment_queue.proofs.Distinct.{before_member}
 use Rattle.segment_queue.specs.declared.desk.Segment.{Segment}
 use Rattle.segment_queue.specs.Queue.{IsSoundSegment, covered_indices, last_index, last_total}
 
@@ -46,17 +49,42 @@ events_below xs d (suc n) h =
     ∙ ap (λ k. k + length (TripData.events (get_or xs n d))) (events_below xs d n (omega (arith, h)))
     ∙ sym more ∙ ap (λ k. sum_by (λ (t : TripData). length t.events) (take k xs)) (add-one n)
 
+-- all trips have as many events as the timetable
+pub all_events : (T : TimetableData) → sum_by (λ t. length (events_of T t)) (numbers_below (length T.trips)) ≡ event_total T
+all_events T =
+    events_below T.trips (record { name = []; events = [] }) (length T.trips) (omega arith) ∙ ap (λ xs. sum_by (λ (t : TripData). length t.events) xs) (take_all (length T.trips) T.trips (omega arith))
+
 -- the last indices of all trips are together at most the number of events
 pub last_le_events : (T : TimetableData) → last_total T ≤ event_total T
 last_le_events T =
     let each : last_total T ≤ sum_by (λ t. length (events_of T t)) (numbers_below (length T.trips))
     = sum_by-le-sum_by (last_index T) (λ t. length (events_of T t)) (numbers_below (length T.trips)) (λ t. omega arith) in
-    let all : sum_by (λ t. length (events_of T t)) (numbers_below (length T.trips)) ≡ event_total T
-    = events_below T.trips (record { name = []; events = [] }) (length T.trips) (omega arith) ∙ ap (λ xs. sum_by (λ (t : TripData). length t.events) xs) (take_all (length T.trips) T.trips (omega arith)) in
-    omega (arith, each, all)
+    omega (arith, each, all_events T)
 
 -- each segment covers an index
 pub length_le_covered : (T : TimetableData) (segments : List Segment) → All (IsSoundSegment T) segments → length segments ≤ sum_by covered_indices segments
 length_le_covered T [] sound = omega arith
 length_le_covered T (s ∷ ss) sound =
     omega (arith, length_le_covered T ss (All-tail (IsSoundSegment T) s ss sound), (All-head (IsSoundSegment T) s ss sound).onward, sum_by-cons covered_indices s ss)
+
+member_split : (x : ℕ) (ys : List ℕ) → Member x ys → (before after : List ℕ) × (ys ≡ before ++ x ∷ after)
+member_split x [] h = absurd h
+member_split x (y ∷ ys) (inl e) = ([], ys, ap (λ z. z ∷ ys) e)
+member_split x (y ∷ ys) (inr h) = let r : (before after : List ℕ) × (ys ≡ before ++ x ∷ after) = member_split x ys h in (y ∷ r.0, r.1, ap (λ zs. y ∷ zs) r.2)
+
+-- the sum over numbers that differ is at most that over a list with all of them
+pub distinct_sum : (f : ℕ → ℕ) (xs ys : List ℕ) → AllPairs (λ p q. p ≢ q) xs → ((x : ℕ) → Member x xs → Member x ys) → sum_by f xs ≤ sum_by f ys
+distinct_sum f [] ys distinct inside = omega arith
+distinct_sum f (x ∷ xs) ys distinct inside =
+    let s : (before after : List ℕ) × (ys ≡ before ++ x ∷ after) = member_split x ys (inside x (inl refl)) in
+    let rest : sum_by f xs ≤ sum_by f (s.0 ++ s.1)
+    = distinct_sum f xs (s.0 ++ s.1) (AllPairs-tail (λ p q. p ≢ q) x xs distinct)
+    (λ z h. without s.0 s.1 z (λ e. before_member (λ p q. p ≢ q) x xs z distinct h (sym e)) (subst (λ l. Member z l) s.2 (inside z (inr h)))) in
+    omega (arith, rest, sum_by-cons f x xs, ap (sum_by f) s.2, sum_by-append f s.0 (x ∷ s.1), sum_by-cons f x s.1, sum_by-append f s.0 s.1)
+  where
+    without : (before after : List ℕ) (z : ℕ) → z ≢ x → Member z (before ++ x ∷ after) → Member z (before ++ after)
+    without before after z other h =
+        elim (Member-append z before (x ∷ after) h) [
+          | inl k ↦ Member-left z before after k
+          | inr k ↦ Member-right z before after (elim k [ inl e ↦ absurd (other (sym e)) | inr m ↦ m ])
+        ]

@@ -9,8 +9,10 @@ mod desk;
 mod marks;
 mod scan;
 mod steps;
+mod view;
 
 pub use desk::{Desk, Hit, LastLeg, Segment};
 pub use marks::Marks;
 pub use scan::{Scan, Shape, Visit};
 pub use steps::Steps;
+pub use view::View;
