@@ -7,6 +7,7 @@
 //! whole, `timetable_of` in specs/Day.antt, is one function of the files, the day and the options.
 #![tactic(auto)]
 
+pub mod assemble;
 mod calendar;
 mod day_fault;
 mod day_options;

@@ -1,0 +1,137 @@
+//! The timetable of trips over the stops of a feed.
+ghost use Rattle.std.specs.Prelude.{◌≡◌, ◌<◌, ◌≤◌, ◌++◌, ◌∷◌, [], ℕ, IfOk, OnOk, Some, All, length, map, replicate, sum_by};
+ghost use Rattle.tb_base.specs.declared.table.Path.{Path};
+ghost use Rattle.tb_base.specs.TimetableData.{TripData};
+ghost use Rattle.tb_base.specs.Soundness.{IsSoundTrip};
+ghost use Rattle.gtfs_rows.specs.StopsFile.{StopData};
+ghost use Rattle.footpaths.specs.Stops.{is_platform, is_station, platforms, stations};
+ghost use Rattle.trip_table.specs.Day.{stations_from, timetable};
+
+use crate::{Options, StopRows};
+use footpaths::StopTable;
+use gtfs_rows::{Kind, StopRow};
+use std::alloc::Global;
+use tb_base::{Memory, Name, Parts, Path, Station, Stop, StopNo, Timetable, Trip};
+
+fn is_platform(kind: Kind) -> bool
+    ensures { result ≡ is_platform kind }
+{
+    match kind {
+        Kind::Platform => true,
+        Kind::Station | Kind::Other => false,
+    }
+}
+
+fn is_station(kind: Kind) -> bool
+    ensures { result ≡ is_station kind }
+{
+    match kind {
+        Kind::Station => true,
+        Kind::Platform | Kind::Other => false,
+    }
+}
+
+// The platforms, as stops by their ids.
+fn stops_of(alloc: Global, rows: &[StopRow]) -> Result<Vec<Stop>, Memory>
+    ensures { IfOk result (λ v. v.items ≡ map (λ s. record { name = StopData.id s }) (platforms rows.now)) }
+{
+    let mut stops = Vec::new(alloc);
+    for row in rows {
+        if is_platform(row.kind) {
+            let name = Name::new(alloc, row.id.bytes())?;
+            stops.push(Stop { name })?;
+        }
+    }
+    Ok(stops)
+}
+
+// The stations by their ids, as yet with no stops.
+fn empty_stations(alloc: Global, rows: &[StopRow]) -> Result<Vec<Station>, Memory>
+    ensures { IfOk result (λ v. v.items ≡ map (λ s. record { name = StopData.id s; stops = [] }) (stations rows.now)) }
+{
+    let mut stations = Vec::new(alloc);
+    for row in rows {
+        if is_station(row.kind) {
+            let name = Name::new(alloc, row.id.bytes())?;
+            let stops = Vec::new(alloc);
+            stations.push(Station { name, stops })?;
+        }
+    }
+    Ok(stations)
+}
+
+// One stop more of a station, after those that are there.
+fn add_stop(station: &mut Station, stop: StopNo) -> Result<(), Memory>
+    ensures { OnOk result (station.new ≡ record station.old { stops = station.old.stops ++ stop ∷ [] }) }
+{
+    match station.stops.push(stop) {
+        Ok(()) => Ok(()),
+        Err(_) => Err(Memory),
+    }
+}
+
+// The stations, each with the platforms that name it as their parent: one pass over the platforms.
+fn stations_of(alloc: Global, stops: &StopRows) -> Result<Vec<Station>, Memory>
+    ensures { IfOk result (λ v. v.items ≡ stations_from stops.now 0 (stations stops.now)) }
+{
+    let table = stops.table();
+    let mut stations = empty_stations(alloc, stops.rows())?;
+    for p in 0..table.platforms() {
+        let stop = StopNo(p);
+        if let Some(n) = table.station_of(stop) {
+            add_stop(&mut stations[n as usize], stop)?;
+        }
+    }
+    Ok(stations)
+}
+
+// No footpaths, for each of so many stops.
+fn no_paths(alloc: Global, count: usize) -> Result<Vec<Vec<Path>>, Memory>
+    ensures { IfOk result (λ rows. map (λ row. row.items) rows.items ≡ replicate count []) }
+{
+    let mut rows: Vec<Vec<Path>> = Vec::new(alloc);
+    for _row in 0..count {
+        if rows.push(Vec::new(alloc)).is_err() {
+            return Err(Memory);
+        }
+    }
+    Ok(rows)
+}
+
+// The same change time for each of so many stops.
+fn change_times(alloc: Global, count: usize, change: u32) -> Result<Vec<Option<u32>>, Memory>
+    ensures { IfOk result (λ v. v.items ≡ replicate count (Some change)) }
+{
+    Ok(vec![in alloc; Some(change); count]?)
+}
+
+/// The timetable of trips over the stops of a feed: no footpaths, and the default change time at each stop.
+/// Refused only for want of memory; the trips are dropped then.
+pub fn assemble(
+    alloc: Global,
+    stops: &StopRows,
+    options: &Options,
+    trips: Vec<Trip>,
+) -> Result<Timetable, Memory>
+    requires change { options.now.change ≤ 86400 }
+    requires trip_count { length trips.items ≤ 500000 }
+    requires event_count { sum_by (λ t. length (TripData.events t)) trips.items ≤ 10000000 }
+    requires sound { All (IsSoundTrip (length (platforms stops.now))) trips.items }
+    ensures { IfOk result (λ table. table ≡ timetable stops.now options.now trips.items) }
+{
+    let table = stops.table();
+    table.soundness();
+    let count = table.platforms() as usize;
+    let change = change_times(alloc, count, options.change)?;
+    let paths = no_paths(alloc, count)?;
+    let stations = stations_of(alloc, stops)?;
+    let stops = stops_of(alloc, stops.rows())?;
+    let parts = Parts {
+        stops,
+        stations,
+        trips,
+        change,
+        paths,
+    };
+    Timetable::new(alloc, parts)
+}
