@@ -7,7 +7,8 @@ ghost use Rattle.gtfs_rows.specs.StopsFile.{StopData};
 ghost use Rattle.footpaths.specs.Stops.{is_platform, is_station, platforms, stations};
 ghost use Rattle.trip_table.specs.Day.{stations_from, timetable};
 
-use crate::{Options, StopRows};
+use crate::Options;
+use crate::stops::StopRows;
 use footpaths::StopTable;
 use gtfs_rows::{Kind, StopRow};
 use std::alloc::Global;
@@ -107,7 +108,7 @@ fn change_times(alloc: Global, count: usize, change: u32) -> Result<Vec<Option<u
 
 /// The timetable of trips over the stops of a feed: no footpaths, and the default change time at each stop.
 /// Refused only for want of memory; the trips are dropped then.
-pub fn assemble(
+pub(crate) fn assemble(
     alloc: Global,
     stops: &StopRows,
     options: &Options,

@@ -3,6 +3,7 @@ ghost use Rattle.std.specs.Prelude.{◌≡◌, ◌<◌, ◌-◌, ◌^◌, Ok, Is
 ghost use Rattle.trip_table.specs.Answers.{IsRefused, Leaves, feed_of};
 ghost use Rattle.trip_table.specs.References.{rows_of};
 ghost use Rattle.trip_table.specs.Day.{built_rows_of};
+ghost use Rattle.trip_table.specs.GoodTimes.{AreGoodTimes};
 
 use crate::DayFault;
 use crate::feed::refuse_unbuilt;
@@ -35,6 +36,37 @@ impl Model for FeedRows {
     ghost view = { λ r. record { stops = r.stops; services = r.services; trips = r.trips; times = r.times.items } };
 
     ghost invariant = { λ r. AreGoodTimes r.stops r.trips r.times.items };
+}
+
+impl FeedRows {
+    /// The rows of stops.txt.
+    pub fn stops(&self) -> &StopRows
+        ensures { result.now ≡ self.now.stops }
+    {
+        &self.stops
+    }
+
+    /// The rows that say which services run.
+    pub fn services(&self) -> &ServiceRows
+        ensures { result.now ≡ self.now.services }
+    {
+        &self.services
+    }
+
+    /// The rows of trips.txt.
+    pub fn trips(&self) -> &TripTable
+        ensures { result.now ≡ self.now.trips }
+    {
+        &self.trips
+    }
+
+    /// The stop times.
+    pub fn times(&self) -> &[StopTime]
+        ensures times { result.now ≡ self.now.times }
+        ensures good { AreGoodTimes self.now.stops self.now.trips self.now.times }
+    {
+        self.times.as_slice()
+    }
 }
 
 /// The rows of a feed in a directory of a folder, or the first thing that is wrong with a file: in the order of

@@ -9,9 +9,11 @@ ghost use Rattle.trip_table.specs.Answers.{Leaves, feed_of};
 ghost use Rattle.trip_table.specs.GoodTimes.{AreGoodTimes};
 ghost use Rattle.trip_table.specs.References.{times_of, resolved, resolved_row, wrong_time, wrong_ids, place_of, platform_number, numbered};
 
+use crate::DayFault;
 use crate::feed::{file_rows, spot};
+use crate::resolved::ResolvedTime;
 use crate::seen::{SeenPlaces, SequencePlace};
-use crate::{DayFault, ResolvedTime, TripTable};
+use crate::trips::TripTable;
 use footpaths::{Found, StopTable};
 use gtfs_rows::{FeedFault, FeedFile, Lines, RowReader, RowsFault, TimeFields, time_fields};
 use std::alloc::Global;

@@ -1,0 +1,45 @@
+-- What the program's status says of the words, the files and the bytes written.
+use Rattle.std.specs.Prelude.{◌≡◌, ℕ, ◌≤◌, List, [], ◌++◌, codes, length, take, Option, Result, Err, Ok, ⊤}
+use Rattle.std.specs.Io.KnownBytes.{Appends}
+use Rattle.tb_base.specs.TimetableData.{TimetableData}
+use Rattle.answer_text.specs.Faults.{fault_text}
+use Rattle.gtfs_rows.specs.declared.fault.FeedFault.{FeedFault}
+use Rattle.trip_table.specs.declared.day_options.Options.{Options}
+use Rattle.router_cli.specs.Words.{RequestData}
+use Rattle.router_cli.specs.Answers.{IsAnswer}
+use Rattle.router_cli.specs.declared.status.Status.{Status}
+use Rattle.router_cli.specs.declared.status.Status.TheVariants as status
+
+-- the number with which the program ends
+abbrev pub status_code : Status → ℕ
+status_code status.Done = 0
+status_code status.Usage = 2
+status_code (status.FeedRefused f) = 3
+status_code status.ReadFault = 4
+status_code status.WriteFault = 5
+status_code status.Memory = 6
+
+-- the line that it writes to standard error
+abbrev pub status_text : Status → List ℕ
+status_text status.Done = []
+status_text status.Usage = codes "usage: router [--change SECS] [--station SECS] [--close] [--workers N] [--plain] COMMAND WORDS\n"
+status_text (status.FeedRefused f) = codes "router: feed refused: " ++ fault_text f ++ codes "\n"
+status_text status.ReadFault = codes "router: read fault\n"
+status_text status.WriteFault = codes "router: write fault\n"
+status_text status.Memory = codes "router: out of memory\n"
+
+-- what a request asks of the day
+abbrev pub options_of : RequestData → Options
+options_of r = record { change = r.change }
+
+-- What a status says of a request, of the day's timetable or first fault, and of the bytes that a sink held before and
+-- holds now. Done: the answer was written whole. WriteFault: some first bytes of it.
+-- FeedRefused: the fault is the day's. Of the others no clause speaks here.
+abbrev pub IsOutcome : Result TimetableData FeedFault → RequestData → Status → Option (List ℕ) → Option (List ℕ) → Type 0
+IsOutcome day r status.Done before now = (T : TimetableData) × (bytes : List ℕ) × (day ≡ Ok T) × IsAnswer T r bytes × Appends before now bytes
+IsOutcome day r status.WriteFault before now =
+    (T : TimetableData) × (bytes : List ℕ) × (n : ℕ) × (day ≡ Ok T) × IsAnswer T r bytes × (n ≤ length bytes) × Appends before now (take n bytes)
+IsOutcome day r (status.FeedRefused f) before now = day ≡ Err f
+IsOutcome day r status.Usage before now = ⊥
+IsOutcome day r status.ReadFault before now = ⊤
+IsOutcome day r status.Memory before now = ⊤

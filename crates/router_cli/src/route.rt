@@ -1,0 +1,78 @@
+//! All that the program does.
+ghost use Rattle.std.specs.Prelude.{◌≡◌, ◌⊎◌, ◌↔◌, ◌<◌, ◌-◌, ◌^◌, Err, IfSome, IsSome, MatchResult, None, Ok, map, string_bytes};
+ghost use Rattle.tb_base.specs.TimetableData.{TimetableData};
+ghost use Rattle.trip_table.specs.Day.{timetable_of};
+ghost use Rattle.trip_table.specs.Answers.{IsRefused, Leaves, feed_of};
+ghost use Rattle.router_cli.specs.Answers.{IsAnswer};
+ghost use Rattle.router_cli.specs.Outcome.{IsOutcome, options_of};
+ghost use Rattle.router_cli.specs.Words.{request_of, RequestData};
+
+use crate::answers::answer;
+use crate::status::Status;
+use crate::words::{Request, request_of};
+use std::alloc::Global;
+use std::sync::Wait;
+use std::thread::Threads;
+use tb_base::Gate;
+use tb_io::{Folder, Sink, Source, put_all};
+use trip_table::{DayFault, Options, read_day};
+
+// The text of the answer to a request, from the files of its folder.
+fn text_of<F: Folder>(alloc: Global, folder: &mut F, request: &Request) -> Result<Vec<u8>, DayFault>
+    requires { F.faults folder.old < 2 ^ 64 - 1 }
+    ensures text { IsSome (F.files folder.old) → let day = timetable_of (feed_of (F.files folder.old) request.now.dir) request.now.date (options_of request.now) in
+        MatchResult result (λ text. (T : TimetableData) × (day ≡ Ok T) × IsAnswer T request.now text.items) (IsRefused day) }
+    ensures leaves { Leaves (F.files folder.old) (F.files folder.new) (F.faults folder.old) (F.faults folder.new) result }
+{
+    let options = Options {
+        change: request.change,
+    };
+    let table = match read_day(alloc, folder, request.dir, &request.day, &options) {
+        Ok(table) => table,
+        Err(fault) => return Err(fault),
+    };
+    match answer(alloc, &table, request) {
+        Ok(text) => Ok(text),
+        Err(_) => Err(DayFault::Memory),
+    }
+}
+
+/// Does all that the program does: from the words and the files of the folder to the bytes written to `out`.
+///
+/// `Usage` comes exactly where the words have no meaning. With any status but `Done` and `WriteFault` nothing is written,
+/// since the whole text is gathered before its first byte is written. `Memory` is free. No script is read yet, and no
+/// gate is asked.
+pub fn route<R: Threads + Wait + Sync, F: Folder + Send, S: Source, K: Sink, G: Gate>(
+    _rt: &R,
+    alloc: Global,
+    words: &[String],
+    folder: &mut F,
+    _script: &mut S,
+    out: &mut K,
+    _gate: &G,
+) -> Status
+    requires folder { F.faults folder.old < 2 ^ 64 - 1 }
+    requires out { K.faults out.old < 2 ^ 64 - 1 }
+    ensures usage { (result ≡ Status.Usage) ↔ (request_of (map string_bytes words.now) ≡ None) }
+    ensures promise { IfSome (request_of (map string_bytes words.now)) (λ r. IsSome (F.files folder.old) →
+        IsOutcome (timetable_of (feed_of (F.files folder.old) (RequestData.dir r)) (RequestData.date r) (options_of r)) r result (K.written out.old) (K.written out.new)) }
+    ensures quiet { (result ≡ Status.Done) ⊎ (result ≡ Status.WriteFault) ⊎ (K.written out.new ≡ K.written out.old) }
+    ensures read { result ≡ Status.ReadFault → F.faults folder.old < F.faults folder.new }
+    ensures write { result ≡ Status.WriteFault → K.faults out.old < K.faults out.new }
+    ensures folder_kept { (result ≡ Status.ReadFault) ⊎ (F.faults folder.new ≡ F.faults folder.old) }
+    ensures out_kept { (result ≡ Status.WriteFault) ⊎ (K.faults out.new ≡ K.faults out.old) }
+    ensures files { F.files folder.new ≡ F.files folder.old }
+{
+    let Some(request) = request_of(words) else {
+        return Status::Usage;
+    };
+    match text_of(alloc, folder, &request) {
+        Ok(text) => match put_all(out, text.as_slice()) {
+            Ok(()) => Status::Done,
+            Err(_) => Status::WriteFault,
+        },
+        Err(DayFault::Feed(fault)) => Status::FeedRefused(fault),
+        Err(DayFault::ReadFault) => Status::ReadFault,
+        Err(DayFault::Memory) => Status::Memory,
+    }
+}
