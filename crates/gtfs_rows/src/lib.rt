@@ -29,7 +29,7 @@ pub use civil::date_of;
 pub use dates::{DateReader, DateRow, date_rows};
 pub use fault::{FeedFault, FeedFile, Many, RowsFault, Spot};
 pub use lines::Lines;
-pub use numbers::time_of;
+pub use numbers::{number_of, time_of};
 pub use records::Records;
 pub use stops::{Kind, StopReader, StopRow, stop_rows};
 pub use tb_base::{Memory, Name, Sec};

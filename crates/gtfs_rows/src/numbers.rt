@@ -23,7 +23,7 @@ fn numeral_of(text: &[u8]) -> Option<u32>
 }
 
 /// The number that one to nine digits write.
-pub(crate) fn number_of(text: &[u8]) -> Option<u32>
+pub fn number_of(text: &[u8]) -> Option<u32>
     ensures number { result ≡ number_of text.now }
     ensures two_digits { length text.now ≤ 2 → IfSome result (λ n. n < 100) }
     ensures eight_digits { length text.now ≤ 8 → IfSome result (λ n. n < 100_000_000) }
