@@ -60,3 +60,6 @@ fn main(rt: HostRuntime) -> ExitCode {
     );
     end(&rt, status)
 }
+
+#[cfg(test)]
+mod tests;
