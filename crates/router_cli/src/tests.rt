@@ -1,13 +1,19 @@
 //! Answers and refusals of the whole program over feeds in memory, whose expected texts were worked out by hand, and one
 //! failing call after another.
-use crate::{Status, route, status_text};
+ghost use Rattle.std.specs.Prelude.{pos, ◌≤◌, ◌≤ℤ◌};
+
+use crate::{route, status_text};
+use journey_rules::fault;
+use plain_rounds::plain_ask;
+use service_day::day_of;
 use std::alloc::{AllocError, Global};
 use std::process::Abort;
 use std::sync::Wait;
 use std::test::Fail;
 use std::thread::Threads;
-use tb_base::IdleGate;
+use tb_base::{IdleGate, Query, Sec, Timetable};
 use tb_io::{MemFolder, MemSink, MemSource};
+use trip_table::{Options, read_day};
 
 const STOPS: &str = "stop_id\nA\nB\nC\nD\nE\n";
 
@@ -313,5 +319,69 @@ fn failing_calls_end_the_program(rt: HostRuntime) -> Result<(), Fail> {
     let cut = run(&rt, rt.alloc(), &[], line, None, 7)?;
     assert_eq!(rt; cut.code, 5);
     assert_eq!(rt; cut.out.as_slice(), b"arrive ".as_slice());
+    Ok(())
+}
+
+// The timetable of the example with a change time at each stop.
+fn example(alloc: Global, change: u32) -> Result<Option<Timetable>, AllocError>
+    requires { change ≤ 86400 }
+{
+    let mut folder = MemFolder::new(feed(alloc, &[])?, Vec::new(alloc));
+    let Ok(day) = day_of(b"20260302".as_slice()) else {
+        return Ok(None);
+    };
+    let options = Options { change };
+    Ok(read_day(alloc, &mut folder, "f1", &day, &options).ok())
+}
+
+// Whether each choice between two stops keeps all rules of a journey; how many there are.
+fn lawful_choices<R: Abort>(
+    rt: &R,
+    alloc: Global,
+    table: &Timetable,
+    to: &str,
+    leave: Sec,
+) -> Result<usize, Fail>
+    requires { leave ≤ℤ pos 359999 }
+{
+    let (Some(origin), Some(target)) = (table.place(b"A".as_slice()), table.place(to.as_bytes()))
+    else {
+        return Ok(0);
+    };
+    let query = Query {
+        from: table.place_stops(alloc, origin)?,
+        to: table.place_stops(alloc, target)?,
+        leave,
+    };
+    let choices = plain_ask(alloc, table, &query)?;
+    for choice in &choices {
+        let legs = choice.legs.as_slice();
+        if legs.len() < 100 {
+            assert!(rt; fault(table, &query, legs).is_none());
+        } else {
+            assert!(rt; false, "a journey of a hundred legs");
+        }
+    }
+    Ok(choices.len())
+}
+
+#[test]
+fn choices_keep_all_rules(rt: HostRuntime) -> Result<(), Fail> {
+    let Some(table) = example(rt.alloc(), 0)? else {
+        assert!(rt; false, "the example has a timetable");
+        return Ok(());
+    };
+    for (to, leave, count) in [
+        ("D", 28_800, 2),
+        ("A", 28_800, 1),
+        ("C", 28_800, 1),
+        ("E", 0, 0),
+    ] {
+        assert_eq!(rt;
+            lawful_choices(&rt, rt.alloc(), &table, to, leave)?,
+            count,
+            "{to}"
+        );
+    }
     Ok(())
 }
