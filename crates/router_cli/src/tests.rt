@@ -367,20 +367,22 @@ fn lawful_choices<R: Abort>(
 
 #[test]
 fn choices_keep_all_rules(rt: HostRuntime) -> Result<(), Fail> {
-    let Some(table) = example(rt.alloc(), 0)? else {
-        assert!(rt; false, "the example has a timetable");
-        return Ok(());
-    };
-    for (to, leave, count) in [
-        ("D", 28_800, 2),
-        ("A", 28_800, 1),
-        ("C", 28_800, 1),
-        ("E", 0, 0),
+    for (change, to, leave, count) in [
+        (0, "D", 28_800, 2),
+        (0, "A", 28_800, 1),
+        (0, "C", 28_800, 1),
+        (0, "E", 0, 0),
+        (120, "D", 28_800, 2),
+        (121, "D", 28_800, 1),
     ] {
+        let Some(table) = example(rt.alloc(), change)? else {
+            assert!(rt; false, "the example has a timetable");
+            return Ok(());
+        };
         assert_eq!(rt;
             lawful_choices(&rt, rt.alloc(), &table, to, leave)?,
             count,
-            "{to}"
+            "{to} with {change}"
         );
     }
     Ok(())
