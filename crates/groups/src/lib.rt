@@ -8,6 +8,9 @@ use std::alloc::Global;
 use std::marker::Model;
 use tb_base::Memory;
 
+#[cfg(test)]
+mod tests;
+
 /// For each key the places that have it.
 #[derive(Debug, Drop)]
 pub struct Groups {

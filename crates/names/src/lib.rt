@@ -9,6 +9,9 @@ use std::alloc::Global;
 use std::marker::Model;
 use tb_base::Memory;
 
+#[cfg(test)]
+mod tests;
+
 /// Names that differ, each with its place.
 #[derive(Drop)]
 pub struct NameIndex {
