@@ -53,6 +53,7 @@ impl NameIndex {
         ensures members { OnOk result ((name : List ℕ) → list_any (bytes_eq name) self.new ≡ (list_any (bytes_eq name) self.old || bytes_eq name id.now)) }
         ensures added { IfOk result (λ fresh. MatchBool fresh (self.new ≡ self.old ++ id.now ∷ []) (self.new ≡ self.old)) }
         ensures fresh { IfOk result (λ fresh. fresh ≡ not (list_any (bytes_eq id.now) self.old)) }
+        ensures memory { OnErr result (self.new ≡ self.old) }
     {
         let mut own: Vec<u8> = Vec::new(alloc);
         if own.extend_from_slice(id).is_err() {
