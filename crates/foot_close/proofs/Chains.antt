@@ -1,5 +1,5 @@
 -- Chains of changes, one after another.
-use Rattle.std.proofs.Common.{◌≡◌, ◌≢◌, ◌∙◌, sym, ap, refl, ℕ, ◌+◌, ◌<◌, ◌≤◌, ◌==◌, List, [], ◌∷◌, ◌++◌, Bool, true, false, Option, Some, None, arith, inl, inr}
+use Rattle.std.proofs.Common.{◌≡◌, ◌≢◌, ◌∙◌, sym, ap, refl, ℕ, ◌+◌, ◌≤◌, ◌==◌, List, [], ◌∷◌, ◌++◌, Option, Some, None, arith, inl, inr}
 use Rattle.std.specs.Prelude.{MatchOption, IsSomeAnd, option_map, option_and_then}
 use Rattle.std.proofs.lemmas.Bool.{cases_Bool}
 use Rattle.std.proofs.lemmas.Bool.Decides.{nat_tests}
@@ -8,12 +8,12 @@ use Rattle.footpaths.specs.Footpaths.{Changes, PathsData}
 use Rattle.footpaths.specs.Law.{walking, footpath, change_between}
 use Rattle.foot_close.specs.Closure.{chain, IsShortest, IsClosure, IsClosed}
 
-parts_by : (o u : Option ℕ) (s : ℕ) → option_and_then (λ a. option_map (λ b. a + b) u) o ≡ Some s → (a : ℕ) × (b : ℕ) × (o ≡ Some a) × (u ≡ Some b) × (a + b ≡ s)
+pub parts_by : (o u : Option ℕ) (s : ℕ) → option_and_then (λ a. option_map (λ b. a + b) u) o ≡ Some s → (a : ℕ) × (b : ℕ) × (o ≡ Some a) × (u ≡ Some b) × (a + b ≡ s)
 parts_by None u s e = cc
 parts_by (Some a) None s e = cc
 parts_by (Some a) (Some b) s e = (a, b, refl, refl, (let n : a + b ≡ s = cc in n))
 
-chain_cons : (given : Changes) (p q : ℕ) (via : List ℕ) (r a b : ℕ) → given p q ≡ Some a → chain given q via r ≡ Some b → chain given p (q ∷ via) r ≡ Some (a + b)
+pub chain_cons : (given : Changes) (p q : ℕ) (via : List ℕ) (r a b : ℕ) → given p q ≡ Some a → chain given q via r ≡ Some b → chain given p (q ∷ via) r ≡ Some (a + b)
 chain_cons given p q via r a b e f = rw (e, f) refl
 
 -- two chains in a row are a chain
@@ -35,7 +35,7 @@ closed_triangle given closed h p q r s t e f =
     let second : IsShortest given q r t = rw f at (h q r) in
     least_by given p r (s + t) (first.via ++ q ∷ second.via) (closed p r) (h p r) (chain-append given p first.via q second.via r s t first.attained second.attained)
 
-between : (P : PathsData) (p q : ℕ) (o : Option ℕ) → p ≢ q → footpath P p q ≡ o → change_between P p q ≡ o
+pub between : (P : PathsData) (p q : ℕ) (o : Option ℕ) → p ≢ q → footpath P p q ≡ o → change_between P p q ≡ o
 between P p q o h e =
     elim (cases_Bool (p == q)) [
       | inl t ↦ absurd (h (grind (arith, nat_tests, t)))
@@ -45,7 +45,7 @@ between P p q o h e =
 pub closed_keeps : (given closed : PathsData) → IsClosed given closed → KeepsFootpathLaw (walking closed)
 closed_keeps given closed h = λ p q r s t away onward e f. closed_triangle (change_between given) (change_between closed) h p q r s t (between closed p q (Some s) away e) (between closed q r (Some t) onward f)
 
-same_by : (given : Changes) (p r : ℕ) (a b : Option ℕ) → MatchOption a ((via : List ℕ) → chain given p via r ≡ None) (IsShortest given p r) → MatchOption b ((via : List ℕ) → chain given p via r ≡ None) (IsShortest given p r) → a ≡ b
+pub same_by : (given : Changes) (p r : ℕ) (a b : Option ℕ) → MatchOption a ((via : List ℕ) → chain given p via r ≡ None) (IsShortest given p r) → MatchOption b ((via : List ℕ) → chain given p via r ≡ None) (IsShortest given p r) → a ≡ b
 same_by given p r None None h k = refl
 same_by given p r None (Some b) h k = absurd (let c : None ≡ Some b = sym (h k.via) ∙ k.attained in cc)
 same_by given p r (Some a) None h k = absurd (let c : None ≡ Some a = sym (k h.via) ∙ h.attained in cc)

@@ -1,1 +1,9 @@
 pub mod Chains
+pub mod ShortestOver
+pub mod Relaxing
+pub mod Edges
+pub mod SearchLaws
+pub mod ReachedLaws
+pub mod Ranges
+pub mod ClosedLaws
+pub mod TableLaws

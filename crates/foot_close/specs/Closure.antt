@@ -1,5 +1,5 @@
 -- Closure of footpaths: the shortest chains of given changes.
-use Rattle.std.specs.Prelude.{◌≡◌, ℕ, ◌+◌, ◌<◌, ◌≤◌, List, [], ◌∷◌, length, Option, None, Some, option_map, option_and_then, MatchOption}
+use Rattle.std.specs.Prelude.{◌≡◌, ℕ, ◌+◌, ◌≤◌, List, [], ◌∷◌, Option, None, Some, option_map, option_and_then, MatchOption}
 use Rattle.footpaths.specs.Footpaths.{Changes, PathsData}
 use Rattle.footpaths.specs.Law.{change_between}
 

@@ -1,1 +1,5 @@
 pub mod Closure
+pub mod Shortest
+pub mod Searching
+pub mod Tables
+pub mod Closing

@@ -2,8 +2,9 @@
 ghost use Rattle.std.specs.Prelude.{◌≡◌, ℕ};
 ghost use Rattle.tb_base.specs.Walking.{KeepsFootpathLaw};
 ghost use Rattle.footpaths.specs.Footpaths.{Changes, PathsData};
-ghost use Rattle.footpaths.specs.Law.{walking};
+ghost use Rattle.footpaths.specs.Law.{walking, change_between, AreSoundPaths};
 ghost use Rattle.foot_close.specs.Closure.{IsClosure, IsClosed};
+ghost use Rattle.foot_close.specs.Shortest.{closure_of};
 
 /// What is closed keeps the law on footpaths.
 pub fn closed_keeps_law()
@@ -13,4 +14,9 @@ pub fn closed_keeps_law()
 /// There is at most one closure.
 pub fn closure_unique()
     ensures { (given one other : Changes) → IsClosure given one → IsClosure given other → (p r : ℕ) → one p r ≡ other p r }
+{}
+
+/// There is a closure of all sound change times and footpaths.
+pub fn closure_exists()
+    ensures { (given : PathsData) → AreSoundPaths given → IsClosure (change_between given) (closure_of given) }
 {}

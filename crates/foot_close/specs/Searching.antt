@@ -1,0 +1,89 @@
+-- The search for the shortest chains from one stop: the least seconds so far, and the stops in order as they got them.
+use Rattle.std.specs.Prelude.{◌≡◌, ◌≢◌, ◌⊎◌, ◌++◌, ℕ, ◌+◌, ◌*◌, ◌<◌, ◌≤◌, List, [], length, Option, None, Some, Bool, true, nat_lt, is_some, option_map, filter_map, slice_index_or, All, Contains, IsSomeAnd, MatchOption, count_by, sum_by}
+use Rattle.std.specs.Option.{option_to_list}
+use Rattle.tb_base.specs.declared.table.Path.{Path}
+use Rattle.footpaths.specs.Footpaths.{Changes, PathsData, numbers}
+use Rattle.foot_close.specs.Closure.{chain, IsShortest}
+use Rattle.foot_close.specs.declared.search.Reached.{Reached}
+
+pub record SearchData : Type 0 where
+  pub marks : List (Option ℕ)
+  pub lowered : List ℕ
+
+-- the seconds at a stop, where it was reached
+abbrev pub mark : List (Option ℕ) → ℕ → Option ℕ
+mark marks q = slice_index_or marks q None
+
+-- no stop of so many was reached
+pub record IsFresh (count : ℕ) (s : SearchData) : Type 0 where
+  pub many : length s.marks ≡ count
+  pub unreached : (q : ℕ) → mark s.marks q ≡ None
+  pub none_lowered : s.lowered ≡ []
+
+-- so many seconds are less than a mark
+abbrev pub is_less : ℕ → Option ℕ → Bool
+is_less s None = true
+is_less s (Some t) = nat_lt s t
+
+-- every stop that was lowered is there, and every stop with a mark was lowered
+pub record IsCovered (marks : List (Option ℕ)) (lowered : List ℕ) : Type 0 where
+  pub within : All (λ q. q < length marks) lowered
+  pub covers : (q : ℕ) → mark marks q ≢ None → Contains lowered q
+
+-- no mark is higher than a day for each stop that was reached
+abbrev pub reached_count : List (Option ℕ) → ℕ
+reached_count marks = count_by (λ o. is_some o) marks
+
+abbrev pub IsBounded : List (Option ℕ) → Type 0
+IsBounded marks = (q t : ℕ) → mark marks q ≡ Some t → t ≤ 86400 * reached_count marks
+
+-- how far a mark can still fall, and all marks
+abbrev pub mark_height : ℕ → Option ℕ → ℕ
+mark_height top None = top
+mark_height top (Some t) = t
+
+abbrev pub height : List (Option ℕ) → ℕ
+height marks = sum_by (mark_height (86400 * length marks + 1)) marks
+
+-- a mark comes from a footpath of a row that so many seconds lead up to, and its stop is among some
+pub record IsFrom (row : List Path) (secs : ℕ) (stops : List ℕ) (q t : ℕ) : Type 0 where
+  pub among : Contains stops q
+  pub path : Path
+  pub inside : Contains row path
+  pub to : path.to ≡ q
+  pub total : secs + path.secs ≡ t
+
+-- the change within a stop, as a footpath
+abbrev pub own_row : ℕ → Option ℕ → List Path
+own_row q own = option_to_list (option_map (λ s. record { to = q; secs = s }) own)
+
+-- the changes from a stop, its own among them, as footpaths
+abbrev pub leaving : PathsData → ℕ → List Path
+leaving P q = own_row q (slice_index_or P.change q None) ++ slice_index_or P.paths q []
+
+-- the footpaths of a row were looked at, where so many seconds lead up to them
+pub record IsRelaxed (row : List Path) (secs : ℕ) (old new : SearchData) : Type 0 where
+  pub many : length new.marks ≡ length old.marks
+  pub more : List ℕ
+  pub grows : new.lowered ≡ old.lowered ++ more
+  pub lowers : (q t : ℕ) → mark old.marks q ≡ Some t → IsSomeAnd (mark new.marks q) (λ u. u ≤ t)
+  pub each : (q t : ℕ) → mark new.marks q ≡ Some t → (mark old.marks q ≡ Some t) ⊎ IsFrom row secs more q t
+  pub relaxed : (f : Path) → Contains row f → IsSomeAnd (mark new.marks f.to) (λ u. u ≤ secs + f.secs)
+  pub bounded : IsBounded new.marks
+  pub count : reached_count old.marks ≤ reached_count new.marks
+  pub cost : height new.marks + length more ≤ height old.marks
+
+-- the changes from a stop were looked at, where it was reached
+abbrev pub IsGoneOn : PathsData → ℕ → SearchData → SearchData → Type 0
+IsGoneOn P q old new = MatchOption (mark old.marks q) (new ≡ old) (λ secs. IsRelaxed (leaving P q) secs old new)
+
+-- the marks are the shortest chains from a stop
+abbrev pub AreShortest : Changes → ℕ → List (Option ℕ) → Type 0
+AreShortest given p marks = (r : ℕ) → MatchOption (mark marks r) ((via : List ℕ) → chain given p via r ≡ None) (IsShortest given p r)
+
+-- the stops that were reached, in order of their numbers, each with its seconds
+abbrev pub reached_at : ℕ → Option ℕ → Option Reached
+reached_at q secs = option_map (λ s. record { stop = q; secs = s }) secs
+
+abbrev pub reached_of : ℕ → (ℕ → Option ℕ) → List Reached
+reached_of n secs = filter_map (λ q. reached_at q (secs q)) (numbers n)

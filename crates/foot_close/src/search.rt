@@ -1,0 +1,255 @@
+//! The search for the shortest chains from one stop.
+ghost use Rattle.std.specs.Prelude.{◌≡◌, ◌<◌, ◌≤◌, ◌*◌, ◌∷◌, ℕ, [], All, IfOk, IfSome, OnOk, None, length, slice_index, slice_index_or};
+ghost use Rattle.std.specs.List.Sorted.{IsStrictlyIncreasing};
+ghost use Rattle.footpaths.specs.Law.{AreSoundPaths, change_between};
+ghost use Rattle.foot_close.specs.Shortest.{closure_of};
+ghost use Rattle.foot_close.specs.Searching.{mark, IsFresh, IsCovered, IsBounded, reached_count, own_row, leaving, IsRelaxed, IsGoneOn, AreShortest, reached_of};
+
+use footpaths::Paths;
+use std::alloc::Global;
+use std::marker::Model;
+use tb_base::{Memory, Path, StopNo};
+
+/// A stop that chains lead to, with the least of their seconds.
+#[derive(Debug, Clone, Copy, PartialEq, Eq)]
+pub struct Reached {
+    pub stop: StopNo,
+    pub secs: u64,
+}
+
+// Whether so many seconds are less than a mark.
+fn is_less(secs: u64, mark: Option<u64>) -> bool
+    ensures { result ≡ Rattle.foot_close.specs.Searching.is_less secs mark }
+{
+    match mark {
+        None => true,
+        Some(held) => secs < held,
+    }
+}
+
+/// The change time of a stop.
+pub fn own_change(paths: &Paths, stop: StopNo) -> Option<u32>
+    requires { stop < length paths.now.change }
+    ensures { result ≡ slice_index_or paths.now.change stop None }
+{
+    paths.change[stop.index()]
+}
+
+/// The footpaths that leave a stop.
+pub fn path_row(paths: &Paths, stop: StopNo) -> &[Path]
+    requires { stop < length paths.now.paths }
+    ensures { result.now ≡ slice_index_or paths.now.paths stop [] }
+{
+    paths.paths[stop.index()].as_slice()
+}
+
+/// The least seconds so far to each stop, and the stops in order as they got theirs; a stop stands
+/// there once for each time that its seconds fell.
+#[derive(Drop)]
+pub struct Search {
+    marks: Vec<Option<u64>>,
+    lowered: Vec<u32>,
+}
+
+impl Model for Search {
+    ghost use Rattle.foot_close.specs.Searching.{SearchData, IsCovered};
+
+    ghost Value = { SearchData };
+
+    ghost view = { λ s. record { marks = s.marks.items; lowered = s.lowered.items } };
+
+    ghost invariant = { λ s. IsCovered s.marks.items s.lowered.items };
+}
+
+impl Search {
+    /// No stop is reached.
+    pub fn new(alloc: Global, count: usize) -> Result<Search, Memory>
+        ensures { IfOk result (λ search. IsFresh count search) }
+    {
+        let marks = vec![in alloc; None; count]?;
+        Ok(Search {
+            marks,
+            lowered: Vec::new(alloc),
+        })
+    }
+
+    // The seconds to a stop.
+    fn mark(&self, stop: StopNo) -> Option<u64>
+        requires { stop < length self.now.marks }
+        ensures { result ≡ mark self.now.marks stop }
+    {
+        self.marks[stop.index()]
+    }
+
+    // Looks at a footpath that so many seconds lead up to.
+    fn relax(&mut self, path: Path, secs: u64) -> Result<(), Memory>
+        requires few { length self.old.marks ≤ 100000 }
+        requires to { path.to < length self.old.marks }
+        requires day { path.secs ≤ 86400 }
+        requires bounded { IsBounded self.old.marks }
+        requires secs { secs ≤ 86400 * reached_count self.old.marks }
+        ensures { OnOk result (IsRelaxed (path ∷ []) secs self.old self.new) }
+    {
+        let at = path.to.index();
+        let total = secs + path.secs as u64;
+        if is_less(total, self.marks[at]) {
+            self.lowered.push(at as u32)?;
+            self.marks[at] = Some(total);
+        }
+        Ok(())
+    }
+
+    // Looks at the footpaths of a row that so many seconds lead up to.
+    fn relax_all(&mut self, row: &[Path], secs: u64) -> Result<(), Memory>
+        requires few { length self.old.marks ≤ 100000 }
+        requires to { All (λ f. f.to < length self.old.marks) row.now }
+        requires day { All (λ f. f.secs ≤ 86400) row.now }
+        requires bounded { IsBounded self.old.marks }
+        requires secs { secs ≤ 86400 * reached_count self.old.marks }
+        ensures { OnOk result (IsRelaxed row.now secs self.old self.new) }
+    {
+        for path in row {
+            self.relax(*path, secs)?;
+        }
+        Ok(())
+    }
+
+    // Looks at the change within a stop that so many seconds lead up to.
+    fn relax_own(&mut self, stop: StopNo, own: Option<u32>, secs: u64) -> Result<(), Memory>
+        requires few { length self.old.marks ≤ 100000 }
+        requires stop { stop < length self.old.marks }
+        requires day { IfSome own (λ s. s ≤ 86400) }
+        requires bounded { IsBounded self.old.marks }
+        requires secs { secs ≤ 86400 * reached_count self.old.marks }
+        ensures { OnOk result (IsRelaxed (own_row stop own) secs self.old self.new) }
+    {
+        match own {
+            Some(own) => self.relax(
+                Path {
+                    to: stop,
+                    secs: own,
+                },
+                secs,
+            ),
+            None => Ok(()),
+        }
+    }
+
+    // Looks at the changes from a stop, its own among them, where so many seconds lead up to it.
+    fn relax_from(&mut self, paths: &Paths, from: StopNo, secs: u64) -> Result<(), Memory>
+        requires sound { AreSoundPaths paths.now }
+        requires from { from < length paths.now.change }
+        requires many { length self.old.marks ≡ length paths.now.change }
+        requires bounded { IsBounded self.old.marks }
+        requires secs { secs ≤ 86400 * reached_count self.old.marks }
+        ensures { OnOk result (IsRelaxed (leaving paths.now from) secs self.old self.new) }
+    {
+        self.relax_own(from, own_change(paths, from), secs)?;
+        self.relax_all(path_row(paths, from), secs)?;
+        Ok(())
+    }
+
+    // How often a stop's seconds fell.
+    fn lowered_count(&self) -> usize
+        ensures { result ≡ length self.now.lowered }
+    {
+        self.lowered.len()
+    }
+
+    // The stop whose seconds fell at a place in their order.
+    fn lowered_at(&self, at: usize) -> StopNo
+        requires { at < length self.now.lowered }
+        ensures place { result ≡ slice_index self.now.lowered at }
+        ensures within { result < length self.now.marks }
+    {
+        StopNo(self.lowered[at])
+    }
+
+    // Goes on from a stop, where it was reached.
+    fn go_on(&mut self, paths: &Paths, stop: StopNo) -> Result<(), Memory>
+        requires sound { AreSoundPaths paths.now }
+        requires stop { stop < length paths.now.change }
+        requires many { length self.old.marks ≡ length paths.now.change }
+        requires bounded { IsBounded self.old.marks }
+        ensures { OnOk result (IsGoneOn paths.now stop self.old self.new) }
+    {
+        match self.mark(stop) {
+            Some(secs) => self.relax_from(paths, stop, secs),
+            None => Ok(()),
+        }
+    }
+
+    // The shortest chains from a stop.
+    fn run(&mut self, paths: &Paths, from: StopNo) -> Result<(), Memory>
+        requires sound { AreSoundPaths paths.now }
+        requires from { from < length paths.now.change }
+        requires fresh { IsFresh (length paths.now.change) self.old }
+        ensures many { OnOk result (length self.new.marks ≡ length paths.now.change) }
+        ensures shortest { OnOk result (AreShortest (change_between paths.now) from self.new.marks) }
+    {
+        self.relax_from(paths, from, 0)?;
+        let mut next: usize = 0;
+        while next < self.lowered_count() {
+            let stop = self.lowered_at(next);
+            next += 1;
+            self.go_on(paths, stop)?;
+        }
+        Ok(())
+    }
+
+    // Puts the stops that were reached in order.
+    fn sort(&mut self)
+        ensures marks { self.new.marks ≡ self.old.marks }
+        ensures covered { IsCovered self.new.marks self.new.lowered }
+        ensures ascending { IsStrictlyIncreasing self.new.lowered }
+    {
+        self.lowered.sort_unstable();
+        self.lowered.dedup();
+    }
+
+    // The stops that were reached, where they stand in order.
+    fn reached(&self, alloc: Global) -> Result<Vec<Reached>, Memory>
+        requires covered { IsCovered self.now.marks self.now.lowered }
+        requires ascending { IsStrictlyIncreasing self.now.lowered }
+        ensures { IfOk result (λ reached. reached.items ≡ reached_of (length self.now.marks) (mark self.now.marks)) }
+    {
+        let mut reached = Vec::new(alloc);
+        for place in 0..self.lowered_count() {
+            let stop = self.lowered_at(place);
+            if let Some(secs) = self.mark(stop) {
+                reached.push(Reached { stop, secs })?;
+            }
+        }
+        Ok(reached)
+    }
+
+    // No stop is reached any more.
+    fn clear(&mut self)
+        ensures { IsFresh (length self.old.marks) self.new }
+    {
+        while let Some(stop) = self.lowered.pop() {
+            self.marks[stop as usize] = None;
+        }
+    }
+
+    /// The stops that chains lead to from a stop, in order of their numbers, each with the least
+    /// seconds. Only what is reached is touched.
+    pub fn reach_from(
+        &mut self,
+        alloc: Global,
+        paths: &Paths,
+        from: StopNo,
+    ) -> Result<Vec<Reached>, Memory>
+        requires sound { AreSoundPaths paths.now }
+        requires from { from < length paths.now.change }
+        requires fresh { IsFresh (length paths.now.change) self.old }
+        ensures fresh { OnOk result (IsFresh (length paths.now.change) self.new) }
+        ensures reached { IfOk result (λ reached. reached.items ≡ reached_of (length paths.now.change) (closure_of paths.now from)) }
+    {
+        self.run(paths, from)?;
+        self.sort();
+        let reached = self.reached(alloc)?;
+        self.clear();
+        Ok(reached)
+    }
+}
