@@ -1,5 +1,5 @@
 //! The records of a file, one at a time: one record is filled again and again.
-ghost use Rattle.std.specs.Prelude.{◌≡◌, ◌∷◌, [], ℕ, List, IfOk, MatchBool, ◌≤◌, ◌+◌, length, get_or, false, if◌then◌else◌};
+ghost use Rattle.std.specs.Prelude.{◌≡◌, ◌∷◌, [], ℕ, List, IfOk, OnErr, MatchBool, ◌≤◌, ◌+◌, length, get_or, false, if◌then◌else◌};
 ghost use Rattle.csv.specs.Records.{fields_of};
 ghost use Rattle.gtfs_rows.specs.Records.{file_records, records_left, Place, ReadsOn};
 
@@ -50,10 +50,12 @@ impl<'a> Records<'a> {
         }
     }
 
-    /// Goes to the next record and answers `true`, or `false` where there is none. After `Memory` no record is left.
+    /// Goes to the next record and answers `true`, or `false` where there is none. After `false` or `Memory` no record is
+    /// left.
     pub fn advance(&mut self) -> Result<bool, Memory>
         ensures fewer { length self.new.left ≤ length self.old.left }
         ensures next { IfOk result (λ more. MatchBool more (self.old.left ≡ self.new.current ∷ self.new.left) ((self.old.left ≡ []) × (self.new.current ≡ []) × (self.new.left ≡ []))) }
+        ensures memory { OnErr result (self.new.left ≡ []) }
     {
         if self.stopped {
             self.record.clear();

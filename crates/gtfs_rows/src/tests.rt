@@ -1,5 +1,5 @@
 use crate::{
-    CalendarRow, DateRow, Kind, Name, PathRule, RowsFault, StopRow, TimeRow, TransferRow, TripRow,
+    CalendarRow, DateRow, Name, PathRule, RowsFault, StopRow, TimeRow, TransferRow, TripRow,
     calendar_rows, date_of, date_rows, stop_rows, time_rows, transfer_rows, trip_rows,
 };
 use std::test::Fail;
@@ -16,7 +16,11 @@ fn rows<T>(read: Result<Vec<T>, RowsFault>) -> Result<Vec<T>, &'static str> {
 }
 
 fn is_stop(row: &StopRow) -> bool {
-    row.row == 3 && is(&row.id, b"C1") && row.kind == Kind::Platform && is(&row.parent, b"C")
+    row.row == 3 && is(&row.id, b"C1") && row.kind.is_platform() && is(&row.parent, b"C")
+}
+
+fn is_parent(row: &StopRow) -> bool {
+    row.row == 2 && is(&row.id, b"C") && row.kind.is_station() && !row.kind.is_platform()
 }
 
 fn is_week(row: &CalendarRow) -> bool {
@@ -49,7 +53,7 @@ fn each_file_is_read(rt: HostRuntime) -> Result<(), Fail> {
         alloc,
         b"parent_station,stop_id,location_type\n,C,1\r\n C ,C1\t,0\n",
     ))?;
-    assert!(rt; stops.iter().any(|row| is_stop(row)));
+    assert!(rt; stops.iter().any(|row| is_stop(row)) && stops.iter().any(|row| is_parent(row)));
     let calendar = rows(calendar_rows(
         alloc,
         b"service_id,monday,tuesday,wednesday,thursday,friday,saturday,sunday,start_date,end_date\nWD,1,1,1,1,1,0,0,20260101,20261231",
