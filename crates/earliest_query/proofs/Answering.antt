@@ -37,7 +37,7 @@ use Rattle.earliest_query.proofs.BestSoFar.{IsWalkHit}
 use Rattle.earliest_query.proofs.Keeping.{hits_of-same}
 
 -- the round of a segment is that behind its parent
-round_behind : (segments : List Segment) (n : ℕ) → n < length segments → (parent : Option (ℕ × ℕ)) → (segment_of segments n).parent ≡ parent → IfSome parent (λ p. p.0 < n) → round_of segments n ≡ round_after (round_segments segments) parent
+pub round_behind : (segments : List Segment) (n : ℕ) → n < length segments → (parent : Option (ℕ × ℕ)) → (segment_of segments n).parent ≡ parent → IfSome parent (λ p. p.0 < n) → round_of segments n ≡ round_after (round_segments segments) parent
 round_behind segments n inside parent is earlier =
     let before : List Segment = take n segments in
     let s : Segment = segment_of segments n in

@@ -13,14 +13,14 @@ use tb_base::{Leg, Memory, StopNo, Timetable};
 
 /// A stop at the other end of a walk, and the seconds of the walk.
 #[derive(Clone, Copy)]
-pub(crate) struct Near {
+pub struct Near {
     pub stop: StopNo,
     pub secs: u32,
 }
 
 /// The walks at one end of a journey.
 #[derive(Drop)]
-pub(crate) enum Walks {
+pub enum Walks {
     /// Those that lead to the stop.
     To(StopNo),
     /// Those that lead from the stop.
@@ -62,7 +62,7 @@ fn nearer(best: Option<Near>, stop: StopNo, secs: Option<u32>) -> Option<Near>
 }
 
 /// The nearest of the stops, where there is a walk at all; of equally near ones that with the lowest number.
-pub(crate) fn nearest(table: &Timetable, walks: &Walks, stops: &[StopNo]) -> Option<Near>
+pub fn nearest(table: &Timetable, walks: &Walks, stops: &[StopNo]) -> Option<Near>
     requires stop { stop_of walks.now < length table.now.stops }
     requires stops { All (λ p. p < length table.now.stops) stops.now }
     ensures nearest { IsNearestOf (secs_by table.now walks.now) (Contains stops.now) result }

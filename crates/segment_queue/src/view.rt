@@ -11,6 +11,7 @@ use std::sync::ledger::Ledger;
 use tb_base::{Hop, OutSet, Path, Sec, StopNo, Timetable, TripNo};
 
 /// A timetable, its lines and a set of hops, as a search looks at them.
+#[derive(Drop)]
 pub struct View<'a, O: OutSet> {
     table: &'a Timetable,
     lines: &'a Lines,
