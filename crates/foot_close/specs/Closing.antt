@@ -32,8 +32,10 @@ is_lowered None t = false
 -- the change times and footpaths are those of a closure, and the counts tell what it changed
 pub record IsHeld (given : PathsData) (c : Closed) (closed : Changes) : Type 0 where
   pub paths : c.paths ≡ paths_of (length given.change) closed
-  pub added : c.added ≡ pair_count (length given.change) (λ p q. is_added (change_between given p q) (closed p q))
-  pub lowered : c.lowered ≡ pair_count (length given.change) (λ p q. is_lowered (change_between given p q) (closed p q))
+  pub added : c.added ≡ pair_count (length given.change)
+      (λ p q. is_added (change_between given p q) (closed p q))
+  pub lowered : c.lowered ≡ pair_count (length given.change)
+      (λ p q. is_lowered (change_between given p q) (closed p q))
 
 -- how many ordered pairs of different stops have a change
 abbrev pub footpath_total : PathsData → Changes → ℕ
@@ -49,8 +51,10 @@ pub record IsFirstFar (closed : Changes) (p q : ℕ) : Type 0 where
   pub earlier_start : (a b : ℕ) → a < p → IsNear closed a b
   pub earlier_end : (b : ℕ) → b < q → IsNear closed p b
 
--- A refusal tells that the closure is too large, or else its first far pair; want of memory says nothing.
+-- A refusal tells that the closure is too large, or else its first far pair; want of memory
+-- says nothing.
 abbrev pub IsCloseRefused : PathsData → CloseFault → Type 0
 IsCloseRefused given why.TooMany = ClosureHas given (λ closed. 2000000 < footpath_total given closed)
-IsCloseRefused given (why.Far p q) = ClosureHas given (λ closed. (footpath_total given closed ≤ 2000000) × IsFirstFar closed p q)
+IsCloseRefused given (why.Far p q) =
+    ClosureHas given (λ closed. (footpath_total given closed ≤ 2000000) × IsFirstFar closed p q)
 IsCloseRefused given why.Memory = ⊤

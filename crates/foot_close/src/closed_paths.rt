@@ -28,7 +28,8 @@ impl Table {
     fn closed_row(&self, alloc: Global, from: StopNo) -> Result<Vec<Path>, Memory>
         requires from { from < length self.now.change }
         requires near { (q : ℕ) → IsNear (closure_of self.now) from q }
-        ensures { IfOk result (λ row. row.items ≡ paths_from (length self.now.change) (closure_of self.now) from) }
+        ensures { IfOk result (λ row. row.items
+            ≡ paths_from (length self.now.change) (closure_of self.now) from) }
     {
         let mut row = Vec::new(alloc);
         for reached in self.row(from) {
@@ -46,7 +47,8 @@ impl Table {
     /// The change times and footpaths of the closure.
     pub fn closed_paths(&self, alloc: Global) -> Result<Paths, Memory>
         requires { (p q : ℕ) → IsNear (closure_of self.now) p q }
-        ensures { IfOk result (λ paths. paths ≡ paths_of (length self.now.change) (closure_of self.now)) }
+        ensures { IfOk result (λ paths. paths
+            ≡ paths_of (length self.now.change) (closure_of self.now)) }
     {
         let mut change = Vec::new(alloc);
         let mut paths: Vec<Vec<Path>> = Vec::new(alloc);

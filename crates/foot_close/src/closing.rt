@@ -16,7 +16,8 @@ use std::alloc::Global;
 /// given ones are dropped at a refusal.
 pub fn close(alloc: Global, paths: Paths) -> Result<Closed, CloseFault>
     requires { AreSoundPaths paths }
-    ensures told { MatchResult result (λ c. ClosureHas paths (IsHeld paths c)) (IsCloseRefused paths) }
+    ensures told { MatchResult result
+        (λ c. ClosureHas paths (IsHeld paths c)) (IsCloseRefused paths) }
     ensures closed { IfOk result (λ c. IsClosed paths c.paths) }
     ensures sound { IfOk result (λ c. AreSoundPaths c.paths) }
 {

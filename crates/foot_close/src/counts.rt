@@ -22,7 +22,9 @@ impl Table {
     // How many changes from a stop were not given.
     fn added_from(&self, from: StopNo) -> u32
         requires { from < length self.now.change }
-        ensures { result ≡ count_by (λ q. is_added (change_between self.now from q) (closure_of self.now from q)) (numbers (length self.now.change)) }
+        ensures { result ≡ count_by
+            (λ q. is_added (change_between self.now from q) (closure_of self.now from q))
+            (numbers (length self.now.change)) }
     {
         self.soundness();
         let mut count: u32 = 0;
@@ -37,7 +39,9 @@ impl Table {
     // How many changes from a stop take fewer seconds than the given one.
     fn lowered_from(&self, from: StopNo) -> u32
         requires { from < length self.now.change }
-        ensures { result ≡ count_by (λ q. is_lowered (change_between self.now from q) (closure_of self.now from q)) (numbers (length self.now.change)) }
+        ensures { result ≡ count_by
+            (λ q. is_lowered (change_between self.now from q) (closure_of self.now from q))
+            (numbers (length self.now.change)) }
     {
         self.soundness();
         let mut count: u32 = 0;
@@ -51,7 +55,8 @@ impl Table {
 
     /// How many ordered pairs of stops have a change that was not given.
     pub fn added(&self) -> u64
-        ensures { result ≡ pair_count (length self.now.change) (λ p q. is_added (change_between self.now p q) (closure_of self.now p q)) }
+        ensures { result ≡ pair_count (length self.now.change)
+            (λ p q. is_added (change_between self.now p q) (closure_of self.now p q)) }
     {
         self.soundness();
         let mut count: u64 = 0;
@@ -63,7 +68,8 @@ impl Table {
 
     /// How many ordered pairs of stops have a change that takes fewer seconds than the given one.
     pub fn lowered(&self) -> u64
-        ensures { result ≡ pair_count (length self.now.change) (λ p q. is_lowered (change_between self.now p q) (closure_of self.now p q)) }
+        ensures { result ≡ pair_count (length self.now.change)
+            (λ p q. is_lowered (change_between self.now p q) (closure_of self.now p q)) }
     {
         self.soundness();
         let mut count: u64 = 0;

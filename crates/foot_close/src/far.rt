@@ -11,7 +11,8 @@ use tb_base::StopNo;
 
 // The first stop that is more than a day away.
 fn far_in(row: &[Reached]) -> Option<StopNo>
-    ensures { result ≡ option_map (λ r. Reached.stop r) (find (λ r. nat_lt 86400 (Reached.secs r)) row.now) }
+    ensures { result ≡ option_map (λ r. Reached.stop r)
+        (find (λ r. nat_lt 86400 (Reached.secs r)) row.now) }
 {
     for reached in row {
         if reached.secs > 86_400 {
@@ -24,7 +25,9 @@ fn far_in(row: &[Reached]) -> Option<StopNo>
 impl Table {
     /// The first two stops, in order of their numbers, that are more than a day apart.
     pub fn first_far(&self) -> Option<(StopNo, StopNo)>
-        ensures { MatchOption result ((a b : ℕ) → IsNear (closure_of self.now) a b) (λ far. IsFirstFar (closure_of self.now) far.0 far.1) }
+        ensures { MatchOption result
+            ((a b : ℕ) → IsNear (closure_of self.now) a b)
+            (λ far. IsFirstFar (closure_of self.now) far.0 far.1) }
     {
         self.soundness();
         for from in 0..self.stops() {

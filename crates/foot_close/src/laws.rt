@@ -8,15 +8,18 @@ ghost use Rattle.foot_close.specs.Shortest.{closure_of};
 
 /// What is closed keeps the law on footpaths.
 pub fn closed_keeps_law()
-    ensures { (given closed : PathsData) → IsClosed given closed → KeepsFootpathLaw (walking closed) }
+    ensures { (given closed : PathsData) → IsClosed given closed
+        → KeepsFootpathLaw (walking closed) }
 {}
 
 /// There is at most one closure.
 pub fn closure_unique()
-    ensures { (given one other : Changes) → IsClosure given one → IsClosure given other → (p r : ℕ) → one p r ≡ other p r }
+    ensures { (given one other : Changes) → IsClosure given one → IsClosure given other
+        → (p r : ℕ) → one p r ≡ other p r }
 {}
 
 /// There is a closure of all sound change times and footpaths.
 pub fn closure_exists()
-    ensures { (given : PathsData) → AreSoundPaths given → IsClosure (change_between given) (closure_of given) }
+    ensures { (given : PathsData) → AreSoundPaths given
+        → IsClosure (change_between given) (closure_of given) }
 {}

@@ -16,3 +16,6 @@ mod table;
 
 pub use closed::{CloseFault, Closed};
 pub use closing::close;
+
+#[cfg(test)]
+mod tests;

@@ -211,7 +211,8 @@ impl Search {
     fn reached(&self, alloc: Global) -> Result<Vec<Reached>, Memory>
         requires covered { IsCovered self.now.marks self.now.lowered }
         requires ascending { IsStrictlyIncreasing self.now.lowered }
-        ensures { IfOk result (λ reached. reached.items ≡ reached_of (length self.now.marks) (mark self.now.marks)) }
+        ensures { IfOk result (λ reached. reached.items
+            ≡ reached_of (length self.now.marks) (mark self.now.marks)) }
     {
         let mut reached = Vec::new(alloc);
         for place in 0..self.lowered_count() {
@@ -244,7 +245,8 @@ impl Search {
         requires from { from < length paths.now.change }
         requires fresh { IsFresh (length paths.now.change) self.old }
         ensures fresh { OnOk result (IsFresh (length paths.now.change) self.new) }
-        ensures reached { IfOk result (λ reached. reached.items ≡ reached_of (length paths.now.change) (closure_of paths.now from)) }
+        ensures reached { IfOk result (λ reached. reached.items
+            ≡ reached_of (length paths.now.change) (closure_of paths.now from)) }
     {
         self.run(paths, from)?;
         self.sort();

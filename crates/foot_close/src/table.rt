@@ -61,7 +61,8 @@ impl Model for Table {
 // What chains lead to from each stop, unless it is too much.
 fn reach_all(alloc: Global, given: &Paths) -> Result<Vec<Vec<Reached>>, CloseFault>
     requires { AreSoundPaths given.now }
-    ensures { MatchResult result (λ rows. IsTable given.now (map (λ row. row.items) rows.items)) (IsCloseRefused given.now) }
+    ensures { MatchResult result
+        (λ rows. IsTable given.now (map (λ row. row.items) rows.items)) (IsCloseRefused given.now) }
 {
     let count = given.change.len();
     let mut search = Search::new(alloc, count)?;
