@@ -12,10 +12,14 @@ fn real_file_is_taken_whole(rt: HostRuntime) -> Result<(), Fail> {
         folder_path,
         process::id(rt.process())
     )?;
+    let below = format!(in rt.alloc(); "{}/stops.txt", path.as_str())?;
     fs::write(&rt, path.as_str(), "stop_id\nA\n")?;
     let mut folder = HostFolder::new(&rt);
     let taken = take_file(rt.alloc(), &mut folder, path.as_str(), 10)?;
+    let mut plain_file = HostFolder::new(&rt);
+    let taken_below = take_file(rt.alloc(), &mut plain_file, below.as_str(), 10);
     fs::remove_file(&rt, path.as_str())?;
+    assert!(rt; taken_below?.is_none());
     let bytes = taken.ok_or("not there")?;
     assert_eq!(rt; bytes.as_slice(), b"stop_id\nA\n".as_slice());
     let mut folder = HostFolder::new(&rt);
