@@ -1,3 +1,4 @@
 pub mod Times
 pub mod Journeys
 pub mod Faults
+pub mod Builds

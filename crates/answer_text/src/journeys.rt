@@ -35,7 +35,7 @@ impl Text {
     }
 
     // Adds the name of a trip.
-    fn trip(&mut self, table: &Timetable, t: TripNo) -> Result<(), Memory>
+    pub(crate) fn trip(&mut self, table: &Timetable, t: TripNo) -> Result<(), Memory>
         requires { t < length table.now.trips }
         ensures { OnOk result (self.new ≡ self.old ++ trip_name table.now t) }
     {

@@ -50,6 +50,16 @@ impl Text {
         }
     }
 
+    // Adds a count in decimal digits.
+    pub(crate) fn count(&mut self, n: u64) -> Result<(), Memory>
+        ensures { OnOk result (self.new ≡ self.old ++ decimal n) }
+    {
+        match format!(in self.alloc; "{n}") {
+            Ok(digits) => self.add(digits.as_bytes()),
+            Err(_) => Err(Memory),
+        }
+    }
+
     // Adds a number in decimal digits.
     pub(crate) fn number(&mut self, n: u32) -> Result<(), Memory>
         ensures { OnOk result (self.new ≡ self.old ++ decimal n) }

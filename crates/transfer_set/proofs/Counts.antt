@@ -1,0 +1,197 @@
+-- How many transfers there are: few enough to be counted in 64 bits.
+use Rattle.std.proofs.Common.{◌≡◌, ◌∙◌, ℕ, zero, suc, ◌+◌, ◌*◌, ◌≤◌, ◌==◌, ◌&&◌, ◌⊎◌, inl, inr, List, [], ◌∷◌, Bool, true, false, cond, Option, None, Some, length, map, refl, sym, ap, subst, arith, add-one, length-append}
+use Rattle.std.specs.Prelude.{filter, filter_map, flat_map, nat_lt, not, sum_by}
+use Rattle.std.specs.List.{cons_option}
+use Rattle.std.specs.Option.{option_map}
+use Rattle.std.proofs.Math.Nat.{add-mul, suc-mul}
+use Rattle.std.proofs.lemmas.List.{length-map}
+use Rattle.std.proofs.lemmas.List.Sums.{count_by-le-length, length-filter, sum_by_push}
+use Rattle.tb_base.specs.declared.transfer.Hop.{Hop}
+use Rattle.tb_base.specs.declared.transfer.Transfer.{Transfer}
+use Rattle.tb_base.specs.declared.table.Event.{Event}
+use Rattle.tb_base.specs.TimetableData.{TimetableData, event_at, event_total, events_of, stop_at}
+use Rattle.tb_base.specs.Lines.{AreDividedInto, AreLines}
+use Rattle.tb_base.specs.Soundness.{IsSound}
+use Rattle.tb_base.specs.Transfers.{Alternative, alternatives, alternatives_at, alightings, boarding_indexes, candidates, candidates_without_u_turns, hop_onto, improving_alternatives, is_improvement, is_u_turn, kept_alternatives, kept_hops, may_be_boarded, numbers_below, numbers_down, transfers_of}
+use Rattle.tb_laws.proofs.TransferLaws.{kept_transfers}
+use Rattle.segment_queue.specs.Scans.{LineIndex, indices_at, line_indices_at}
+use Rattle.segment_queue.proofs.LineViews.{indices_le_events}
+use Rattle.segment_queue.proofs.Totals.{all_events}
+use Rattle.transfer_set.specs.Reductions.{first_count}
+
+pub length-numbers_below : (n : ℕ) → length (numbers_below n) ≡ n
+length-numbers_below zero = refl
+length-numbers_below (suc n) = omega (arith, length-append (numbers_below n) (n ∷ []), length-numbers_below n)
+
+length-numbers_down : (n : ℕ) → length (numbers_down n) ≡ n
+length-numbers_down zero = refl
+length-numbers_down (suc n) = ap suc (length-numbers_down n)
+
+filter_le : {X : Type 0} (test : X → Bool) (xs : List X) → length (filter test xs) ≤ length xs
+filter_le test xs = omega (arith, length-filter test xs, count_by-le-length test xs)
+
+filter_map_le : {X Y : Type 0} (f : X → Option Y) (xs : List X) → length (filter_map f xs) ≤ length xs
+filter_map_le f [] = omega arith
+filter_map_le {X} {Y} f (x ∷ xs) = by_some (filter_map_le f xs) (f x)
+  where
+    by_some : length (filter_map f xs) ≤ length xs → (o : Option Y) → length (cons_option o (filter_map f xs)) ≤ suc (length xs)
+    by_some more None = omega (arith, more)
+    by_some more (Some y) = omega (arith, more)
+
+both_le : (p q : ℕ → Bool) (xs : List ℕ) → length (filter (λ x. p x && q x) xs) ≤ length (filter p xs)
+both_le p q [] = omega arith
+both_le p q (x ∷ xs) = by_tests (both_le p q xs) (p x) (q x)
+  where
+    by_tests : length (filter (λ x. p x && q x) xs) ≤ length (filter p xs) → (a b : Bool) → length (cond (a && b) (x ∷ filter (λ x. p x && q x) xs) (filter (λ x. p x && q x) xs)) ≤ length (cond a (x ∷ filter p xs) (filter p xs))
+    by_tests more true true = omega (arith, more)
+    by_tests more true false = omega (arith, more)
+    by_tests more false b = more
+
+-- steps of at most c elements each
+flat_map_le : {X Y : Type 0} (f : X → List Y) (c : ℕ) (xs : List X) → ((x : X) → length (f x) ≤ c) → length (flat_map f xs) ≤ length xs * c
+flat_map_le f c [] each = omega arith
+flat_map_le f c (x ∷ xs) each = omega (arith, length-append (f x) (flat_map f xs), each x, flat_map_le f c xs each, suc-mul (length xs) c)
+
+boarding_le : (T : TimetableData) (line : List ℕ) (q : ℕ) → length (boarding_indexes T line q) ≤ length (indices_at T q line)
+boarding_le T [] q = omega arith
+boarding_le T (u ∷ us) q =
+    omega (
+      arith,
+      both_le (λ j. stop_at T u j == q) (may_be_boarded T u) (numbers_below (length (events_of T u))),
+      lengths (filter (λ j. stop_at T u j == q) (numbers_below (length (events_of T u)))),
+    )
+  where
+    lengths : (js : List ℕ) → length {A = LineIndex} (map (λ j. record { line = u ∷ us; at = j }) js) ≡ length js
+    lengths js = length-map js (λ j. record { line = u ∷ us; at = j })
+
+abbrev hops_onto : TimetableData → ℕ → ℕ → ℕ → List ℕ → List Hop
+hops_onto T t i q line = filter_map (λ j. hop_onto T t i line j) (boarding_indexes T line q)
+
+onto_stop_le : (T : TimetableData) (t i q : ℕ) (lines : List (List ℕ)) → length (flat_map (hops_onto T t i q) lines) ≤ length (line_indices_at T lines q)
+onto_stop_le T t i q [] = omega arith
+onto_stop_le T t i q (line ∷ lines) =
+    omega (
+      arith,
+      length-append (hops_onto T t i q line) (flat_map (hops_onto T t i q) lines),
+      length-append (indices_at T q line) (line_indices_at T lines q),
+      filter_map_le (λ j. hop_onto T t i line j) (boarding_indexes T line q),
+      boarding_le T line q,
+      onto_stop_le T t i q lines,
+    )
+
+-- an event has at most as many candidates as there are stops, times line indices at one
+module _ (T : TimetableData) (lines : List (List ℕ)) (c : ℕ) (each : (q : ℕ) → length (line_indices_at T lines q) ≤ c) where
+  candidates_le : (t i : ℕ) → length (candidates T lines t i) ≤ length T.stops * c
+  candidates_le t i = by_test (nat_lt 0 i && (event_at T t i).alight)
+    where
+      all : length (flat_map (λ q. flat_map (hops_onto T t i q) lines) (numbers_below (length T.stops))) ≤ length T.stops * c
+      all =
+          subst (λ n. length (flat_map (λ q. flat_map (hops_onto T t i q) lines) (numbers_below (length T.stops))) ≤ n * c) (length-numbers_below (length T.stops))
+          (flat_map_le (λ q. flat_map (hops_onto T t i q) lines) c (numbers_below (length T.stops)) (λ q. omega (arith, onto_stop_le T t i q lines, each q)))
+
+      by_test : (b : Bool) → length (cond b (flat_map (λ q. flat_map (hops_onto T t i q) lines) (numbers_below (length T.stops))) []) ≤ length T.stops * c
+      by_test true = all
+      by_test false = omega arith
+
+  uncut_le : (t i : ℕ) → length (candidates_without_u_turns T lines t i) ≤ length T.stops * c
+  uncut_le t i = omega (arith, filter_le (λ h. not (is_u_turn T t i h)) (candidates T lines t i), candidates_le t i)
+
+-- a trip has at most so many transfers for each of its events
+transfers_le : (T : TimetableData) (hops : ℕ → List Hop) (c t : ℕ) → ((i : ℕ) → length (hops i) ≤ c) → length (transfers_of T hops t) ≤ length (events_of T t) * c
+transfers_le T hops c t each =
+    subst (λ n. length (transfers_of T hops t) ≤ n * c) (length-numbers_down (length (events_of T t)))
+    (flat_map_le by_event c (numbers_down (length (events_of T t))) (λ i. omega (arith, length-map {B = Transfer} (hops i) (λ (h : Hop). record { trip = t; at = i; to_trip = h.trip; to_at = h.at }), each i)))
+  where
+    by_event : ℕ → List Transfer
+    by_event i = map (λ (h : Hop). record { trip = t; at = i; to_trip = h.trip; to_at = h.at }) (hops i)
+
+improving_le : (T : TimetableData) (t : ℕ) (earlier : List (List Event)) (rest : List Alternative) → length (improving_alternatives T t earlier rest) ≤ length rest
+improving_le T t earlier [] = omega arith
+improving_le T t earlier (a ∷ rest) = by_test (improving_le T t (alightings T t a ∷ earlier) rest) (is_improvement T earlier (alightings T t a))
+  where
+    by_test : length (improving_alternatives T t (alightings T t a ∷ earlier) rest) ≤ length rest → (b : Bool)
+        → length (cond b (a ∷ improving_alternatives T t (alightings T t a ∷ earlier) rest) (improving_alternatives T t (alightings T t a ∷ earlier) rest)) ≤ suc (length rest)
+    by_test more true = omega (arith, more)
+    by_test more false = omega (arith, more)
+
+-- the kept transfers are some of the alternatives
+kept_le : (T : TimetableData) (lines : List (List ℕ)) (c t : ℕ) → ((i : ℕ) → length (candidates_without_u_turns T lines t i) ≤ c) → length (transfers_of T (kept_hops T lines t) t) ≤ length (events_of T t) * suc c
+kept_le T lines c t each =
+    omega (
+      arith,
+      ap length (kept_transfers T lines t),
+      filter_map_le {Y = Transfer} (λ (a : Alternative). option_map (λ (h : Hop). record { trip = t; at = a.at; to_trip = h.trip; to_at = h.at }) a.hop) (kept_alternatives T lines t),
+      improving_le T t [] (alternatives T lines t),
+      all,
+    )
+  where
+    at_event : (i : ℕ) → length (alternatives_at T lines t i) ≤ suc c
+    at_event i = by_test (nat_lt 0 i && (event_at T t i).alight)
+      where
+        by_test : (b : Bool) → length {A = Alternative} (cond b (record { at = i; hop = None } ∷ map (λ h. record { at = i; hop = Some h }) (candidates_without_u_turns T lines t i)) []) ≤ suc c
+        by_test true = omega (arith, length-map {B = Alternative} (candidates_without_u_turns T lines t i) (λ h. record { at = i; hop = Some h }), each i)
+        by_test false = omega arith
+
+    all : length (alternatives T lines t) ≤ length (events_of T t) * suc c
+    all =
+        subst (λ n. length (alternatives T lines t) ≤ n * suc c) (length-numbers_down (length (events_of T t)))
+        (flat_map_le (alternatives_at T lines t) (suc c) (numbers_down (length (events_of T t))) at_event)
+
+at_most_itself : (n : ℕ) → n ≤ n
+at_most_itself n = omega arith
+
+below_or_same : (n m : ℕ) → n ≤ suc m → (n ≤ m) ⊎ (suc m ≡ n)
+below_or_same n m h = grind (arith, h)
+
+-- the sum over more numbers is no less
+sum_grows : (f : ℕ → ℕ) (n m : ℕ) → n ≤ m → sum_by f (numbers_below n) ≤ sum_by f (numbers_below m)
+sum_grows f n zero h = (let e : zero ≡ n = omega (arith, h) in subst (λ k. sum_by f (numbers_below k) ≤ sum_by f (numbers_below zero)) e (at_most_itself (sum_by f (numbers_below zero))))
+sum_grows f n (suc m) h = by_case (λ k. sum_grows f n m k) (below_or_same n m h)
+  where
+    by_case : (n ≤ m → sum_by f (numbers_below n) ≤ sum_by f (numbers_below m)) → (n ≤ m) ⊎ (suc m ≡ n) → sum_by f (numbers_below n) ≤ sum_by f (numbers_below (suc m))
+    by_case more (inl k) = omega (arith, more k, sum_by_push f (numbers_below m) m)
+    by_case more (inr e) = subst (λ k. sum_by f (numbers_below k) ≤ sum_by f (numbers_below (suc m))) e (at_most_itself (sum_by f (numbers_below (suc m))))
+
+first_events : (T : TimetableData) (n : ℕ) → n ≤ length T.trips → sum_by (λ t. length (events_of T t)) (numbers_below n) ≤ event_total T
+first_events T n inside = omega (arith, sum_grows (λ t. length (events_of T t)) n (length T.trips) inside, all_events T)
+
+-- the first trips have at most so many transfers for each of their events
+count_le : (T : TimetableData) (hops : ℕ → ℕ → List Hop) (c : ℕ) → ((t : ℕ) → length (transfers_of T (hops t) t) ≤ length (events_of T t) * c) → (n : ℕ)
+    → first_count T hops n ≤ sum_by (λ t. length (events_of T t)) (numbers_below n) * c
+count_le T hops c each zero = omega arith
+count_le T hops c each (suc n) =
+    subst (λ m. first_count T hops (suc n) ≤ m * c) (sym (sum_by_push (λ t. length (events_of T t)) (numbers_below n) n))
+    (omega (
+      arith,
+      sum_by_push (λ t. length (transfers_of T (hops t) t)) (numbers_below n) n,
+      count_le T hops c each n,
+      each n,
+      add-mul (sum_by (λ t. length (events_of T t)) (numbers_below n)) (length (events_of T n)) c,
+    ))
+
+-- one trip more
+pub count_more : (T : TimetableData) (hops : ℕ → ℕ → List Hop) (n : ℕ) → first_count T hops (n + 1) ≡ first_count T hops n + length (transfers_of T (hops n) n)
+count_more T hops n = ap (first_count T hops) (add-one n) ∙ sum_by_push (λ t. length (transfers_of T (hops t) t)) (numbers_below n) n
+
+-- the greatest count that is reached within the limits of timetables
+abbrev pub most : ℕ
+most = 10000000000010000000
+
+module _ (T : TimetableData) (lines : List (List ℕ)) (sound : IsSound T) (are : AreLines T lines) (divided : AreDividedInto T lines) where
+  at_stop : (q : ℕ) → length (line_indices_at T lines q) ≤ 10000000
+  at_stop q = omega (arith, indices_le_events T lines q are divided, sound.events)
+
+  stops_le : length T.stops * 10000000 ≤ 1000000000000
+  stops_le = omega (arith, sound.stops)
+
+  within : (hops : ℕ → ℕ → List Hop) → ((t : ℕ) → length (transfers_of T (hops t) t) ≤ length (events_of T t) * 1000000000001) → (n : ℕ) → n ≤ length T.trips → first_count T hops n ≤ most
+  within hops each n inside = omega (arith, count_le T hops 1000000000001 each n, first_events T n inside, sound.events)
+
+  pub generated_most : (n : ℕ) → n ≤ length T.trips → first_count T (candidates T lines) n ≤ most
+  generated_most = within (candidates T lines) (λ t. transfers_le T (candidates T lines t) 1000000000001 t (λ i. omega (arith, candidates_le T lines 10000000 at_stop t i, stops_le)))
+
+  pub uncut_most : (n : ℕ) → n ≤ length T.trips → first_count T (candidates_without_u_turns T lines) n ≤ most
+  uncut_most = within (candidates_without_u_turns T lines) (λ t. transfers_le T (candidates_without_u_turns T lines t) 1000000000001 t (λ i. omega (arith, uncut_le T lines 10000000 at_stop t i, stops_le)))
+
+  pub kept_most : (n : ℕ) → n ≤ length T.trips → first_count T (kept_hops T lines) n ≤ most
+  kept_most = within (kept_hops T lines) (λ t. kept_le T lines 1000000000000 t (λ i. omega (arith, uncut_le T lines 10000000 at_stop t i, stops_le)))

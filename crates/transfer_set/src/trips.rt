@@ -1,0 +1,127 @@
+//! The reduction, trip by trip.
+ghost use Rattle.std.specs.Prelude.{◌≡◌, ◌+◌, ◌<◌, ℕ, List, IfOk, OnOk, length};
+ghost use Rattle.tb_base.specs.TimetableData.{TimetableData};
+ghost use Rattle.tb_base.specs.Transfers.{candidates, candidates_without_u_turns, kept_hops, transfers_of};
+ghost use Rattle.tb_base.specs.OutSets.{AreRowsOf, listed};
+ghost use Rattle.tb_base.specs.Sufficiency.{AreSufficient};
+ghost use Rattle.line_split.specs.LinesOf.{AreLinesOf};
+ghost use Rattle.transfer_set.specs.Reductions.{first_reduced, reduced};
+
+use super::reduced::Reduced;
+use line_split::Lines;
+use std::alloc::Global;
+use tb_base::{Memory, Rows, Timetable, Transfer, TripNo};
+use transfer_make::make;
+use transfer_reduce::{Labels, reduce};
+use uturn_cut::cut;
+
+// What the reduction makes of one trip.
+#[derive(Drop)]
+struct TripReduced {
+    rows: Vec<Transfer>,
+    generated: usize,
+    after_uturn: usize,
+}
+
+// Reduces the transfers of one trip.
+fn reduce_trip(
+    alloc: Global,
+    table: &Timetable,
+    lines: &Lines,
+    labels: &mut Labels,
+    trip: TripNo,
+) -> Result<TripReduced, Memory>
+    requires lines { AreLinesOf table.now lines.now }
+    requires labels { length labels.old ≡ length table.now.stops }
+    requires trip { trip < length table.now.trips }
+    ensures labels { length labels.new ≡ length labels.old }
+    ensures rows { IfOk result (λ r. r.rows.items
+        ≡ transfers_of table.now (kept_hops table.now lines.now.lines trip) trip) }
+    ensures generated { IfOk result (λ r. r.generated
+        ≡ length (transfers_of table.now (candidates table.now lines.now.lines trip) trip)) }
+    ensures after_uturn { IfOk result (λ r. r.after_uturn
+        ≡ length (transfers_of table.now (candidates_without_u_turns table.now lines.now.lines trip) trip)) }
+{
+    uturn_cut::laws::candidates_cut();
+    let mut rows = make(alloc, table, lines, trip)?;
+    let generated = rows.len();
+    cut(table, &mut rows);
+    let after_uturn = rows.len();
+    reduce(table, labels, trip, &mut rows);
+    rows.shrink_to_fit();
+    Ok(TripReduced {
+        rows,
+        generated,
+        after_uturn,
+    })
+}
+
+impl Reduced {
+    // Nothing of any trip.
+    fn new(alloc: Global) -> Reduced
+        ensures { (T : TimetableData) (lines : List (List ℕ)) → result ≡ first_reduced T lines 0 }
+    {
+        Reduced {
+            rows: Vec::new(alloc),
+            generated: 0,
+            after_uturn: 0,
+            kept: 0,
+        }
+    }
+
+    // Adds what the reduction makes of the next trip.
+    fn add(
+        &mut self,
+        alloc: Global,
+        table: &Timetable,
+        lines: &Lines,
+        labels: &mut Labels,
+        trip: TripNo,
+    ) -> Result<(), Memory>
+        requires lines { AreLinesOf table.now lines.now }
+        requires labels { length labels.old ≡ length table.now.stops }
+        requires trip { trip < length table.now.trips }
+        requires before { self.old ≡ first_reduced table.now lines.now.lines trip }
+        ensures labels { length labels.new ≡ length labels.old }
+        ensures after { OnOk result (self.new ≡ first_reduced table.now lines.now.lines (trip + 1)) }
+    {
+        line_split::laws::lines_divide();
+        table.soundness();
+        let more = reduce_trip(alloc, table, lines, labels, trip)?;
+        self.generated += more.generated as u64;
+        self.after_uturn += more.after_uturn as u64;
+        self.kept += more.rows.len() as u64;
+        self.rows.push(more.rows)?;
+        Ok(())
+    }
+}
+
+/// Reduces the transfers of all trips: the kept transfers of each trip, and how many candidates there are, how many of them are no
+/// U-turns, and how many are kept. The lines are those of the timetable. Takes memory for the kept transfers, and for the
+/// candidates of one trip besides; one number a stop serves all trips. Refused only for want of memory.
+pub fn reduce_trips(alloc: Global, table: &Timetable, lines: &Lines) -> Result<Reduced, Memory>
+    requires { AreLinesOf table.now lines.now }
+    ensures reduced { IfOk result (λ r. r ≡ reduced table.now lines.now.lines) }
+    ensures rows { IfOk result (λ r. AreRowsOf table.now r.rows) }
+{
+    line_split::laws::lines_divide();
+    table.soundness();
+    let mut labels = Labels::new(alloc, table.stop_count())?;
+    let mut reduced = Reduced::new(alloc);
+    for t in 0..table.trip_count() {
+        reduced.add(alloc, table, lines, &mut labels, TripNo(t))?;
+    }
+    Ok(reduced)
+}
+
+/// The set of the kept transfers of a timetable with these lines. It is sufficient: a search over it finds all best values.
+/// Refused only for want of memory.
+pub fn kept_set(alloc: Global, table: &Timetable, lines: &Lines) -> Result<Rows, Memory>
+    requires { AreLinesOf table.now lines.now }
+    ensures table { IfOk result (λ set. set.table ≡ table.now) }
+    ensures hops { IfOk result (λ set. (t i : ℕ) → listed set t i ≡ kept_hops table.now lines.now.lines t i) }
+    ensures sufficient { IfOk result (λ set. AreSufficient set.table (listed set)) }
+{
+    line_split::laws::lines_divide();
+    reduce_trips(alloc, table, lines)?.into_set(alloc, table)
+}
