@@ -1,6 +1,6 @@
 -- The kept transfers of all trips, as a set of hops.
 use Rattle.std.proofs.Common.{◌≡◌, ◌∙◌, ℕ, zero, suc, ◌<◌, ◌≤◌, ◌==◌, ◌⊎◌, inl, inr, List, [], ◌∷◌, ◌++◌, Bool, true, false, cond, length, map, get_or, refl, sym, ap, subst, arith}
-use Rattle.std.specs.Prelude.{All, IfOk, Result, Ok, Err, filter, flat_map}
+use Rattle.std.specs.Prelude.{All, filter, flat_map}
 use Rattle.std.proofs.lemmas.Bool.Decides.{nat_tests}
 use Rattle.std.proofs.lemmas.List.{append-nil, get_or-map, length-map, map-append}
 use Rattle.std.proofs.lemmas.List.Elements.{filter-append}
@@ -142,18 +142,13 @@ module _ (T : TimetableData) (hops : ℕ → ℕ → List Hop) (enough : AreSuff
           })
 
   -- what has exactly these hops is as sufficient
-  pub as_sufficient : (U : TimetableData) (set : ℕ → ℕ → List Hop) → U ≡ T → ((t i : ℕ) → set t i ≡ hops t i) → AreSufficient U set
-  as_sufficient U set same each = subst (λ W. AreSufficient W set) (sym same) (subst (AreSufficient T) (λ k t i. sym (each t i) k) enough)
+  pub as_sufficient : (set : ℕ → ℕ → List Hop) → ((t i : ℕ) → set t i ≡ hops t i) → AreSufficient T set
+  as_sufficient set each = subst (AreSufficient T) (λ k t i. sym (each t i) k) enough
 
 -- what a set of the kept transfers has, and that it is sufficient
 module _ (T : TimetableData) (sound : IsSound T) (set : ListedHops) (rows : List (List Transfer)) (hops : (t i : ℕ) → listed set t i ≡ hops_at (row_of rows t) i) (lines : List (List ℕ)) (divided : AreDividedInto T lines) (kept : rows ≡ first_rows T (kept_hops T lines) (length T.trips)) where
   pub has_kept : (t i : ℕ) → listed set t i ≡ kept_hops T lines t i
   has_kept t i = hops t i ∙ ap (λ rs. hops_at (row_of rs t) i) kept ∙ hops_of_rows T (kept_hops T lines) (kept_hops_sufficient T lines sound divided) t i
 
-  pub has_enough : set.table ≡ T → AreSufficient set.table (listed set)
-  has_enough same = as_sufficient T (kept_hops T lines) (kept_hops_sufficient T lines sound divided) set.table (listed set) same has_kept
-
--- what follows from two facts about a value that may have been made
-pub both_ok : {A E : Type 0} (made : Result A E) (P Q R : A → Type 0) → ((x : A) → P x → Q x → R x) → IfOk made P → IfOk made Q → IfOk made R
-both_ok (Ok x) P Q R both p q = both x p q
-both_ok (Err e) P Q R both p q = tt
+  pub has_enough : AreSufficient T (listed set)
+  has_enough = as_sufficient T (kept_hops T lines) (kept_hops_sufficient T lines sound divided) (listed set) has_kept

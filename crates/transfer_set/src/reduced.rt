@@ -42,7 +42,7 @@ impl Reduced {
         ensures hops { IfOk result (λ set. (lines : List (List ℕ)) → AreDividedInto table.now lines →
             self ≡ reduced table.now lines → (t i : ℕ) → listed set t i ≡ kept_hops table.now lines t i) }
         ensures sufficient { IfOk result (λ set. (lines : List (List ℕ)) → AreDividedInto table.now lines →
-            self ≡ reduced table.now lines → AreSufficient set.table (listed set)) }
+            self ≡ reduced table.now lines → AreSufficient table.now (listed set)) }
     {
         table.soundness();
         Rows::new(alloc, table, self.rows)

@@ -120,7 +120,7 @@ pub fn kept_set(alloc: Global, table: &Timetable, lines: &Lines) -> Result<Rows,
     requires { AreLinesOf table.now lines.now }
     ensures table { IfOk result (λ set. set.table ≡ table.now) }
     ensures hops { IfOk result (λ set. (t i : ℕ) → listed set t i ≡ kept_hops table.now lines.now.lines t i) }
-    ensures sufficient { IfOk result (λ set. AreSufficient set.table (listed set)) }
+    ensures sufficient { IfOk result (λ set. AreSufficient table.now (listed set)) }
 {
     line_split::laws::lines_divide();
     reduce_trips(alloc, table, lines)?.into_set(alloc, table)

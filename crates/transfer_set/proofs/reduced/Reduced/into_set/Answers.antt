@@ -1,7 +1,7 @@
 use Rattle.std.proofs.Common.{◌∙◌, ap}
 use Rattle.std.proofs.lemmas.Result.{IfOk-weaker}
 use Rattle.transfer_set.specs.Reductions.{ReducedData}
-use Rattle.transfer_set.proofs.KeptSets.{both_ok, has_enough, has_kept}
+use Rattle.transfer_set.proofs.KeptSets.{has_enough, has_kept}
 use Rattle.transfer_set.proofs.reduced.Reduced.into_set.Goals as goal
 
 pub returns-clause-hops : goal.returns-clause-hops
@@ -10,6 +10,4 @@ returns-clause-hops c =
 
 pub returns-clause-sufficient : goal.returns-clause-sufficient
 returns-clause-sufficient c =
-    both_ok c.new.result _ _ _
-    (λ set hops same lines divided kept. has_enough c.args.table.now c.soundness.ensures set _ hops lines divided (ap (λ (r : ReducedData). r.rows) (c.self.view_is ∙ kept)) same)
-    c.new.ensures.hops c.new.ensures.table
+    IfOk-weaker c.new.result _ _ (λ set hops lines divided kept. has_enough c.args.table.now c.soundness.ensures set _ hops lines divided (ap (λ (r : ReducedData). r.rows) (c.self.view_is ∙ kept))) c.new.ensures.hops
