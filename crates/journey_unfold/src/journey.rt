@@ -5,12 +5,12 @@ ghost use Rattle.tb_base.specs.TimetableData.{events_of, stop_at};
 ghost use Rattle.tb_base.specs.declared.query.Leg.TheVariants.{Ride as RideLeg};
 ghost use Rattle.tb_base.specs.declared.query.Value.{Value as ValueData};
 ghost use Rattle.tb_base.specs.declared.transfer.Hop.{Hop};
-ghost use Rattle.segment_queue.specs.Traced.{IsRideHit, IsTraced, IsTracedHit, IsWalkHit, LegsFollow, UsesHops, segment_of};
-ghost use Rattle.segment_queue.specs.declared.desk.LastLeg.TheVariants.{OnFoot, Aboard};
+ghost use Rattle.segment_queue.specs.Traced.{IsRideHit, IsTraced, LegsFollow, UsesHops, segment_of};
+ghost use Rattle.segment_queue.specs.declared.desk.LastLeg.TheVariants.{Aboard};
 ghost use Rattle.plain_rounds.specs.Shown.{IsNearest, secs_by, stop_of};
 ghost use Rattle.journey_unfold.specs.Unfolded.{SpellEnding, SpellHit};
 
-use plain_rounds::{Walks, nearest};
+use plain_rounds::{Walks, nearest, push_walk};
 use segment_queue::{Desk, Hit, LastLeg, Segment};
 use std::alloc::Global;
 use tb_base::{Leg, Memory, Query, StopNo, Timetable, TripNo};
@@ -27,7 +27,7 @@ fn segment_of(desk: &Desk, n: u32) -> Segment
 }
 
 // The stop of an event.
-fn stop(table: &Timetable, trip: TripNo, at: u32) -> StopNo
+fn stop_at(table: &Timetable, trip: TripNo, at: u32) -> StopNo
     requires trip { trip < length table.now.trips }
     requires at { at < length (events_of table.now trip) }
     ensures stop { result ≡ stop_at table.now trip at }
@@ -48,20 +48,6 @@ fn nearest_of(table: &Timetable, walks: &Walks, stops: &[StopNo]) -> StopNo
         Some(near) => near.stop,
         None => unreachable!(),
     }
-}
-
-// Adds the leg of a walk, which within one stop is none.
-fn push_walk(table: &Timetable, legs: &mut Vec<Leg>, from: StopNo, to: StopNo) -> Result<(), Memory>
-    requires from { from < length table.now.stops }
-    requires to { to < length table.now.stops }
-    ensures { OnOk result (legs.new.items ≡ legs.old.items ++ walk_legs table.now from to) }
-{
-    if from.index() == to.index() {
-        return Ok(());
-    }
-    let secs = table.walk(from, to).unwrap_or(0);
-    legs.push(Leg::Walk { from, to, secs })?;
-    Ok(())
 }
 
 // Adds the leg of the ride in a segment up to an index.
@@ -99,7 +85,8 @@ fn ride_legs(
     requires origins { All (λ p. p < length table.now.stops) query.now.from }
     requires targets { All (λ p. p < length table.now.stops) query.now.to }
     requires traced { IsTraced table.now query.now desk.now }
-    requires hit { (to : ℕ) × (v : ValueData) × IsRideHit table.now query.now desk.now.segments entry at to v.arrive v.rides }
+    requires hit { (to : ℕ) × (v : ValueData) ×
+        IsRideHit table.now query.now desk.now.segments entry at to v.arrive v.rides }
     ensures journey { IfOk result (λ legs. (to : ℕ) (v : ValueData) →
         IsRideHit table.now query.now desk.now.segments entry at to v.arrive v.rides →
         SpellEnding table.now query.now desk.now.segments (Aboard entry at to) v legs.items) }
@@ -108,19 +95,19 @@ fn ride_legs(
 {
     let mut segment = segment_of(desk, entry);
     let mut legs = Vec::new(alloc);
-    let end = stop(table, segment.trip, at);
+    let end = stop_at(table, segment.trip, at);
     let target = nearest_of(table, &Walks::From(end), query.to.as_slice());
     push_walk(table, &mut legs, end, target)?;
     push_ride(&mut legs, &segment, at)?;
     while let Some((parent, left)) = segment.parent {
         let before = segment_of(desk, parent);
-        let change = stop(table, before.trip, left);
-        let boarded = stop(table, segment.trip, segment.board);
+        let change = stop_at(table, before.trip, left);
+        let boarded = stop_at(table, segment.trip, segment.board);
         push_walk(table, &mut legs, change, boarded)?;
         push_ride(&mut legs, &before, left)?;
         segment = before;
     }
-    let start = stop(table, segment.trip, segment.board);
+    let start = stop_at(table, segment.trip, segment.board);
     let origin = nearest_of(table, &Walks::To(start), query.from.as_slice());
     push_walk(table, &mut legs, origin, start)?;
     legs.reverse();
@@ -143,7 +130,8 @@ pub fn unfold(
     requires targets { All (λ p. p < length table.now.stops) query.now.to }
     requires traced { IsTraced table.now query.now desk.now }
     requires hit { Contains desk.now.hits hit.now }
-    ensures journey { IfOk result (λ legs. SpellHit table.now query.now desk.now.segments hit.now legs.items) }
+    ensures journey { IfOk result (λ legs.
+        SpellHit table.now query.now desk.now.segments hit.now legs.items) }
     ensures hops { IfOk result (λ legs. (hops : ℕ → ℕ → List Hop) → UsesHops hops desk.now.segments →
         LegsFollow hops legs.items) }
 {

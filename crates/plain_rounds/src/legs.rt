@@ -96,8 +96,13 @@ pub(crate) fn rides_to(
     Ok(rides)
 }
 
-// Adds the leg of a walk, which within one stop is none.
-fn push_walk(table: &Timetable, legs: &mut Vec<Leg>, from: StopNo, to: StopNo) -> Result<(), Memory>
+/// Adds the leg of a walk, which within one stop is none.
+pub fn push_walk(
+    table: &Timetable,
+    legs: &mut Vec<Leg>,
+    from: StopNo,
+    to: StopNo,
+) -> Result<(), Memory>
     requires from { from < length table.now.stops }
     requires to { to < length table.now.stops }
     ensures { OnOk result (legs.new.items ≡ legs.old.items ++ walk_legs table.now from to) }
