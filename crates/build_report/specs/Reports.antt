@@ -1,0 +1,23 @@
+-- The report on what is built of a timetable: its lines, its candidate transfers and its kept transfers.
+use Rattle.std.specs.Prelude.{◌≡◌, ℕ, List, Bool, length, if◌then◌else◌}
+use Rattle.tb_base.specs.Lines.{AreLines}
+use Rattle.tb_base.specs.TimetableData.{TimetableData}
+use Rattle.transfer_set.specs.Reductions.{ReducedData, reduced}
+use Rattle.answer_text.specs.Builds.{build_list_text, build_text}
+use Rattle.answer_text.specs.declared.builds.BuildCounts.{BuildCounts}
+
+-- how many lines there are, and the counts of the reduction
+abbrev pub counts_of : List (List ℕ) → ReducedData → BuildCounts
+counts_of lines r = record { lines = length lines; generated = r.generated; after_uturn = r.after_uturn; kept = r.kept }
+
+-- the sizes and the counts, and if asked for, the kept transfers
+abbrev pub report : TimetableData → List (List ℕ) → Bool → List ℕ
+report T lines list =
+    let r = reduced T lines in
+    if list then build_list_text T (counts_of lines r) r.rows else build_text T (counts_of lines r)
+
+-- this is the report over the timetable's lines, of which there is one list
+pub record IsReport (T : TimetableData) (list : Bool) (bytes : List ℕ) : Type 0 where
+  pub lines : List (List ℕ)
+  pub are_lines : AreLines T lines
+  pub text : bytes ≡ report T lines list
