@@ -1,6 +1,6 @@
 -- The search from one stop: what holds while stops wait, and when none waits.
-use Rattle.std.proofs.Common.{◌≡◌, ◌∙◌, sym, ap, subst, refl, ℕ, suc, ◌+◌, ◌<◌, ◌≤◌, ◌⊎◌, List, [], ◌∷◌, ◌++◌, length, get_or, drop, Option, Some, None, arith, inl, inr}
-use Rattle.std.specs.Prelude.{Contains, MatchOption}
+use Rattle.std.proofs.Common.{◌≡◌, ◌∙◌, sym, ap, subst, refl, ℕ, suc, ◌+◌, ◌-◌, ◌<◌, ◌≤◌, ◌⊎◌, List, [], ◌∷◌, ◌++◌, length, get_or, drop, Option, Some, None, arith, inl, inr, Bool, true, false, ◌==◌}
+use Rattle.std.specs.Prelude.{Contains, MatchOption, MatchBool}
 use Rattle.std.proofs.lemmas.List.{drop-append-le, length-append}
 use Rattle.std.proofs.lemmas.List.Elements.{Contains-append_left, Contains-append_right}
 use Rattle.std.proofs.Math.Seq.{drop-cons}
@@ -9,8 +9,10 @@ use Rattle.tb_base.specs.declared.table.Path.{Path}
 use Rattle.tb_base.proofs.Ordered.{Member-from_Contains, Contains-from_Member}
 use Rattle.footpaths.specs.Footpaths.{Changes, PathsData}
 use Rattle.footpaths.specs.Law.{change_between, AreSoundPaths}
+use Rattle.std.proofs.lemmas.Bool.Decides.{nat_tests}
+use Rattle.foot_close.specs.declared.search.Reached.{Reached}
 use Rattle.foot_close.specs.Closure.{chain, IsShortest}
-use Rattle.foot_close.specs.Searching.{SearchData, mark, IsFresh, IsBounded, leaving, IsRelaxed, IsGoneOn, AreShortest}
+use Rattle.foot_close.specs.Searching.{SearchData, mark, height, IsFresh, IsBounded, leaving, IsRelaxed, is_held, IsGoneOn, AreShortest}
 use Rattle.foot_close.proofs.Chains.{parts_by, chain-append}
 use Rattle.foot_close.proofs.Relaxing.{AtMost, weaker, lowers_most}
 use Rattle.foot_close.proofs.Edges.{edge_secs, change_edge}
@@ -28,10 +30,10 @@ pub record IsChain (given : Changes) (p q s : ℕ) : Type 0 where
 pub record IsSearch (P : PathsData) (p : ℕ) (s : SearchData) (next : ℕ) : Type 0 where
   pub many : length s.marks ≡ length P.change
   pub bounded : IsBounded s.marks
-  pub place : next ≤ length s.lowered
+  pub place : next ≤ length s.waiting
   pub attained : (q t : ℕ) → mark s.marks q ≡ Some t → IsChain (change_between P) p q t
   pub started : IsSettled (change_between P) s.marks p 0
-  pub settled : (q t : ℕ) → mark s.marks q ≡ Some t → Contains (drop next s.lowered) q ⊎ IsSettled (change_between P) s.marks q t
+  pub settled : (q t : ℕ) → mark s.marks q ≡ Some t → Contains (drop next s.waiting) (record { stop = q; secs = t }) ⊎ IsSettled (change_between P) s.marks q t
 
 settled_by : (P : PathsData) (q t : ℕ) (old new : SearchData) → IsRelaxed (leaving P q) t old new → IsSettled (change_between P) new.marks q t
 settled_by P q t old new h = λ r w e. h.relaxed (record { to = r; secs = w }) (change_edge P q r w e)
@@ -53,78 +55,83 @@ search_begun P p old new sound inside fresh h = record {
   started = settled_by P p 0 old new h;
   settled = λ q t e. elim (h.each q t e) [
     | inl m ↦ absurd (let c : None ≡ Some t = sym (fresh.unreached q) ∙ m in cc)
-    | inr m ↦ inl (subst (λ ls. Contains ls q) (let e : h.more ≡ new.lowered = ap (λ (ls : List ℕ). ls ++ h.more) (sym fresh.none_lowered) ∙ sym h.grows in e) m.among)
+    | inr m ↦ inl (subst (λ ls. Contains ls (record { stop = q; secs = t })) (let e : h.more ≡ new.waiting = ap (λ (ls : List Reached). ls ++ h.more) (sym fresh.none_waiting) ∙ sym h.grows in e) m.among)
   ];
 }
 
--- a stop that waits is the next one, or waits after it
-next_or_later : (ls : List ℕ) (next stop q : ℕ) → next < length ls → stop ≡ get_or ls next 0 → Contains (drop next ls) q → (stop ≡ q) ⊎ Contains (drop (next + 1) ls) q
-next_or_later ls next stop q below at h =
-    let parts : drop next ls ≡ get_or ls next 0 ∷ drop (suc next) ls = drop-cons ls next 0 below in
+-- what waits is the next one, or waits after it
+next_or_later : (ls : List Reached) (next : ℕ) (r x : Reached) → next < length ls → r ≡ get_or ls next r → Contains (drop next ls) x → (r ≡ x) ⊎ Contains (drop (next + 1) ls) x
+next_or_later ls next r x below at h =
+    let parts : drop next ls ≡ get_or ls next r ∷ drop (suc next) ls = drop-cons ls next r below in
     let one : suc next ≡ next + 1 = omega arith in
-    elim (Member-from_Contains q (get_or ls next 0 ∷ drop (suc next) ls) (subst (λ xs. Contains xs q) parts h)) [
+    elim (Member-from_Contains x (get_or ls next r ∷ drop (suc next) ls) (subst (λ xs. Contains xs x) parts h)) [
       | inl e ↦ inl (at ∙ e)
-      | inr m ↦ inr (subst (λ n. Contains (drop n ls) q) one (Contains-from_Member q (drop (suc next) ls) m))
+      | inr m ↦ inr (subst (λ n. Contains (drop n ls) x) one (Contains-from_Member x (drop (suc next) ls) m))
     ]
 
--- a stop that was reached was looked at
-pub search_on : (P : PathsData) (p : ℕ) (old new : SearchData) (next stop t : ℕ) → AreSoundPaths P → stop < length P.change → IsSearch P p old next → next < length old.lowered → stop ≡ get_or old.lowered next 0
-    → mark old.marks stop ≡ Some t → IsRelaxed (leaving P stop) t old new → IsSearch P p new (next + 1)
-search_on P p old new next stop t sound inside s below at here h = record {
+-- a stop was looked at whose seconds are its least
+search_on : (P : PathsData) (p : ℕ) (old new : SearchData) (next : ℕ) (r : Reached) → AreSoundPaths P → Reached.stop r < length P.change → IsSearch P p old next → next < length old.waiting → r ≡ get_or old.waiting next r
+    → mark old.marks (Reached.stop r) ≡ Some (Reached.secs r) → IsRelaxed (leaving P (Reached.stop r)) (Reached.secs r) old new → IsSearch P p new (next + 1)
+search_on P p old new next r sound inside s below at here h = record {
   many = h.many ∙ s.many;
   bounded = h.bounded;
-  place = omega (arith, below, ap length h.grows, length-append old.lowered h.more);
+  place = omega (arith, below, ap length h.grows, length-append old.waiting h.more);
   attained = λ q u e. elim (h.each q u e) [
     | inl m ↦ s.attained q u m
     | inr m ↦
-        let first = s.attained stop t here in
-        let there : change_between P stop q ≡ Some m.path.secs = subst (λ r. change_between P stop r ≡ Some m.path.secs) m.to (edge_secs P stop m.path sound inside m.inside) in
-        record { via = first.via ++ stop ∷ []; is = chain-append (change_between P) p first.via stop [] q t m.path.secs first.is there ∙ ap (λ n. Some n) m.total }
+        let first = s.attained (Reached.stop r) (Reached.secs r) here in
+        let there : change_between P (Reached.stop r) q ≡ Some m.path.secs = subst (λ x. change_between P (Reached.stop r) x ≡ Some m.path.secs) m.to (edge_secs P (Reached.stop r) m.path sound inside m.inside) in
+        record { via = first.via ++ Reached.stop r ∷ []; is = chain-append (change_between P) p first.via (Reached.stop r) [] q (Reached.secs r) m.path.secs first.is there ∙ ap (λ n. Some n) m.total }
   ];
-  started = still_settled (change_between P) (leaving P stop) t old new p 0 h s.started;
+  started = still_settled (change_between P) (leaving P (Reached.stop r)) (Reached.secs r) old new p 0 h s.started;
   settled = λ q u e. elim (h.each q u e) [
     | inl m ↦ elim (s.settled q u m) [
-      | inl w ↦ elim (next_or_later old.lowered next stop q below at w) [
-        | inl same ↦
-            let u_is : t ≡ u = (let c : Some t ≡ Some u = sym here ∙ ap (mark old.marks) same ∙ m in cc) in
-            inr (subst (λ x. IsSettled (change_between P) new.marks x u) same (subst (λ x. IsSettled (change_between P) new.marks stop x) u_is (settled_by P stop t old new h)))
-        | inr later ↦ inl (waits q (Contains-append_left (drop (next + 1) old.lowered) h.more q later))
+      | inl w ↦ elim (next_or_later old.waiting next r (record { stop = q; secs = u }) below at w) [
+        | inl same ↦ inr (subst (λ (x : Reached). IsSettled (change_between P) new.marks (Reached.stop x) (Reached.secs x)) same (settled_by P (Reached.stop r) (Reached.secs r) old new h))
+        | inr later ↦ inl (waits (record { stop = q; secs = u }) (Contains-append_left (drop (next + 1) old.waiting) h.more (record { stop = q; secs = u }) later))
       ]
-      | inr w ↦ inr (still_settled (change_between P) (leaving P stop) t old new q u h w)
+      | inr w ↦ inr (still_settled (change_between P) (leaving P (Reached.stop r)) (Reached.secs r) old new q u h w)
     ]
-    | inr m ↦ inl (waits q (Contains-append_right (drop (next + 1) old.lowered) h.more q m.among))
+    | inr m ↦ inl (waits (record { stop = q; secs = u }) (Contains-append_right (drop (next + 1) old.waiting) h.more (record { stop = q; secs = u }) m.among))
   ];
 }
   where
-    waits : (q : ℕ) → Contains (drop (next + 1) old.lowered ++ h.more) q → Contains (drop (next + 1) new.lowered) q
-    waits q c =
-        let parts : drop (next + 1) (old.lowered ++ h.more) ≡ drop (next + 1) old.lowered ++ h.more = drop-append-le (next + 1) old.lowered h.more (omega (arith, below)) in
-        subst (λ ls. Contains (drop (next + 1) ls) q) (sym h.grows) (subst (λ ls. Contains ls q) (sym parts) c)
+    waits : (x : Reached) → Contains (drop (next + 1) old.waiting ++ h.more) x → Contains (drop (next + 1) new.waiting) x
+    waits x c =
+        let parts : drop (next + 1) (old.waiting ++ h.more) ≡ drop (next + 1) old.waiting ++ h.more = drop-append-le (next + 1) old.waiting h.more (omega (arith, below)) in
+        subst (λ ls. Contains (drop (next + 1) ls) x) (sym h.grows) (subst (λ ls. Contains ls x) (sym parts) c)
 
--- a stop that wasn't reached needs no look
-pub search_past : (P : PathsData) (p : ℕ) (s : SearchData) (next stop : ℕ) → IsSearch P p s next → next < length s.lowered → stop ≡ get_or s.lowered next 0 → mark s.marks stop ≡ None → IsSearch P p s (next + 1)
-search_past P p s next stop h below at none = record {
+-- a stop whose seconds fell since needs no look now
+search_past : (P : PathsData) (p : ℕ) (s : SearchData) (next : ℕ) (r : Reached) → IsSearch P p s next → next < length s.waiting → r ≡ get_or s.waiting next r → (mark s.marks (Reached.stop r) ≡ Some (Reached.secs r) → ⊥) → IsSearch P p s (next + 1)
+search_past P p s next r h below at other = record {
   many = h.many;
   bounded = h.bounded;
   place = omega (arith, below);
   attained = h.attained;
   started = h.started;
   settled = λ q t e. elim (h.settled q t e) [
-    | inl w ↦ elim (next_or_later s.lowered next stop q below at w) [
-      | inl same ↦ absurd (let c : None ≡ Some t = sym none ∙ ap (mark s.marks) same ∙ e in cc)
+    | inl w ↦ elim (next_or_later s.waiting next r (record { stop = q; secs = t }) below at w) [
+      | inl same ↦ absurd (other (subst (λ (x : Reached). mark s.marks (Reached.stop x) ≡ Some (Reached.secs x)) (sym same) e))
       | inr later ↦ inl later
     ]
     | inr w ↦ inr w
   ];
 }
 
-pub search_gone : (P : PathsData) (p : ℕ) (old new : SearchData) (next stop : ℕ) → AreSoundPaths P → stop < length P.change → IsSearch P p old next → next < length old.lowered → stop ≡ get_or old.lowered next 0
-    → IsGoneOn P stop old new → IsSearch P p new (next + 1)
-search_gone P p old new next stop sound inside s below at h = by_mark (mark old.marks stop) refl h
+pub held_is : (s : ℕ) (o : Option ℕ) → is_held s o ≡ true → o ≡ Some s
+held_is s None e = absurd (let c : false ≡ true = e in cc)
+held_is s (Some t) e = (let same : t ≡ s = grind (arith, nat_tests, e) in ap (λ n. Some n) same)
+
+not_held : (s : ℕ) (o : Option ℕ) → is_held s o ≡ false → o ≡ Some s → ⊥
+not_held s None e g = absurd (let c : None ≡ Some s = g in cc)
+not_held s (Some t) e g = (let same : t ≡ s = cc in let passes : (t == s) ≡ true = grind (arith, nat_tests, same) in let c : false ≡ true = sym e ∙ passes in absurd cc)
+
+pub search_gone : (P : PathsData) (p : ℕ) (old new : SearchData) (next : ℕ) (r : Reached) → AreSoundPaths P → Reached.stop r < length P.change → IsSearch P p old next → next < length old.waiting → r ≡ get_or old.waiting next r → IsGoneOn P r old new → IsSearch P p new (next + 1)
+search_gone P p old new next r sound inside s below at h = by_held (is_held (Reached.secs r) (mark old.marks (Reached.stop r))) refl h
   where
-    by_mark : (o : Option ℕ) → mark old.marks stop ≡ o → MatchOption o (new ≡ old) (λ secs. IsRelaxed (leaving P stop) secs old new) → IsSearch P p new (next + 1)
-    by_mark None e k = subst (λ x. IsSearch P p x (next + 1)) (sym k) (search_past P p old next stop s below at e)
-    by_mark (Some t) e k = search_on P p old new next stop t sound inside s below at e k
+    by_held : (b : Bool) → is_held (Reached.secs r) (mark old.marks (Reached.stop r)) ≡ b → MatchBool b (IsRelaxed (leaving P (Reached.stop r)) (Reached.secs r) old new) (new ≡ old) → IsSearch P p new (next + 1)
+    by_held true e k = search_on P p old new next r sound inside s below at (held_is (Reached.secs r) (mark old.marks (Reached.stop r)) e) k
+    by_held false e k = subst (λ x. IsSearch P p x (next + 1)) (sym k) (search_past P p old next r s below at (not_held (Reached.secs r) (mark old.marks (Reached.stop r)) e))
 
 settle : (given : Changes) (marks : List (Option ℕ)) → ((q t : ℕ) → mark marks q ≡ Some t → IsSettled given marks q t) → (q x s a : ℕ) (o : Option ℕ) → mark marks q ≡ o → AtMost o s → given q x ≡ Some a → AtMost (mark marks x) (s + a)
 settle given marks settled q x s a None m k f = absurd k
@@ -137,12 +144,12 @@ least_on given marks settled q s h (x ∷ via) r w e =
     let parts = parts_by (given q x) (chain given x via r) w e in
     weaker (mark marks r) (s + parts.0 + parts.1) (s + w) (least_on given marks settled x (s + parts.0) (settle given marks settled q x s parts.0 (mark marks q) refl h parts.2) via r parts.1 parts.3) (omega (arith, parts.4))
 
-pub searched : (P : PathsData) (p : ℕ) (s : SearchData) (next : ℕ) → IsSearch P p s next → length s.lowered ≤ next → AreShortest (change_between P) p s.marks
+pub searched : (P : PathsData) (p : ℕ) (s : SearchData) (next : ℕ) → IsSearch P p s next → length s.waiting ≤ next → AreShortest (change_between P) p s.marks
 searched P p s next h done r = by_mark (mark s.marks r) refl
   where
     settled : (q t : ℕ) → mark s.marks q ≡ Some t → IsSettled (change_between P) s.marks q t
     settled q t e = elim (h.settled q t e) [
-      | inl w ↦ absurd (Member-from_Contains q [] (subst (λ ls. Contains ls q) (drop_of_length-le s.lowered done) w))
+      | inl w ↦ absurd (Member-from_Contains (record { stop = q; secs = t }) [] (subst (λ ls. Contains ls (record { stop = q; secs = t })) (drop_of_length-le s.waiting done) w))
       | inr k ↦ k
     ]
 
@@ -161,3 +168,11 @@ searched P p s next h done r = by_mark (mark s.marks r) refl
     by_mark (Some t) e =
         let a = h.attained r t e in
         record { via = a.via; attained = a.is; least = λ other w f. (let m : AtMost (Some t) w = rw e at (least other w f) in m) }
+
+-- going on leaves less to do
+pub gone_smaller : (P : PathsData) (old new : SearchData) (next : ℕ) (r : Reached) → next < length old.waiting → IsGoneOn P r old new → height new.marks + (length new.waiting - (next + 1)) < height old.marks + (length old.waiting - next)
+gone_smaller P old new next r below h = by_held (is_held (Reached.secs r) (mark old.marks (Reached.stop r))) h
+  where
+    by_held : (b : Bool) → MatchBool b (IsRelaxed (leaving P (Reached.stop r)) (Reached.secs r) old new) (new ≡ old) → height new.marks + (length new.waiting - (next + 1)) < height old.marks + (length old.waiting - next)
+    by_held true k = (let many : length new.waiting ≡ length old.waiting + length k.more = ap length k.grows ∙ length-append old.waiting k.more in omega (arith, many, k.cost, below))
+    by_held false k = (let tall : height new.marks ≡ height old.marks = ap (λ (x : SearchData). height x.marks) k in let many : length new.waiting ≡ length old.waiting = ap (λ (x : SearchData). length x.waiting) k in omega (arith, tall, many, below))

@@ -1,5 +1,5 @@
--- The search for the shortest chains from one stop: the least seconds so far, and the stops in order as they got them.
-use Rattle.std.specs.Prelude.{◌≡◌, ◌≢◌, ◌⊎◌, ◌++◌, ℕ, ◌+◌, ◌*◌, ◌<◌, ◌≤◌, List, [], length, Option, None, Some, Bool, true, nat_lt, is_some, option_map, filter_map, slice_index_or, All, Contains, IsSomeAnd, MatchOption, count_by, sum_by}
+-- The search for the shortest chains from one stop: the least seconds so far, the stops that got them, and both in order.
+use Rattle.std.specs.Prelude.{◌==◌, ◌≡◌, ◌≢◌, ◌⊎◌, ◌++◌, ℕ, ◌+◌, ◌*◌, ◌<◌, ◌≤◌, List, [], length, Option, None, Some, Bool, true, false, nat_lt, is_some, option_map, filter_map, slice_index_or, All, Contains, IsSomeAnd, MatchOption, count_by, sum_by, MatchBool}
 use Rattle.std.specs.Option.{option_to_list}
 use Rattle.tb_base.specs.declared.table.Path.{Path}
 use Rattle.footpaths.specs.Footpaths.{Changes, PathsData, numbers}
@@ -9,6 +9,7 @@ use Rattle.foot_close.specs.declared.search.Reached.{Reached}
 pub record SearchData : Type 0 where
   pub marks : List (Option ℕ)
   pub lowered : List ℕ
+  pub waiting : List Reached
 
 -- the seconds at a stop, where it was reached
 abbrev pub mark : List (Option ℕ) → ℕ → Option ℕ
@@ -18,7 +19,7 @@ mark marks q = slice_index_or marks q None
 pub record IsFresh (count : ℕ) (s : SearchData) : Type 0 where
   pub many : length s.marks ≡ count
   pub unreached : (q : ℕ) → mark s.marks q ≡ None
-  pub none_lowered : s.lowered ≡ []
+  pub none_waiting : s.waiting ≡ []
 
 -- so many seconds are less than a mark
 abbrev pub is_less : ℕ → Option ℕ → Bool
@@ -46,8 +47,8 @@ abbrev pub height : List (Option ℕ) → ℕ
 height marks = sum_by (mark_height (86400 * length marks + 1)) marks
 
 -- a mark comes from a footpath of a row that so many seconds lead up to, and its stop is among some
-pub record IsFrom (row : List Path) (secs : ℕ) (stops : List ℕ) (q t : ℕ) : Type 0 where
-  pub among : Contains stops q
+pub record IsFrom (row : List Path) (secs : ℕ) (stops : List Reached) (q t : ℕ) : Type 0 where
+  pub among : Contains stops (record { stop = q; secs = t })
   pub path : Path
   pub inside : Contains row path
   pub to : path.to ≡ q
@@ -64,8 +65,8 @@ leaving P q = own_row q (slice_index_or P.change q None) ++ slice_index_or P.pat
 -- the footpaths of a row were looked at, where so many seconds lead up to them
 pub record IsRelaxed (row : List Path) (secs : ℕ) (old new : SearchData) : Type 0 where
   pub many : length new.marks ≡ length old.marks
-  pub more : List ℕ
-  pub grows : new.lowered ≡ old.lowered ++ more
+  pub more : List Reached
+  pub grows : new.waiting ≡ old.waiting ++ more
   pub lowers : (q t : ℕ) → mark old.marks q ≡ Some t → IsSomeAnd (mark new.marks q) (λ u. u ≤ t)
   pub each : (q t : ℕ) → mark new.marks q ≡ Some t → (mark old.marks q ≡ Some t) ⊎ IsFrom row secs more q t
   pub relaxed : (f : Path) → Contains row f → IsSomeAnd (mark new.marks f.to) (λ u. u ≤ secs + f.secs)
@@ -73,9 +74,15 @@ pub record IsRelaxed (row : List Path) (secs : ℕ) (old new : SearchData) : Typ
   pub count : reached_count old.marks ≤ reached_count new.marks
   pub cost : height new.marks + length more ≤ height old.marks
 
--- the changes from a stop were looked at, where it was reached
-abbrev pub IsGoneOn : PathsData → ℕ → SearchData → SearchData → Type 0
-IsGoneOn P q old new = MatchOption (mark old.marks q) (new ≡ old) (λ secs. IsRelaxed (leaving P q) secs old new)
+-- a mark holds so many seconds
+abbrev pub is_held : ℕ → Option ℕ → Bool
+is_held s None = false
+is_held s (Some t) = t == s
+
+-- the changes from a stop were looked at, where its seconds are still its least
+abbrev pub IsGoneOn : PathsData → Reached → SearchData → SearchData → Type 0
+IsGoneOn P r old new =
+    MatchBool (is_held r.secs (mark old.marks r.stop)) (IsRelaxed (leaving P r.stop) r.secs old new) (new ≡ old)
 
 -- the marks are the shortest chains from a stop
 abbrev pub AreShortest : Changes → ℕ → List (Option ℕ) → Type 0

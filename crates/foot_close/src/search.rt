@@ -43,22 +43,40 @@ pub fn path_row(paths: &Paths, stop: StopNo) -> &[Path]
     paths.paths[stop.index()].as_slice()
 }
 
-/// The least seconds so far to each stop, and the stops in order as they got theirs; a stop stands
+// Whether a mark holds so many seconds.
+fn is_held(secs: u64, mark: Option<u64>) -> bool
+    ensures { result ≡ Rattle.foot_close.specs.Searching.is_held secs mark }
+{
+    match mark {
+        None => false,
+        Some(held) => held == secs,
+    }
+}
+
+/// The least seconds so far to each stop, the stops that got them, and both in order; a stop stands
 /// there once for each time that its seconds fell.
 #[derive(Drop)]
 pub struct Search {
     marks: Vec<Option<u64>>,
     lowered: Vec<u32>,
+    waiting: Vec<Reached>,
 }
 
 impl Model for Search {
+    ghost use Rattle.std.specs.Prelude.{◌<◌, All, length};
+    ghost use Rattle.foot_close.specs.declared.search.Reached.{Reached};
     ghost use Rattle.foot_close.specs.Searching.{SearchData, IsCovered};
 
     ghost Value = { SearchData };
 
-    ghost view = { λ s. record { marks = s.marks.items; lowered = s.lowered.items } };
+    ghost view = { λ s. record {
+      marks = s.marks.items;
+      lowered = s.lowered.items;
+      waiting = s.waiting.items;
+    } };
 
-    ghost invariant = { λ s. IsCovered s.marks.items s.lowered.items };
+    ghost invariant = { λ s. IsCovered s.marks.items s.lowered.items
+        × All (λ r. Reached.stop r < length s.marks.items) s.waiting.items };
 }
 
 impl Search {
@@ -70,6 +88,7 @@ impl Search {
         Ok(Search {
             marks,
             lowered: Vec::new(alloc),
+            waiting: Vec::new(alloc),
         })
     }
 
@@ -94,6 +113,10 @@ impl Search {
         let total = secs + path.secs as u64;
         if is_less(total, self.marks[at]) {
             self.lowered.push(at as u32)?;
+            self.waiting.push(Reached {
+                stop: path.to,
+                secs: total,
+            })?;
             self.marks[at] = Some(total);
         }
         Ok(())
@@ -165,18 +188,34 @@ impl Search {
         StopNo(self.lowered[at])
     }
 
-    // Goes on from a stop, where it was reached.
-    fn go_on(&mut self, paths: &Paths, stop: StopNo) -> Result<(), Memory>
+    // How many stops wait or waited.
+    fn waiting_count(&self) -> usize
+        ensures { result ≡ length self.now.waiting }
+    {
+        self.waiting.len()
+    }
+
+    // A stop that waits, by its place in their order.
+    fn waiting_at(&self, at: usize) -> Reached
+        requires { at < length self.now.waiting }
+        ensures place { result ≡ slice_index_or self.now.waiting at result }
+        ensures within { result.stop < length self.now.marks }
+    {
+        self.waiting[at]
+    }
+
+    // Goes on from a stop, where its seconds are still its least.
+    fn go_on(&mut self, paths: &Paths, reached: Reached) -> Result<(), Memory>
         requires sound { AreSoundPaths paths.now }
-        requires stop { stop < length paths.now.change }
+        requires stop { reached.stop < length paths.now.change }
         requires many { length self.old.marks ≡ length paths.now.change }
         requires bounded { IsBounded self.old.marks }
-        ensures { OnOk result (IsGoneOn paths.now stop self.old self.new) }
+        ensures { OnOk result (IsGoneOn paths.now reached self.old self.new) }
     {
-        match self.mark(stop) {
-            Some(secs) => self.relax_from(paths, stop, secs),
-            None => Ok(()),
+        if is_held(reached.secs, self.mark(reached.stop)) {
+            self.relax_from(paths, reached.stop, reached.secs)?;
         }
+        Ok(())
     }
 
     // The shortest chains from a stop.
@@ -189,10 +228,10 @@ impl Search {
     {
         self.relax_from(paths, from, 0)?;
         let mut next: usize = 0;
-        while next < self.lowered_count() {
-            let stop = self.lowered_at(next);
+        while next < self.waiting_count() {
+            let reached = self.waiting_at(next);
             next += 1;
-            self.go_on(paths, stop)?;
+            self.go_on(paths, reached)?;
         }
         Ok(())
     }
@@ -228,6 +267,7 @@ impl Search {
     fn clear(&mut self)
         ensures { IsFresh (length self.old.marks) self.new }
     {
+        self.waiting.clear();
         while let Some(stop) = self.lowered.pop() {
             self.marks[stop as usize] = None;
         }

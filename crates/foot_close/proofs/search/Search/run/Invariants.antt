@@ -7,4 +7,4 @@ abbrev pub invariant-loop-next : goal.invariant-loop-next
 invariant-loop-next l = IsSearch l.paths l.fn.from l.self l.next
 
 abbrev pub decreases-loop-next : goal.decreases-loop-next
-decreases-loop-next l = height l.self.marks + (length l.self.lowered - l.next)
+decreases-loop-next l = height l.self.marks + (length l.self.waiting - l.next)
