@@ -8,3 +8,6 @@
 mod build;
 
 pub use build::report;
+
+#[cfg(test)]
+mod tests;
