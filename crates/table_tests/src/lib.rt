@@ -1,5 +1,5 @@
 //! A small timetable made by hand, with a station, marks, change times and a footpath, proved sound once, and tests over
-//! it of calls of `tb_base`.
+//! it of calls of `tb_base`, `journey_rules` and `plain_rounds`.
 #![tactic(auto)]
 
 mod made;
