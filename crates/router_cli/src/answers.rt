@@ -6,9 +6,13 @@ ghost use Rattle.router_cli.specs.Answers.{IsAnswer, IsText, IsAskText};
 
 use crate::words::{Command, Request};
 use answer_text::{arrival_text, choices_text, unknown_text};
-use plain_rounds::{direct, plain_ask};
+use journey_unfold::ask;
+use line_split::split;
+use plain_rounds::direct;
+use segment_queue::{Desk, View};
 use std::alloc::Global;
-use tb_base::{Memory, Place, Query, Timetable};
+use tb_base::{Memory, Place, Query, Rows, Timetable};
+use transfer_set::kept_set;
 
 // The query between two places.
 fn query_between(
@@ -34,7 +38,7 @@ fn query_between(
     })
 }
 
-// The best values, each with a journey.
+// The best values, each with a journey, by a search over the kept transfers.
 fn ask_text(alloc: Global, table: &Timetable, query: &Query) -> Result<Vec<u8>, Memory>
     requires origins { All (λ p. p < length table.now.stops) query.now.from }
     requires targets { All (λ p. p < length table.now.stops) query.now.to }
@@ -42,7 +46,11 @@ fn ask_text(alloc: Global, table: &Timetable, query: &Query) -> Result<Vec<u8>, 
     ensures { IfOk result (λ text. IsAskText table.now query.now text.items) }
 {
     table.soundness();
-    let choices = plain_ask(alloc, table, query)?;
+    let lines = split(alloc, table)?;
+    let set = kept_set(alloc, table, &lines)?;
+    let mut desk = Desk::new(alloc);
+    desk.make_room(&View::<Rows>::new(table, &lines, &set))?;
+    let choices = ask(alloc, &mut desk, table, &lines, &set, query)?;
     choices_text(alloc, table, choices.as_slice())
 }
 

@@ -12,24 +12,27 @@ mod words;
 
 pub use route::route;
 pub use status::{Status, status_text};
+use std::io::ErrorKind;
 use std::process::ExitCode;
 use std::rt::Env;
 use std::{env, str};
 use tb_base::IdleGate;
 use tb_io::{HostFolder, MemSource, OutSink};
 
-// The words after the program's name.
-fn words_of(rt: &(impl Env + AllocGlobal)) -> Option<Vec<String>> {
-    let mut words: Vec<String> = Vec::new(rt.alloc());
-    let Ok(args) = env::args(rt) else {
-        return None;
+// The words after the program's name. One that isn't UTF-8 has no meaning.
+fn words_of(rt: &(impl Env + AllocGlobal)) -> Result<Vec<String>, Status> {
+    let args = match env::args(rt) {
+        Ok(args) => args,
+        Err(e) if e.kind() == ErrorKind::OutOfMemory => return Err(Status::Memory),
+        Err(_) => return Err(Status::Usage),
     };
+    let mut words: Vec<String> = Vec::new(rt.alloc());
     for word in args.skip(1) {
         if words.push(word).is_err() {
-            return None;
+            return Err(Status::Memory);
         }
     }
-    Some(words)
+    Ok(words)
 }
 
 // Writes how the program ended to standard error, and gives the number to end with.
@@ -43,8 +46,9 @@ fn end(rt: &(impl Eprint + AllocGlobal), status: Status) -> ExitCode {
 }
 
 fn main(rt: HostRuntime) -> ExitCode {
-    let Some(words) = words_of(&rt) else {
-        return end(&rt, Status::Memory);
+    let words = match words_of(&rt) {
+        Ok(words) => words,
+        Err(status) => return end(&rt, status),
     };
     let mut folder = HostFolder::new(&rt);
     let mut script = MemSource::new(Vec::new(rt.alloc()), Vec::new(rt.alloc()));

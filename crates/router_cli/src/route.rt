@@ -62,6 +62,8 @@ pub fn route<R: Threads + Wait + Sync, F: Folder + Send, S: Source, K: Sink, G: 
     ensures folder_kept { (result ≡ Status.ReadFault) ⊎ (F.faults folder.new ≡ F.faults folder.old) }
     ensures out_kept { (result ≡ Status.WriteFault) ⊎ (K.faults out.new ≡ K.faults out.old) }
     ensures files { F.files folder.new ≡ F.files folder.old }
+    ensures script { S.left _script.new ≡ S.left _script.old }
+    ensures script_kept { S.faults _script.new ≡ S.faults _script.old }
 {
     let Some(request) = request_of(words) else {
         return Status::Usage;

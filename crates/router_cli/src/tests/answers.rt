@@ -1,0 +1,147 @@
+//! Answers of the program.
+use super::{NO_TROUBLE, STOPS, TWO_CHOICES, feed, run};
+use std::alloc::{AllocError, Global};
+use std::process::Abort;
+use std::sync::Wait;
+use std::test::Fail;
+use std::thread::Threads;
+
+// Whether a command over the example with changed files is answered so.
+fn assert_answered<R: Threads + Wait + Sync + Abort>(
+    rt: &R,
+    alloc: Global,
+    changed: &[(&str, &str)],
+    line: &str,
+    out: &str,
+) -> Result<(), Fail> {
+    let ended = run(rt, alloc, feed(alloc, changed)?, line, NO_TROUBLE)?;
+    assert_eq!(rt; ended.code, 0, "{line}");
+    assert_eq!(rt; ended.out.as_slice(), out.as_bytes(), "{line}");
+    Ok(())
+}
+
+#[test]
+fn answers_over_the_example(rt: HostRuntime) -> Result<(), Fail> {
+    for (line, out) in [
+        ("direct f1 20260302 A D 08:05:00", "arrive 08:50:00\n"),
+        ("direct f1 20260302 A D 08:05:01", "no journey\n"),
+        ("direct f1 20260303 A D 08:00:00", "no journey\n"),
+        ("direct f1 20260302 A Q 08:00:00", "unknown stop Q\n"),
+        ("direct f1 20260302 P Q 08:00:00", "unknown stop P\n"),
+        ("ask f1 20260303 A D 08:00:00", "no journey\n"),
+        ("ask f1 20260302 A D 08:00:00", TWO_CHOICES),
+        ("--change 120 ask f1 20260302 A D 08:00:00", TWO_CHOICES),
+        (
+            "--change 121 ask f1 20260302 A D 08:00:00",
+            "arrive 08:50:00 rides 1\n  ride T3 A 08:05:00 D 08:50:00\n",
+        ),
+        ("ask f1 20260302 A A 08:00:00", "arrive 08:00:00 rides 0\n"),
+        ("ask f1 20260302 A Q 08:00:00", "unknown stop Q\n"),
+    ] {
+        assert_answered(&rt, rt.alloc(), &[], line, out)?;
+    }
+    Ok(())
+}
+
+// What stands in stop_times.txt after its header, a command, and its answer.
+const OTHER_TIMES: [(&str, &str, &str); 3] = [
+    (
+        "T1,08:00:00,08:00:00,A,1\nT1,,,B,2\nT1,08:21:00,08:21:00,C,3\n",
+        "direct f1 20260302 A B 08:00:00",
+        "arrive 08:10:30\n",
+    ),
+    (
+        "T1,23:50:00,23:50:00,A,1\nT1,25:10:00,25:10:00,D,2\n",
+        "direct f1 20260302 A D 23:00:00",
+        "arrive 25:10:00\n",
+    ),
+    (
+        "T1,08:20:00,,D,9\nT1,08:00:00,08:01:00,A,3\n",
+        "direct f1 20260302 A D 08:01:00",
+        "arrive 08:20:00\n",
+    ),
+];
+
+// A day, and the answer of a service that runs from Monday to Friday but not on 2 March 2026.
+const WEEKLY_ANSWERS: [(&str, &str); 3] = [
+    ("direct f1 20260302 A D 08:05:00", "no journey\n"),
+    ("direct f1 20260303 A D 08:05:00", "arrive 08:50:00\n"),
+    ("direct f1 20260307 A D 08:05:00", "no journey\n"),
+];
+
+// The example with a boarding mark: one can't board T3 at A.
+const MARKED: &str = "trip_id,pickup_type,arrival_time,departure_time,stop_id,stop_sequence
+T1,,08:00:00,08:00:00,A,1
+T1,,08:10:00,08:10:00,B,2
+T1,,08:20:00,08:20:00,C,3
+T2,,08:12:00,08:12:00,B,1
+T2,,08:30:00,08:30:00,D,2
+T3,1,08:05:00,08:05:00,A,1
+T3,,08:50:00,08:50:00,D,2
+";
+
+#[test]
+fn other_feeds_are_answered(rt: HostRuntime) -> Result<(), Fail> {
+    for (rows, line, out) in OTHER_TIMES {
+        let text = format!(in rt.alloc();
+            "trip_id,arrival_time,departure_time,stop_id,stop_sequence\n{rows}"
+        )?;
+        assert_answered(
+            &rt,
+            rt.alloc(),
+            &[("stop_times.txt", text.as_str())],
+            line,
+            out,
+        )?;
+    }
+    assert_answered(
+        &rt,
+        rt.alloc(),
+        &[("stop_times.txt", MARKED)],
+        "ask f1 20260302 A D 08:00:00",
+        "arrive 08:30:00 rides 2
+  ride T1 A 08:00:00 B 08:10:00
+  ride T2 B 08:12:00 D 08:30:00
+",
+    )?;
+    let weekly =
+        "service_id,monday,tuesday,wednesday,thursday,friday,saturday,sunday,start_date,end_date\nS,1,1,1,1,1,0,0,20260101,20261231\n";
+    let removed = "service_id,date,exception_type\nS,20260302,2\n";
+    for (line, out) in WEEKLY_ANSWERS {
+        let changed = [("calendar.txt", weekly), ("calendar_dates.txt", removed)];
+        assert_answered(&rt, rt.alloc(), &changed, line, out)?;
+    }
+    Ok(())
+}
+
+// So many rows of stops.txt, the five of the example first.
+fn stops_text(alloc: Global, count: u32) -> Result<String, AllocError> {
+    let mut text = String::from_str(alloc, STOPS)?;
+    for number in 5..count {
+        text.push_str(format!(in alloc; "S{number}\n")?.as_str())?;
+    }
+    Ok(text)
+}
+
+#[test]
+fn stops_up_to_the_limit(rt: HostRuntime) -> Result<(), Fail> {
+    let text = stops_text(rt.alloc(), 100_000)?;
+    let changed = [("stops.txt", text.as_str())];
+    let line = "direct f1 20260302 A D 08:05:00";
+    assert_answered(&rt, rt.alloc(), &changed, line, "arrive 08:50:00\n")?;
+    let text = stops_text(rt.alloc(), 100_001)?;
+    let changed = [("stops.txt", text.as_str())];
+    let ended = run(
+        &rt,
+        rt.alloc(),
+        feed(rt.alloc(), &changed)?,
+        line,
+        NO_TROUBLE,
+    )?;
+    assert_eq!(rt; ended.code, 3);
+    assert_eq!(rt;
+        ended.err.as_slice(),
+        b"router: feed refused: 20 TooMany stops row 100002\n".as_slice()
+    );
+    Ok(())
+}
