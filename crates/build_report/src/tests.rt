@@ -90,7 +90,18 @@ fn timetable(alloc: Global, feed: Feed) -> Result<Option<Timetable>, AllocError>
     let Ok(day) = day_of(b"20260302".as_slice()) else {
         return Ok(None);
     };
-    Ok(read_day(alloc, &mut folder, "f", &day, &Options { change: 0 }).ok())
+    Ok(read_day(
+        alloc,
+        &mut folder,
+        "f",
+        &day,
+        &Options {
+            change: 0,
+            station: None,
+            close: false,
+        },
+    )
+    .ok())
 }
 
 #[test]

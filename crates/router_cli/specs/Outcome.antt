@@ -1,10 +1,13 @@
 -- What the program's status says of the words, the files and the bytes written.
-use Rattle.std.specs.Prelude.{◌≡◌, ℕ, ◌≤◌, List, [], ◌++◌, codes, length, take, Option, Result, Err, Ok, ⊤}
+use Rattle.std.specs.Prelude.{◌≡◌, ℕ, ◌≤◌, List, [], ◌++◌, codes, false, length, take, Option, None, Result, Err, Ok, ⊤}
 use Rattle.std.specs.Io.KnownBytes.{Appends}
 use Rattle.tb_base.specs.TimetableData.{TimetableData}
 use Rattle.answer_text.specs.Faults.{fault_text}
 use Rattle.gtfs_rows.specs.declared.fault.FeedFault.{FeedFault}
-use Rattle.trip_table.specs.declared.day_options.Options.{Options}
+use Rattle.tb_io.specs.Files.{FileList}
+use Rattle.footpaths.specs.declared.paths.Options.{Options}
+use Rattle.trip_table.specs.Answers.{feed_of}
+use Rattle.trip_table.specs.Day.{IsTimetableOf}
 use Rattle.router_cli.specs.Words.{RequestData}
 use Rattle.router_cli.specs.Answers.{IsAnswer}
 use Rattle.router_cli.specs.declared.status.Status.{Status}
@@ -30,16 +33,20 @@ status_text status.Memory = codes "router: out of memory\n"
 
 -- what a request asks of the day
 abbrev pub options_of : RequestData → Options
-options_of r = record { change = r.change }
+options_of r = record { change = r.change; station = None; close = false }
+
+-- what becomes of the day of a request: its timetable, or the first thing that is wrong with the feed
+abbrev pub IsDayOf : Option FileList → RequestData → Result TimetableData FeedFault → Type 0
+IsDayOf files r = IsTimetableOf (feed_of files r.dir) r.date (options_of r)
 
 -- What a status says of a request, of the day's timetable or first fault, and of the bytes that a sink held before and
 -- holds now. Done: the answer was written whole. WriteFault: some first bytes of it.
 -- FeedRefused: the fault is the day's. Of the others no clause speaks here.
-abbrev pub IsOutcome : Result TimetableData FeedFault → RequestData → Status → Option (List ℕ) → Option (List ℕ) → Type 0
-IsOutcome day r status.Done before now = (T : TimetableData) × (bytes : List ℕ) × (day ≡ Ok T) × IsAnswer T r bytes × Appends before now bytes
-IsOutcome day r status.WriteFault before now =
-    (T : TimetableData) × (bytes : List ℕ) × (n : ℕ) × (day ≡ Ok T) × IsAnswer T r bytes × (n ≤ length bytes) × Appends before now (take n bytes)
-IsOutcome day r (status.FeedRefused f) before now = day ≡ Err f
-IsOutcome day r status.Usage before now = ⊥
-IsOutcome day r status.ReadFault before now = ⊤
-IsOutcome day r status.Memory before now = ⊤
+abbrev pub IsOutcome : (Result TimetableData FeedFault → Type 0) → RequestData → Status → Option (List ℕ) → Option (List ℕ) → Type 0
+IsOutcome IsDay r status.Done before now = (T : TimetableData) × (bytes : List ℕ) × IsDay (Ok T) × IsAnswer T r bytes × Appends before now bytes
+IsOutcome IsDay r status.WriteFault before now =
+    (T : TimetableData) × (bytes : List ℕ) × (n : ℕ) × IsDay (Ok T) × IsAnswer T r bytes × (n ≤ length bytes) × Appends before now (take n bytes)
+IsOutcome IsDay r (status.FeedRefused f) before now = IsDay (Err f)
+IsOutcome IsDay r status.Usage before now = ⊥
+IsOutcome IsDay r status.ReadFault before now = ⊤
+IsOutcome IsDay r status.Memory before now = ⊤

@@ -1,11 +1,10 @@
 //! All that the program does.
-ghost use Rattle.std.specs.Prelude.{◌≡◌, ◌⊎◌, ◌↔◌, ◌<◌, ◌-◌, ◌^◌, Err, IfSome, IsSome, MatchResult, None, Ok, map, string_bytes};
+ghost use Rattle.std.specs.Prelude.{◌≡◌, ◌⊎◌, ◌↔◌, ◌<◌, ◌-◌, ◌^◌, IfSome, IsSome, MatchResult, None, Ok, map, string_bytes};
 ghost use Rattle.tb_base.specs.TimetableData.{TimetableData};
-ghost use Rattle.trip_table.specs.Day.{timetable_of};
-ghost use Rattle.trip_table.specs.Answers.{IsRefused, Leaves, feed_of};
+ghost use Rattle.trip_table.specs.Answers.{IsFault, Leaves};
 ghost use Rattle.router_cli.specs.Answers.{IsAnswer};
-ghost use Rattle.router_cli.specs.Outcome.{IsOutcome, options_of};
-ghost use Rattle.router_cli.specs.Words.{request_of, RequestData};
+ghost use Rattle.router_cli.specs.Outcome.{IsDayOf, IsOutcome};
+ghost use Rattle.router_cli.specs.Words.{request_of};
 
 use crate::answers::answer;
 use crate::status::Status;
@@ -20,12 +19,15 @@ use trip_table::{DayFault, Options, read_day};
 // The text of the answer to a request, from the files of its folder.
 fn text_of<F: Folder>(alloc: Global, folder: &mut F, request: &Request) -> Result<Vec<u8>, DayFault>
     requires { F.faults folder.old < 2 ^ 64 - 1 }
-    ensures text { IsSome (F.files folder.old) → let day = timetable_of (feed_of (F.files folder.old) request.now.dir) request.now.date (options_of request.now) in
-        MatchResult result (λ text. (T : TimetableData) × (day ≡ Ok T) × IsAnswer T request.now text.items) (IsRefused day) }
+    ensures text { IsSome (F.files folder.old) → MatchResult result
+        (λ text. (T : TimetableData) × IsDayOf (F.files folder.old) request.now (Ok T) × IsAnswer T request.now text.items)
+        (IsFault (IsDayOf (F.files folder.old) request.now)) }
     ensures leaves { Leaves (F.files folder.old) (F.files folder.new) (F.faults folder.old) (F.faults folder.new) result }
 {
     let options = Options {
         change: request.change,
+        station: None,
+        close: false,
     };
     let table = match read_day(alloc, folder, request.dir, &request.day, &options) {
         Ok(table) => table,
@@ -55,7 +57,7 @@ pub fn route<R: Threads + Wait + Sync, F: Folder + Send, S: Source, K: Sink, G: 
     requires out { K.faults out.old < 2 ^ 64 - 1 }
     ensures usage { (result ≡ Status.Usage) ↔ (request_of (map string_bytes words.now) ≡ None) }
     ensures promise { IfSome (request_of (map string_bytes words.now)) (λ r. IsSome (F.files folder.old) →
-        IsOutcome (timetable_of (feed_of (F.files folder.old) (RequestData.dir r)) (RequestData.date r) (options_of r)) r result (K.written out.old) (K.written out.new)) }
+        IsOutcome (IsDayOf (F.files folder.old) r) r result (K.written out.old) (K.written out.new)) }
     ensures quiet { (result ≡ Status.Done) ⊎ (result ≡ Status.WriteFault) ⊎ (K.written out.new ≡ K.written out.old) }
     ensures read { result ≡ Status.ReadFault → F.faults folder.old < F.faults folder.new }
     ensures write { result ≡ Status.WriteFault → K.faults out.old < K.faults out.new }

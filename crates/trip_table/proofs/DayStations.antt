@@ -10,7 +10,8 @@ use Rattle.tb_base.specs.TimetableData.{StationData}
 use Rattle.gtfs_rows.specs.StopsFile.{StopData}
 use Rattle.footpaths.specs.Stops.{has_stop_id, platforms, stations, station_of, parent_station}
 use Rattle.footpaths.proofs.NumberLists.{numbers_more}
-use Rattle.trip_table.specs.Day.{is_number, station_stops, stations_from}
+use Rattle.footpaths.specs.Footpaths.{is_number}
+use Rattle.trip_table.specs.Day.{station_stops, stations_from}
 
 -- stations from a number on, with the stops that each number is given
 abbrev pub stations_by : (ℕ → List ℕ) → ℕ → List StopData → List StationData

@@ -17,7 +17,7 @@ two true false h = absurd (cc)
 two false b h = absurd (cc)
 
 -- where a test chooses a value, it passed
-chosen : {A : Type 0} (b : Bool) (o : Option A) (x : A) → (if b then o else None) ≡ Some x → (b ≡ true) × (o ≡ Some x)
+pub chosen : {A : Type 0} (b : Bool) (o : Option A) (x : A) → (if b then o else None) ≡ Some x → (b ≡ true) × (o ≡ Some x)
 chosen true o x e = (refl, e)
 chosen false o x e = absurd (cc)
 
@@ -32,11 +32,11 @@ sixty a b n e =
     let v : (a - 48) * 10 + (b - 48) ≡ n = cc (c.1) in
     omega (arith, v, q, r)
 
-mapped : {A B : Type 0} (f : A → B) (o : Option A) (y : B) → option_map f o ≡ Some y → (x : A) × (o ≡ Some x) × (f x ≡ y)
+pub mapped : {A B : Type 0} (f : A → B) (o : Option A) (y : B) → option_map f o ≡ Some y → (x : A) × (o ≡ Some x) × (f x ≡ y)
 mapped f None y e = absurd (cc)
 mapped f (Some x) y e = (x, refl, cc)
 
-followed : {A B : Type 0} (f : A → Option B) (o : Option A) (y : B) → option_and_then f o ≡ Some y → (x : A) × (o ≡ Some x) × (f x ≡ Some y)
+pub followed : {A B : Type 0} (f : A → Option B) (o : Option A) (y : B) → option_and_then f o ≡ Some y → (x : A) × (o ≡ Some x) × (f x ≡ Some y)
 followed f None y e = absurd (cc)
 followed f (Some x) y e = (x, refl, e)
 

@@ -37,11 +37,11 @@ pub record IsResolved (stops : List StopData) (trips : List TripData) (r : Resol
   pub arr : IfSome r.arr IsFileTime
   pub dep : IfSome r.dep IsFileTime
 
-opened : {A B : Type 0} (o : Option A) (f : FeedFault) (next : A → Result B FeedFault) (y : B) → and_then (ok_or o f) next ≡ Ok y → (x : A) × (o ≡ Some x) × (next x ≡ Ok y)
+pub opened : {A B : Type 0} (o : Option A) (f : FeedFault) (next : A → Result B FeedFault) (y : B) → and_then (ok_or o f) next ≡ Ok y → (x : A) × (o ≡ Some x) × (next x ≡ Ok y)
 opened None f next y e = absurd (cc)
 opened (Some x) f next y e = (x, refl, e)
 
-inner : {A : Type 0} (a b : A) → (let r : Result (Option A) FeedFault = Ok (Some a) in r) ≡ Ok (Some b) → a ≡ b
+pub inner : {A : Type 0} (a b : A) → (let r : Result (Option A) FeedFault = Ok (Some a) in r) ≡ Ok (Some b) → a ≡ b
 inner a b e = cc
 
 time_parts : (line : Line) (t : TimeData) → time_row line ≡ Ok (Some t) → IfSome t.arr IsFileTime × IfSome t.dep IsFileTime

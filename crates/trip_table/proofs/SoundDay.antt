@@ -1,5 +1,5 @@
 -- The timetable of a day is sound.
-use Rattle.std.proofs.Common.{◌≡◌, ◌≢◌, ◌∙◌, sym, ap, subst, refl, ℕ, zero, suc, ◌+◌, ◌<◌, ◌≤◌, List, [], ◌∷◌, ◌++◌, length, map, replicate, take, get_or, Bool, true, false, cond, Option, Some, None, find, option_map, arith}
+use Rattle.std.proofs.Common.{◌≡◌, ◌≢◌, ◌∙◌, sym, ap, subst, refl, ℕ, zero, suc, ◌+◌, ◌<◌, ◌≤◌, List, [], ◌∷◌, ◌++◌, length, map, take, get_or, Bool, true, false, cond, Option, Some, None, find, option_map, arith}
 use Rattle.std.specs.Prelude.{◌==◌, All, AllPairs, IfSome, Ok, filter, sum_by, slice_index_or}
 use Rattle.std.specs.List.{list_any, range_with_len}
 use Rattle.std.proofs.lemmas.List.{get_or_default, get_or-take, length-map, length-take, map-append}
@@ -7,13 +7,11 @@ use Rattle.std.proofs.lemmas.List.Elements.{All-append, All-cons, All-filter, Al
 use Rattle.std.proofs.lemmas.List.Folds.{list_any_at}
 use Rattle.std.proofs.lemmas.List.FromFn.{get_or-range_with_len, length-range_with_len}
 use Rattle.std.proofs.lemmas.List.Kept.{AllPairs-cons, AllPairs-filter}
-use Rattle.std.proofs.lemmas.Simd.{splat_is_map}
 use Rattle.std.proofs.lemmas.Slice.Eq.{bytes_eq-Decides}
-use Rattle.tb_base.specs.declared.table.Path.{Path}
 use Rattle.tb_base.specs.declared.table.Stop.{Stop}
 use Rattle.tb_base.specs.TimetableData.{TripData, StationData}
 use Rattle.tb_base.specs.Soundness.{IsSound, IsSoundPath, IsSoundStation, IsSoundTrip, place_names}
-use Rattle.tb_base.specs.Walking.{KeepsFootpathLaw, footpath_secs}
+use Rattle.tb_base.specs.Walking.{KeepsFootpathLaw}
 use Rattle.tb_base.proofs.Ordered.{AllPairs-tail}
 use Rattle.gtfs_rows.specs.StopsFile.{StopData}
 use Rattle.gtfs_rows.specs.declared.stops.Kind.{Kind}
@@ -21,8 +19,9 @@ use Rattle.gtfs_rows.specs.declared.stops.Kind.TheVariants as kind
 use Rattle.footpaths.specs.Stops.{stop_id, has_stop_id, is_platform, is_station, platforms, stations, station_of, check_stops}
 use Rattle.footpaths.proofs.StopRows.{new_id}
 use Rattle.footpaths.proofs.StopPlaces.{length_kept}
-use Rattle.trip_table.specs.Day.{is_number, station_stops, stations_from, timetable}
-use Rattle.trip_table.specs.declared.day_options.Options.{Options}
+use Rattle.footpaths.specs.Footpaths.{PathsData, is_number}
+use Rattle.footpaths.specs.Law.{AreSoundPaths, walking}
+use Rattle.trip_table.specs.Day.{DrawnDay, station_stops, stations_from, timetable}
 
 AllPairs-append : {X : Type 0} (R : X → X → Type 0) (xs ys : List X) → AllPairs R xs → AllPairs R ys → All (λ x. All (R x) ys) xs → AllPairs R (xs ++ ys)
 AllPairs-append R [] ys a b c = b
@@ -89,9 +88,10 @@ station_names : (stops : List StopData) (n : ℕ) (rows : List StopData) → map
 station_names stops n [] = refl
 station_names stops n (s ∷ rest) = ap (λ names. s.id ∷ names) (station_names stops (n + 1) rest)
 
-names_are : (stops : List StopData) (options : Options) (trips : List TripData) → map stop_id (platforms stops ++ stations stops) ≡ place_names (timetable stops options trips)
+names_are : (day : DrawnDay) (paths : PathsData) → map stop_id (platforms day.stops ++ stations day.stops) ≡ place_names (timetable day paths)
 unfolding stop_of
-names_are stops options trips =
+names_are day paths =
+    let stops = day.stops in
     map-append stop_id (platforms stops) (stations stops)
     ∙ ap (λ names. names ++ map stop_id (stations stops)) (sym (stop_names (platforms stops)))
     ∙ ap (λ names. map (λ (s : Stop). s.name) (map stop_of (platforms stops)) ++ names) (sym (station_names stops 0 (stations stops)))
@@ -118,58 +118,38 @@ sound_stations : (stops : List StopData) (n : ℕ) (rows : List StopData) → Al
 sound_stations stops n [] = All-nil (IsSoundStation (length (platforms stops)))
 sound_stations stops n (s ∷ rest) = All-cons (IsSoundStation (length (platforms stops))) (record { name = s.id; stops = station_stops stops n }) (stations_from stops (n + 1) rest) (sound_station stops n s.id) (sound_stations stops (n + 1) rest)
 
-abbrev no_paths : StopData → List Path
-no_paths s = []
-
-path_count : (rows : List StopData) → sum_by (λ (row : List Path). length row) (map no_paths rows) ≡ 0
-path_count [] = refl
-path_count (s ∷ rest) = omega (arith, path_count rest)
-
-no_row : (rows : List StopData) (p : ℕ) → slice_index_or (map no_paths rows) p [] ≡ []
-no_row [] p = refl
-no_row (s ∷ rest) zero = refl
-no_row (s ∷ rest) (suc p) = no_row rest p
-
-no_footpath : (stops : List StopData) (options : Options) (trips : List TripData) (p q : ℕ) → footpath_secs (timetable stops options trips) p q ≡ None
-no_footpath stops options trips p q = ap (λ (row : List Path). option_map (λ (f : Path). f.secs) (find (λ (f : Path). f.to == q) row)) (no_row (platforms stops) p)
-
--- where no stop has a footpath, no two are in a row
-law : (stops : List StopData) (options : Options) (trips : List TripData) → KeepsFootpathLaw (timetable stops options trips)
-law stops options trips p q r s t a b f g = absurd (let no : None ≡ Some s = sym (no_footpath stops options trips p q) ∙ f in cc)
-
--- the timetable of sound trips is sound, where nothing is wrong with the stops
-pub sound_day : (stops : List StopData) (options : Options) (trips : List TripData) → length stops ≤ 100000 → check_stops stops ≡ Ok stops → All (λ s. StopData.id s ≢ []) stops → options.change ≤ 86400
-    → length trips ≤ 500000 → sum_by (λ t. length (TripData.events t)) trips ≤ 10000000 → All (IsSoundTrip (length (platforms stops))) trips → IsSound (timetable stops options trips)
+-- the timetable of sound trips and paths is sound, where nothing is wrong with the stops
+pub sound_day : (day : DrawnDay) (paths : PathsData) → length day.stops ≤ 100000 → check_stops day.stops ≡ Ok day.stops → All (λ s. StopData.id s ≢ []) day.stops
+    → AreSoundPaths paths → length paths.change ≡ length (platforms day.stops) → KeepsFootpathLaw (walking paths)
+    → length day.trips ≤ 500000 → sum_by (λ t. length (TripData.events t)) day.trips ≤ 10000000 → All (IsSoundTrip (length (platforms day.stops))) day.trips → IsSound (timetable day paths)
 unfolding stop_of
-sound_day stops options trips few checked named change trip_count event_count sound =
+sound_day day paths few checked named ways many law trip_count event_count sound =
+    let stops = day.stops in
     let count : length (map stop_of (platforms stops)) ≡ length (platforms stops) = length-map (platforms stops) stop_of in
+    let rows : length paths.change ≡ length (map stop_of (platforms stops)) = many ∙ sym count in
     record {
       stops = omega (arith, count, length_kept (λ s. is_platform s.kind) stops);
       stations = omega (arith, station_count stops 0 (stations stops), length_kept (λ s. is_station s.kind) stops);
       trips = trip_count;
       events = event_count;
-      footpaths = omega (arith, path_count (platforms stops));
-      named = subst (λ names. All (λ n. n ≢ []) names) (names_are stops options trips)
+      footpaths = ways.footpaths;
+      named = subst (λ names. All (λ n. n ≢ []) names) (names_are day paths)
           (All-map (λ n. n ≢ []) stop_id (platforms stops ++ stations stops)
           (All-append (λ s. StopData.id s ≢ []) (platforms stops) (stations stops) (All-filter (λ s. is_platform s.kind) (λ s. StopData.id s ≢ []) stops named) (All-filter (λ s. is_station s.kind) (λ s. StopData.id s ≢ []) stops named)));
-      distinct = subst (λ names. AllPairs (λ m n. m ≢ n) names) (names_are stops options trips) (AllPairs-map (λ m n. m ≢ n) stop_id (platforms stops ++ stations stops) (places_differ stops checked));
+      distinct = subst (λ names. AllPairs (λ m n. m ≢ n) names) (names_are day paths) (AllPairs-map (λ m n. m ≢ n) stop_id (platforms stops ++ stations stops) (places_differ stops checked));
       station = subst (λ n. All (IsSoundStation n) (stations_from stops 0 (stations stops))) (sym count) (sound_stations stops 0 (stations stops));
-      trip = subst (λ n. All (IsSoundTrip n) trips) (sym count) sound;
-      change_rows = length-map (platforms stops) (λ _. Some options.change) ∙ sym count;
-      change_secs = All-map (λ c. IfSome c (λ secs. secs ≤ 86400)) (λ _. Some options.change) (platforms stops) (λ i d within. change);
-      path_rows = length-map (platforms stops) no_paths ∙ sym count;
-      paths = λ p within. subst (λ row. All (IsSoundPath (length (map stop_of (platforms stops))) p) row) (sym (no_row (platforms stops) p)) (All-nil (IsSoundPath (length (map stop_of (platforms stops))) p));
-      ascending = All-map (λ row. AllPairs (λ (f g : Path). f.to < g.to) row) no_paths (platforms stops) (λ i d within j k e before inside. absurd (omega arith));
-      law = law stops options trips;
+      trip = subst (λ n. All (IsSoundTrip n) day.trips) (sym count) sound;
+      change_rows = rows;
+      change_secs = ways.change_secs;
+      path_rows = ways.rows ∙ rows;
+      paths = λ p within. subst (λ n. All (IsSoundPath n p) (slice_index_or paths.paths p [])) rows (ways.paths p (omega (arith, within, rows)));
+      ascending = ways.ascending;
+      law = law;
     }
 
 -- the parts, by what each is made of, are those of the timetable
-pub parts_are : (stops table rows : List StopData) (options : Options) (trips : List TripData) (count : ℕ) (names : List Stop) (places : List StationData) (change : List (Option ℕ)) (paths : List (List Path))
-    → table ≡ stops → rows ≡ stops → count ≡ length (platforms table) → names ≡ map (λ s. record { name = StopData.id s }) (platforms rows) → places ≡ stations_from stops 0 (stations stops)
-    → change ≡ replicate count (Some options.change) → paths ≡ replicate count [] → record { stops = names; stations = places; trips = trips; change = change; paths = paths } ≡ timetable stops options trips
-parts_are stops table rows options trips count names places change paths t r c n p d e =
-    let many : length (platforms stops) ≡ count = sym (c ∙ ap (λ table. length (platforms table)) t) in
-    let stops_are : names ≡ map (λ s. record { name = StopData.id s }) (platforms stops) = n ∙ ap (λ rows. map (λ s. record { name = StopData.id s }) (platforms rows)) r in
-    let change_are : change ≡ map (λ _. Some options.change) (platforms stops) = d ∙ splat_is_map (platforms stops) count (Some options.change) many in
-    let paths_are : paths ≡ map no_paths (platforms stops) = e ∙ splat_is_map (platforms stops) count [] many in
-    λ i. record { stops = stops_are i; stations = p i; trips = trips; change = change_are i; paths = paths_are i }
+pub parts_are : (day : DrawnDay) (paths : PathsData) (rows : List StopData) (names : List Stop) (places : List StationData) → rows ≡ day.stops → names ≡ map (λ s. record { name = StopData.id s }) (platforms rows)
+    → places ≡ stations_from day.stops 0 (stations day.stops) → record { stops = names; stations = places; trips = day.trips; change = paths.change; paths = paths.paths } ≡ timetable day paths
+parts_are day paths rows names places r n p =
+    let stops_are : names ≡ map (λ s. record { name = StopData.id s }) (platforms day.stops) = n ∙ ap (λ rows. map (λ s. record { name = StopData.id s }) (platforms rows)) r in
+    λ i. record { stops = stops_are i; stations = p i; trips = day.trips; change = paths.change; paths = paths.paths }

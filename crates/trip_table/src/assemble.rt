@@ -1,18 +1,19 @@
 //! The timetable of trips over the stops of a feed.
-ghost use Rattle.std.specs.Prelude.{◌≡◌, ◌<◌, ◌≤◌, ◌++◌, ◌∷◌, [], ℕ, IfOk, OnOk, Some, All, length, map, replicate, sum_by};
-ghost use Rattle.tb_base.specs.declared.table.Path.{Path};
+ghost use Rattle.std.specs.Prelude.{◌≡◌, ◌≤◌, ◌++◌, ◌∷◌, [], ℕ, IfOk, OnOk, All, length, map, sum_by};
 ghost use Rattle.tb_base.specs.TimetableData.{TripData};
 ghost use Rattle.tb_base.specs.Soundness.{IsSoundTrip};
+ghost use Rattle.tb_base.specs.Walking.{KeepsFootpathLaw};
 ghost use Rattle.gtfs_rows.specs.StopsFile.{StopData};
+ghost use Rattle.footpaths.specs.Footpaths.{PathsData};
+ghost use Rattle.footpaths.specs.Law.{AreSoundPaths, walking};
 ghost use Rattle.footpaths.specs.Stops.{is_platform, is_station, platforms, stations};
 ghost use Rattle.trip_table.specs.Day.{stations_from, timetable};
 
-use crate::Options;
 use crate::stops::StopRows;
-use footpaths::StopTable;
+use footpaths::Paths;
 use gtfs_rows::{Kind, StopRow};
 use std::alloc::Global;
-use tb_base::{Memory, Name, Parts, Path, Station, Stop, StopNo, Timetable, Trip};
+use tb_base::{Memory, Name, Parts, Station, Stop, StopNo, Timetable, Trip};
 
 fn is_platform(kind: Kind) -> bool
     ensures { result ≡ is_platform kind }
@@ -32,8 +33,8 @@ fn is_station(kind: Kind) -> bool
     }
 }
 
-// The platforms, as stops by their ids.
-fn stops_of(alloc: Global, rows: &[StopRow]) -> Result<Vec<Stop>, Memory>
+/// The platforms, as stops by their ids.
+pub(crate) fn stops_of(alloc: Global, rows: &[StopRow]) -> Result<Vec<Stop>, Memory>
     ensures { IfOk result (λ v. v.items ≡ map (λ s. record { name = StopData.id s }) (platforms rows.now)) }
 {
     let mut stops = Vec::new(alloc);
@@ -86,47 +87,26 @@ fn stations_of(alloc: Global, stops: &StopRows) -> Result<Vec<Station>, Memory>
     Ok(stations)
 }
 
-// No footpaths, for each of so many stops.
-fn no_paths(alloc: Global, count: usize) -> Result<Vec<Vec<Path>>, Memory>
-    ensures { IfOk result (λ rows. map (λ row. row.items) rows.items ≡ replicate count []) }
-{
-    let mut rows: Vec<Vec<Path>> = Vec::new(alloc);
-    for _row in 0..count {
-        if rows.push(Vec::new(alloc)).is_err() {
-            return Err(Memory);
-        }
-    }
-    Ok(rows)
-}
-
-// The same change time for each of so many stops.
-fn change_times(alloc: Global, count: usize, change: u32) -> Result<Vec<Option<u32>>, Memory>
-    ensures { IfOk result (λ v. v.items ≡ replicate count (Some change)) }
-{
-    Ok(vec![in alloc; Some(change); count]?)
-}
-
-/// The timetable of trips over the stops of a feed: no footpaths, and the default change time at each stop.
-/// Refused only for want of memory; the trips are dropped then.
+/// The timetable of a day: its stops and stations, its trips, and change times and footpaths that keep the law.
+/// Refused only for want of memory; the trips and paths are dropped then.
 pub(crate) fn assemble(
     alloc: Global,
     stops: &StopRows,
-    options: &Options,
+    paths: Paths,
     trips: Vec<Trip>,
 ) -> Result<Timetable, Memory>
-    requires change { options.now.change ≤ 86400 }
+    requires paths { AreSoundPaths paths }
+    requires many { length (PathsData.change paths) ≡ length (platforms stops.now) }
+    requires law { KeepsFootpathLaw (walking paths) }
     requires trip_count { length trips.items ≤ 500000 }
     requires event_count { sum_by (λ t. length (TripData.events t)) trips.items ≤ 10000000 }
     requires sound { All (IsSoundTrip (length (platforms stops.now))) trips.items }
-    ensures { IfOk result (λ table. table ≡ timetable stops.now options.now trips.items) }
+    ensures { IfOk result (λ table. table ≡ timetable (record { stops = stops.now; paths = paths; trips = trips.items }) paths) }
 {
-    let table = stops.table();
-    table.soundness();
-    let count = table.platforms() as usize;
-    let change = change_times(alloc, count, options.change)?;
-    let paths = no_paths(alloc, count)?;
+    stops.table().soundness();
     let stations = stations_of(alloc, stops)?;
     let stops = stops_of(alloc, stops.rows())?;
+    let Paths { change, paths } = paths;
     let parts = Parts {
         stops,
         stations,

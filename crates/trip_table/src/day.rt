@@ -1,23 +1,91 @@
 //! The timetable of a day.
-ghost use Rattle.std.specs.Prelude.{◌≡◌, ◌<◌, ◌≤◌, ◌-◌, ◌^◌, IsSome};
-ghost use Rattle.trip_table.specs.Answers.{Means, Leaves, feed_of};
-ghost use Rattle.trip_table.specs.Day.{timetable_of};
+ghost use Rattle.std.specs.Prelude.{◌≡◌, ◌<◌, ◌≤◌, ◌-◌, ◌^◌, IfSome, IsSome, Result, false, length};
+ghost use Rattle.gtfs_rows.specs.Steps.{and_then};
+ghost use Rattle.gtfs_rows.specs.declared.fault.FeedFault.{FeedFault};
+ghost use Rattle.footpaths.specs.Stops.{platforms};
+ghost use Rattle.footpaths.specs.Footpaths.{PathsData};
+ghost use Rattle.footpaths.specs.Law.{AreSoundPaths};
+ghost use Rattle.trip_table.specs.Answers.{Gives, GivesRows, IsCounted, Leaves, feed_of};
+ghost use Rattle.trip_table.specs.Day.{drawn_rows, drawn_with, Becomes, IsTimetableOf};
 
+use crate::Options;
 use crate::assemble::assemble;
 use crate::day_fault::DayFault;
-use crate::day_options::Options;
 use crate::day_trips::trips_on;
-use crate::rows::read_rows;
-use gtfs_rows::RowsFault;
+use crate::feed::refuse_unbuilt;
+use crate::law::tested;
+use crate::paths::read_paths;
+use crate::rows::{FeedRows, read_rows};
+use footpaths::Paths;
+use gtfs_rows::{FeedFault, FeedFile, Many, RowsFault};
 use service_day::Day;
 use std::alloc::Global;
 use tb_base::{Memory, Timetable};
 use tb_io::Folder;
 
+// The timetable of the rows of a feed on a day, or the first thing that is wrong with the times of a trip, with the size
+// of the day, or with its footpaths.
+fn timetable_of(
+    alloc: Global,
+    rows: &FeedRows,
+    told: Option<Paths>,
+    day: &Day,
+) -> Result<Timetable, RowsFault>
+    requires sound { IfSome told AreSoundPaths }
+    requires many { IfSome told (λ paths. length (PathsData.change paths) ≡ length (platforms rows.now.stops)) }
+    ensures { (counted : Result PathsData FeedFault) → IsCounted counted told → GivesRows (Becomes (drawn_with rows.now day.now counted)) result }
+{
+    let trips = match trips_on(alloc, rows, day) {
+        Ok(trips) => trips,
+        Err(fault) => return Err(fault),
+    };
+    let Some(told) = told else {
+        return Err(RowsFault::Feed(FeedFault::TooMany(Many::Footpaths, 0)));
+    };
+    let paths = match tested(alloc, rows.stops(), told) {
+        Ok(paths) => paths,
+        Err(fault) => return Err(fault),
+    };
+    match assemble(alloc, rows.stops(), paths, trips) {
+        Ok(table) => Ok(table),
+        Err(Memory) => Err(RowsFault::Memory),
+    }
+}
+
+// The timetable of a day from the files that are read.
+fn read_timetable<F: Folder>(
+    alloc: Global,
+    folder: &mut F,
+    dir: &str,
+    day: &Day,
+    options: &Options,
+) -> Result<Timetable, DayFault>
+    requires change { options.now.change ≤ 86400 }
+    requires station { IfSome options.now.station (λ secs. secs ≤ 86400) }
+    requires count { F.faults folder.old < 2 ^ 64 - 1 }
+    ensures told { IsSome (F.files folder.old) → Gives (Becomes (drawn_rows (feed_of (F.files folder.old) dir.now) day.now options.now)) result }
+    ensures leaves { Leaves (F.files folder.old) (F.files folder.new) (F.faults folder.old) (F.faults folder.new) result }
+{
+    let rows = match read_rows(alloc, folder, dir) {
+        Ok(rows) => rows,
+        Err(fault) => return Err(fault),
+    };
+    let told = match read_paths(alloc, folder, dir, rows.stops().table(), options) {
+        Ok(told) => told,
+        Err(fault) => return Err(fault),
+    };
+    match timetable_of(alloc, &rows, told, day) {
+        Ok(table) => Ok(table),
+        Err(RowsFault::Feed(fault)) => Err(DayFault::Feed(fault)),
+        Err(RowsFault::Memory) => Err(DayFault::Memory),
+    }
+}
+
 /// The timetable of a day, from the files of a feed in a directory of a folder, or the first thing that is wrong with
-/// the feed: with a file, then with the times of a trip, then with the size of the day.
+/// the feed: with a file, then with the times of a trip, then with the size of the day, then with its footpaths.
 ///
-/// `ReadFault` comes only where the folder's count of faults rose. The change time of the options is at most a day.
+/// `ReadFault` comes only where the folder's count of faults rose. The seconds of the options are at most a day, and
+/// footpaths aren't closed yet.
 pub fn read_day<F: Folder>(
     alloc: Global,
     folder: &mut F,
@@ -26,21 +94,15 @@ pub fn read_day<F: Folder>(
     options: &Options,
 ) -> Result<Timetable, DayFault>
     requires change { options.now.change ≤ 86400 }
+    requires station { IfSome options.now.station (λ secs. secs ≤ 86400) }
+    requires close { options.now.close ≡ false }
     requires count { F.faults folder.old < 2 ^ 64 - 1 }
-    ensures told { IsSome (F.files folder.old) → Means (timetable_of (feed_of (F.files folder.old) dir.now) day.now options.now) result }
+    ensures told { IsSome (F.files folder.old) → Gives (IsTimetableOf (feed_of (F.files folder.old) dir.now) day.now options.now) result }
     ensures leaves { Leaves (F.files folder.old) (F.files folder.new) (F.faults folder.old) (F.faults folder.new) result }
 {
-    let rows = match read_rows(alloc, folder, dir) {
-        Ok(rows) => rows,
+    match refuse_unbuilt(alloc, folder, dir, FeedFile::Frequencies) {
+        Ok(()) => {}
         Err(fault) => return Err(fault),
-    };
-    let trips = match trips_on(alloc, &rows, day) {
-        Ok(trips) => trips,
-        Err(RowsFault::Feed(fault)) => return Err(DayFault::Feed(fault)),
-        Err(RowsFault::Memory) => return Err(DayFault::Memory),
-    };
-    match assemble(alloc, rows.stops(), options, trips) {
-        Ok(table) => Ok(table),
-        Err(Memory) => Err(DayFault::Memory),
     }
+    read_timetable(alloc, folder, dir, day, options)
 }

@@ -2,16 +2,13 @@
 ghost use Rattle.std.specs.Prelude.{◌≡◌, ◌<◌, ◌-◌, ◌^◌, Ok, IsSome, MatchResult};
 ghost use Rattle.trip_table.specs.Answers.{IsRefused, Leaves, feed_of};
 ghost use Rattle.trip_table.specs.References.{rows_of};
-ghost use Rattle.trip_table.specs.Day.{built_rows_of};
 ghost use Rattle.trip_table.specs.GoodTimes.{AreGoodTimes};
 
 use crate::DayFault;
-use crate::feed::refuse_unbuilt;
 use crate::services::{ServiceRows, read_services};
 use crate::stops::{StopRows, read_stops};
 use crate::times::read_times;
 use crate::trips::{TripTable, read_trips};
-use gtfs_rows::FeedFile;
 use std::alloc::Global;
 use std::marker::Model;
 use tb_io::Folder;
@@ -71,27 +68,10 @@ impl FeedRows {
 
 /// The rows of a feed in a directory of a folder, or the first thing that is wrong with a file: in the order of
 /// stops.txt, calendar.txt, calendar_dates.txt, trips.txt and stop_times.txt, and in each file its presence, its size,
-/// its text, its columns, its rows and what they name. Files that aren't read yet come before all others.
+/// its text, its columns, its rows and what they name.
 ///
 /// `ReadFault` comes only where the folder's count of faults rose. A file's bytes are dropped once its rows are read.
 pub fn read_rows<F: Folder>(alloc: Global, folder: &mut F, dir: &str) -> Result<FeedRows, DayFault>
-    requires { F.faults folder.old < 2 ^ 64 - 1 }
-    ensures told { IsSome (F.files folder.old) → MatchResult result (λ rows. built_rows_of (feed_of (F.files folder.old) dir.now) ≡ Ok rows) (IsRefused (built_rows_of (feed_of (F.files folder.old) dir.now))) }
-    ensures leaves { Leaves (F.files folder.old) (F.files folder.new) (F.faults folder.old) (F.faults folder.new) result }
-{
-    match refuse_unbuilt(alloc, folder, dir, FeedFile::Transfers) {
-        Ok(()) => {}
-        Err(fault) => return Err(fault),
-    }
-    match refuse_unbuilt(alloc, folder, dir, FeedFile::Frequencies) {
-        Ok(()) => {}
-        Err(fault) => return Err(fault),
-    }
-    read_files(alloc, folder, dir)
-}
-
-// The rows of the files that are read.
-fn read_files<F: Folder>(alloc: Global, folder: &mut F, dir: &str) -> Result<FeedRows, DayFault>
     requires { F.faults folder.old < 2 ^ 64 - 1 }
     ensures told { IsSome (F.files folder.old) → MatchResult result (λ rows. rows_of (feed_of (F.files folder.old) dir.now) ≡ Ok rows) (IsRefused (rows_of (feed_of (F.files folder.old) dir.now))) }
     ensures leaves { Leaves (F.files folder.old) (F.files folder.new) (F.faults folder.old) (F.faults folder.new) result }

@@ -20,7 +20,11 @@ fn example(alloc: Global, change: u32) -> Result<Option<Timetable>, AllocError>
     let Ok(day) = day_of(b"20260302".as_slice()) else {
         return Ok(None);
     };
-    let options = Options { change };
+    let options = Options {
+        change,
+        station: None,
+        close: false,
+    };
     Ok(read_day(alloc, &mut folder, "f1", &day, &options).ok())
 }
 

@@ -1,5 +1,5 @@
 use Rattle.trip_table.proofs.FileSteps.{times_refused}
-use Rattle.trip_table.proofs.rows.read_files.Goals as goal
+use Rattle.trip_table.proofs.rows.read_rows.Goals as goal
 
 pub returns-in-Err-read_times-clause-told : goal.returns-in-Err-read_times-clause-told
 returns-in-Err-read_times-clause-told g c = λ told.

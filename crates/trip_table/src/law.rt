@@ -1,0 +1,61 @@
+//! The law that footpaths keep.
+ghost use Rattle.std.specs.Prelude.{◌≡◌, ◌<◌, IfOk, List, length, map};
+ghost use Rattle.gtfs_rows.specs.StopsFile.{StopData};
+ghost use Rattle.footpaths.specs.Stops.{platforms};
+ghost use Rattle.footpaths.specs.Footpaths.{PathsData};
+ghost use Rattle.footpaths.specs.Law.{AreSoundPaths};
+ghost use Rattle.trip_table.specs.Answers.{GivesRows};
+ghost use Rattle.trip_table.specs.Day.{breach_fault, platform_id, IsAmong, IsTested};
+
+use crate::assemble::stops_of;
+use crate::stops::StopRows;
+use footpaths::{LawFault, Paths, test_law};
+use gtfs_rows::{FeedFault, Name, RowsFault, StopRow};
+use std::alloc::Global;
+use tb_base::{Memory, Stop, StopNo};
+
+// The name of a stop.
+fn name_of(alloc: Global, stops: &[Stop], stop: StopNo) -> Result<Name, Memory>
+    requires { stop < length stops.now }
+    ensures { (rows : List StopData) → stops.now ≡ map (λ s. record { name = StopData.id s }) (platforms rows) → IfOk result (λ name. name ≡ platform_id rows stop) }
+{
+    Name::new(alloc, stops[stop.index()].name.bytes())
+}
+
+// What is wrong with the feed where its footpaths break the law.
+fn breach_fault(alloc: Global, rows: &[StopRow], breach: LawFault) -> Result<FeedFault, Memory>
+    requires { IsAmong (length (platforms rows.now)) breach }
+    ensures { IfOk result (λ fault. fault ≡ breach_fault rows.now breach) }
+{
+    let stops = stops_of(alloc, rows)?;
+    let stops = stops.as_slice();
+    match breach {
+        LawFault::Absent(from, over, to) => {
+            let from = name_of(alloc, stops, from)?;
+            let over = name_of(alloc, stops, over)?;
+            let to = name_of(alloc, stops, to)?;
+            Ok(FeedFault::OpenFootpaths(from, over, to))
+        }
+        LawFault::Long(from, over, to) => {
+            let from = name_of(alloc, stops, from)?;
+            let over = name_of(alloc, stops, over)?;
+            let to = name_of(alloc, stops, to)?;
+            Ok(FeedFault::LongFootpath(from, over, to))
+        }
+    }
+}
+
+/// Change times and footpaths as they are, where they keep the law; else the first breach.
+pub fn tested(alloc: Global, stops: &StopRows, paths: Paths) -> Result<Paths, RowsFault>
+    requires sound { AreSoundPaths paths }
+    requires many { length (PathsData.change paths) ≡ length (platforms stops.now) }
+    ensures { GivesRows (IsTested stops.now paths) result }
+{
+    let Err(breach) = test_law(&paths) else {
+        return Ok(paths);
+    };
+    match breach_fault(alloc, stops.rows(), breach) {
+        Ok(fault) => Err(RowsFault::Feed(fault)),
+        Err(Memory) => Err(RowsFault::Memory),
+    }
+}

@@ -1,0 +1,12 @@
+//! Laws of the timetable of a day. The function does nothing: its contract is the law.
+ghost use Rattle.std.specs.Prelude.{◌≡◌, ℕ, Result};
+ghost use Rattle.tb_base.specs.TimetableData.{TimetableData};
+ghost use Rattle.gtfs_rows.specs.declared.fault.FeedFault.{FeedFault};
+ghost use Rattle.footpaths.specs.declared.paths.Options.{Options};
+ghost use Rattle.trip_table.specs.Feed.{Feed};
+ghost use Rattle.trip_table.specs.Day.{IsTimetableOf};
+
+/// A feed, a day and options have at most one timetable or first fault, never both: what `read_day` gives is determined.
+pub fn timetable_determined()
+    ensures { (feed : Feed) (day : ℕ) (options : Options) (a b : Result TimetableData FeedFault) → IsTimetableOf feed day options a → IsTimetableOf feed day options b → a ≡ b }
+{}
