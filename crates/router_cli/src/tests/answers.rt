@@ -114,6 +114,73 @@ fn other_feeds_are_answered(rt: HostRuntime) -> Result<(), Fail> {
     Ok(())
 }
 
+#[test]
+fn footpaths_are_walked(rt: HostRuntime) -> Result<(), Fail> {
+    let changed = [(
+        "transfers.txt",
+        "from_stop_id,to_stop_id,transfer_type,min_transfer_time\nA,D,2,3000\n",
+    )];
+    for (line, out) in [
+        (
+            "ask f1 20260302 A D 08:00:00",
+            "arrive 08:50:00 rides 0
+  walk A D 3000
+arrive 08:30:00 rides 2
+  ride T1 A 08:00:00 B 08:10:00
+  ride T2 B 08:12:00 D 08:30:00
+",
+        ),
+        ("direct f1 20260302 A D 08:00:00", "arrive 08:50:00\n"),
+    ] {
+        assert_answered(&rt, rt.alloc(), &changed, line, out)?;
+    }
+    Ok(())
+}
+
+// The feed of a town as exporters write it: a byte order mark, CRLF, quotes, a station, and a transfer without seconds.
+const TOWN: [(&str, &str); 6] = [
+    (
+        "stops.txt",
+        "\u{feff}stop_id,stop_name,stop_lat,stop_lon,location_type,parent_station\r\nC,\"Central, Main\",47.10,8.10,1,\r\nC1,\"Central, track 1\",47.10,8.10,0,C\r\nC2,\"Central, track 2\",47.10,8.10,,C\r\nH,\"Harbour \"\"Old\"\"\",47.20,8.20,,\r\nM,Market,47.30,8.30,0,\r\n",
+    ),
+    (
+        "calendar.txt",
+        "\u{feff}service_id,monday,tuesday,wednesday,thursday,friday,saturday,sunday,start_date,end_date\r\nWD,1,1,1,1,1,0,0,20260101,20261231\r\n",
+    ),
+    (
+        "calendar_dates.txt",
+        "\u{feff}service_id,date,exception_type\r\nWD,20260406,2\r\nSP,20260302,1\r\n",
+    ),
+    (
+        "trips.txt",
+        "\u{feff}route_id,service_id,trip_id,trip_headsign,direction_id\r\n1,WD,W1,\"Central\",0\r\n2,SP,P1,Harbour,1\r\n",
+    ),
+    (
+        "stop_times.txt",
+        "\u{feff}trip_id,arrival_time,departure_time,stop_id,stop_sequence,pickup_type,drop_off_type,timepoint\r\nP1,7:15:00,7:15:00,C2,1,,,1\r\nW1,7:12:00,7:13:00,C1,20,0,0,1\r\nW1,7:00:00,7:00:00,M,10,0,0,1\r\nP1,7:30:00,,H,5,,,1\r\n",
+    ),
+    (
+        "transfers.txt",
+        "\u{feff}from_stop_id,to_stop_id,transfer_type,min_transfer_time\r\nH,H,,\r\n",
+    ),
+];
+
+#[test]
+fn a_town_is_answered(rt: HostRuntime) -> Result<(), Fail> {
+    for (line, out) in [
+        (
+            "ask f1 20260302 C H 07:00:00",
+            "arrive 07:30:00 rides 1\n  ride P1 C2 07:15:00 H 07:30:00\n",
+        ),
+        ("direct f1 20260302 C H 07:00:00", "arrive 07:30:00\n"),
+        ("ask f1 20260302 M H 6:55:00", "no journey\n"),
+        ("ask f1 20260406 M C 06:55:00", "no journey\n"),
+    ] {
+        assert_answered(&rt, rt.alloc(), &TOWN, line, out)?;
+    }
+    Ok(())
+}
+
 // So many rows of stops.txt, the five of the example first.
 fn stops_text(alloc: Global, count: u32) -> Result<String, AllocError> {
     let mut text = String::from_str(alloc, STOPS)?;

@@ -62,7 +62,7 @@ const BAD_TIMES: [(&str, &str); 8] = [
 ];
 
 // A file, what stands in it, and the refusal that it gets.
-const BAD_FILES: [(&str, &str, &str); 11] = [
+const BAD_FILES: [(&str, &str, &str); 10] = [
     (
         "stops.txt",
         "",
@@ -108,8 +108,37 @@ const BAD_FILES: [(&str, &str, &str); 11] = [
         "service_id,date,exception_type\nS,20260302,3\n",
         "8 BadCode calendar_dates.txt row 2 column exception_type",
     ),
-    ("transfers.txt", "", "21 NotBuilt transfers.txt"),
     ("frequencies.txt", "", "21 NotBuilt frequencies.txt"),
+];
+
+// What stands in transfers.txt after its header, and the refusal that it gets.
+const BAD_TRANSFERS: [(&str, &str); 8] = [
+    (
+        "A,B,6,60\n",
+        "8 BadCode transfers.txt row 2 column transfer_type",
+    ),
+    (
+        "A,B,2,86401\n",
+        "5 BadNumber transfers.txt row 2 column min_transfer_time",
+    ),
+    (
+        "A,,2,60\n",
+        "9 EmptyId transfers.txt row 2 column to_stop_id",
+    ),
+    (
+        "A,B,4,x\nQ,B,2,60\n",
+        "11 UnknownStop transfers.txt row 3 column from_stop_id",
+    ),
+    (
+        "A,Q,2,60\n",
+        "11 UnknownStop transfers.txt row 2 column to_stop_id",
+    ),
+    (
+        "A,B,2,60\nB,A,2,60\nA,B,0,\n",
+        "17 DuplicateTransfer transfers.txt row 4 column from_stop_id",
+    ),
+    ("A,B,2,60\nB,C,2,60\n", "18 OpenFootpaths A B C"),
+    ("A,A,2,300\nA,B,2,60\nB,A,2,60\n", "19 LongFootpath A B A"),
 ];
 
 #[test]
@@ -123,6 +152,13 @@ fn broken_feeds_are_refused(rt: HostRuntime) -> Result<(), Fail> {
     }
     for (name, text, fault) in BAD_FILES {
         let files = feed(rt.alloc(), &[(name, text)])?;
+        assert_refused(&rt, rt.alloc(), files, fault)?;
+    }
+    for (rows, fault) in BAD_TRANSFERS {
+        let text = format!(in rt.alloc();
+            "from_stop_id,to_stop_id,transfer_type,min_transfer_time\n{rows}"
+        )?;
+        let files = feed(rt.alloc(), &[("transfers.txt", text.as_str())])?;
         assert_refused(&rt, rt.alloc(), files, fault)?;
     }
     Ok(())
