@@ -1,0 +1,73 @@
+#!/usr/bin/env python3
+"""Measures the proved program over made cities: measure.py [TRIPS ..]
+
+Builds the program as its users get it (`rt run` proves and builds it), writes a city of each size to a temporary folder, and
+prints a table. Reading is a query outside the time of service; what a query on a working day takes more is building the
+timetable and the answer; `ask` less `direct` is the search.
+"""
+import os
+import shutil
+import subprocess
+import sys
+import tempfile
+import time
+
+HERE = os.path.dirname(os.path.abspath(__file__))
+PROGRAM = os.path.join(HERE, "..", "crates", "router_cli", "out", "router_cli")
+OPTIONS = ["--change", "60"]
+NO_DAY, DAY = "20300101", "20260302"
+
+
+def build():
+    folder = os.path.join(HERE, "..", "crates", "router_cli")
+    example = os.path.join("..", "..", "examples", "f1")
+    subprocess.run(["rt", "run", "--", "direct", example, DAY, "A", "D", "08:05:00"], cwd=folder, check=True, stdout=subprocess.DEVNULL)
+
+
+def run(*words):
+    """The processor seconds of a run, the megabytes that it held at most, and what it wrote."""
+    with tempfile.TemporaryFile() as out:
+        child = subprocess.Popen([PROGRAM, *OPTIONS, *words], stdout=out)
+        _, status, used = os.wait4(child.pid, 0)
+        out.seek(0)
+        return used.ru_utime + used.ru_stime, used.ru_maxrss / 1000, status, out.read().decode()
+
+
+def copy(folder):
+    """The seconds of a plain copy of the files."""
+    with tempfile.TemporaryDirectory() as other:
+        start = time.perf_counter()
+        for name in os.listdir(folder):
+            shutil.copyfile(os.path.join(folder, name), os.path.join(other, name))
+        return time.perf_counter() - start
+
+
+def measure(trips):
+    with tempfile.TemporaryDirectory() as folder:
+        subprocess.run([sys.executable, os.path.join(HERE, "make_city.py"), folder, str(trips)], check=True)
+        times = os.path.join(folder, "stop_times.txt")
+        size = os.path.getsize(times) / 1e6
+        with open(times, encoding="ascii") as file:
+            rows = sum(1 for _ in file) - 1
+        ends = ("S0", f"S{max(round((trips / 20) ** 0.5), 3) ** 2 - 1}")
+        read, memory, _, _ = run("direct", folder, NO_DAY, *ends, "08:00:00")
+        direct, more, _, _ = run("direct", folder, DAY, *ends, "08:00:00")
+        ask, most, status, _ = run("ask", folder, DAY, *ends, "08:00:00")
+        assert status == 0
+        print(
+            f"| {trips:,} | {rows:,} | {size:.0f} | {copy(folder):.2f} | {read:.2f} | {size / read:.0f} "
+            f"| {direct - read:.2f} | {ask - direct:.2f} | {max(memory, more, most):.0f} | {(max(memory, more, most) - size) * 1e6 / rows:.0f} |",
+            flush=True,
+        )
+
+
+def main(sizes):
+    build()
+    print("| trips | stop times | MB | copy s | reading s | MB/s | timetable s | search s | memory MB | bytes a stop time beside the file |")
+    print("|---|---|---|---|---|---|---|---|---|---|")
+    for trips in sizes:
+        measure(trips)
+
+
+if __name__ == "__main__":
+    main([int(word) for word in sys.argv[1:]] or [2_000, 20_000, 200_000])
