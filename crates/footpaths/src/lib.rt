@@ -14,6 +14,8 @@ mod network;
 mod path_rows;
 mod paths;
 mod stop_table;
+#[cfg(test)]
+mod tests;
 
 pub use build::build_paths;
 pub use found::{Found, StopsFault};
