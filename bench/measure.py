@@ -3,7 +3,7 @@
 
 Builds the program as its users get it (`rt run` proves and builds it), writes a city of each size to a temporary folder, and
 prints a table. Reading is a query outside the time of service; what a query on a working day takes more is building the
-timetable and the answer; `ask` less `direct` is the search.
+timetable and the answer; `build` less `direct` is making lines and kept transfers; `ask` less `build` is the set and the search.
 """
 import os
 import shutil
@@ -52,19 +52,29 @@ def measure(trips):
         ends = ("S0", f"S{max(round((trips / 20) ** 0.5), 3) ** 2 - 1}")
         read, memory, _, _ = run("direct", folder, NO_DAY, *ends, "08:00:00")
         direct, more, _, _ = run("direct", folder, DAY, *ends, "08:00:00")
+        built, held, status, counts = run("build", folder, DAY)
+        assert status == 0
         ask, most, status, _ = run("ask", folder, DAY, *ends, "08:00:00")
         assert status == 0
+        plain, _, status, _ = run("--plain", "ask", folder, DAY, *ends, "08:00:00")
+        assert status == 0
+        held = max(memory, more, held, most)
+        _, lines, _, generated, _, after, _, kept = counts.splitlines()[1].split()
         print(
             f"| {trips:,} | {rows:,} | {size:.0f} | {copy(folder):.2f} | {read:.2f} | {size / read:.0f} "
-            f"| {direct - read:.2f} | {ask - direct:.2f} | {max(memory, more, most):.0f} | {(max(memory, more, most) - size) * 1e6 / rows:.0f} |",
+            f"| {direct - read:.2f} | {built - direct:.2f} | {ask - built:.2f} | {plain - direct:.2f} | {max(memory, more):.0f} | {(max(memory, more) - size) * 1e6 / rows:.0f} | {held:.0f} "
+            f"| {int(lines):,} | {int(generated):,} | {int(after):,} | {int(kept):,} |",
             flush=True,
         )
 
 
 def main(sizes):
     build()
-    print("| trips | stop times | MB | copy s | reading s | MB/s | timetable s | search s | memory MB | bytes a stop time beside the file |")
-    print("|---|---|---|---|---|---|---|---|---|---|")
+    print(
+        "| trips | stop times | MB | copy s | reading s | MB/s | timetable s | reduction s | set and search s | round by round s "
+        "| reading MB | bytes a stop time beside the file | all MB | lines | candidates | without U-turns | kept |"
+    )
+    print("|" + "---|" * 17)
     for trips in sizes:
         measure(trips)
 

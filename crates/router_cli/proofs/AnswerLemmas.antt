@@ -1,26 +1,32 @@
 -- Answers from their parts.
-use Rattle.std.proofs.Common.{◌≡◌, List, [], ◌∷◌, ℕ, Some, None, Option, Result, Ok, Err, ℤ, arith, rules}
-use Rattle.std.specs.Prelude.{IfOk, All, ◌<◌, length, FitsSigned}
-use Rattle.std.proofs.lemmas.List.Elements.{All-head, All-tail, All-cons}
+use Rattle.std.proofs.Common.{◌≡◌, List, [], ◌∷◌, ℕ, Some, None, Option, Result, Ok, Err, ℤ, arith, rules, subst, map, filter_map}
+use Rattle.std.specs.Prelude.{IfOk, All, Contains, ◌<◌, length, FitsSigned}
+use Rattle.std.proofs.lemmas.List.Elements.{All-head, All-tail, All-cons, All-weaker}
 use Rattle.tb_base.specs.TimetableData.{TimetableData}
 use Rattle.tb_base.specs.Soundness.{IsSound}
 use Rattle.tb_base.specs.BestValues.{QueryData, ChoiceData}
+use Rattle.tb_base.specs.Journeys.{Ride}
 use Rattle.tb_base.specs.JourneyRules.{SpellValue, SpellJourney, KeepAllRules, HasNumbers}
+use Rattle.tb_base.specs.Lines.{AreLines}
 use Rattle.tb_base.specs.Places.{place_named, stops_of}
+use Rattle.tb_base.specs.Transfers.{kept_hops}
 use Rattle.tb_base.specs.declared.query.Leg.{Leg}
 use Rattle.tb_base.specs.declared.query.Place.{Place}
 use Rattle.tb_base.specs.declared.rule.Rule.TheVariants.{BadNumber}
+use Rattle.tb_base.specs.declared.transfer.Hop.{Hop}
 use Rattle.tb_laws.proofs.RuleLaws.{rules_from_journey}
+use Rattle.segment_queue.specs.Traced.{LegsFollow, RidesFollow, ride_of}
 use Rattle.trip_rides.specs.Times.{IsFileTime}
 use Rattle.std.specs.Int.{w32}
-use Rattle.router_cli.specs.Words.{RequestData}
-use Rattle.router_cli.specs.Answers.{IsAnswer, IsText}
+use Rattle.router_cli.specs.Inquiry.{InquiryData}
+use Rattle.router_cli.specs.Answers.{HasKeptChanges, IsInquiryText, IsText}
+use Rattle.router_cli.specs.declared.answers.Method.{Method}
 
 -- the answer where both names are those of places
-pub known_answer : (T : TimetableData) (r : RequestData) (origin target : Place) (bytes : List ℕ) →
-    Some origin ≡ place_named T r.from → Some target ≡ place_named T r.to →
-    IsText T (record { from = stops_of T origin; to = stops_of T target; leave = r.time }) r.command bytes → IsAnswer T r bytes
-known_answer T r origin target bytes from to text = rw (← from, ← to) text
+pub known_answer : (T : TimetableData) (m : Method) (i : InquiryData) (origin target : Place) (bytes : List ℕ) →
+    Some origin ≡ place_named T i.from → Some target ≡ place_named T i.to →
+    IsText T m (record { from = stops_of T origin; to = stops_of T target; leave = i.time }) bytes → IsInquiryText T m i bytes
+known_answer T m i origin target bytes from to text = rw (← from, ← to) text
 
 pub if_ok-map : {A E : Type 0} (r : Result A E) (P Q : A → Type 0) → ((x : A) → P x → Q x) → IfOk r P → IfOk r Q
 if_ok-map (Ok x) P Q f h = f x h
@@ -42,6 +48,21 @@ numbers_of_choices T Q sound inside (c ∷ cs) spelt =
     All-cons (λ c. All (HasNumbers T) (ChoiceData.legs c)) c cs
     (numbers_spelt T Q sound inside c.legs (c.value, All-head (λ c. SpellValue T Q (ChoiceData.legs c) (ChoiceData.value c)) c cs spelt))
     (numbers_of_choices T Q sound inside cs (All-tail (λ c. SpellValue T Q (ChoiceData.legs c) (ChoiceData.value c)) c cs spelt))
+
+-- rides that follow hops follow equal hops
+rides_follow : (hops others : ℕ → ℕ → List Hop) → ((t i : ℕ) → hops t i ≡ others t i) → (rides : List Ride) → RidesFollow hops rides → RidesFollow others rides
+rides_follow hops others same [] follow = tt
+rides_follow hops others same (r ∷ []) follow = tt
+rides_follow hops others same (r ∷ s ∷ rest) follow =
+    (subst (λ hs. Contains hs (record { trip = s.trip; at = s.board })) (same r.trip r.alight) follow.0, rides_follow hops others same (s ∷ rest) follow.1)
+
+-- legs that follow the kept hops of the timetable's lines change by kept transfers
+pub kept_changes : (T : TimetableData) (lines : List (List ℕ)) → AreLines T lines → (hops : ℕ → ℕ → List Hop) → ((t i : ℕ) → hops t i ≡ kept_hops T lines t i) →
+    (cs : List ChoiceData) → All (λ c. LegsFollow hops (ChoiceData.legs c)) cs → All (λ c. HasKeptChanges T (ChoiceData.legs c)) cs
+kept_changes T lines are hops same cs follow =
+    All-weaker (λ c. LegsFollow hops (ChoiceData.legs c)) (λ c. HasKeptChanges T (ChoiceData.legs c))
+    (λ c h. record { lines = lines; are_lines = are; kept = rides_follow hops (kept_hops T lines) same (filter_map ride_of (ChoiceData.legs c)) h })
+    cs follow
 
 -- a time of a file fits 32 bits
 pub file_time-fits : (z : ℤ) → IsFileTime z → FitsSigned w32 z

@@ -1,11 +1,19 @@
 -- What the program writes for a request.
-use Rattle.std.specs.Prelude.{◌≡◌, ℕ, List, ℤ, Option, MatchOption, All, map}
+use Rattle.std.specs.Prelude.{◌≡◌, ℕ, List, ℤ, Bool, Option, MatchOption, All, map, ⊤, if◌then◌else◌}
+use Rattle.tb_base.specs.declared.query.Leg.{Leg}
 use Rattle.tb_base.specs.TimetableData.{TimetableData}
+use Rattle.tb_base.specs.Lines.{AreLines}
 use Rattle.tb_base.specs.Places.{place_named, stops_of}
 use Rattle.tb_base.specs.BestValues.{QueryData, ChoiceData, AreBestValues, IsLeast, IsDirectArrival}
 use Rattle.tb_base.specs.JourneyRules.{SpellValue}
+use Rattle.tb_base.specs.Transfers.{kept_hops}
+use Rattle.segment_queue.specs.Traced.{LegsFollow}
 use Rattle.answer_text.specs.Journeys.{arrival_text, choices_text, unknown_text}
+use Rattle.build_report.specs.Reports.{IsReport}
+use Rattle.router_cli.specs.Inquiry.{InquiryData}
 use Rattle.router_cli.specs.Words.{RequestData}
+use Rattle.router_cli.specs.declared.answers.Method.{Method}
+use Rattle.router_cli.specs.declared.answers.Method.TheVariants as method
 use Rattle.router_cli.specs.declared.words.Command.{Command}
 use Rattle.router_cli.specs.declared.words.Command.TheVariants as command
 
@@ -13,20 +21,39 @@ use Rattle.router_cli.specs.declared.words.Command.TheVariants as command
 abbrev pub IsDirectText : TimetableData → QueryData → List ℕ → Type 0
 IsDirectText T Q bytes = (least : Option ℤ) × IsLeast (IsDirectArrival T Q) least × (bytes ≡ arrival_text least)
 
--- the best values of the query in order, each followed by the legs of a journey that has it; any such journey may be shown
-pub record IsAskText (T : TimetableData) (Q : QueryData) (bytes : List ℕ) : Type 0 where
+-- the best values of the query in order, each followed by the legs of a journey that has it; any such journey may be shown that is
+-- of this kind
+pub record ShowsBestValues (T : TimetableData) (Q : QueryData) (OfKind : List Leg → Type 0) (bytes : List ℕ) : Type 0 where
   pub choices : List ChoiceData
   pub values : AreBestValues T Q (map ChoiceData.value choices)
   pub journeys : All (λ c. SpellValue T Q (ChoiceData.legs c) (ChoiceData.value c)) choices
+  pub kind : All (λ c. OfKind (ChoiceData.legs c)) choices
   pub text : bytes ≡ choices_text T choices
 
-abbrev pub IsText : TimetableData → QueryData → Command → List ℕ → Type 0
-IsText T Q command.Direct bytes = IsDirectText T Q bytes
-IsText T Q command.Ask bytes = IsAskText T Q bytes
+-- from each ride to the next the timetable has a kept transfer
+pub record HasKeptChanges (T : TimetableData) (legs : List Leg) : Type 0 where
+  pub lines : List (List ℕ)
+  pub are_lines : AreLines T lines
+  pub kept : LegsFollow (kept_hops T lines) legs
 
--- The answer to a request: where it names no place of the timetable, that the stop is unknown, the origin first.
+-- what is written for a query; round by round, any journey may be shown
+abbrev pub IsText : TimetableData → Method → QueryData → List ℕ → Type 0
+IsText T method.OneRide Q = IsDirectText T Q
+IsText T method.Search Q = ShowsBestValues T Q (HasKeptChanges T)
+IsText T method.Rounds Q = ShowsBestValues T Q (λ legs. ⊤)
+
+-- The answer to an inquiry: where it names no place of the timetable, that the stop is unknown, the origin first.
+abbrev pub IsInquiryText : TimetableData → Method → InquiryData → List ℕ → Type 0
+IsInquiryText T m i bytes =
+    MatchOption (place_named T i.from) (bytes ≡ unknown_text i.from) (λ origin.
+    MatchOption (place_named T i.to) (bytes ≡ unknown_text i.to) (λ target.
+    IsText T m (record { from = stops_of T origin; to = stops_of T target; leave = i.time }) bytes))
+
+-- the answer to a command
+abbrev pub IsCommandText : TimetableData → Bool → Command → List ℕ → Type 0
+IsCommandText T plain (command.Direct i) = IsInquiryText T method.OneRide i
+IsCommandText T plain (command.Ask i) = IsInquiryText T (if plain then method.Rounds else method.Search) i
+IsCommandText T plain (command.Build list) = IsReport T list
+
 abbrev pub IsAnswer : TimetableData → RequestData → List ℕ → Type 0
-IsAnswer T r bytes =
-    MatchOption (place_named T r.from) (bytes ≡ unknown_text r.from) (λ origin.
-    MatchOption (place_named T r.to) (bytes ≡ unknown_text r.to) (λ target.
-    IsText T (record { from = stops_of T origin; to = stops_of T target; leave = r.time }) r.command bytes))
+IsAnswer T r = IsCommandText T r.plain r.command

@@ -1,3 +1,5 @@
+pub mod Given
+pub mod Inquiry
 pub mod Words
 pub mod Answers
 pub mod Outcome

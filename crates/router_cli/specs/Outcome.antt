@@ -1,11 +1,10 @@
 -- What the program's status says of the words, the files and the bytes written.
-use Rattle.std.specs.Prelude.{◌≡◌, ℕ, ◌≤◌, List, [], ◌++◌, codes, false, length, take, Option, None, Result, Err, Ok, ⊤}
+use Rattle.std.specs.Prelude.{◌≡◌, ℕ, ◌≤◌, List, [], ◌++◌, codes, length, take, Option, Result, Err, Ok, ⊤}
 use Rattle.std.specs.Io.KnownBytes.{Appends}
 use Rattle.tb_base.specs.TimetableData.{TimetableData}
 use Rattle.answer_text.specs.Faults.{fault_text}
 use Rattle.gtfs_rows.specs.declared.fault.FeedFault.{FeedFault}
 use Rattle.tb_io.specs.Files.{FileList}
-use Rattle.footpaths.specs.declared.paths.Options.{Options}
 use Rattle.trip_table.specs.Answers.{feed_of}
 use Rattle.trip_table.specs.Day.{IsTimetableOf}
 use Rattle.router_cli.specs.Words.{RequestData}
@@ -31,13 +30,9 @@ status_text status.ReadFault = codes "router: read fault\n"
 status_text status.WriteFault = codes "router: write fault\n"
 status_text status.Memory = codes "router: out of memory\n"
 
--- what a request asks of the day
-abbrev pub options_of : RequestData → Options
-options_of r = record { change = r.change; station = None; close = false }
-
 -- what becomes of the day of a request: its timetable, or the first thing that is wrong with the feed
 abbrev pub IsDayOf : Option FileList → RequestData → Result TimetableData FeedFault → Type 0
-IsDayOf files r = IsTimetableOf (feed_of files r.dir) r.date (options_of r)
+IsDayOf files r = IsTimetableOf (feed_of files r.dir) r.date r.options
 
 -- What a status says of a request, of the day's timetable or first fault, and of the bytes that a sink held before and
 -- holds now. Done: the answer was written whole. WriteFault: some first bytes of it.

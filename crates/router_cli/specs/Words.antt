@@ -1,47 +1,79 @@
 -- What the words of a command line mean.
-use Rattle.std.specs.Prelude.{ℕ, ◌==◌, List, [], ◌∷◌, codes, bytes_eq, Bool, false, true, ℤ, Option, Some, None, option_and_then, option_map, if◌then◌else◌}
+use Rattle.std.specs.Prelude.{ℕ, ◌==◌, List, [], ◌∷◌, codes, bytes_eq, Bool, false, true, ℤ, Option, Some, None, if◌then◌else◌}
 use Rattle.std.specs.List.{list_any}
+use Rattle.std.specs.Option.{option_and_then, option_map, unwrap_or}
+use Rattle.footpaths.specs.declared.paths.Options.{Options}
 use Rattle.gtfs_rows.specs.Dates.{date_of}
-use Rattle.gtfs_rows.specs.Fields.{secs_of}
 use Rattle.gtfs_rows.specs.Numbers.{time_of}
+use Rattle.router_cli.specs.Inquiry.{InquiryData}
+use Rattle.router_cli.specs.Given.{given_with, none_given, option_named, options_of, takes_value}
+use Rattle.router_cli.specs.declared.given.Given.{Given}
+use Rattle.router_cli.specs.declared.given.OptionName.{OptionName}
 use Rattle.router_cli.specs.declared.words.Command.{Command}
 use Rattle.router_cli.specs.declared.words.Command.TheVariants as command
 
--- a request about one day of a feed: the command, the change time of every stop, the folder, the date, the names of the places, and the asked time
+-- a request about one day of a feed: what is said of footpaths, whether round by round, the folder, the date, and what is asked for
 pub record RequestData : Type 0 where
-  pub command : Command
-  pub change : ℕ
+  pub options : Options
+  pub plain : Bool
   pub dir : List ℕ
   pub date : ℕ
-  pub from : List ℕ
-  pub to : List ℕ
-  pub time : ℤ
+  pub command : Command
 
 -- a word that begins with a hyphen
 abbrev pub is_hyphened : List ℕ → Bool
 is_hyphened [] = false
 is_hyphened (b ∷ rest) = b == 45
 
-abbrev pub command_named : List ℕ → Option Command
-command_named name =
-    if bytes_eq name (codes "direct") then Some command.Direct
-    else if bytes_eq name (codes "ask") then Some command.Ask else None
+abbrev pub inquiry_of : List ℕ → List ℕ → List ℕ → Option InquiryData
+inquiry_of from to time = option_map (λ t. record { from = from; to = to; time = t }) (time_of time)
 
--- a request by its words, where command, date and time are spelled as they have to be
-abbrev pub asked : ℕ → List ℕ → List ℕ → List ℕ → List ℕ → List ℕ → List ℕ → Option RequestData
-asked change name dir date from to time =
-    option_and_then (λ c. option_and_then (λ day. option_map (λ t. record { command = c; change = change; dir = dir; date = day; from = from; to = to; time = t })
-    (time_of time)) (date_of date)) (command_named name)
+-- a command between two places
+abbrev pub inquiry_command : List ℕ → InquiryData → Option Command
+inquiry_command name inquiry =
+    if bytes_eq name (codes "direct") then Some (command.Direct inquiry)
+    else if bytes_eq name (codes "ask") then Some (command.Ask inquiry) else None
 
--- `COMMAND DIR DATE FROM TO TIME`, where no word begins with a hyphen
-abbrev pub command_line : ℕ → List (List ℕ) → Option RequestData
-command_line change (name ∷ dir ∷ date ∷ from ∷ to ∷ time ∷ []) =
-    if list_any is_hyphened (name ∷ dir ∷ date ∷ from ∷ to ∷ time ∷ []) then None else asked change name dir date from to time
-command_line change words = None
+abbrev pub travel_command : List ℕ → List ℕ → List ℕ → List ℕ → Option Command
+travel_command name from to time = option_and_then (inquiry_command name) (inquiry_of from to time)
 
--- the same behind `--change SECS`, or with the change time 0
+abbrev pub build_command : List ℕ → Bool → Option Command
+build_command name list = if bytes_eq name (codes "build") then Some (command.Build list) else None
+
+abbrev pub list_command : List ℕ → List ℕ → Option Command
+list_command name word = if bytes_eq word (codes "list") then build_command name true else None
+
+-- a command by its name and the words behind folder and date: `direct FROM TO TIME`, `ask FROM TO TIME`, `build`, `build list`
+abbrev pub command_of : List ℕ → List (List ℕ) → Option Command
+command_of name [] = build_command name false
+command_of name (word ∷ []) = list_command name word
+command_of name (from ∷ to ∷ time ∷ []) = travel_command name from to time
+command_of name words = None
+
+-- a request by the command's name, the folder, the date, and the words behind them
+abbrev pub request_line : Given → List ℕ → List ℕ → List ℕ → List (List ℕ) → Option RequestData
+request_line g name dir date words =
+    option_and_then (λ c. option_map (λ day. record { options = options_of g; plain = g.plain; dir = dir; date = day; command = c })
+    (date_of date)) (command_of name words)
+
+-- `COMMAND DIR DATE WORDS`
+abbrev pub plain_line : Given → List (List ℕ) → Option RequestData
+plain_line g (name ∷ dir ∷ date ∷ words) = request_line g name dir date words
+plain_line g words = None
+
+-- the same, where no word begins with a hyphen
+abbrev pub command_line : Given → List (List ℕ) → Option RequestData
+command_line g words = if list_any is_hyphened words then None else plain_line g words
+
+-- the same behind options
+abbrev pub request_from : Given → List (List ℕ) → Option RequestData
+request_from g [] = None
+request_from g (word ∷ []) = None
+request_from g (word ∷ value ∷ rest) =
+    unwrap_or (option_map (λ option.
+    option_and_then (λ h. if takes_value option then request_from h rest else request_from h (value ∷ rest)) (given_with g option value))
+    (option_named word)) (command_line g (word ∷ value ∷ rest))
+
+-- the words of a command line: options, and a command
 abbrev pub request_of : List (List ℕ) → Option RequestData
-request_of [] = None
-request_of (word ∷ []) = None
-request_of (word ∷ value ∷ rest) =
-    if bytes_eq word (codes "--change") then option_and_then (λ secs. command_line secs rest) (secs_of value) else command_line 0 (word ∷ value ∷ rest)
+request_of words = request_from none_given words

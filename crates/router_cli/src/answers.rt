@@ -1,18 +1,31 @@
 //! The text of an answer over a timetable.
-ghost use Rattle.std.specs.Prelude.{◌≡◌, ◌<◌, ◌≤ℤ◌, pos, All, IfOk, length};
+ghost use Rattle.std.specs.Prelude.{◌≡◌, ◌<◌, ◌≤ℤ◌, ⊤, pos, All, IfOk, length};
 ghost use Rattle.tb_base.specs.BestValues.{QueryData};
 ghost use Rattle.tb_base.specs.Places.{HasPlace, stops_of};
-ghost use Rattle.router_cli.specs.Answers.{IsAnswer, IsText, IsAskText};
+ghost use Rattle.trip_rides.specs.Times.{IsFileTime};
+ghost use Rattle.router_cli.specs.Answers.{HasKeptChanges, IsAnswer, IsInquiryText, IsText, ShowsBestValues};
 
-use crate::words::{Command, Request};
+use crate::words::{Command, Inquiry, Request};
 use answer_text::{arrival_text, choices_text, unknown_text};
+use build_report::report;
 use journey_unfold::ask;
 use line_split::split;
-use plain_rounds::direct;
+use plain_rounds::{direct, plain_ask};
 use segment_queue::{Desk, View};
 use std::alloc::Global;
-use tb_base::{Memory, Place, Query, Rows, Timetable};
+use tb_base::{Memory, Place, Query, Rows, Sec, Timetable};
 use transfer_set::kept_set;
+
+/// How journeys are looked for.
+#[derive(Clone, Copy, PartialEq, Eq, Debug)]
+pub enum Method {
+    /// Of one ride alone.
+    OneRide,
+    /// By a search over the kept transfers.
+    Search,
+    /// Round by round, without lines and transfers.
+    Rounds,
+}
 
 // The query between two places.
 fn query_between(
@@ -20,11 +33,12 @@ fn query_between(
     table: &Timetable,
     origin: Place,
     target: Place,
-    request: &Request,
+    time: Sec,
 ) -> Result<Query, Memory>
     requires origin { HasPlace table.now origin }
     requires target { HasPlace table.now target }
-    ensures query { IfOk result (λ q. q ≡ record { from = stops_of table.now origin; to = stops_of table.now target; leave = request.now.time }) }
+    requires time { IsFileTime time }
+    ensures query { IfOk result (λ q. q ≡ record { from = stops_of table.now origin; to = stops_of table.now target; leave = time }) }
     ensures origins { IfOk result (λ q. All (λ p. p < length table.now.stops) (QueryData.from q)) }
     ensures targets { IfOk result (λ q. All (λ p. p < length table.now.stops) (QueryData.to q)) }
     ensures time { IfOk result (λ q. QueryData.leave q ≤ℤ pos 359999) }
@@ -34,16 +48,17 @@ fn query_between(
     Ok(Query {
         from,
         to,
-        leave: request.time,
+        leave: time,
     })
 }
 
-// The best values, each with a journey, by a search over the kept transfers.
-fn ask_text(alloc: Global, table: &Timetable, query: &Query) -> Result<Vec<u8>, Memory>
+// The best values, each with a journey by kept transfers.
+fn search_text(alloc: Global, table: &Timetable, query: &Query) -> Result<Vec<u8>, Memory>
     requires origins { All (λ p. p < length table.now.stops) query.now.from }
     requires targets { All (λ p. p < length table.now.stops) query.now.to }
     requires time { query.now.leave ≤ℤ pos 359999 }
-    ensures { IfOk result (λ text. IsAskText table.now query.now text.items) }
+    ensures { IfOk result (λ text.
+        ShowsBestValues table.now query.now (HasKeptChanges table.now) text.items) }
 {
     table.soundness();
     let lines = split(alloc, table)?;
@@ -54,34 +69,66 @@ fn ask_text(alloc: Global, table: &Timetable, query: &Query) -> Result<Vec<u8>, 
     choices_text(alloc, table, choices.as_slice())
 }
 
-// What a command writes for a query.
-fn command_text(
+// The best values, each with a journey, round by round.
+fn rounds_text(alloc: Global, table: &Timetable, query: &Query) -> Result<Vec<u8>, Memory>
+    requires origins { All (λ p. p < length table.now.stops) query.now.from }
+    requires targets { All (λ p. p < length table.now.stops) query.now.to }
+    requires time { query.now.leave ≤ℤ pos 359999 }
+    ensures { IfOk result (λ text. ShowsBestValues table.now query.now (λ legs. ⊤) text.items) }
+{
+    table.soundness();
+    let choices = plain_ask(alloc, table, query)?;
+    choices_text(alloc, table, choices.as_slice())
+}
+
+// What is written for a query.
+fn query_text(
     alloc: Global,
     table: &Timetable,
     query: &Query,
-    command: Command,
+    method: Method,
 ) -> Result<Vec<u8>, Memory>
     requires origins { All (λ p. p < length table.now.stops) query.now.from }
     requires targets { All (λ p. p < length table.now.stops) query.now.to }
     requires time { query.now.leave ≤ℤ pos 359999 }
-    ensures { IfOk result (λ text. IsText table.now query.now command text.items) }
+    ensures { IfOk result (λ text. IsText table.now method query.now text.items) }
 {
-    match command {
-        Command::Direct => arrival_text(alloc, direct(table, query)),
-        Command::Ask => ask_text(alloc, table, query),
+    match method {
+        Method::OneRide => arrival_text(alloc, direct(table, query)),
+        Method::Search => search_text(alloc, table, query),
+        Method::Rounds => rounds_text(alloc, table, query),
     }
 }
 
-/// What is written for a request: its answer, or the name of an unknown stop.
+// What is written for an inquiry: its answer, or the name of an unknown stop.
+fn inquiry_text(
+    alloc: Global,
+    table: &Timetable,
+    inquiry: &Inquiry,
+    method: Method,
+) -> Result<Vec<u8>, Memory>
+    ensures { IfOk result (λ text. IsInquiryText table.now method inquiry.now text.items) }
+{
+    let Some(origin) = table.place(inquiry.from.as_bytes()) else {
+        return unknown_text(alloc, inquiry.from.as_bytes());
+    };
+    let Some(target) = table.place(inquiry.to.as_bytes()) else {
+        return unknown_text(alloc, inquiry.to.as_bytes());
+    };
+    let query = query_between(alloc, table, origin, target, inquiry.time)?;
+    query_text(alloc, table, &query, method)
+}
+
+/// What is written for a request over the timetable of its day.
 pub fn answer(alloc: Global, table: &Timetable, request: &Request) -> Result<Vec<u8>, Memory>
     ensures { IfOk result (λ text. IsAnswer table.now request.now text.items) }
 {
-    let Some(origin) = table.place(request.from.as_bytes()) else {
-        return unknown_text(alloc, request.from.as_bytes());
-    };
-    let Some(target) = table.place(request.to.as_bytes()) else {
-        return unknown_text(alloc, request.to.as_bytes());
-    };
-    let query = query_between(alloc, table, origin, target, request)?;
-    command_text(alloc, table, &query, request.command)
+    match &request.command {
+        Command::Direct(inquiry) => inquiry_text(alloc, table, inquiry, Method::OneRide),
+        Command::Ask(inquiry) if request.plain => {
+            inquiry_text(alloc, table, inquiry, Method::Rounds)
+        }
+        Command::Ask(inquiry) => inquiry_text(alloc, table, inquiry, Method::Search),
+        Command::Build { list } => report(alloc, table, *list),
+    }
 }

@@ -6,6 +6,7 @@
 #![tactic(auto)]
 
 mod answers;
+mod given;
 mod route;
 mod status;
 mod words;

@@ -14,7 +14,7 @@ use std::sync::Wait;
 use std::thread::Threads;
 use tb_base::Gate;
 use tb_io::{Folder, Sink, Source, put_all};
-use trip_table::{DayFault, Options, read_day};
+use trip_table::{DayFault, read_day};
 
 // The text of the answer to a request, from the files of its folder.
 fn text_of<F: Folder>(alloc: Global, folder: &mut F, request: &Request) -> Result<Vec<u8>, DayFault>
@@ -24,12 +24,7 @@ fn text_of<F: Folder>(alloc: Global, folder: &mut F, request: &Request) -> Resul
         (IsFault (IsDayOf (F.files folder.old) request.now)) }
     ensures leaves { Leaves (F.files folder.old) (F.files folder.new) (F.faults folder.old) (F.faults folder.new) result }
 {
-    let options = Options {
-        change: request.change,
-        station: None,
-        close: false,
-    };
-    let table = match read_day(alloc, folder, request.dir, &request.day, &options) {
+    let table = match read_day(alloc, folder, request.dir, &request.day, &request.options) {
         Ok(table) => table,
         Err(fault) => return Err(fault),
     };

@@ -1,45 +1,69 @@
 //! The words of the command line.
-ghost use Rattle.std.specs.Prelude.{◌≡◌, ◌≤◌, ℕ, ℤ, List, Option, IfSome, map, string_bytes};
+ghost use Rattle.std.specs.Prelude.{◌≡◌, ℕ, List, map, string_bytes};
 ghost use Rattle.std.specs.List.{list_any};
-ghost use Rattle.gtfs_rows.specs.Fields.{secs_of};
-ghost use Rattle.router_cli.specs.Words.{is_hyphened, command_named, asked, command_line, request_of};
+ghost use Rattle.router_cli.specs.Given.{IsWithinADay};
+ghost use Rattle.router_cli.specs.Words.{build_command, command_line, command_of, inquiry_command, inquiry_of, is_hyphened, list_command, request_from, request_line, request_of, travel_command};
 
-use gtfs_rows::{number_of, time_of};
+use crate::given::{Given, option_named};
+use footpaths::Options;
+use gtfs_rows::time_of;
 use service_day::{Day, day_of};
 use std::marker::Model;
 use tb_base::Sec;
 
-/// What is asked for.
-#[derive(Clone, Copy, PartialEq, Eq, Debug)]
-pub enum Command {
-    /// The earliest arrival by one ride.
-    Direct,
-    /// Every best trade-off between arrival and number of rides.
-    Ask,
-}
-
-/// A request about one day of a feed. `change` is the change time of every stop, in seconds.
+/// From where to where a journey is asked for, and from when on. The names are those of stops or stations.
 #[derive(Drop)]
-pub struct Request<'a> {
-    pub command: Command,
-    pub change: u32,
-    pub dir: &'a str,
-    pub day: Day,
+pub struct Inquiry<'a> {
     pub from: &'a str,
     pub to: &'a str,
     pub time: Sec,
 }
 
-impl<'a> Model for Request<'a> {
-    ghost use Rattle.std.specs.Prelude.{◌≤◌};
+impl<'a> Model for Inquiry<'a> {
     ghost use Rattle.trip_rides.specs.Times.{IsFileTime};
+    ghost use Rattle.router_cli.specs.Inquiry.{InquiryData};
+
+    ghost Value = { InquiryData };
+
+    ghost view = { λ i. record { from = i.from.now; to = i.to.now; time = i.time } };
+
+    ghost invariant = { λ i. IsFileTime i.time };
+}
+
+/// What is asked for.
+#[derive(Drop)]
+pub enum Command<'a> {
+    /// The earliest arrival by one ride.
+    Direct(Inquiry<'a>),
+    /// Every best trade-off between arrival and number of rides.
+    Ask(Inquiry<'a>),
+    /// What is built of the timetable: its sizes and counts, and where asked for, the list of the kept transfers.
+    Build {
+        /// Whether with the list.
+        list: bool,
+    },
+}
+
+/// A request about one day of a feed.
+#[derive(Drop)]
+pub struct Request<'a> {
+    pub options: Options,
+    /// Round by round, in place of the search over the kept transfers.
+    pub plain: bool,
+    pub dir: &'a str,
+    pub day: Day,
+    pub command: Command<'a>,
+}
+
+impl<'a> Model for Request<'a> {
+    ghost use Rattle.router_cli.specs.Given.{AreWithinADay};
     ghost use Rattle.router_cli.specs.Words.{RequestData};
 
     ghost Value = { RequestData };
 
-    ghost view = { λ r. record { command = r.command; change = r.change; dir = r.dir.now; date = r.day; from = r.from.now; to = r.to.now; time = r.time } };
+    ghost view = { λ r. record { options = r.options; plain = r.plain; dir = r.dir.now; date = r.day; command = r.command } };
 
-    ghost invariant = { λ r. IsFileTime r.time × (r.change ≤ 86400) };
+    ghost invariant = { λ r. AreWithinADay r.options };
 }
 
 fn is_hyphened(word: &str) -> bool
@@ -58,96 +82,141 @@ fn any_hyphened(words: &[String]) -> bool
     words.iter().any(|word| is_hyphened(word.as_str()))
 }
 
-fn command_named(name: &str) -> Option<Command>
-    ensures { result ≡ command_named name.now }
+fn inquiry_of<'a>(from: &'a str, to: &'a str, time: &str) -> Option<Inquiry<'a>>
+    ensures { result ≡ inquiry_of from.now to.now time.now }
 {
-    if name == "direct" {
-        return Some(Command::Direct);
+    match time_of(time.as_bytes()) {
+        Some(time) => Some(Inquiry { from, to, time }),
+        None => None,
     }
-    if name == "ask" {
-        return Some(Command::Ask);
-    }
-    None
 }
 
-// Seconds that are no more than a day.
-fn secs_of(text: &[u8]) -> Option<u32>
-    ensures secs { result ≡ secs_of text.now }
-    ensures most { IfSome result (λ secs. secs ≤ 86400) }
+fn inquiry_command<'a>(name: &str, inquiry: Inquiry<'a>) -> Option<Command<'a>>
+    ensures { result ≡ inquiry_command name.now inquiry.entry }
 {
-    match number_of(text) {
-        Some(secs) if secs <= 86_400 => Some(secs),
+    match name {
+        "direct" => Some(Command::Direct(inquiry)),
+        "ask" => Some(Command::Ask(inquiry)),
         _ => None,
     }
 }
 
-// The request by its words, where command, date and time are spelled as they have to be.
-fn asked<'a>(
-    change: u32,
+fn travel_command<'a>(name: &str, from: &'a str, to: &'a str, time: &str) -> Option<Command<'a>>
+    ensures { result ≡ travel_command name.now from.now to.now time.now }
+{
+    let inquiry = inquiry_of(from, to, time)?;
+    inquiry_command(name, inquiry)
+}
+
+fn build_command<'a>(name: &str, list: bool) -> Option<Command<'a>>
+    ensures { result ≡ build_command name.now list }
+{
+    match name {
+        "build" => Some(Command::Build { list }),
+        _ => None,
+    }
+}
+
+fn list_command<'a>(name: &str, word: &str) -> Option<Command<'a>>
+    ensures { result ≡ list_command name.now word.now }
+{
+    match word {
+        "list" => build_command(name, true),
+        _ => None,
+    }
+}
+
+// A command by its name and the words behind folder and date.
+fn command_of<'a>(name: &str, words: &'a [String]) -> Option<Command<'a>>
+    ensures { result ≡ command_of name.now (map string_bytes words.now) }
+{
+    if words.len() == 3 {
+        return travel_command(
+            name,
+            words[0].as_str(),
+            words[1].as_str(),
+            words[2].as_str(),
+        );
+    }
+    if words.len() > 1 {
+        return None;
+    }
+    if words.len() == 1 {
+        return list_command(name, words[0].as_str());
+    }
+    build_command(name, false)
+}
+
+// A request by the command's name, the folder, the date, and the words behind them.
+fn request_line<'a>(
+    given: Given,
     name: &str,
     dir: &'a str,
     date: &str,
-    from: &'a str,
-    to: &'a str,
-    time: &str,
+    words: &'a [String],
 ) -> Option<Request<'a>>
-    requires { change ≤ 86400 }
-    ensures { result ≡ asked change name.now dir.now date.now from.now to.now time.now }
+    requires { IsWithinADay given }
+    ensures { result ≡ request_line given name.now dir.now date.now (map string_bytes words.now) }
 {
-    let Some(command) = command_named(name) else {
-        return None;
-    };
+    let command = command_of(name, words)?;
     let Ok(day) = day_of(date.as_bytes()) else {
         return None;
     };
-    match time_of(time.as_bytes()) {
-        Some(time) => Some(Request {
-            command,
-            change,
-            dir,
-            day,
-            from,
-            to,
-            time,
-        }),
-        None => None,
-    }
+    Some(Request {
+        options: given.options(),
+        plain: given.plain,
+        dir,
+        day,
+        command,
+    })
 }
 
-// `COMMAND DIR DATE FROM TO TIME`, where no word begins with a hyphen.
-fn command_line(change: u32, words: &[String]) -> Option<Request<'_>>
-    requires { change ≤ 86400 }
-    ensures { result ≡ command_line change (map string_bytes words.now) }
+// `COMMAND DIR DATE WORDS`, where no word begins with a hyphen.
+fn command_line(given: Given, words: &[String]) -> Option<Request<'_>>
+    requires { IsWithinADay given }
+    ensures { result ≡ command_line given (map string_bytes words.now) }
 {
-    if words.len() != 6 {
-        return None;
-    }
     if any_hyphened(words) {
         return None;
     }
-    asked(
-        change,
+    if words.len() < 3 {
+        return None;
+    }
+    request_line(
+        given,
         words[0].as_str(),
         words[1].as_str(),
         words[2].as_str(),
-        words[3].as_str(),
-        words[4].as_str(),
-        words[5].as_str(),
+        &words[3..],
     )
 }
 
-/// What the words mean: `[--change SECS] COMMAND DIR DATE FROM TO TIME`, where no word of the command begins with a hyphen.
-pub fn request_of(words: &[String]) -> Option<Request<'_>>
-    ensures { result ≡ request_of (map string_bytes words.now) }
+// A command behind options, where some were given before.
+fn request_from(given: Given, words: &[String]) -> Option<Request<'_>>
+    requires { IsWithinADay given }
+    ensures { result ≡ request_from given (map string_bytes words.now) }
 {
     if words.len() < 2 {
         return None;
     }
-    if words[0].as_str() != "--change" {
-        return command_line(0, words);
+    match option_named(words[0].as_str()) {
+        Some(option) => {
+            let given = given.with(option, words[1].as_str())?;
+            if option.takes_value() {
+                request_from(given, &words[2..])
+            } else {
+                request_from(given, &words[1..])
+            }
+        }
+        None => command_line(given, words),
     }
-    match secs_of(words[1].as_bytes()) {
-        Some(secs) => command_line(secs, &words[2..]),
-        None => None,
-    }
+}
+
+/// What the words mean: `[--change SECS] [--station SECS] [--plain] COMMAND WORDS`, each option at most once and in any order, where
+/// no word of the command begins with a hyphen. The commands are `direct DIR DATE FROM TO TIME`, `ask DIR DATE FROM TO TIME`,
+/// `build DIR DATE` and `build DIR DATE list`.
+pub fn request_of(words: &[String]) -> Option<Request<'_>>
+    ensures { result ≡ request_of (map string_bytes words.now) }
+{
+    request_from(Given::NONE, words)
 }

@@ -35,8 +35,21 @@ fn answers_over_the_example(rt: HostRuntime) -> Result<(), Fail> {
             "--change 121 ask f1 20260302 A D 08:00:00",
             "arrive 08:50:00 rides 1\n  ride T3 A 08:05:00 D 08:50:00\n",
         ),
+        ("--plain ask f1 20260302 A D 08:00:00", TWO_CHOICES),
+        (
+            "--plain --change 121 ask f1 20260302 A D 08:00:00",
+            "arrive 08:50:00 rides 1\n  ride T3 A 08:05:00 D 08:50:00\n",
+        ),
         ("ask f1 20260302 A A 08:00:00", "arrive 08:00:00 rides 0\n"),
         ("ask f1 20260302 A Q 08:00:00", "unknown stop Q\n"),
+        (
+            "build f1 20260302",
+            "stops 5 trips 3 events 7 footpaths 0\nlines 3 generated 1 after_uturn 1 kept 1\n",
+        ),
+        (
+            "build f1 20260302 list",
+            "stops 5 trips 3 events 7 footpaths 0\nlines 3 generated 1 after_uturn 1 kept 1\nT1@1 T2@0\n",
+        ),
     ] {
         assert_answered(&rt, rt.alloc(), &[], line, out)?;
     }
@@ -165,6 +178,13 @@ const TOWN: [(&str, &str); 6] = [
     ),
 ];
 
+// From the market to the harbour, by a walk between the platforms of the central station.
+const BY_WALKING: &str = "arrive 07:30:00 rides 2
+  ride W1 M 07:00:00 C1 07:12:00
+  walk C1 C2 120
+  ride P1 C2 07:15:00 H 07:30:00
+";
+
 #[test]
 fn a_town_is_answered(rt: HostRuntime) -> Result<(), Fail> {
     for (line, out) in [
@@ -175,6 +195,16 @@ fn a_town_is_answered(rt: HostRuntime) -> Result<(), Fail> {
         ("direct f1 20260302 C H 07:00:00", "arrive 07:30:00\n"),
         ("ask f1 20260302 M H 6:55:00", "no journey\n"),
         ("ask f1 20260406 M C 06:55:00", "no journey\n"),
+        ("--station 120 ask f1 20260302 M H 6:55:00", BY_WALKING),
+        (
+            "--plain --station 120 ask f1 20260302 M H 6:55:00",
+            BY_WALKING,
+        ),
+        (
+            "--station 120 ask f1 20260302 C H 07:00:00",
+            "arrive 07:30:00 rides 1\n  ride P1 C2 07:15:00 H 07:30:00\n",
+        ),
+        ("--station 120 ask f1 20260406 M C 06:55:00", "no journey\n"),
     ] {
         assert_answered(&rt, rt.alloc(), &TOWN, line, out)?;
     }

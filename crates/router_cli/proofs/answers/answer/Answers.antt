@@ -1,12 +1,8 @@
-use Rattle.std.proofs.Common.{◌≡◌}
-use Rattle.router_cli.proofs.AnswerLemmas.{known_answer, if_ok-map}
+use Rattle.std.proofs.Common.{◌≡◌, IfOk, sym, subst}
+use Rattle.router_cli.specs.Answers.{IsAnswer, IsCommandText}
 use Rattle.router_cli.proofs.answers.answer.Goals as goal
 
-pub returns : goal.returns
-returns c =
-    if_ok-map c.command_text.result _ _
-    (λ text h. known_answer c.args.table.now c.args.request.now c.in-Some.origin c.in-Some-place.target text.items
-    (rw (← c.request.view_is, ← c.as_bytes.ensures.value) c.in-Some.ensures.place)
-    (rw (← c.request.view_is, ← c.as_bytes-2.ensures.value) c.in-Some-place.ensures.place)
-    (rw (← c.in_ok-query.ensures.query, ← c.request.view_is) h))
-    c.command_text.ensures
+pub returns-in-Build : goal.returns-in-Build
+returns-in-Build c =
+    subst (λ r. IfOk c.report.result (λ text. IsAnswer c.args.table.now r text.items)) c.request.view_is
+    (subst (λ command. IfOk c.report.result (λ text. IsCommandText c.args.table.now c.request.inside.plain command text.items)) (sym c.in-Build.is) c.report.ensures)

@@ -5,10 +5,10 @@ use Rattle.router_cli.proofs.answers.query_between.Goals as goal
 
 pub returns : goal.returns
 returns c =
-    let same : to_z w32 (of_z w32 c.request.inside.time) ≡ c.request.inside.time = to_z-of_z w32 c.request.inside.time (file_time-fits c.request.inside.time c.request.invariant.0) in
+    let same : to_z w32 (of_z w32 c.args.time) ≡ c.args.time = to_z-of_z w32 c.args.time (file_time-fits c.args.time c.requires.time) in
     record {
-      query = rw (same, c.in_ok-from.ensures.stops, c.in_ok-to.ensures.stops, ← c.request.view_is) refl;
+      query = rw (same, c.in_ok-from.ensures.stops, c.in_ok-to.ensures.stops) refl;
       origins = c.in_ok-from.ensures.within;
       targets = c.in_ok-to.ensures.within;
-      time = rw same c.request.invariant.0.most;
+      time = rw same c.requires.time.most;
     }

@@ -1,7 +1,7 @@
 use Rattle.std.proofs.Common.{◌≡◌, ◌∙◌, ap}
 use Rattle.answer_text.specs.Journeys.{choices_text}
 use Rattle.router_cli.proofs.AnswerLemmas.{numbers_of_choices, if_ok-map}
-use Rattle.router_cli.proofs.answers.ask_text.Goals as goal
+use Rattle.router_cli.proofs.answers.rounds_text.Goals as goal
 
 pub choices_text-requires : goal.choices_text-requires
 choices_text-requires c =
@@ -15,6 +15,7 @@ returns c =
       choices = c.in_ok-choices.choices.items;
       values = c.in_ok-choices.ensures.values;
       journeys = c.in_ok-choices.ensures.journeys;
+      kind = λ k d below. tt;
       text = same ∙ ap (λ cs. choices_text c.args.table.now cs) c.as_slice.ensures.value;
     })
     c.choices_text.ensures

@@ -1,0 +1,102 @@
+//! The options before a command.
+ghost use Rattle.std.specs.Prelude.{◌≡◌, ◌≤◌, IfSome};
+ghost use Rattle.gtfs_rows.specs.Fields.{secs_of};
+ghost use Rattle.router_cli.specs.Given.{AreWithinADay, IsWithinADay, given_with, option_named, options_of, takes_value};
+
+use footpaths::Options;
+use gtfs_rows::number_of;
+
+/// An option of the command line.
+#[derive(Clone, Copy, PartialEq, Eq, Debug)]
+pub(crate) enum OptionName {
+    Change,
+    Station,
+    Plain,
+}
+
+impl OptionName {
+    /// Whether the next word is its value.
+    pub(crate) fn takes_value(self) -> bool
+        ensures { result ≡ takes_value self }
+    {
+        match self {
+            OptionName::Change | OptionName::Station => true,
+            OptionName::Plain => false,
+        }
+    }
+}
+
+pub(crate) fn option_named(word: &str) -> Option<OptionName>
+    ensures { result ≡ option_named word.now }
+{
+    match word {
+        "--change" => Some(OptionName::Change),
+        "--station" => Some(OptionName::Station),
+        "--plain" => Some(OptionName::Plain),
+        _ => None,
+    }
+}
+
+// Seconds that are no more than a day.
+fn secs_of(text: &str) -> Option<u32>
+    ensures secs { result ≡ secs_of text.now }
+    ensures most { IfSome result (λ secs. secs ≤ 86400) }
+{
+    match number_of(text.as_bytes()) {
+        Some(secs) if secs <= 86_400 => Some(secs),
+        _ => None,
+    }
+}
+
+/// The options that were given. Times are in seconds.
+#[derive(Clone, Copy)]
+pub(crate) struct Given {
+    change: Option<u32>,
+    station: Option<u32>,
+    pub plain: bool,
+}
+
+impl Given {
+    /// No option.
+    pub(crate) const NONE: Given = Given {
+        change: None,
+        station: None,
+        plain: false,
+    };
+
+    /// One option more, where it wasn't given before.
+    pub(crate) fn with(self, option: OptionName, value: &str) -> Option<Given>
+        requires { IsWithinADay self }
+        ensures given { result ≡ given_with self option value.now }
+        ensures within { IfSome result IsWithinADay }
+    {
+        match option {
+            OptionName::Change if self.change.is_none() => Some(Given {
+                change: Some(secs_of(value)?),
+                ..self
+            }),
+            OptionName::Station if self.station.is_none() => Some(Given {
+                station: Some(secs_of(value)?),
+                ..self
+            }),
+            OptionName::Plain if !self.plain => Some(Given {
+                plain: true,
+                ..self
+            }),
+            _ => None,
+        }
+    }
+
+    /// What the options say of footpaths: without `--change` every stop has the change time 0.
+    pub(crate) fn options(self) -> Options
+        requires { IsWithinADay self }
+        ensures options { result ≡ options_of self }
+        ensures within { AreWithinADay result }
+    {
+        Options {
+            change: self.change.unwrap_or(0),
+            station: self.station,
+            close: false,
+        }
+    }
+}
