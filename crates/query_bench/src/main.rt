@@ -1,0 +1,56 @@
+//! The program `query_bench`: many random queries over one day of a feed inside one process, for measuring.
+//!
+//! `query_bench DIR DATE COUNT METHOD` asks for the best values of COUNT pairs of stops, drawn by a generator with a fixed seed,
+//! at random times of the day: with the method `search` over the kept transfers, with the method `plain` round by round. It
+//! writes how many choices were found and the sum of their arrivals, so both methods can be compared. How long a query takes is
+//! the time of a run less that of a run with COUNT 0. Nothing is promised of it but that it is safe and ends.
+#![tactic(auto)]
+
+mod queries;
+mod words;
+
+use queries::{Found, by_rounds, by_search};
+use service_day::Day;
+use std::alloc::Global;
+use std::process::ExitCode;
+use tb_base::Timetable;
+use tb_io::HostFolder;
+use trip_table::{Options, read_day};
+use words::{Method, Words, words_of};
+
+// The change time of a stop where transfers.txt doesn't say, in seconds.
+const CHANGE: u32 = 60;
+
+fn timetable(rt: &(impl std::rt::Files + AllocGlobal), dir: &str, day: &Day) -> Option<Timetable> {
+    let options = Options {
+        change: CHANGE,
+        station: None,
+        close: false,
+    };
+    let mut folder = HostFolder::new(rt);
+    read_day(rt.alloc(), &mut folder, dir, day, &options).ok()
+}
+
+fn found(alloc: Global, table: &Timetable, words: &Words) -> Option<Found> {
+    match words.method {
+        Method::Search => by_search(alloc, table, words.count).ok(),
+        Method::Plain => by_rounds(alloc, table, words.count).ok(),
+    }
+}
+
+fn main(rt: HostRuntime) -> ExitCode {
+    let Some(words) = words_of(&rt) else {
+        let _ = eprintln!(rt; "usage: query_bench DIR DATE COUNT search|plain");
+        return ExitCode::from(2);
+    };
+    let Some(table) = timetable(&rt, words.dir.as_str(), &words.day) else {
+        let _ = eprintln!(rt; "query_bench: the feed has no timetable of that day");
+        return ExitCode::from(3);
+    };
+    let Some(found) = found(rt.alloc(), &table, &words) else {
+        let _ = eprintln!(rt; "query_bench: out of memory");
+        return ExitCode::from(6);
+    };
+    let _ = println!(rt; "choices {} arrivals {}", found.choices, found.arrivals);
+    ExitCode::from(0)
+}

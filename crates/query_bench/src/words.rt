@@ -1,0 +1,49 @@
+//! The words of the command line.
+use gtfs_rows::number_of;
+use service_day::{Day, day_of};
+use std::env;
+use std::rt::Env;
+
+/// How journeys are looked for.
+#[derive(Clone, Copy, PartialEq, Eq, Debug)]
+pub enum Method {
+    Search,
+    Plain,
+}
+
+/// What is to be measured.
+#[derive(Drop)]
+pub struct Words {
+    pub dir: String,
+    pub day: Day,
+    pub count: u32,
+    pub method: Method,
+}
+
+fn method_named(name: &str) -> Option<Method> {
+    match name {
+        "search" => Some(Method::Search),
+        "plain" => Some(Method::Plain),
+        _ => None,
+    }
+}
+
+pub fn words_of(rt: &(impl Env + AllocGlobal)) -> Option<Words> {
+    let Ok(args) = env::args(rt) else {
+        return None;
+    };
+    let mut args = args.skip(1);
+    let dir = args.next()?;
+    let day = args.next()?;
+    let count = args.next()?;
+    let method = args.next()?;
+    let Ok(day) = day_of(day.as_bytes()) else {
+        return None;
+    };
+    Some(Words {
+        dir,
+        day,
+        count: number_of(count.as_bytes())?,
+        method: method_named(method.as_str())?,
+    })
+}
