@@ -1,11 +1,12 @@
 //! Reports over small feeds in memory, whose texts were worked out by hand.
 use crate::report;
+use answer_text::fault_text;
 use service_day::day_of;
 use std::alloc::{AllocError, Global};
 use std::test::Fail;
 use tb_base::Timetable;
 use tb_io::MemFolder;
-use trip_table::{Options, read_day};
+use trip_table::{DayFault, Options, read_day};
 
 // A feed with stops A to E and two or three trips.
 #[derive(Clone, Copy)]
@@ -73,7 +74,16 @@ fn file(alloc: Global, name: &str, text: &str) -> Result<(String, Vec<u8>), Allo
     ))
 }
 
-fn timetable(alloc: Global, feed: Feed) -> Result<Option<Timetable>, AllocError> {
+// The timetable of a feed, with rows of transfers.txt, its footpaths closed or not.
+fn timetable(
+    alloc: Global,
+    feed: Feed,
+    transfers: &str,
+    close: bool,
+) -> Result<Result<Timetable, DayFault>, Fail> {
+    let transfers = format!(in alloc;
+        "from_stop_id,to_stop_id,transfer_type,min_transfer_time\n{transfers}"
+    )?;
     let mut files = Vec::new(alloc);
     for (name, text) in [
         ("stops.txt", "stop_id\nA\nB\nC\nD\nE\n"),
@@ -83,25 +93,18 @@ fn timetable(alloc: Global, feed: Feed) -> Result<Option<Timetable>, AllocError>
             "service_id,date,exception_type\nS,20260302,1\n",
         ),
         ("stop_times.txt", feed.times),
+        ("transfers.txt", transfers.as_str()),
     ] {
         files.push(file(alloc, name, text)?)?;
     }
     let mut folder = MemFolder::new(files, Vec::new(alloc));
-    let Ok(day) = day_of(b"20260302".as_slice()) else {
-        return Ok(None);
+    let day = day_of(b"20260302".as_slice()).ok().ok_or("no day")?;
+    let options = Options {
+        change: 0,
+        station: None,
+        close,
     };
-    Ok(read_day(
-        alloc,
-        &mut folder,
-        "f",
-        &day,
-        &Options {
-            change: 0,
-            station: None,
-            close: false,
-        },
-    )
-    .ok())
+    Ok(read_day(alloc, &mut folder, "f", &day, &options))
 }
 
 #[test]
@@ -128,14 +131,53 @@ fn small_feeds_are_reported(rt: HostRuntime) -> Result<(), Fail> {
             "stops 5 trips 2 events 6 footpaths 0\nlines 2 generated 2 after_uturn 2 kept 1\nT1@2 T5@1\n",
         ),
     ] {
-        let Some(table) = timetable(rt.alloc(), feed)? else {
-            assert!(rt; false, "the feed has a timetable");
-            return Ok(());
-        };
+        let table = timetable(rt.alloc(), feed, "", false)?.ok().ok_or("no timetable")?;
         assert_eq!(rt;
             report(rt.alloc(), &table, list)?.as_slice(),
             text.as_bytes()
         );
+    }
+    Ok(())
+}
+
+// The report on a feed, or the fault that it is refused with.
+fn told(alloc: Global, feed: Feed, transfers: &str, close: bool) -> Result<Vec<u8>, Fail> {
+    match timetable(alloc, feed, transfers, close)? {
+        Ok(table) => Ok(report(alloc, &table, false)?),
+        Err(DayFault::Feed(fault)) => Ok(fault_text(alloc, &fault)?),
+        Err(_) => Err("no fault of the feed".into()),
+    }
+}
+
+// In turn: a chain, a way back, and a chain of a day and a second; each as it is, and closed.
+#[test]
+fn footpaths_are_closed_where_asked(rt: HostRuntime) -> Result<(), Fail> {
+    for (transfers, close, text) in [
+        ("A,B,2,60\nB,C,2,60\n", false, "18 OpenFootpaths A B C"),
+        (
+            "A,B,2,60\nB,C,2,60\n",
+            true,
+            "stops 5 trips 3 events 7 footpaths 3\nlines 3 generated 1 after_uturn 1 kept 1\n",
+        ),
+        (
+            "A,A,2,300\nA,B,2,60\nB,A,2,60\n",
+            false,
+            "19 LongFootpath A B A",
+        ),
+        (
+            "A,A,2,300\nA,B,2,60\nB,A,2,60\n",
+            true,
+            "stops 5 trips 3 events 7 footpaths 2\nlines 3 generated 1 after_uturn 1 kept 1\n",
+        ),
+        (
+            "A,B,2,86400\nB,C,2,1\n",
+            false,
+            "18 OpenFootpaths A B C",
+        ),
+        ("A,B,2,86400\nB,C,2,1\n", true, "22 FarFootpath A C"),
+    ] {
+        let found = told(rt.alloc(), THREE_TRIPS, transfers, close)?;
+        assert_eq!(rt; found.as_slice(), text.as_bytes());
     }
     Ok(())
 }

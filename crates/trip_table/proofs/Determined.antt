@@ -1,6 +1,6 @@
 -- There is one timetable of a day, or one first fault.
 use Rattle.std.proofs.Common.{◌≡◌, ◌∙◌, sym, ap, subst, ℕ, ◌<◌, ◌≤◌, ◌+◌, List, Option, Some, None, inl, inr, arith}
-use Rattle.std.specs.Prelude.{Result, Ok, Err, IsSomeAnd}
+use Rattle.std.specs.Prelude.{Bool, true, false, Result, Ok, Err, IsSomeAnd}
 use Rattle.tb_base.specs.TimetableData.{TimetableData}
 use Rattle.tb_base.specs.Walking.{KeepsFootpathLaw}
 use Rattle.gtfs_rows.specs.StopsFile.{StopData}
@@ -10,10 +10,8 @@ use Rattle.footpaths.specs.declared.paths.Options.{Options}
 use Rattle.footpaths.specs.Footpaths.{PathsData}
 use Rattle.footpaths.specs.Law.{walking, change_between, IsGood, IsBreach, IsFirstOver, IsFirstFrom, IsFirstBreach}
 use Rattle.trip_table.specs.Feed.{Feed}
-use Rattle.trip_table.specs.Day.{DrawnDay, drawn_day, breach_fault, timetable, IsTested, IsTimetable, IsTimetableOf, IsTimetableOfDrawn}
-
-same : (a b : ℕ) → (a < b → ⊥) → (b < a → ⊥) → a ≡ b
-same a b p q = omega (arith, p, q)
+use Rattle.trip_table.specs.Day.{DrawnDay, drawn_day, breach_fault, timetable, IsTested, IsSettled, IsTimetable, IsTimetableOf, IsTimetableOfDrawn}
+use Rattle.trip_table.proofs.OneClosing.{same, closing_unique}
 
 bad : (P : PathsData) (p q r : ℕ) (f : LawFault) → IsBreach P p q r f → IsGood P p q r → ⊥
 bad P p q r f (inl (is, at)) good = good.there at
@@ -60,20 +58,24 @@ tested_unique stops told (Err f) (Ok b) (breach, first, fault) (is, law) = absur
 tested_unique stops told (Err f) (Err g) (breach, first, fault) (other, also, by) =
     ap Err (fault ∙ ap (breach_fault stops) (first_unique told breach other first also) ∙ sym by)
 
-day_unique : (day : DrawnDay) (a b : Result TimetableData FeedFault) → IsTimetable day a → IsTimetable day b → a ≡ b
-day_unique day (Ok a) (Ok b) (paths, tested, is) (others, also, by) =
-    let e : Ok paths ≡ Ok others = tested_unique day.stops day.paths (Ok paths) (Ok others) tested also in
+settled_unique : (close : Bool) (stops : List StopData) (told : PathsData) (a b : Result PathsData FeedFault) → IsSettled close stops told a → IsSettled close stops told b → a ≡ b
+settled_unique true stops told a b p q = closing_unique stops told a b p q
+settled_unique false stops told a b p q = tested_unique stops told a b p q
+
+day_unique : (close : Bool) (day : DrawnDay) (a b : Result TimetableData FeedFault) → IsTimetable close day a → IsTimetable close day b → a ≡ b
+day_unique close day (Ok a) (Ok b) (paths, settled, is) (others, also, by) =
+    let e : Ok paths ≡ Ok others = settled_unique close day.stops day.paths (Ok paths) (Ok others) settled also in
     let one : paths ≡ others = cc in
     ap Ok (is ∙ ap (timetable day) one ∙ sym by)
-day_unique day (Ok a) (Err g) (paths, tested, is) other = absurd (let e : Ok paths ≡ Err g = tested_unique day.stops day.paths (Ok paths) (Err g) tested other in cc)
-day_unique day (Err f) (Ok b) tested (others, also, by) = absurd (let e : Err f ≡ Ok others = tested_unique day.stops day.paths (Err f) (Ok others) tested also in cc)
-day_unique day (Err f) (Err g) tested other = let e : Err f ≡ Err g = tested_unique day.stops day.paths (Err f) (Err g) tested other in let one : f ≡ g = cc in ap Err one
+day_unique close day (Ok a) (Err g) (paths, settled, is) other = absurd (let e : Ok paths ≡ Err g = settled_unique close day.stops day.paths (Ok paths) (Err g) settled other in cc)
+day_unique close day (Err f) (Ok b) settled (others, also, by) = absurd (let e : Err f ≡ Ok others = settled_unique close day.stops day.paths (Err f) (Ok others) settled also in cc)
+day_unique close day (Err f) (Err g) settled other = let e : Err f ≡ Err g = settled_unique close day.stops day.paths (Err f) (Err g) settled other in let one : f ≡ g = cc in ap Err one
 
-drawn_unique : (drawn : Result DrawnDay FeedFault) (a b : Result TimetableData FeedFault) → IsTimetableOfDrawn drawn a → IsTimetableOfDrawn drawn b → a ≡ b
-drawn_unique (Ok day) a b p q = day_unique day a b p q
-drawn_unique (Err f) a b p q = p ∙ sym q
+drawn_unique : (close : Bool) (drawn : Result DrawnDay FeedFault) (a b : Result TimetableData FeedFault) → IsTimetableOfDrawn close drawn a → IsTimetableOfDrawn close drawn b → a ≡ b
+drawn_unique close (Ok day) a b p q = day_unique close day a b p q
+drawn_unique close (Err f) a b p q = p ∙ sym q
 
 -- there is one timetable of a day, or one first fault
 pub timetable_unique : (feed : Feed) (day : ℕ) (options : Options) (a b : Result TimetableData FeedFault) → IsTimetableOf feed day options a → IsTimetableOf feed day options b → a ≡ b
 timetable_unique feed day options a b p q =
-    drawn_unique q.drawn a b (subst (λ (drawn : Result DrawnDay FeedFault). IsTimetableOfDrawn drawn a) (sym p.given ∙ q.given) p.made) q.made
+    drawn_unique options.close q.drawn a b (subst (λ (drawn : Result DrawnDay FeedFault). IsTimetableOfDrawn options.close drawn a) (sym p.given ∙ q.given) p.made) q.made

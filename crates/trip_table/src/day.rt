@@ -1,5 +1,5 @@
 //! The timetable of a day.
-ghost use Rattle.std.specs.Prelude.{◌≡◌, ◌<◌, ◌≤◌, ◌-◌, ◌^◌, IfSome, IsSome, Result, false, length};
+ghost use Rattle.std.specs.Prelude.{◌≡◌, ◌<◌, ◌≤◌, ◌-◌, ◌^◌, IfSome, IsSome, Result, length};
 ghost use Rattle.gtfs_rows.specs.Steps.{and_then};
 ghost use Rattle.gtfs_rows.specs.declared.fault.FeedFault.{FeedFault};
 ghost use Rattle.footpaths.specs.Stops.{platforms};
@@ -10,10 +10,10 @@ ghost use Rattle.trip_table.specs.Day.{drawn_rows, drawn_with, Becomes, IsTimeta
 
 use crate::Options;
 use crate::assemble::assemble;
+use crate::closing::settled;
 use crate::day_fault::DayFault;
 use crate::day_trips::trips_on;
 use crate::feed::refuse_unbuilt;
-use crate::law::tested;
 use crate::paths::read_paths;
 use crate::rows::{FeedRows, read_rows};
 use footpaths::Paths;
@@ -30,10 +30,11 @@ fn timetable_of(
     rows: &FeedRows,
     told: Option<Paths>,
     day: &Day,
+    close: bool,
 ) -> Result<Timetable, RowsFault>
     requires sound { IfSome told AreSoundPaths }
     requires many { IfSome told (λ paths. length (PathsData.change paths) ≡ length (platforms rows.now.stops)) }
-    ensures { (counted : Result PathsData FeedFault) → IsCounted counted told → GivesRows (Becomes (drawn_with rows.now day.now counted)) result }
+    ensures { (counted : Result PathsData FeedFault) → IsCounted counted told → GivesRows (Becomes close (drawn_with rows.now day.now counted)) result }
 {
     let trips = match trips_on(alloc, rows, day) {
         Ok(trips) => trips,
@@ -42,7 +43,7 @@ fn timetable_of(
     let Some(told) = told else {
         return Err(RowsFault::Feed(FeedFault::TooMany(Many::Footpaths, 0)));
     };
-    let paths = match tested(alloc, rows.stops(), told) {
+    let paths = match settled(alloc, rows.stops(), told, close) {
         Ok(paths) => paths,
         Err(fault) => return Err(fault),
     };
@@ -63,7 +64,7 @@ fn read_timetable<F: Folder>(
     requires change { options.now.change ≤ 86400 }
     requires station { IfSome options.now.station (λ secs. secs ≤ 86400) }
     requires count { F.faults folder.old < 2 ^ 64 - 1 }
-    ensures told { IsSome (F.files folder.old) → Gives (Becomes (drawn_rows (feed_of (F.files folder.old) dir.now) day.now options.now)) result }
+    ensures told { IsSome (F.files folder.old) → Gives (Becomes options.now.close (drawn_rows (feed_of (F.files folder.old) dir.now) day.now options.now)) result }
     ensures leaves { Leaves (F.files folder.old) (F.files folder.new) (F.faults folder.old) (F.faults folder.new) result }
 {
     let rows = match read_rows(alloc, folder, dir) {
@@ -74,7 +75,7 @@ fn read_timetable<F: Folder>(
         Ok(told) => told,
         Err(fault) => return Err(fault),
     };
-    match timetable_of(alloc, &rows, told, day) {
+    match timetable_of(alloc, &rows, told, day, options.close) {
         Ok(table) => Ok(table),
         Err(RowsFault::Feed(fault)) => Err(DayFault::Feed(fault)),
         Err(RowsFault::Memory) => Err(DayFault::Memory),
@@ -84,8 +85,8 @@ fn read_timetable<F: Folder>(
 /// The timetable of a day, from the files of a feed in a directory of a folder, or the first thing that is wrong with
 /// the feed: with a file, then with the times of a trip, then with the size of the day, then with its footpaths.
 ///
-/// `ReadFault` comes only where the folder's count of faults rose. The seconds of the options are at most a day, and
-/// footpaths aren't closed yet.
+/// Footpaths are closed over chains where the options ask for it; else they have to keep the law. `ReadFault` comes only
+/// where the folder's count of faults rose. The seconds of the options are at most a day.
 pub fn read_day<F: Folder>(
     alloc: Global,
     folder: &mut F,
@@ -95,7 +96,6 @@ pub fn read_day<F: Folder>(
 ) -> Result<Timetable, DayFault>
     requires change { options.now.change ≤ 86400 }
     requires station { IfSome options.now.station (λ secs. secs ≤ 86400) }
-    requires close { options.now.close ≡ false }
     requires count { F.faults folder.old < 2 ^ 64 - 1 }
     ensures told { IsSome (F.files folder.old) → Gives (IsTimetableOf (feed_of (F.files folder.old) dir.now) day.now options.now) result }
     ensures leaves { Leaves (F.files folder.old) (F.files folder.new) (F.faults folder.old) (F.faults folder.new) result }

@@ -1,0 +1,63 @@
+-- What becomes of closed footpaths, from what is told of closing.
+use Rattle.std.proofs.Common.{◌≡◌, ◌∙◌, refl, ap, subst, ℕ, ◌<◌, ◌≤◌, List, length, Option, Some, None, inl, inr}
+use Rattle.std.specs.Prelude.{Ok, Err, IfSome, IsSomeAnd}
+use Rattle.std.proofs.lemmas.List.FromFn.{length-map-range_with_len}
+use Rattle.gtfs_rows.specs.StopsFile.{StopData}
+use Rattle.gtfs_rows.specs.declared.fault.FeedFault.{FeedFault}
+use Rattle.gtfs_rows.specs.declared.fault.FeedFault.TheVariants as fault
+use Rattle.gtfs_rows.specs.declared.fault.Many.TheVariants as many
+use Rattle.footpaths.specs.Footpaths.{Changes, PathsData, path_total}
+use Rattle.footpaths.specs.Law.{AreSoundPaths, change_between}
+use Rattle.foot_close.specs.Closure.{IsClosed}
+use Rattle.foot_close.specs.Shortest.{closure_of}
+use Rattle.foot_close.specs.declared.closed.Closed.{Closed}
+use Rattle.foot_close.specs.declared.closed.CloseFault.{CloseFault}
+use Rattle.foot_close.specs.declared.closed.CloseFault.TheVariants as why
+use Rattle.foot_close.specs.Closing.{ClosureHas, IsHeld, IsNear, IsFirstFar, IsCloseRefused, footpath_total}
+use Rattle.foot_close.proofs.Edges.{change_day}
+use Rattle.foot_close.proofs.ClosedLaws.{closure_is, closure_inside}
+use Rattle.trip_table.specs.Day.{platform_id, AreThere, IsClosing}
+use Rattle.trip_table.proofs.OneClosing.{same_closure}
+
+-- changes of sound change times and footpaths take at most a day
+near : (paths : PathsData) → AreSoundPaths paths → (p q : ℕ) → IsNear (change_between paths) p q
+near paths sound p q = by_secs (change_between paths p q) refl
+  where
+    by_secs : (o : Option ℕ) → change_between paths p q ≡ o → IfSome o (λ secs. secs ≤ 86400)
+    by_secs None e = tt
+    by_secs (Some s) e = change_day paths p q s sound e
+
+-- the closure is what becomes of them
+pub closing_held : (stops : List StopData) (told : PathsData) (c : Closed) → ClosureHas told (IsHeld told c) → IsClosed told c.paths → AreSoundPaths c.paths → IsClosing stops told (Ok c.paths)
+closing_held stops told c held closed sound =
+    let one : change_between c.paths ≡ held.closed = same_closure (change_between told) (change_between c.paths) held.closed closed held.closure in
+    let few : footpath_total told held.closed ≤ 2000000 = subst (λ (paths : PathsData). path_total paths ≤ 2000000) held.has.paths sound.footpaths in
+    let all : (p q : ℕ) → IsNear held.closed p q = subst (λ (changes : Changes). (p q : ℕ) → IsNear changes p q) one (near c.paths sound) in
+    record { closed = held.closed; closure = held.closure; has = (held.has.paths, record { few = few; near = all }) }
+
+-- there are as many change times as before
+pub closing_count : (told : PathsData) (c : Closed) → ClosureHas told (IsHeld told c) → length c.paths.change ≡ length told.change
+closing_count told c held = ap (λ (paths : PathsData). length paths.change) held.has.paths ∙ length-map-range_with_len (λ p. held.closed p p) 0 (length told.change)
+
+-- too many footpaths are the fault
+pub closing_many : (stops : List StopData) (told : PathsData) → ClosureHas told (λ closed. 2000000 < footpath_total told closed) → IsClosing stops told (Err (fault.TooMany many.Footpaths 0))
+closing_many stops told h = record { closed = h.closed; closure = h.closure; has = inl (record { total = h.has; named = refl }) }
+
+-- or the first far pair is
+pub closing_far : (stops : List StopData) (told : PathsData) (p q : ℕ) (f : FeedFault) → ClosureHas told (λ closed. (footpath_total told closed ≤ 2000000) × IsFirstFar closed p q) → f ≡ fault.FarFootpath (platform_id stops p) (platform_id stops q) → IsClosing stops told (Err f)
+closing_far stops told p q f h e = record { closed = h.closed; closure = h.closure; has = inr (record { few = h.has.0; from = p; to = q; far = h.has.1; named = e }) }
+
+-- the stops of a far pair are there
+pub far_inside : (told : PathsData) (p q : ℕ) → AreSoundPaths told → ClosureHas told (λ closed. (footpath_total told closed ≤ 2000000) × IsFirstFar closed p q) → (p < length told.change) × (q < length told.change)
+far_inside told p q sound h =
+    let one : h.closed ≡ closure_of told = same_closure (change_between told) h.closed (closure_of told) h.closure (closure_is told sound) in
+    by_secs (closure_of told p q) refl (subst (λ (changes : Changes). IsSomeAnd (changes p q) (λ secs. 86400 < secs)) one h.has.1.far)
+  where
+    by_secs : (o : Option ℕ) → closure_of told p q ≡ o → IsSomeAnd o (λ secs. 86400 < secs) → (p < length told.change) × (q < length told.change)
+    by_secs None e far = absurd far
+    by_secs (Some s) e far = closure_inside told p q s sound e
+
+pub refused_inside : (told : PathsData) (f : CloseFault) → AreSoundPaths told → IsCloseRefused told f → AreThere (length told.change) f
+refused_inside told why.TooMany sound h = tt
+refused_inside told (why.Far p q) sound h = far_inside told p q sound h
+refused_inside told why.Memory sound h = tt
