@@ -11,6 +11,7 @@ use gtfs_rows::number_of;
 pub(crate) enum OptionName {
     Change,
     Station,
+    Close,
     Plain,
 }
 
@@ -21,7 +22,7 @@ impl OptionName {
     {
         match self {
             OptionName::Change | OptionName::Station => true,
-            OptionName::Plain => false,
+            OptionName::Close | OptionName::Plain => false,
         }
     }
 }
@@ -32,6 +33,7 @@ pub(crate) fn option_named(word: &str) -> Option<OptionName>
     match word {
         "--change" => Some(OptionName::Change),
         "--station" => Some(OptionName::Station),
+        "--close" => Some(OptionName::Close),
         "--plain" => Some(OptionName::Plain),
         _ => None,
     }
@@ -53,6 +55,7 @@ fn secs_of(text: &str) -> Option<u32>
 pub(crate) struct Given {
     change: Option<u32>,
     station: Option<u32>,
+    close: bool,
     pub plain: bool,
 }
 
@@ -61,6 +64,7 @@ impl Given {
     pub(crate) const NONE: Given = Given {
         change: None,
         station: None,
+        close: false,
         plain: false,
     };
 
@@ -77,6 +81,10 @@ impl Given {
             }),
             OptionName::Station if self.station.is_none() => Some(Given {
                 station: Some(secs_of(value)?),
+                ..self
+            }),
+            OptionName::Close if !self.close => Some(Given {
+                close: true,
                 ..self
             }),
             OptionName::Plain if !self.plain => Some(Given {
@@ -96,7 +104,7 @@ impl Given {
         Options {
             change: self.change.unwrap_or(0),
             station: self.station,
-            close: false,
+            close: self.close,
         }
     }
 }

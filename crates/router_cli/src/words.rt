@@ -212,7 +212,7 @@ fn request_from(given: Given, words: &[String]) -> Option<Request<'_>>
     }
 }
 
-/// What the words mean: `[--change SECS] [--station SECS] [--plain] COMMAND WORDS`, each option at most once and in any order, where
+/// What the words mean: `[--change SECS] [--station SECS] [--close] [--plain] COMMAND WORDS`, each option at most once and in any order, where
 /// no word of the command begins with a hyphen. The commands are `direct DIR DATE FROM TO TIME`, `ask DIR DATE FROM TO TIME`,
 /// `build DIR DATE` and `build DIR DATE list`.
 pub fn request_of(words: &[String]) -> Option<Request<'_>>

@@ -150,6 +150,39 @@ arrive 08:30:00 rides 2
     Ok(())
 }
 
+#[test]
+fn footpaths_are_closed(rt: HostRuntime) -> Result<(), Fail> {
+    let changed = [(
+        "transfers.txt",
+        "from_stop_id,to_stop_id,transfer_type,min_transfer_time\nA,B,2,60\nB,C,2,60\n",
+    )];
+    for (line, out) in [
+        (
+            "--close ask f1 20260302 A C 08:00:00",
+            "arrive 08:02:00 rides 0\n  walk A C 120\n",
+        ),
+        (
+            "--close build f1 20260302",
+            "stops 5 trips 3 events 7 footpaths 3\nlines 3 generated 1 after_uturn 1 kept 1\n",
+        ),
+    ] {
+        assert_answered(&rt, rt.alloc(), &changed, line, out)?;
+    }
+    let open = run(
+        &rt,
+        rt.alloc(),
+        feed(rt.alloc(), &changed)?,
+        "ask f1 20260302 A C 08:00:00",
+        NO_TROUBLE,
+    )?;
+    assert_eq!(rt; open.code, 3);
+    assert_eq!(rt;
+        open.err.as_slice(),
+        b"router: feed refused: 18 OpenFootpaths A B C\n".as_slice()
+    );
+    Ok(())
+}
+
 // The feed of a town as exporters write it: a byte order mark, CRLF, quotes, a station, and a transfer without seconds.
 const TOWN: [(&str, &str); 6] = [
     (
