@@ -131,7 +131,9 @@ fn small_feeds_are_reported(rt: HostRuntime) -> Result<(), Fail> {
             "stops 5 trips 2 events 6 footpaths 0\nlines 2 generated 2 after_uturn 2 kept 1\nT1@2 T5@1\n",
         ),
     ] {
-        let table = timetable(rt.alloc(), feed, "", false)?.ok().ok_or("no timetable")?;
+        let table = timetable(rt.alloc(), feed, "", false)?
+            .ok()
+            .ok_or("no timetable")?;
         assert_eq!(rt;
             report(rt.alloc(), &table, list)?.as_slice(),
             text.as_bytes()
@@ -169,11 +171,7 @@ fn footpaths_are_closed_where_asked(rt: HostRuntime) -> Result<(), Fail> {
             true,
             "stops 5 trips 3 events 7 footpaths 2\nlines 3 generated 1 after_uturn 1 kept 1\n",
         ),
-        (
-            "A,B,2,86400\nB,C,2,1\n",
-            false,
-            "18 OpenFootpaths A B C",
-        ),
+        ("A,B,2,86400\nB,C,2,1\n", false, "18 OpenFootpaths A B C"),
         ("A,B,2,86400\nB,C,2,1\n", true, "22 FarFootpath A C"),
     ] {
         let found = told(rt.alloc(), THREE_TRIPS, transfers, close)?;

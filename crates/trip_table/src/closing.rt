@@ -20,12 +20,7 @@ use std::alloc::Global;
 use tb_base::{Memory, StopNo};
 
 // What is wrong with the feed where two stops are more than a day apart.
-fn far_fault(
-    alloc: Global,
-    rows: &[StopRow],
-    from: StopNo,
-    to: StopNo,
-) -> Result<FeedFault, Memory>
+fn far_fault(alloc: Global, rows: &[StopRow], from: StopNo, to: StopNo) -> Result<FeedFault, Memory>
     requires from { from < length (platforms rows.now) }
     requires to { to < length (platforms rows.now) }
     ensures { IfOk result (λ f. f ≡ fault.FarFootpath (platform_id rows.now from) (platform_id rows.now to)) }
