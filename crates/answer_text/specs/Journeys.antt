@@ -3,6 +3,7 @@ use Rattle.std.specs.Prelude.{ℕ, List, [], ◌∷◌, ◌++◌, codes, flat_ma
 use Rattle.std.specs.Fmt.{decimal}
 use Rattle.tb_base.specs.TimetableData.{TripData, TimetableData, stop_at, arrival_at, departure_at}
 use Rattle.tb_base.specs.BestValues.{ChoiceData}
+use Rattle.tb_base.specs.Profiles.{OfferData}
 use Rattle.tb_base.specs.declared.query.Leg.{Leg}
 use Rattle.tb_base.specs.declared.query.Leg.TheVariants as leg
 use Rattle.tb_base.specs.declared.table.Stop.{Stop}
@@ -38,16 +39,31 @@ abbrev pub legs_text : TimetableData → List Leg → List ℕ
 legs_text T legs = flat_map (leg_text T) legs
 
 -- `arrive TIME rides N`, then the legs
-abbrev pub choice_text : TimetableData → ChoiceData → List ℕ
-choice_text T c = codes "arrive " ++ time_text c.value.arrive ++ codes " rides " ++ decimal c.value.rides ++ codes "\n" ++ legs_text T c.legs
+abbrev pub journey_text : TimetableData → ℤ → ℕ → List Leg → List ℕ
+journey_text T arrive rides legs = codes "arrive " ++ time_text arrive ++ codes " rides " ++ decimal rides ++ codes "\n" ++ legs_text T legs
 
--- what stands for no choice
+abbrev pub choice_text : TimetableData → ChoiceData → List ℕ
+choice_text T c = journey_text T c.value.arrive c.value.rides c.legs
+
+-- what stands for no choice and no offer
 abbrev pub no_journey : List ℕ
 no_journey = codes "no journey\n"
 
 abbrev pub choices_text : TimetableData → List ChoiceData → List ℕ
 choices_text T [] = no_journey
 choices_text T (c ∷ cs) = flat_map (choice_text T) (c ∷ cs)
+
+-- `leave TIME `
+abbrev pub leave_text : ℤ → List ℕ
+leave_text time = codes "leave " ++ time_text time ++ codes " "
+
+-- `leave TIME arrive TIME rides N`, then the legs
+abbrev pub offer_text : TimetableData → OfferData → List ℕ
+offer_text T o = leave_text o.slot.leave ++ journey_text T o.slot.arrive o.slot.rides o.legs
+
+abbrev pub offers_text : TimetableData → List OfferData → List ℕ
+offers_text T [] = no_journey
+offers_text T (o ∷ os) = flat_map (offer_text T) (o ∷ os)
 
 -- `arrive TIME`, or that there is no journey
 abbrev pub arrival_text : Option ℤ → List ℕ

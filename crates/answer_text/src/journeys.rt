@@ -2,13 +2,14 @@
 ghost use Rattle.std.specs.Prelude.{◌≡◌, ◌++◌, ◌<◌, All, IfOk, OnOk, codes, length};
 ghost use Rattle.tb_base.specs.TimetableData.{events_of, event_at};
 ghost use Rattle.tb_base.specs.BestValues.{ChoiceData};
+ghost use Rattle.tb_base.specs.Profiles.{OfferData};
 ghost use Rattle.tb_base.specs.JourneyRules.{HasNumbers};
 ghost use Rattle.answer_text.specs.Times.{time_text};
-ghost use Rattle.answer_text.specs.Journeys.{stop_name, trip_name, place_text, walk_text, ride_text, leg_text, legs_text, choice_text, choices_text, arrival_text, no_journey, unknown_text};
+ghost use Rattle.answer_text.specs.Journeys.{stop_name, trip_name, place_text, walk_text, ride_text, leg_text, legs_text, journey_text, choice_text, choices_text, leave_text, offer_text, offers_text, arrival_text, no_journey, unknown_text};
 
 use crate::text::Text;
 use std::alloc::Global;
-use tb_base::{Choice, Event, Leg, Memory, Sec, StopNo, Timetable, TripNo};
+use tb_base::{Choice, Event, Leg, Memory, Offer, Sec, Slot, StopNo, Timetable, TripNo, Value};
 
 const NO_JOURNEY: &[u8] = b"no journey\n";
 
@@ -131,17 +132,55 @@ impl Text {
         Ok(())
     }
 
+    // Adds the lines of a journey, with its arrival and its number of rides.
+    fn journey(
+        &mut self,
+        table: &Timetable,
+        arrive: Sec,
+        rides: u32,
+        legs: &[Leg],
+    ) -> Result<(), Memory>
+        requires { All (HasNumbers table.now) legs.now }
+        ensures { OnOk result (self.new ≡ self.old ++ journey_text table.now arrive rides legs.now) }
+    {
+        self.add(b"arrive ")?;
+        self.time(arrive)?;
+        self.add(b" rides ")?;
+        self.number(rides)?;
+        self.add(b"\n")?;
+        self.legs(table, legs)
+    }
+
     // Adds the lines of a choice.
     fn choice(&mut self, table: &Timetable, choice: &Choice) -> Result<(), Memory>
         requires { All (HasNumbers table.now) choice.now.legs }
         ensures { OnOk result (self.new ≡ self.old ++ choice_text table.now choice.now) }
     {
-        self.add(b"arrive ")?;
-        self.time(choice.value.arrive)?;
-        self.add(b" rides ")?;
-        self.number(choice.value.rides)?;
-        self.add(b"\n")?;
-        self.legs(table, choice.legs.as_slice())
+        let Value { arrive, rides } = choice.value;
+        self.journey(table, arrive, rides, choice.legs.as_slice())
+    }
+
+    // Adds when an offer leaves.
+    fn leave(&mut self, time: Sec) -> Result<(), Memory>
+        ensures { OnOk result (self.new ≡ self.old ++ leave_text time) }
+    {
+        self.add(b"leave ")?;
+        self.time(time)?;
+        self.add(b" ")
+    }
+
+    // Adds the lines of an offer.
+    fn offer(&mut self, table: &Timetable, offer: &Offer) -> Result<(), Memory>
+        requires { All (HasNumbers table.now) offer.now.legs }
+        ensures { OnOk result (self.new ≡ self.old ++ offer_text table.now offer.now) }
+    {
+        let Slot {
+            leave,
+            arrive,
+            rides,
+        } = offer.slot;
+        self.leave(leave)?;
+        self.journey(table, arrive, rides, offer.legs.as_slice())
     }
 }
 
@@ -168,6 +207,22 @@ pub fn choices_text(alloc: Global, table: &Timetable, choices: &[Choice]) -> Res
     }
     for choice in choices {
         text.choice(table, choice)?;
+    }
+    Ok(text.into_bytes())
+}
+
+/// Each offer as `leave TIME arrive TIME rides N` and its legs, or `no journey` where there is none.
+/// The numbers of the legs exist in the timetable.
+pub fn offers_text(alloc: Global, table: &Timetable, offers: &[Offer]) -> Result<Vec<u8>, Memory>
+    requires { All (λ o. All (HasNumbers table.now) (OfferData.legs o)) offers.now }
+    ensures { IfOk result (λ v. v.items ≡ offers_text table.now offers.now) }
+{
+    let mut text = Text::new(alloc);
+    if offers.is_empty() {
+        text.add(NO_JOURNEY)?;
+    }
+    for offer in offers {
+        text.offer(table, offer)?;
     }
     Ok(text.into_bytes())
 }
