@@ -1,0 +1,51 @@
+-- The values of a search, and none past the last second, are those of all later journeys.
+use Rattle.std.proofs.Common.{◌≡◌, ℕ, ◌<◌, List, [], ◌∷◌, length, get_or, ap, subst, arith, ℤ, pos, negsuc, ◌-ℤ◌, ◌≤ℤ◌, ◌<ℤ◌}
+use Rattle.std.proofs.lemmas.Int.{ints}
+use Rattle.std.proofs.lemmas.List.Elements.{All-nil, All-weaker}
+use Rattle.tb_base.specs.declared.query.Value.{Value}
+use Rattle.tb_base.specs.TimetableData.{TimetableData, events_of, no_event, MayBoard}
+use Rattle.tb_base.specs.Journeys.{Ride, Leads, LeavesNoEarlier, boarding_time}
+use Rattle.tb_base.specs.BestValues.{QueryData, AreBestValues, IsAttained, IsBest, value_of}
+use Rattle.tb_base.specs.Soundness.{IsSound, IsSoundEvent}
+use Rattle.tb_base.proofs.Events.{MayBoard-inside}
+use Rattle.tb_laws.proofs.CoverLaws.{best_values_contain}
+use Rattle.profile_query.specs.Leaving.{DepartsAt}
+use Rattle.profile_query.specs.Slots.{AreLater}
+
+module _ (T : TimetableData) (sound : IsSound T) where
+  -- where one may board, one departs within the limits
+  sound_event : (t b : ℕ) → MayBoard T t b → IsSoundEvent (length T.stops) (get_or (events_of T t) b no_event)
+  sound_event t b boards =
+      let inside = MayBoard-inside T t b boards in
+      (sound.trip t (record { name = []; events = [] }) inside.0).events b no_event inside.1
+
+  pub departs_within : (stop : ℕ) (time : ℤ) → DepartsAt T stop time → (negsuc 86399 ≤ℤ time) × (time ≤ℤ pos 359999)
+  departs_within stop time d =
+      let e = sound_event d.trip d.board d.boards in (
+        subst (λ x. negsuc 86399 ≤ℤ x) d.departs (later (negsuc 86399) _ _ e.earliest e.waits),
+        subst (λ x. x ≤ℤ pos 359999) d.departs e.latest,
+      )
+    where
+      later : (a b c : ℤ) → a ≤ℤ b → b ≤ℤ c → a ≤ℤ c
+      later a b c g h = omega (arith, ints, g, h)
+
+  -- the best values stand for all
+  pub later_from_best : (Q : QueryData) (values : List Value) → AreBestValues T Q values → AreLater T Q values
+  later_from_best Q values are = record {
+    attained = All-weaker (IsBest T Q) (IsAttained T Q) (λ v best. best.attained) values are.best;
+    cover = λ w attained some_ride. best_values_contain T sound Q values are w attained;
+  }
+
+  -- nothing departs after the last second
+  pub none_later : (Q : QueryData) → pos 359999 <ℤ Q.leave → AreLater T Q []
+  none_later Q past = record {
+    attained = All-nil (IsAttained T Q);
+    cover = λ w (j, has) some_ride. absurd (by_rides w some_ride j.origin j.rides j.target has.journey.leads has.leaves has.value);
+  }
+    where
+      late : (a d : ℤ) (s : ℕ) → pos 359999 <ℤ a → a ≤ℤ (d -ℤ pos s) → d ≤ℤ pos 359999 → ⊥
+      late a d s g h k = omega (arith, ints, g, h, k)
+
+      by_rides : (w : Value) → 0 < w.rides → (o : ℕ) (rides : List Ride) (q : ℕ) → Leads T o rides q → LeavesNoEarlier T Q.leave o rides → w ≡ value_of T Q.leave (record { origin = o; rides = rides; target = q }) → ⊥
+      by_rides w some_ride o [] q leads leaves value = let e : w.rides ≡ 0 = ap (λ (v : Value). v.rides) value in omega (arith, e, some_ride)
+      by_rides w some_ride o (r ∷ rest) q leads leaves value = late Q.leave (boarding_time T r) _ past leaves (sound_event r.trip r.board leads.1.boards).latest

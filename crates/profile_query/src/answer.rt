@@ -1,0 +1,108 @@
+//! The walk over a window, from its end to its beginning.
+ghost use Rattle.std.specs.Prelude.{◌≡◌, ◌<◌, ◌≤ℤ◌, [], All, IfOk, OnErr, length, map, pos};
+ghost use Rattle.tb_base.specs.JourneyRules.{SpellSlot};
+ghost use Rattle.tb_base.specs.Profiles.{IsProfile, OfferData};
+ghost use Rattle.tb_base.specs.Sufficiency.{AreSufficient};
+ghost use Rattle.segment_queue.specs.Queue.{Fits};
+ghost use Rattle.segment_queue.specs.Traced.{LegsFollow};
+
+use super::leaving::leaving_times;
+use super::searching::{ask_at, later_values, query_after, search};
+use super::slots::{add_offers, values_of};
+use segment_queue::{Desk, Scan, Steps};
+use std::alloc::Global;
+use std::marker::Brand;
+use std::sync::ledger::{Blank, Ledger};
+use tb_base::{Memory, Offer, Query, Timetable, Window};
+
+// The offers of a window, with a ledger that nobody else counts in.
+fn offers_of<S: Scan, L: Ledger>(
+    alloc: Global,
+    scan: &S,
+    table: &Timetable,
+    window: &Window,
+    desk: &mut Desk,
+    blank: Blank,
+) -> Result<Vec<Offer>, Memory>
+    requires name { blank.name ≡ L.name }
+    requires parts { blank.parts ≡ L.parts }
+    requires some { 0 < L.parts }
+    requires table { S.table scan.now ≡ table.now }
+    requires fits { Fits table.now desk.old }
+    requires origins { All (λ p. p < length table.now.stops) window.now.from }
+    requires targets { All (λ p. p < length table.now.stops) window.now.to }
+    requires last { window.now.last ≤ℤ pos 359999 }
+    requires sufficient { AreSufficient table.now (S.hops scan.now) }
+    ensures slots { IfOk result (λ offers.
+        IsProfile table.now window.now (map OfferData.slot offers.items)) }
+    ensures journeys { IfOk result (λ offers.
+        All (λ o. SpellSlot table.now window.now (OfferData.legs o) (OfferData.slot o)) offers.items) }
+    ensures hops { IfOk result (λ offers.
+        All (λ o. LegsFollow (S.hops scan.now) (OfferData.legs o)) offers.items) }
+    ensures fits { Fits table.now desk.new }
+{
+    table.soundness();
+    let mut steps = Steps::<L>::new(blank);
+    let mut query = query_after(alloc, window)?;
+    let mut times = leaving_times(alloc, scan, table, window, &mut steps)?;
+    let mut later = later_values(alloc, scan, table, &query, desk, &mut steps)?;
+    let mut offers = Vec::new(alloc);
+    while let Some(time) = times.pop() {
+        ask_at(&mut query, time);
+        search(scan, table, &query, desk, &mut steps);
+        add_offers(alloc, &mut offers, desk, table, &query, later.as_slice())?;
+        later = values_of(alloc, desk)?;
+    }
+    Ok(offers)
+}
+
+// Empties a desk.
+fn empty<S: Scan>(alloc: Global, scan: &S, desk: &mut Desk)
+    requires { Fits (S.table scan.now) desk.old }
+    ensures fits { Fits (S.table scan.now) desk.new }
+    ensures emptied { desk.new.segments ≡ [] }
+{
+    let nothing = Query {
+        from: Vec::new(alloc),
+        to: Vec::new(alloc),
+        leave: 0,
+    };
+    desk.begin(scan, &nothing);
+}
+
+/// The profile of a window: its slots by leaving time, greatest first, then by rides, smallest first, each with the legs of a
+/// journey that has it and changes by hops of the set alone. Any sufficient set of hops gives the same slots. The window is
+/// walked from its end: one search a second after it, and one at each time within it at which a trip departs that can be
+/// boarded from an origin. A search takes no memory, since the desk was made to fit before; the offers do. Refused only for want of
+/// memory, and then the desk fits still and its queue is empty.
+pub fn profile<S: Scan>(
+    alloc: Global,
+    scan: &S,
+    table: &Timetable,
+    window: &Window,
+    desk: &mut Desk,
+) -> Result<Vec<Offer>, Memory>
+    requires table { S.table scan.now ≡ table.now }
+    requires fits { Fits table.now desk.old }
+    requires origins { All (λ p. p < length table.now.stops) window.now.from }
+    requires targets { All (λ p. p < length table.now.stops) window.now.to }
+    requires last { window.now.last ≤ℤ pos 359999 }
+    requires sufficient { AreSufficient table.now (S.hops scan.now) }
+    ensures slots { IfOk result (λ offers.
+        IsProfile table.now window.now (map OfferData.slot offers.items)) }
+    ensures journeys { IfOk result (λ offers.
+        All (λ o. SpellSlot table.now window.now (OfferData.legs o) (OfferData.slot o)) offers.items) }
+    ensures hops { IfOk result (λ offers.
+        All (λ o. LegsFollow (S.hops scan.now) (OfferData.legs o)) offers.items) }
+    ensures fits { Fits table.now desk.new }
+    ensures emptied { OnErr result (desk.new.segments ≡ []) }
+{
+    let offers = offers_of::<S, Brand>(alloc, scan, table, window, desk, Blank::new(1));
+    match offers {
+        Ok(offers) => Ok(offers),
+        Err(refused) => {
+            empty(alloc, scan, desk);
+            Err(refused)
+        }
+    }
+}
