@@ -2,7 +2,7 @@
 use Rattle.std.proofs.Common.{◌≡◌, ◌∙◌, ap, refl, ℕ, ◌<◌, ◌≤◌, List, [], ◌∷◌, length, map, drop, get_or, arith, Bool, true, false, Option, None, Some}
 use Rattle.router_cli.specs.Given.{given_with, option_named, takes_value}
 use Rattle.std.specs.List.{list_any}
-use Rattle.router_cli.specs.Words.{command_line, command_of, is_hyphened, list_command, build_command, travel_command, plain_line, request_from, request_line}
+use Rattle.router_cli.specs.Words.{command_line, command_of, is_hyphened, list_command, build_command, profile_command, travel_command, plain_line, request_from, request_line}
 use Rattle.router_cli.specs.declared.given.Given.{Given}
 use Rattle.router_cli.specs.declared.given.OptionName.{OptionName}
 
@@ -15,12 +15,22 @@ module _ {S : Type 0} (f : S → List ℕ) where
   three_words name (u ∷ v ∷ w ∷ []) a b c h = refl
   three_words name (u ∷ v ∷ w ∷ x ∷ rest) a b c h = absurd (omega (arith, h))
 
-  pub other_words : (name : List ℕ) (ws : List S) → (length ws ≡ 3 → ⊥) → 1 < length ws → command_of name (map f ws) ≡ None
-  other_words name [] h many = absurd (omega (arith, many))
-  other_words name (u ∷ []) h many = absurd (omega (arith, many))
-  other_words name (u ∷ v ∷ []) h many = refl
-  other_words name (u ∷ v ∷ w ∷ []) h many = absurd (h refl)
-  other_words name (u ∷ v ∷ w ∷ x ∷ rest) h many = refl
+  pub four_words : (name : List ℕ) (ws : List S) (a b c d : S) → length ws ≡ 4 →
+      command_of name (map f ws) ≡ profile_command name (f (get_or ws 0 a)) (f (get_or ws 1 b)) (f (get_or ws 2 c)) (f (get_or ws 3 d))
+  four_words name [] a b c d h = absurd (omega (arith, h))
+  four_words name (u ∷ []) a b c d h = absurd (omega (arith, h))
+  four_words name (u ∷ v ∷ []) a b c d h = absurd (omega (arith, h))
+  four_words name (u ∷ v ∷ w ∷ []) a b c d h = absurd (omega (arith, h))
+  four_words name (u ∷ v ∷ w ∷ x ∷ []) a b c d h = refl
+  four_words name (u ∷ v ∷ w ∷ x ∷ y ∷ rest) a b c d h = absurd (omega (arith, h))
+
+  pub other_words : (name : List ℕ) (ws : List S) → (length ws ≡ 3 → ⊥) → (length ws ≡ 4 → ⊥) → 1 < length ws → command_of name (map f ws) ≡ None
+  other_words name [] h k many = absurd (omega (arith, many))
+  other_words name (u ∷ []) h k many = absurd (omega (arith, many))
+  other_words name (u ∷ v ∷ []) h k many = refl
+  other_words name (u ∷ v ∷ w ∷ []) h k many = absurd (h refl)
+  other_words name (u ∷ v ∷ w ∷ x ∷ []) h k many = absurd (k refl)
+  other_words name (u ∷ v ∷ w ∷ x ∷ y ∷ rest) h k many = refl
 
   pub one_word : (name : List ℕ) (ws : List S) (a : S) → length ws ≡ 1 → command_of name (map f ws) ≡ list_command name (f (get_or ws 0 a))
   one_word name [] a h = absurd (omega (arith, h))

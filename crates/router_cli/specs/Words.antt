@@ -5,7 +5,7 @@ use Rattle.std.specs.Option.{option_and_then, option_map, unwrap_or}
 use Rattle.footpaths.specs.declared.paths.Options.{Options}
 use Rattle.gtfs_rows.specs.Dates.{date_of}
 use Rattle.gtfs_rows.specs.Numbers.{time_of}
-use Rattle.router_cli.specs.Inquiry.{InquiryData}
+use Rattle.router_cli.specs.Inquiry.{InquiryData, WindowInquiryData}
 use Rattle.router_cli.specs.Given.{given_with, none_given, option_named, options_of, takes_value}
 use Rattle.router_cli.specs.declared.given.Given.{Given}
 use Rattle.router_cli.specs.declared.given.OptionName.{OptionName}
@@ -37,17 +37,27 @@ inquiry_command name inquiry =
 abbrev pub travel_command : List ℕ → List ℕ → List ℕ → List ℕ → Option Command
 travel_command name from to time = option_and_then (inquiry_command name) (inquiry_of from to time)
 
+abbrev pub window_inquiry_of : List ℕ → List ℕ → List ℕ → List ℕ → Option WindowInquiryData
+window_inquiry_of from to first last =
+    option_and_then (λ t. option_map (λ u. record { from = from; to = to; first = t; last = u }) (time_of last)) (time_of first)
+
+abbrev pub profile_command : List ℕ → List ℕ → List ℕ → List ℕ → List ℕ → Option Command
+profile_command name from to first last =
+    if bytes_eq name (codes "profile") then option_map command.Profile (window_inquiry_of from to first last) else None
+
 abbrev pub build_command : List ℕ → Bool → Option Command
 build_command name list = if bytes_eq name (codes "build") then Some (command.Build list) else None
 
 abbrev pub list_command : List ℕ → List ℕ → Option Command
 list_command name word = if bytes_eq word (codes "list") then build_command name true else None
 
--- a command by its name and the words behind folder and date: `direct FROM TO TIME`, `ask FROM TO TIME`, `build`, `build list`
+-- a command by its name and the words behind folder and date: `direct FROM TO TIME`, `ask FROM TO TIME`,
+-- `profile FROM TO FIRST LAST`, `build`, `build list`
 abbrev pub command_of : List ℕ → List (List ℕ) → Option Command
 command_of name [] = build_command name false
 command_of name (word ∷ []) = list_command name word
 command_of name (from ∷ to ∷ time ∷ []) = travel_command name from to time
+command_of name (from ∷ to ∷ first ∷ last ∷ []) = profile_command name from to first last
 command_of name words = None
 
 -- a request by the command's name, the folder, the date, and the words behind them

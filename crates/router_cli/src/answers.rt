@@ -1,19 +1,21 @@
 //! The text of an answer over a timetable.
 ghost use Rattle.std.specs.Prelude.{◌≡◌, ◌<◌, ◌≤ℤ◌, ⊤, pos, All, IfOk, length};
 ghost use Rattle.tb_base.specs.BestValues.{QueryData};
+ghost use Rattle.tb_base.specs.Profiles.{WindowData};
 ghost use Rattle.tb_base.specs.Places.{HasPlace, stops_of};
 ghost use Rattle.trip_rides.specs.Times.{IsFileTime};
-ghost use Rattle.router_cli.specs.Answers.{HasKeptChanges, IsAnswer, IsInquiryText, IsText, ShowsBestValues};
+ghost use Rattle.router_cli.specs.Answers.{HasKeptChanges, IsAnswer, IsInquiryText, IsProfileText, IsText, ShowsBestValues, ShowsProfile};
 
-use crate::words::{Command, Inquiry, Request};
-use answer_text::{arrival_text, choices_text, unknown_text};
+use crate::words::{Command, Inquiry, Request, WindowInquiry};
+use answer_text::{arrival_text, choices_text, offers_text, unknown_text};
 use build_report::report;
 use journey_unfold::ask;
 use line_split::split;
 use plain_rounds::{direct, plain_ask};
+use profile_query::profile;
 use segment_queue::{Desk, View};
 use std::alloc::Global;
-use tb_base::{Memory, Place, Query, Rows, Sec, Timetable};
+use tb_base::{Memory, Place, Query, Rows, Sec, Timetable, Window};
 use transfer_set::kept_set;
 
 /// How journeys are looked for.
@@ -50,6 +52,51 @@ fn query_between(
         to,
         leave: time,
     })
+}
+
+// The window between two places.
+fn window_between(
+    alloc: Global,
+    table: &Timetable,
+    origin: Place,
+    target: Place,
+    first: Sec,
+    last: Sec,
+) -> Result<Window, Memory>
+    requires origin { HasPlace table.now origin }
+    requires target { HasPlace table.now target }
+    requires first { IsFileTime first }
+    requires last { IsFileTime last }
+    ensures window { IfOk result (λ w. w ≡ record { from = stops_of table.now origin; to = stops_of table.now target; first = first; last = last }) }
+    ensures origins { IfOk result (λ w. All (λ p. p < length table.now.stops) (WindowData.from w)) }
+    ensures targets { IfOk result (λ w. All (λ p. p < length table.now.stops) (WindowData.to w)) }
+    ensures last { IfOk result (λ w. WindowData.last w ≤ℤ pos 359999) }
+{
+    let origins = table.place_stops(alloc, origin)?;
+    let targets = table.place_stops(alloc, target)?;
+    Ok(Window {
+        from: origins,
+        to: targets,
+        first,
+        last,
+    })
+}
+
+// The profile of a window, each slot with a journey by kept transfers.
+fn profile_text(alloc: Global, table: &Timetable, window: &Window) -> Result<Vec<u8>, Memory>
+    requires origins { All (λ p. p < length table.now.stops) window.now.from }
+    requires targets { All (λ p. p < length table.now.stops) window.now.to }
+    requires last { window.now.last ≤ℤ pos 359999 }
+    ensures { IfOk result (λ text. ShowsProfile table.now window.now text.items) }
+{
+    table.soundness();
+    let lines = split(alloc, table)?;
+    let set = kept_set(alloc, table, &lines)?;
+    let view = View::<Rows>::new(table, &lines, &set);
+    let mut desk = Desk::new(alloc);
+    desk.make_room(&view)?;
+    let offers = profile(alloc, &view, table, window, &mut desk)?;
+    offers_text(alloc, table, offers.as_slice())
 }
 
 // The best values, each with a journey by kept transfers.
@@ -119,6 +166,20 @@ fn inquiry_text(
     query_text(alloc, table, &query, method)
 }
 
+// What is written for a window: its profile, or the name of an unknown stop.
+fn window_text(alloc: Global, table: &Timetable, asked: &WindowInquiry) -> Result<Vec<u8>, Memory>
+    ensures { IfOk result (λ text. IsProfileText table.now asked.now text.items) }
+{
+    let Some(origin) = table.place(asked.from.as_bytes()) else {
+        return unknown_text(alloc, asked.from.as_bytes());
+    };
+    let Some(target) = table.place(asked.to.as_bytes()) else {
+        return unknown_text(alloc, asked.to.as_bytes());
+    };
+    let window = window_between(alloc, table, origin, target, asked.first, asked.last)?;
+    profile_text(alloc, table, &window)
+}
+
 /// What is written for a request over the timetable of its day.
 pub fn answer(alloc: Global, table: &Timetable, request: &Request) -> Result<Vec<u8>, Memory>
     ensures { IfOk result (λ text. IsAnswer table.now request.now text.items) }
@@ -129,6 +190,7 @@ pub fn answer(alloc: Global, table: &Timetable, request: &Request) -> Result<Vec
             inquiry_text(alloc, table, inquiry, Method::Rounds)
         }
         Command::Ask(inquiry) => inquiry_text(alloc, table, inquiry, Method::Search),
+        Command::Profile(inquiry) => window_text(alloc, table, inquiry),
         Command::Build { list } => report(alloc, table, *list),
     }
 }

@@ -2,7 +2,7 @@
 ghost use Rattle.std.specs.Prelude.{◌≡◌, ℕ, List, map, string_bytes};
 ghost use Rattle.std.specs.List.{list_any};
 ghost use Rattle.router_cli.specs.Given.{IsWithinADay};
-ghost use Rattle.router_cli.specs.Words.{build_command, command_line, command_of, inquiry_command, inquiry_of, is_hyphened, list_command, request_from, request_line, request_of, travel_command};
+ghost use Rattle.router_cli.specs.Words.{build_command, command_line, command_of, inquiry_command, inquiry_of, is_hyphened, list_command, profile_command, window_inquiry_of, request_from, request_line, request_of, travel_command};
 
 use crate::given::{Given, option_named};
 use footpaths::Options;
@@ -30,6 +30,27 @@ impl<'a> Model for Inquiry<'a> {
     ghost invariant = { λ i. IsFileTime i.time };
 }
 
+/// From where to where journeys are asked for that leave within a window, both ends counted. The names are those of stops or
+/// stations.
+#[derive(Drop)]
+pub struct WindowInquiry<'a> {
+    pub from: &'a str,
+    pub to: &'a str,
+    pub first: Sec,
+    pub last: Sec,
+}
+
+impl<'a> Model for WindowInquiry<'a> {
+    ghost use Rattle.trip_rides.specs.Times.{IsFileTime};
+    ghost use Rattle.router_cli.specs.Inquiry.{WindowInquiryData};
+
+    ghost Value = { WindowInquiryData };
+
+    ghost view = { λ i. record { from = i.from.now; to = i.to.now; first = i.first; last = i.last } };
+
+    ghost invariant = { λ i. IsFileTime i.first × IsFileTime i.last };
+}
+
 /// What is asked for.
 #[derive(Drop)]
 pub enum Command<'a> {
@@ -37,6 +58,8 @@ pub enum Command<'a> {
     Direct(Inquiry<'a>),
     /// Every best trade-off between arrival and number of rides.
     Ask(Inquiry<'a>),
+    /// Every best trade-off between late departure, early arrival and number of rides.
+    Profile(WindowInquiry<'a>),
     /// What is built of the timetable: its sizes and counts, and where asked for, the list of the kept transfers.
     Build {
         /// Whether with the list.
@@ -108,6 +131,44 @@ fn travel_command<'a>(name: &str, from: &'a str, to: &'a str, time: &str) -> Opt
     inquiry_command(name, inquiry)
 }
 
+fn window_inquiry_of<'a>(
+    from: &'a str,
+    to: &'a str,
+    first: &str,
+    last: &str,
+) -> Option<WindowInquiry<'a>>
+    ensures { result ≡ window_inquiry_of from.now to.now first.now last.now }
+{
+    let Some(first) = time_of(first.as_bytes()) else {
+        return None;
+    };
+    match time_of(last.as_bytes()) {
+        Some(last) => Some(WindowInquiry {
+            from,
+            to,
+            first,
+            last,
+        }),
+        None => None,
+    }
+}
+
+fn profile_command<'a>(
+    name: &str,
+    from: &'a str,
+    to: &'a str,
+    first: &str,
+    last: &str,
+) -> Option<Command<'a>>
+    ensures { result ≡ profile_command name.now from.now to.now first.now last.now }
+{
+    if name != "profile" {
+        return None;
+    }
+    let inquiry = window_inquiry_of(from, to, first, last)?;
+    Some(Command::Profile(inquiry))
+}
+
 fn build_command<'a>(name: &str, list: bool) -> Option<Command<'a>>
     ensures { result ≡ build_command name.now list }
 {
@@ -136,6 +197,15 @@ fn command_of<'a>(name: &str, words: &'a [String]) -> Option<Command<'a>>
             words[0].as_str(),
             words[1].as_str(),
             words[2].as_str(),
+        );
+    }
+    if words.len() == 4 {
+        return profile_command(
+            name,
+            words[0].as_str(),
+            words[1].as_str(),
+            words[2].as_str(),
+            words[3].as_str(),
         );
     }
     if words.len() > 1 {
@@ -214,7 +284,7 @@ fn request_from(given: Given, words: &[String]) -> Option<Request<'_>>
 
 /// What the words mean: `[--change SECS] [--station SECS] [--close] [--plain] COMMAND WORDS`, each option at most once and in any order, where
 /// no word of the command begins with a hyphen. The commands are `direct DIR DATE FROM TO TIME`, `ask DIR DATE FROM TO TIME`,
-/// `build DIR DATE` and `build DIR DATE list`.
+/// `profile DIR DATE FROM TO FIRST LAST`, `build DIR DATE` and `build DIR DATE list`.
 pub fn request_of(words: &[String]) -> Option<Request<'_>>
     ensures { result ≡ request_of (map string_bytes words.now) }
 {

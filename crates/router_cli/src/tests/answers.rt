@@ -150,6 +150,58 @@ arrive 08:30:00 rides 2
     Ok(())
 }
 
+/// The example with a fourth trip, T6.
+const MORE_TRIPS: &str = "route_id,service_id,trip_id\nR,S,T1\nR,S,T2\nR,S,T3\nR,S,T6\n";
+
+const MORE_TIMES: &str = "trip_id,arrival_time,departure_time,stop_id,stop_sequence
+T1,08:00:00,08:00:00,A,1
+T1,08:10:00,08:10:00,B,2
+T1,08:20:00,08:20:00,C,3
+T2,08:12:00,08:12:00,B,1
+T2,08:30:00,08:30:00,D,2
+T3,08:05:00,08:05:00,A,1
+T3,08:50:00,08:50:00,D,2
+T6,08:06:00,08:06:00,A,1
+T6,08:40:00,08:40:00,D,2
+";
+
+#[test]
+fn profiles_are_given(rt: HostRuntime) -> Result<(), Fail> {
+    for (line, out) in [
+        (
+            "profile f1 20260302 A D 07:00:00 08:05:00",
+            "leave 08:05:00 arrive 08:50:00 rides 1
+  ride T3 A 08:05:00 D 08:50:00
+leave 08:00:00 arrive 08:30:00 rides 2
+  ride T1 A 08:00:00 B 08:10:00
+  ride T2 B 08:12:00 D 08:30:00
+",
+        ),
+        (
+            "profile f1 20260302 A D 08:05:00 08:05:00",
+            "leave 08:05:00 arrive 08:50:00 rides 1\n  ride T3 A 08:05:00 D 08:50:00\n",
+        ),
+        ("profile f1 20260302 A D 08:05:00 08:00:00", "no journey\n"),
+        (
+            "profile f1 20260302 A Q 08:05:00 08:00:00",
+            "unknown stop Q\n",
+        ),
+    ] {
+        assert_answered(&rt, rt.alloc(), &[], line, out)?;
+    }
+    let changed = [("trips.txt", MORE_TRIPS), ("stop_times.txt", MORE_TIMES)];
+    for (line, out) in [
+        ("profile f1 20260302 A D 08:05:00 08:05:00", "no journey\n"),
+        (
+            "profile f1 20260302 A D 08:05:00 08:06:00",
+            "leave 08:06:00 arrive 08:40:00 rides 1\n  ride T6 A 08:06:00 D 08:40:00\n",
+        ),
+    ] {
+        assert_answered(&rt, rt.alloc(), &changed, line, out)?;
+    }
+    Ok(())
+}
+
 #[test]
 fn footpaths_are_closed(rt: HostRuntime) -> Result<(), Fail> {
     let changed = [(
