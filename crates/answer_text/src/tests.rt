@@ -1,11 +1,7 @@
 //! Examples of each form of text, and that calls that take memory succeed with ample memory.
-ghost use Rattle.std.specs.Prelude.{◌≡◌, []};
-
-use crate::{arrival_text, fault_text, offers_text, time_text, unknown_text};
+use crate::{arrival_text, fault_text, time_text, unknown_text};
 use gtfs_rows::{FeedFault, FeedFile, Many, Name, Spot};
-use std::alloc::Global;
 use std::test::Fail;
-use tb_base::{Memory, Offer, Parts, Sec, Slot, Timetable};
 
 #[test]
 fn times_and_faults_are_shown(rt: HostRuntime) -> Result<(), Fail> {
@@ -52,51 +48,6 @@ fn times_and_faults_are_shown(rt: HostRuntime) -> Result<(), Fail> {
     assert_eq!(rt;
         unknown_text(rt.alloc(), b"Q")?.as_slice(),
         b"unknown stop Q\n".as_slice()
-    );
-    Ok(())
-}
-
-// A timetable without stops and trips.
-fn nowhere(alloc: Global) -> Result<Timetable, Memory> {
-    Timetable::new(
-        alloc,
-        Parts {
-            stops: Vec::new(alloc),
-            stations: Vec::new(alloc),
-            trips: Vec::new(alloc),
-            change: Vec::new(alloc),
-            paths: Vec::new(alloc),
-        },
-    )
-}
-
-// An offer without legs.
-fn bare(alloc: Global, leave: Sec, arrive: Sec, rides: u32) -> Offer
-    ensures { result.legs ≡ [] }
-{
-    Offer {
-        slot: Slot {
-            leave,
-            arrive,
-            rides,
-        },
-        legs: Vec::new(alloc),
-    }
-}
-
-#[test]
-fn offers_are_shown(rt: HostRuntime) -> Result<(), Fail> {
-    let table = nowhere(rt.alloc())?;
-    let mut offers = Vec::new(rt.alloc());
-    assert_eq!(rt;
-        offers_text(rt.alloc(), &table, offers.as_slice())?.as_slice(),
-        b"no journey\n".as_slice()
-    );
-    offers.push(bare(rt.alloc(), 29_100, 31_800, 1))?;
-    offers.push(bare(rt.alloc(), -60, 360_000, 12))?;
-    assert_eq!(rt;
-        offers_text(rt.alloc(), &table, offers.as_slice())?.as_slice(),
-        b"leave 08:05:00 arrive 08:50:00 rides 1\nleave -00:01:00 arrive 100:00:00 rides 12\n".as_slice()
     );
     Ok(())
 }
