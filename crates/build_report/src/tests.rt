@@ -93,10 +93,10 @@ fn timetable(
             "service_id,date,exception_type\nS,20260302,1\n",
         ),
         ("stop_times.txt", feed.times),
-        ("transfers.txt", transfers.as_str()),
     ] {
         files.push(file(alloc, name, text)?)?;
     }
+    files.push(file(alloc, "transfers.txt", transfers.as_str())?)?;
     let mut folder = MemFolder::new(files, Vec::new(alloc));
     let day = day_of(b"20260302".as_slice()).ok().ok_or("no day")?;
     let options = Options {
