@@ -12,8 +12,9 @@ offers_text-requires c =
 
 pub returns : goal.returns
 returns c =
-    let kept = kept_changes c.args.table.now c.in_ok-lines.lines.lines c.in_ok-lines.ensures.lines (listed c.in_ok-set.set) c.in_ok-set.ensures.hops OfferData.legs
-    c.in_ok-offers.offers.items c.in_ok-offers.ensures.hops in
+    let kept = kept_changes c.args.table.now c.in_ok-lines.lines.lines c.in_ok-lines.ensures.lines (listed c.new-view.result.2)
+    (λ t i. ap (λ set. listed set t i) c.new-view.ensures.set ∙ c.in_ok-set.ensures.hops t i)
+    OfferData.legs c.in_ok-offers.offers.items c.in_ok-offers.ensures.hops in
     if_ok-map c.offers_text.result _ _
     (λ text same. record {
       offers = c.in_ok-offers.offers.items;
