@@ -1,9 +1,14 @@
-use Rattle.std.proofs.Common.{◌≡◌, ◌∙◌, ap}
+use Rattle.std.proofs.Common.{◌≡◌, ◌∙◌, ap, subst, sym}
 use Rattle.answer_text.specs.Journeys.{offers_text}
 use Rattle.tb_base.specs.OutSets.{listed}
 use Rattle.tb_base.specs.Profiles.{OfferData}
+use Rattle.tb_base.specs.Sufficiency.{AreSufficient}
 use Rattle.router_cli.proofs.AnswerLemmas.{numbers_of_offers, kept_changes, if_ok-map}
 use Rattle.router_cli.proofs.answers.profile_text.Goals as goal
+
+pub profile-requires-clause-sufficient : goal.profile-requires-clause-sufficient
+profile-requires-clause-sufficient c =
+    subst (λ set. AreSufficient c.args.table.now (λ t i. listed set t i)) (sym c.new-view.ensures.set) c.in_ok-set.ensures.sufficient
 
 pub offers_text-requires : goal.offers_text-requires
 offers_text-requires c =
