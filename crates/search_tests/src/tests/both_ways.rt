@@ -132,11 +132,16 @@ fn a_town(alloc: Global) -> Result<Timetable, Memory> {
     town(alloc)
 }
 
+// The timetable of the ring, of which a test knows nothing either.
+fn ring(alloc: Global) -> Result<Timetable, Fail> {
+    timetable(alloc, RING)
+}
+
 #[test]
 fn same_values_both_ways(rt: HostRuntime) -> Result<(), Fail> {
     let alloc = rt.alloc();
     assert_same_everywhere(&rt, alloc, &a_town(alloc)?)?;
-    assert_same_everywhere(&rt, alloc, &timetable(alloc, RING)?)
+    assert_same_everywhere(&rt, alloc, &ring(alloc)?)
 }
 
 fn value(arrive: Sec, rides: u32) -> Option<Value> {
@@ -147,7 +152,7 @@ fn value(arrive: Sec, rides: u32) -> Option<Value> {
 #[test]
 fn values_round_the_ring(rt: HostRuntime) -> Result<(), Fail> {
     let alloc = rt.alloc();
-    let table = timetable(alloc, RING)?;
+    let table = ring(alloc)?;
     assert!(rt; table.stop_count() == 6);
     for (from, to, leave, count, last) in [
         (0, 5, 28_800, 2, value(31_800, 2)),

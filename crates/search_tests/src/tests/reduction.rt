@@ -2,6 +2,7 @@
 use super::{Feed, timetable};
 use line_split::split;
 use std::alloc::Global;
+use std::process::Abort;
 use std::test::Fail;
 use tb_base::{Memory, Timetable, Transfer, TripNo};
 use transfer_make::make;
@@ -9,6 +10,8 @@ use transfer_reduce::{Labels, reduce};
 use uturn_cut::cut;
 
 const STOPS: &str = "stop_id\nP\nQ\nR\n";
+
+const HEADER: &str = "from_stop_id,to_stop_id,transfer_type,min_transfer_time\n";
 
 const TRIPS: &str = "service_id,trip_id\nS,t\nS,u\n";
 
@@ -61,29 +64,62 @@ fn reduced(alloc: Global, table: &Timetable) -> Result<Transfers, Memory> {
     Ok(Transfers { before, kept })
 }
 
-// With a footpath from R to Q a hop is kept where it is sooner than staying at R and walking: at Q, or for a change there.
-// The last has no footpath.
-#[test]
-fn hops_are_kept_where_they_are_sooner(rt: HostRuntime) -> Result<(), Fail> {
-    for (times, transfers, count) in [
-        (ONWARD, "R,Q,2,60\n", 0),
-        (ONWARD, "R,Q,2,60\nQ,Q,2,30\n", 0),
-        (ONWARD, "R,Q,2,120\n", 1),
-        (ONWARD, "R,Q,2,120\nQ,Q,2,60\n", 1),
-        (AND_BACK, "", 1),
-    ] {
-        let header = "from_stop_id,to_stop_id,transfer_type,min_transfer_time\n";
-        let paths = format!(in rt.alloc(); "{header}{transfers}")?;
-        let feed = Feed {
+// The timetable of the first times, with these change times and footpaths. It tells nothing of the texts.
+fn onward(alloc: Global, transfers: &str) -> Result<Timetable, Fail> {
+    let transfers = format!(in alloc; "{HEADER}{transfers}")?;
+    timetable(
+        alloc,
+        Feed {
             stops: STOPS,
             trips: TRIPS,
-            times,
-            transfers: paths.as_str(),
-        };
-        let found = reduced(rt.alloc(), &timetable(rt.alloc(), feed)?)?;
-        assert_eq!(rt; found.before.as_slice(), [HOP].as_slice(), "{transfers}");
-        let kept = vec![in rt.alloc(); HOP; count]?;
-        assert_eq!(rt; found.kept.as_slice(), kept.as_slice(), "{transfers}");
+            times: ONWARD,
+            transfers: transfers.as_str(),
+        },
+    )
+}
+
+// The timetable of the other times, without a footpath.
+fn and_back(alloc: Global) -> Result<Timetable, Fail> {
+    timetable(
+        alloc,
+        Feed {
+            stops: STOPS,
+            trips: TRIPS,
+            times: AND_BACK,
+            transfers: HEADER,
+        },
+    )
+}
+
+// Asserts that the hop is the only transfer that is no U-turn, and whether it is kept.
+fn assert_hop<R: Abort>(
+    rt: &R,
+    alloc: Global,
+    table: &Timetable,
+    is_kept: bool,
+) -> Result<(), Fail> {
+    let found = reduced(alloc, table)?;
+    assert_eq!(rt; found.before.as_slice(), [HOP].as_slice());
+    if is_kept {
+        assert_eq!(rt; found.kept.as_slice(), [HOP].as_slice());
+    } else {
+        assert!(rt; found.kept.is_empty());
     }
     Ok(())
+}
+
+// With a footpath from R to Q the hop is kept where it is sooner than staying at R and walking: at Q, or for a change
+// there. The last timetable has no footpath.
+#[test]
+fn hops_are_kept_where_they_are_sooner(rt: HostRuntime) -> Result<(), Fail> {
+    let alloc = rt.alloc();
+    for (transfers, is_kept) in [
+        ("R,Q,2,60\n", false),
+        ("R,Q,2,60\nQ,Q,2,30\n", false),
+        ("R,Q,2,120\n", true),
+        ("R,Q,2,120\nQ,Q,2,60\n", true),
+    ] {
+        assert_hop(&rt, alloc, &onward(alloc, transfers)?, is_kept)?;
+    }
+    assert_hop(&rt, alloc, &and_back(alloc)?, true)
 }
