@@ -6,6 +6,7 @@ use tb_io::MemFolder;
 use trip_table::{Options, read_day};
 
 mod both_ways;
+mod profiles;
 mod reduction;
 
 /// Files by their paths.

@@ -62,7 +62,7 @@ fn values_of(alloc: Global, choices: &[Choice]) -> Result<Vec<Value>, AllocError
 }
 
 // The query between two stops.
-fn between(
+pub fn between(
     alloc: Global,
     table: &Timetable,
     from: u32,
@@ -133,7 +133,7 @@ fn a_town(alloc: Global) -> Result<Timetable, Memory> {
 }
 
 // The timetable of the ring, of which a test knows nothing either.
-fn ring(alloc: Global) -> Result<Timetable, Fail> {
+pub fn ring(alloc: Global) -> Result<Timetable, Fail> {
     timetable(alloc, RING)
 }
 
