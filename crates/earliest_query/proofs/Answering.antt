@@ -10,14 +10,15 @@ use Rattle.tb_base.specs.TimetableData.{TimetableData, arrival_at, departure_at,
 use Rattle.tb_base.specs.Walking.{walk}
 use Rattle.tb_base.specs.Journeys.{Ride, Leads, walk_secs}
 use Rattle.tb_base.specs.BestValues.{IsAttained, IsBest, IsStep, QueryData, value_of}
-use Rattle.tb_base.specs.Search.{IsCovered, IsFound, IsReached, IsSearched, RoundSegment, segment_at}
+use Rattle.tb_base.specs.Search.{IsCovered, IsFound, IsReached, RoundSegment, segment_at}
 use Rattle.tb_base.specs.Soundness.{IsSound}
 use Rattle.tb_base.specs.Sufficiency.{AreSufficient}
 use Rattle.tb_base.proofs.Ordered.{Member, Member-from_Contains, Contains-from_Member, AllPairs-tail}
 use Rattle.segment_queue.proofs.Distinct.{before_member, pairs_from_head}
 use Rattle.earliest_query.proofs.LineBoarding.{member_map_back}
 use Rattle.tb_laws.proofs.ReachedLaws.{reached_by_hop, reached_first, reached_value}
-use Rattle.tb_laws.proofs.SearchLaws.{best_value_found}
+use Rattle.tb_laws.specs.Pruning.{IsLate, IsPrunedSearch}
+use Rattle.tb_laws.proofs.SearchLaws.{pruned_value_found}
 use Rattle.tb_laws.proofs.StaircaseLaws.{best_values_from_staircase}
 use Rattle.tb_laws.proofs.Triangles.{walk_secs-is}
 use Rattle.tb_laws.proofs.UTurnLaws.{some}
@@ -192,7 +193,23 @@ module _ (T : TimetableData) (lines : List (List ℕ)) (hops : ℕ → ℕ → L
   long : length rounds ≡ length D.segments
   long = length-round_segments D.segments
 
-  pub searched : IsSearched T hops Q.from Q.leave rounds
+  abbrev values : List Value
+  values = map (λ (h : Hit). h.value) D.hits
+
+  value_member : (h : Hit) (hs : List Hit) → Member h hs → Member h.value (map (λ (x : Hit). x.value) hs)
+  value_member h [] m = m
+  value_member h (x ∷ xs) (inl e) = inl (ap (λ (y : Hit). y.value) e)
+  value_member h (x ∷ xs) (inr m) = inr (value_member h xs m)
+
+  -- a hit that is no worse makes it late
+  late_by : (time : ℤ) (rides : ℕ) → IsHit D.hits (record { arrive = time; rides = rides }) → IsLate values time rides
+  late_by time rides hit = (hit.by.value, Contains-from_Member hit.by.value values (value_member hit.by D.hits (Member-from_Contains hit.by D.hits hit.one)), hit.no_worse)
+
+  -- the value of each hit is attained
+  all_attained : All (IsAttained T Q) values
+  all_attained = All-map (IsAttained T Q) (λ (h : Hit). h.value) D.hits (All-weaker (IsTracedHit T Q D.segments) (λ (h : Hit). IsAttained T Q h.value) (λ h t. attained h t) D.hits ridden.traced)
+
+  pub searched : IsPrunedSearch T hops Q.from Q.leave values rounds
   searched = record {
     reached = λ n h. let inside : n < length D.segments = omega (arith, h, long) in
         subst (λ t. IsReached T Q.from Q.leave (round_of D.segments n) t (segment_at rounds n).board) (sym (trip_of D.segments n inside))
@@ -203,8 +220,10 @@ module _ (T : TimetableData) (lines : List (List ℕ)) (hops : ℕ → ℕ → L
         (ridden.boarded choice.0.place choice.0.below (stop_at T t b) choice.0.secs choice.0.walks (record { nearest = choice.0.nearest; first = choice.0.first }) t b boards not_last refl (sooner choice.0.secs secs (departure_at T t b) choice.1 in_time));
     goes_on = λ n i h inside onward within in_set.
         let below : n < length D.segments = omega (arith, inside, long) in
-        subst (λ m. IsCovered T rounds m (suc (segment_at rounds n).round) h.trip h.at) (sym long)
-        (ridden.followed n i below (record { onward = omega (arith, onward, board_of D.segments n below); within = omega (arith, within, end_of D.segments n below) }) h (subst (λ t. Contains (hops t i) h) (trip_of D.segments n below) in_set));
+        elim (ridden.followed n i below (record { onward = omega (arith, onward, board_of D.segments n below); within = omega (arith, within, end_of D.segments n below) })) [
+          | inl followed ↦ inl (subst (λ m. IsCovered T rounds m (suc (segment_at rounds n).round) h.trip h.at) (sym long) (followed h (subst (λ t. Contains (hops t i) h) (trip_of D.segments n below) in_set)))
+          | inr hit ↦ inr (subst (λ t. IsLate values (arrival_at T t i) (segment_at rounds n).round) (sym (trip_of D.segments n below)) (late_by (arrival_at T (segment_of D.segments n).trip i) (round_of D.segments n) hit))
+        ];
     ends = λ n inside.
         let below : n < length D.segments = omega (arith, inside, long) in
         subst (λ t. (length (events_of T t) ≤ suc (segment_at rounds n).end) ⊎ IsCovered T rounds n (segment_at rounds n).round t (segment_at rounds n).end) (sym (trip_of D.segments n below))
@@ -213,14 +232,6 @@ module _ (T : TimetableData) (lines : List (List ℕ)) (hops : ℕ → ℕ → L
     where
       sooner : (a b : ℕ) (d : ℤ) → a ≤ b → (Q.leave +ℤ pos b) ≤ℤ d → (Q.leave +ℤ pos a) ≤ℤ d
       sooner a b d h k = omega (arith, ints, h, k)
-
-  abbrev values : List Value
-  values = map (λ (h : Hit). h.value) D.hits
-
-  value_member : (h : Hit) (hs : List Hit) → Member h hs → Member h.value (map (λ (x : Hit). x.value) hs)
-  value_member h [] m = m
-  value_member h (x ∷ xs) (inl e) = inl (ap (λ (y : Hit). y.value) e)
-  value_member h (x ∷ xs) (inr m) = inr (value_member h xs m)
 
   -- a best value that some hit is no worse than is the value of the hit
   best_hit : (v : Value) → IsBest T Q v → IsHit D.hits v → Contains values v
@@ -246,7 +257,7 @@ module _ (T : TimetableData) (lines : List (List ℕ)) (hops : ℕ → ℕ → L
             let j = best.attained.0 in
             best_hit v best (from_walk j.origin j.rides j.target best.attained.1.journey.origin best.attained.1.journey.target best.attained.1.journey.leads best.attained.1.value (sym e))
         by_rides (suc k) e =
-            let found : IsFound T Q.to rounds v = best_value_found T hops Q rounds searched v best sufficient (omega (arith, e)) in
+            let found : IsFound T Q.to rounds v = pruned_value_found T hops Q values rounds sound searched all_attained sufficient v best (omega (arith, e)) in
             let n : ℕ = found.segment in
             let below : n < length D.segments = omega (arith, found.inside, long) in
             let trip : (segment_at rounds n).trip ≡ (segment_of D.segments n).trip = trip_of D.segments n below in
@@ -271,7 +282,7 @@ module _ (T : TimetableData) (lines : List (List ℕ)) (hops : ℕ → ℕ → L
     answered = record {
       traced = record { sound = ridden.queue.step.segments; entered = ridden.queue.entered; hits = ridden.traced };
       by_hops = ridden.queue.by_hops;
-      best = best_values_from_staircase T Q values sound (All-map (IsAttained T Q) (λ (h : Hit). h.value) D.hits (All-weaker (IsTracedHit T Q D.segments) (λ (h : Hit). IsAttained T Q h.value) (λ h t. attained h t) D.hits ridden.traced)) complete (map_pairs D.hits ridden.stairs);
+      best = best_values_from_staircase T Q values sound all_attained complete (map_pairs D.hits ridden.stairs);
     }
 
 -- the desk when the first rides have been boarded

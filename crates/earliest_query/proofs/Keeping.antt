@@ -17,7 +17,7 @@ use Rattle.segment_queue.specs.Queue.{DeskData, IsInStep}
 use Rattle.segment_queue.specs.Traced.{IsTracedHit, round_of, segment_of}
 use Rattle.segment_queue.proofs.Distinct.{of_member}
 use Rattle.earliest_query.specs.Choices.{ArrivesBy, hits_of, last_of}
-use Rattle.earliest_query.specs.UnderWay.{Covers, Extends, IsBounded, IsFollowed, IsHit, IsImproved, IsNewHit, IsOffered, IsQueue}
+use Rattle.earliest_query.specs.UnderWay.{Covers, Extends, IsBounded, IsDone, IsFollowed, IsHit, IsImproved, IsNewHit, IsOffered, IsQueue}
 use Rattle.earliest_query.specs.Ridden.{IsRidden}
 use Rattle.earliest_query.proofs.Growing.{extends-long, extends-reached, extends-round, extends-segment}
 use Rattle.earliest_query.proofs.Following.{followed-kept}
@@ -145,7 +145,7 @@ module _ (T : TimetableData) (Q : QueryData) (E : DeskData) (hits : List Hit) (r
   adds_best (Some h) (inr new) = adds_new (last_of hits) h refl new
 
 module _ (T : TimetableData) (lines : List (List ℕ)) (hops : ℕ → ℕ → List Hop) (Q : QueryData) (D E : DeskData) (best : Option Hit) (from to round : ℕ) (ridden : IsRidden T lines hops Q D from round) (to_is : to ≡ length D.segments) (below : from < length D.segments)
-    (queue : IsQueue T lines hops Q E (suc round)) (extends : Extends D E (suc round)) (followed : (n i : ℕ) → from ≤ n → n < to → Covers D n i → IsFollowed T hops E n i) (bounded : (n i : ℕ) → from ≤ n → n < to → Covers D n i → IsBounded T Q D best n i)
+    (queue : IsQueue T lines hops Q E (suc round)) (extends : Extends D E (suc round)) (followed : (n i : ℕ) → from ≤ n → n < to → Covers D n i → IsDone T hops E best n i) (bounded : (n i : ℕ) → from ≤ n → n < to → Covers D n i → IsBounded T Q D best n i)
     (adds : Adds T Q E D.hits round best (hits_of round best)) where
   abbrev added : List Hit
   added = hits_of round best
@@ -172,6 +172,27 @@ module _ (T : TimetableData) (lines : List (List ℕ)) (hops : ℕ → ℕ → L
       subst (λ (s : Segment). IsHit (D.hits ++ added) (record { arrive = arrival_at T s.trip i +ℤ pos secs; rides = round_of E.segments n })) (sym (same n h))
       (subst (λ r. IsHit (D.hits ++ added) (record { arrive = arrival_at T (segment_of D.segments n).trip i +ℤ pos secs; rides = r })) (sym (same_round n h)) hit)
 
+  arrival_of_old : (n i : ℕ) → n < to → IsHit (D.hits ++ added) (record { arrive = arrival_at T (segment_of D.segments n).trip i; rides = round_of D.segments n }) →
+      IsHit (D.hits ++ added) (record { arrive = arrival_at T (segment_of E.segments n).trip i; rides = round_of E.segments n })
+  arrival_of_old n i h hit =
+      subst (λ (s : Segment). IsHit (D.hits ++ added) (record { arrive = arrival_at T s.trip i; rides = round_of E.segments n })) (sym (same n h))
+      (subst (λ r. IsHit (D.hits ++ added) (record { arrive = arrival_at T (segment_of D.segments n).trip i; rides = r })) (sym (same_round n h)) hit)
+
+  abbrev DoneNow : ℕ → ℕ → Type 0
+  DoneNow n i = IsFollowed T hops (record E { hits = D.hits ++ added }) n i ⊎ IsHit (D.hits ++ added) (record { arrive = arrival_at T (segment_of E.segments n).trip i; rides = round_of E.segments n })
+
+  -- what was done before this round
+  done_before : (n i : ℕ) → n < to → IsFollowed T hops D n i ⊎ IsHit D.hits (record { arrive = arrival_at T (segment_of D.segments n).trip i; rides = round_of D.segments n }) → n < length D.segments → DoneNow n i
+  done_before n i h (inl followed) inside = inl (followed-kept T hops D E (suc round) n i extends inside followed)
+  done_before n i h (inr hit) inside = inr (arrival_of_old n i h (hit-more D.hits added (arrival_at T (segment_of D.segments n).trip i) (round_of D.segments n) hit))
+
+  -- what was done in this round
+  done_now : (n i : ℕ) → n < to → from ≤ n → IsDone T hops E best n i → DoneNow n i
+  done_now n i h now (inl followed) = inl followed
+  done_now n i h now (inr late) =
+      inr (subst (λ r. IsHit (D.hits ++ added) (record { arrive = arrival_at T (segment_of E.segments n).trip i; rides = r })) (sym (same_round n h ∙ ridden.this_round n now (omega (arith, h, to_is))))
+      (adds.hit (arrival_at T (segment_of E.segments n).trip i) late))
+
   next : suc round ≡ round + 1
   next = omega arith
 
@@ -188,8 +209,9 @@ module _ (T : TimetableData) (lines : List (List ℕ)) (hops : ℕ → ℕ → L
     boarded = λ place h. λ stop secs walks first. λ t b boards not_last here in_time.
         extends-reached T D E (suc round) (length D.segments) (length E.segments) 1 1 t b extends (ridden.boarded place h stop secs walks first t b boards not_last here in_time) (omega arith) (extends-long D E (suc round) extends) (omega arith);
     followed = λ n i h covers. elim (ridden_or_now n) [
-      | inl old ↦ followed-kept T hops D E (suc round) n i extends (omega (arith, h, to_is)) (ridden.followed n i old (covers-kept E D n i (same n h) (record { onward = covers.onward; within = covers.within })))
-      | inr now ↦ followed n i now h (covers-kept E D n i (same n h) (record { onward = covers.onward; within = covers.within }))
+      | inl old ↦ done_before n i h (ridden.followed n i old (covers-kept E D n i (same n h) (record { onward = covers.onward; within = covers.within })))
+          (omega (arith, h, to_is))
+      | inr now ↦ done_now n i h now (followed n i now h (covers-kept E D n i (same n h) (record { onward = covers.onward; within = covers.within })))
     ];
     walks = λ p q secs a b w. hit-more D.hits added (Q.leave +ℤ pos secs) 0 (ridden.walks p q secs a b w);
     values = λ n i q secs h covers offer. value_of_old n i q secs h (elim (ridden_or_now n) [

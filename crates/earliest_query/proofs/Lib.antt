@@ -9,3 +9,4 @@ pub mod StopSums
 pub mod FromOrigins
 pub mod Keeping
 pub mod Answering
+mod Lateness

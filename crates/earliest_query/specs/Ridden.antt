@@ -1,5 +1,5 @@
 -- A search whose first segments have been ridden.
-use Rattle.std.specs.Prelude.{◌≡◌, ℕ, ◌+◌, ◌<◌, ◌≤◌, List, length, Some, All, AllPairs, Contains, pos, ◌+ℤ◌}
+use Rattle.std.specs.Prelude.{◌≡◌, ℕ, ◌+◌, ◌<◌, ◌≤◌, ◌⊎◌, List, length, Some, All, AllPairs, Contains, pos, ◌+ℤ◌}
 use Rattle.tb_base.specs.declared.transfer.Hop.{Hop}
 use Rattle.tb_base.specs.TimetableData.{TimetableData, arrival_at}
 use Rattle.tb_base.specs.Walking.{walk}
@@ -18,7 +18,9 @@ pub record IsRidden (T : TimetableData) (lines : List (List ℕ)) (hops : ℕ �
   pub this_round : (n : ℕ) → from ≤ n → n < length D.segments → round_of D.segments n ≡ round
   -- whoever may be boarded first has been reached
   pub boarded : (place : ℕ) → place < length Q.from → AreBoarded T Q D place
-  pub followed : (n i : ℕ) → n < from → Covers D n i → IsFollowed T hops D n i
+  -- each hop of theirs has been followed, or some hit is no worse than to get there
+  pub followed : (n i : ℕ) → n < from → Covers D n i →
+      IsFollowed T hops D n i ⊎ IsHit D.hits (record { arrive = arrival_at T (segment_of D.segments n).trip i; rides = round_of D.segments n })
   -- some hit is no worse than each walk, and than to alight where the segments cover
   pub walks : (p q secs : ℕ) → Contains Q.from p → Contains Q.to q → walk T p q ≡ Some secs → IsHit D.hits (record { arrive = Q.leave +ℤ pos secs; rides = 0 })
   pub values : (n i q secs : ℕ) → n < from → Covers D n i → IsOffered T Q D n i q secs →

@@ -46,6 +46,10 @@ pub record Covers (D : DeskData) (n i : ℕ) : Type 0 where
 abbrev pub IsFollowed : TimetableData → (ℕ → ℕ → List Hop) → DeskData → ℕ → ℕ → Type 0
 IsFollowed T hops D n i = (h : Hop) → Contains (hops (segment_of D.segments n).trip i) h → IsReachedBy T D (length D.segments) (suc (round_of D.segments n)) h.trip h.at
 
+-- each hop from index i of segment n has been followed, or one gets there no earlier than the best hit so far arrives
+abbrev pub IsDone : TimetableData → (ℕ → ℕ → List Hop) → DeskData → Option Hit → ℕ → ℕ → Type 0
+IsDone T hops D best n i = IsFollowed T hops D n i ⊎ ArrivesBy best (arrival_at T (segment_of D.segments n).trip i)
+
 -- to alight from segment n at index i, and walk to a target
 pub record IsOffered (T : TimetableData) (Q : QueryData) (D : DeskData) (n i q secs : ℕ) : Type 0 where
   pub alights : MayAlight T (segment_of D.segments n).trip i

@@ -110,7 +110,7 @@ impl<S: Scan> Search<'_, S> {
         ensures ridden { IsRidden (S.table self.now.scan.now) (S.lines self.now.scan.now) (S.hops self.now.scan.now) self.now.query.now desk.new result (round + 1) }
         ensures further { from < result }
         ensures most { result ≤ 10000000 }
-        ensures steps { steps.new + covered_before desk.old.segments from ≡ steps.old + covered_before desk.new.segments result }
+        ensures steps { steps.new + covered_before desk.old.segments from ≤ steps.old + covered_before desk.new.segments result }
     {
         let to = self.count(desk);
         let last = last_hit(desk);
@@ -124,7 +124,7 @@ impl<S: Scan> Search<'_, S> {
         requires ridden { IsRidden (S.table self.now.scan.now) (S.lines self.now.scan.now) (S.hops self.now.scan.now) self.now.query.now desk.old 0 1 }
         requires sufficient { AreSufficient (S.table self.now.scan.now) (S.hops self.now.scan.now) }
         ensures ridden { (rounds : ℕ) × IsRidden (S.table self.now.scan.now) (S.lines self.now.scan.now) (S.hops self.now.scan.now) self.now.query.now desk.new (length desk.new.segments) rounds }
-        ensures steps { steps.new ≡ steps.old + covered_before desk.new.segments (length desk.new.segments) }
+        ensures steps { steps.new ≤ steps.old + covered_before desk.new.segments (length desk.new.segments) }
     {
         let mut from = 0;
         let mut round = 1;

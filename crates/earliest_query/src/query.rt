@@ -1,7 +1,7 @@
-ghost use Rattle.std.specs.Prelude.{◌+◌, ◌<◌, ◌≤◌, All, length, pos, ◌≤ℤ◌};
-ghost use Rattle.tb_base.specs.Search.{IsSearched};
+ghost use Rattle.std.specs.Prelude.{◌+◌, ◌<◌, ◌≤◌, All, length, map, pos, ◌≤ℤ◌};
 ghost use Rattle.tb_base.specs.Sufficiency.{AreSufficient};
 ghost use Rattle.tb_base.specs.TimetableData.{event_total};
+ghost use Rattle.tb_laws.specs.Pruning.{IsPrunedSearch};
 ghost use Rattle.segment_queue.specs.Queue.{Fits, IsInStep};
 ghost use Rattle.segment_queue.specs.Traced.{IsAnswered, round_segments};
 ghost use Rattle.earliest_query.specs.Choices.{lines_near};
@@ -13,8 +13,9 @@ use std::sync::ledger::Ledger;
 use tb_base::Query;
 
 /// Searches over a set of hops that is sufficient, and leaves the answer in the desk: its hits have exactly the best values of
-/// the query, and its segments go by hops of the set. It stops at no target, so the segments serve every stop. It takes no
-/// memory, and steps at most once for each event and once for each line index at the stops with a walk from an origin.
+/// the query, and its segments go by hops of the set. It goes on from everywhere but where it arrives no earlier than a hit with no
+/// more rides; so for a query without targets the segments serve every stop. It takes no memory, and steps at most once for each
+/// event and once for each line index at the stops with a walk from an origin.
 pub fn earliest<S: Scan, L: Ledger>(scan: &S, query: &Query, desk: &mut Desk, steps: &mut Steps<L>)
     requires fits { Fits (S.table scan.now) desk.old }
     requires origins { All (λ p. p < length (S.table scan.now).stops) query.now.from }
@@ -22,7 +23,7 @@ pub fn earliest<S: Scan, L: Ledger>(scan: &S, query: &Query, desk: &mut Desk, st
     requires sufficient { AreSufficient (S.table scan.now) (S.hops scan.now) }
     ensures step { IsInStep (S.table scan.now) (S.lines scan.now) desk.new }
     ensures answered { IsAnswered (S.table scan.now) (S.hops scan.now) query.now desk.new }
-    ensures searched { IsSearched (S.table scan.now) (S.hops scan.now) query.now.from query.now.leave (round_segments desk.new.segments) }
+    ensures searched { IsPrunedSearch (S.table scan.now) (S.hops scan.now) query.now.from query.now.leave (map (λ h. h.value) desk.new.hits) (round_segments desk.new.segments) }
     ensures steps { steps.new ≤ steps.old + (event_total (S.table scan.now) + lines_near (S.table scan.now) (S.lines scan.now) query.now.from) }
 {
     let _shape = scan.shape();

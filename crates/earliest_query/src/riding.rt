@@ -1,9 +1,9 @@
-ghost use Rattle.std.specs.Prelude.{◌≡◌, ◌+◌, ◌-◌, ◌<◌, ◌≤◌, ◌++◌, ◌∷◌, ℕ, suc, Option, Some, All, IsTrue, IfSome, MatchBool, length, slice_get, pos, ◌≤ℤ◌};
+ghost use Rattle.std.specs.Prelude.{◌≡◌, ◌+◌, ◌-◌, ◌<◌, ◌≤◌, ◌++◌, ◌∷◌, ℕ, suc, Option, Some, All, IsTrue, ◌↔◌, IfSome, MatchBool, length, slice_get, pos, ◌≤ℤ◌};
 ghost use Rattle.tb_base.specs.Sufficiency.{AreSufficient};
 ghost use Rattle.segment_queue.specs.Queue.{covered_indices};
 ghost use Rattle.segment_queue.specs.Traced.{round_of, segment_of};
 ghost use Rattle.earliest_query.specs.Choices.{ArrivesBy, IsWeighed, alighting_hit, earlier_hit};
-ghost use Rattle.earliest_query.specs.UnderWay.{Covers, Extends, IsBounded, IsFollowed, IsImproved, IsQueue, covered_before};
+ghost use Rattle.earliest_query.specs.UnderWay.{Covers, Extends, IsBounded, IsDone, IsImproved, IsQueue, covered_before};
 
 use super::search::Search;
 use super::walks::{nearest, targets};
@@ -18,6 +18,16 @@ fn may_improve(best: &Option<Hit>, visit: &Visit<'_>) -> bool
     match best {
         Some(hit) => visit.alight && visit.arr < hit.value.arrive,
         None => visit.alight,
+    }
+}
+
+// Whether the best hit so far arrives no later than an event is reached.
+fn is_late(best: &Option<Hit>, visit: &Visit<'_>) -> bool
+    ensures { IsTrue result ↔ ArrivesBy best.now visit.now.arr }
+{
+    match best {
+        Some(hit) => hit.value.arrive <= visit.arr,
+        None => false,
     }
 }
 
@@ -79,7 +89,8 @@ impl<S: Scan> Search<'_, S> {
         }
     }
 
-    // Rides a segment: looks at each index that it covers, follows the hops from there, and weighs to alight there.
+    // Rides a segment: looks at the indices that it covers one by one, weighs to alight there, and follows the hops from there. It
+    // ends where one gets no earlier than the best hit so far arrives.
     fn ride<L: Ledger>(
         &self,
         desk: &mut Desk,
@@ -94,10 +105,10 @@ impl<S: Scan> Search<'_, S> {
         requires sufficient { AreSufficient (S.table self.now.scan.now) (S.hops self.now.scan.now) }
         ensures queue { IsQueue (S.table self.now.scan.now) (S.lines self.now.scan.now) (S.hops self.now.scan.now) self.now.query.now desk.new (suc round) }
         ensures extends { Extends desk.old desk.new (suc round) }
-        ensures followed { (i : ℕ) → Covers desk.old n i → IsFollowed (S.table self.now.scan.now) (S.hops self.now.scan.now) desk.new n i }
+        ensures followed { (i : ℕ) → Covers desk.old n i → IsDone (S.table self.now.scan.now) (S.hops self.now.scan.now) desk.new result n i }
         ensures bounded { (i : ℕ) → Covers desk.old n i → IsBounded (S.table self.now.scan.now) self.now.query.now desk.old result n i }
         ensures improved { IsImproved (S.table self.now.scan.now) self.now.query.now desk.new round so_far result }
-        ensures steps { steps.new ≡ steps.old + covered_indices (segment_of desk.old.segments n) }
+        ensures steps { steps.new ≤ steps.old + covered_indices (segment_of desk.old.segments n) }
     {
         let scan = self.scan;
         let _shape = scan.shape();
@@ -108,8 +119,11 @@ impl<S: Scan> Search<'_, S> {
         for before in segment.board..segment.end {
             let at = before + 1;
             let visit = scan.visit(segment.trip, at, steps);
-            self.follow(desk, visit.out, n, at);
             best = self.weigh(best, &visit, n, at, round);
+            if is_late(&best, &visit) {
+                return best;
+            }
+            self.follow(desk, visit.out, n, at);
         }
         best
     }
@@ -131,10 +145,10 @@ impl<S: Scan> Search<'_, S> {
         requires sufficient { AreSufficient (S.table self.now.scan.now) (S.hops self.now.scan.now) }
         ensures queue { IsQueue (S.table self.now.scan.now) (S.lines self.now.scan.now) (S.hops self.now.scan.now) self.now.query.now desk.new (suc round) }
         ensures extends { Extends desk.old desk.new (suc round) }
-        ensures followed { (n i : ℕ) → from ≤ n → n < to → Covers desk.old n i → IsFollowed (S.table self.now.scan.now) (S.hops self.now.scan.now) desk.new n i }
+        ensures followed { (n i : ℕ) → from ≤ n → n < to → Covers desk.old n i → IsDone (S.table self.now.scan.now) (S.hops self.now.scan.now) desk.new result n i }
         ensures bounded { (n i : ℕ) → from ≤ n → n < to → Covers desk.old n i → IsBounded (S.table self.now.scan.now) self.now.query.now desk.old result n i }
         ensures improved { IsImproved (S.table self.now.scan.now) self.now.query.now desk.new round so_far result }
-        ensures steps { steps.new + covered_before desk.old.segments from ≡ steps.old + covered_before desk.old.segments to }
+        ensures steps { steps.new + covered_before desk.old.segments from ≤ steps.old + covered_before desk.old.segments to }
     {
         let mut best = so_far;
         for n in from..to {

@@ -7,7 +7,8 @@ use line_split::split;
 use plain_rounds::plain_ask;
 use segment_queue::{Desk, View};
 use std::alloc::Global;
-use tb_base::{Choice, Memory, Query, Rows, StopNo, Timetable};
+use tb_base::{Choice, Memory, Query, StopNo, Timetable};
+use transfer_pack::Set;
 use transfer_set::kept_set;
 
 /// How many choices were found, and the sum of their arrivals.
@@ -74,7 +75,7 @@ pub fn by_search(alloc: Global, table: &Timetable, count: u32) -> Result<Found, 
     let lines = split(alloc, table)?;
     let set = kept_set(alloc, table, &lines)?;
     let mut desk = Desk::new(alloc);
-    desk.make_room(&View::<Rows>::new(table, &lines, &set))?;
+    desk.make_room(&View::<Set>::new(table, &lines, &set))?;
     let mut draw = Draw(1);
     let mut found = Found::NOTHING;
     if table.stop_count() == 0 {

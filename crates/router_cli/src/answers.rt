@@ -15,7 +15,8 @@ use plain_rounds::{direct, plain_ask};
 use profile_query::profile;
 use segment_queue::{Desk, View};
 use std::alloc::Global;
-use tb_base::{Memory, Place, Query, Rows, Sec, Timetable, Window};
+use tb_base::{Memory, Place, Query, Sec, Timetable, Window};
+use transfer_pack::Set;
 use transfer_set::kept_set;
 
 /// How journeys are looked for.
@@ -92,7 +93,7 @@ fn profile_text(alloc: Global, table: &Timetable, window: &Window) -> Result<Vec
     table.soundness();
     let lines = split(alloc, table)?;
     let set = kept_set(alloc, table, &lines)?;
-    let view = View::<Rows>::new(table, &lines, &set);
+    let view = View::<Set>::new(table, &lines, &set);
     let mut desk = Desk::new(alloc);
     desk.make_room(&view)?;
     let offers = profile(alloc, &view, table, window, &mut desk)?;
@@ -111,7 +112,7 @@ fn search_text(alloc: Global, table: &Timetable, query: &Query) -> Result<Vec<u8
     let lines = split(alloc, table)?;
     let set = kept_set(alloc, table, &lines)?;
     let mut desk = Desk::new(alloc);
-    desk.make_room(&View::<Rows>::new(table, &lines, &set))?;
+    desk.make_room(&View::<Set>::new(table, &lines, &set))?;
     let choices = ask(alloc, &mut desk, table, &lines, &set, query)?;
     choices_text(alloc, table, choices.as_slice())
 }

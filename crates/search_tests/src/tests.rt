@@ -8,6 +8,7 @@ use trip_table::{Options, read_day};
 mod both_ways;
 mod profiles;
 mod reduction;
+mod sets;
 
 /// Files by their paths.
 type Files = Vec<(String, Vec<u8>)>;

@@ -26,6 +26,19 @@ module _ (T : TimetableData) (sound : IsSound T) where
       chained : (a b d e : ℤ) (n : ℕ) → a ≤ℤ b → (b +ℤ pos n) ≤ℤ d → d ≤ℤ e → a ≤ℤ e
       chained a b d e n g h k = omega (arith, ints, g, h, k)
 
+  -- nor before its first ride is left
+  pub arrives_behind : (r : Ride) (rest : List Ride) (q : ℕ) → LeadsOn T r rest q → alighting_time T r ≤ℤ arrival_after T r rest q
+  arrives_behind r [] q on = walked _ _
+    where
+      walked : (a : ℤ) (n : ℕ) → a ≤ℤ (a +ℤ pos n)
+      walked a n = omega (arith, ints)
+  arrives_behind r (s ∷ rest) q on =
+      let c = some_and (λ n. (alighting_time T r +ℤ pos n) ≤ℤ boarding_time T s) _ on.0 in
+      chained (alighting_time T r) (boarding_time T s) (arrival_after T s rest q) c.0 c.2 (arrives_later s rest q on.1 on.2)
+    where
+      chained : (b d e : ℤ) (n : ℕ) → (b +ℤ pos n) ≤ℤ d → d ≤ℤ e → b ≤ℤ e
+      chained b d e n h k = omega (arith, ints, h, k)
+
   -- so no value arrives before the asked time
   pub attained_later : (Q : QueryData) (w : Value) → IsAttained T Q w → Q.leave ≤ℤ w.arrive
   attained_later Q w (j, has) = subst (λ a. Q.leave ≤ℤ a) (sym (ap (λ (v : Value). v.arrive) has.value)) (by_rides j.origin j.rides j.target has.journey.leads has.leaves)

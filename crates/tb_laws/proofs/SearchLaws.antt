@@ -1,23 +1,31 @@
--- A search over a sufficient set enters a segment for each best value.
+-- A search over a sufficient set enters a segment for each best value, also where it does not go on from what is late for it.
 use Rattle.std.proofs.Common.{◌≡◌, ℕ, zero, suc, ◌<◌, ◌≤◌, ◌+◌, ◌⊎◌, inl, inr, List, [], ◌∷◌, ◌++◌, length, refl, sym, ap, subst, ◌∙◌, arith, ℤ, pos, ◌+ℤ◌, ◌-ℤ◌, ◌≤ℤ◌, length-append}
-use Rattle.std.specs.Prelude.{Contains}
+use Rattle.std.specs.Prelude.{All, Contains}
+use Rattle.std.proofs.lemmas.List.Elements.{All-contains}
 use Rattle.std.proofs.lemmas.Int.{ints}
 use Rattle.tb_base.specs.declared.transfer.Hop.{Hop}
 use Rattle.tb_base.specs.declared.query.Value.{Value}
 use Rattle.tb_base.specs.TimetableData.{TimetableData, events_of}
 use Rattle.tb_base.specs.Walking.{walk}
-use Rattle.tb_base.specs.Journeys.{Ride, Journey, IsJourney, IsRide, LeadsOn, Leads, LeavesNoEarlier, arrival, arrival_after, walk_secs, boarding_stop, boarding_time}
-use Rattle.tb_base.specs.BestValues.{QueryData, IsBest, value_of}
+use Rattle.tb_base.specs.Journeys.{Ride, Journey, IsJourney, IsRide, LeadsOn, Leads, LeavesNoEarlier, arrival, arrival_after, walk_secs, alighting_time, boarding_stop, boarding_time}
+use Rattle.tb_base.specs.BestValues.{QueryData, IsAttained, IsBest, value_of}
 use Rattle.tb_base.specs.Sufficiency.{SavesARide, GoesByHop, AreSufficient}
 use Rattle.tb_base.specs.Lines.{IsTripNoLater}
 use Rattle.tb_base.specs.Search.{RoundSegment, segment_at, IsReached, IsCovered, IsSearched, IsFound}
+use Rattle.tb_laws.specs.Pruning.{IsLate, IsPrunedSearch}
+use Rattle.tb_base.specs.Soundness.{IsSound}
+use Rattle.tb_laws.proofs.CoverLaws.{arrives_behind}
 use Rattle.tb_base.proofs.Events.{MayAlight-inside}
 use Rattle.tb_laws.proofs.Boarding.{reached_leads}
 use Rattle.tb_laws.proofs.Exchange.{≤ℤ-trans, AlightsAs, LeadsOn-alights, arrival_after-alights, Leads-at, arrival-behind}
 use Rattle.tb_laws.proofs.Triangles.{walk_secs-is}
 use Rattle.tb_laws.proofs.UTurnLaws.{some}
 
-module _ (T : TimetableData) (hops : ℕ → ℕ → List Hop) (Q : QueryData) (segments : List RoundSegment) (searched : IsSearched T hops Q.from Q.leave segments) (v : Value) (best : IsBest T Q v) where
+-- Where rides lead on in time for v, one does not leave the first of them late.
+abbrev IsNeverLate : TimetableData → List Value → Value → Type 0
+IsNeverLate T values v = (r : Ride) (rest : List Ride) (target rides : ℕ) → LeadsOn T r rest target → arrival_after T r rest target ≤ℤ v.arrive → rides < v.rides → IsLate values (alighting_time T r) rides → ⊥
+
+module _ (T : TimetableData) (hops : ℕ → ℕ → List Hop) (Q : QueryData) (values : List Value) (segments : List RoundSegment) (searched : IsPrunedSearch T hops Q.from Q.leave values segments) (v : Value) (best : IsBest T Q v) (never_late : IsNeverLate T values v) where
   abbrev trip_of : ℕ → ℕ
   trip_of n = (segment_at segments n).trip
 
@@ -188,10 +196,12 @@ module _ (T : TimetableData) (hops : ℕ → ℕ → List Hop) (Q : QueryData) (
                 sooner = ≤ℤ-trans _ _ _ (subst (λ a. a ≤ℤ arrival T Q.leave r.origin (r.before ++ here ∷ s ∷ rest) well.target) (arrival-behind T Q.leave r.origin r.before there (next ∷ goes.others) well.target) goes.as_well.arrives) in_time'
 
                 by_end : (goes.at ≤ (segment_at segments n).end) ⊎ ((segment_at segments n).end < goes.at) → (k : ℕ) × GoesWell (suc round) k
-                by_end (inl within) =
-                    let c : IsCovered T segments (length segments) (suc round) goes.hop.trip goes.hop.at
-                    = subst (λ k. IsCovered T segments (length segments) (suc k) goes.hop.trip goes.hop.at) well.round_is (searched.goes_on n goes.at goes.hop well.inside goes.onward within goes.in_set) in
-                    (c.by, take_over (length segments) (suc round) next goes.others well.target c c.within well.to at_there.1.1 at_there.1.2 sooner (omega (arith, all, goes.as_many)))
+                by_end (inl within) = elim (searched.goes_on n goes.at goes.hop well.inside goes.onward within goes.in_set) [
+                  | inl covered ↦ (let c : IsCovered T segments (length segments) (suc round) goes.hop.trip goes.hop.at
+                      = subst (λ k. IsCovered T segments (length segments) (suc k) goes.hop.trip goes.hop.at) well.round_is covered in
+                      (c.by, take_over (length segments) (suc round) next goes.others well.target c c.within well.to at_there.1.1 at_there.1.2 sooner (omega (arith, all, goes.as_many))))
+                  | inr is_late ↦ absurd (never_late there (next ∷ goes.others) well.target (segment_at segments n).round at_there.1 sooner (omega (arith, well.round_is, more)) is_late)
+                ]
                 by_end (inr past) =
                     let m = before_it round n well.inside well.round_is goes.at (next ∷ goes.others) well.target past well.to at_there.0 at_there.1 sooner (omega (arith, all, goes.as_many)) in
                     again m.0 m.1 m.2
@@ -253,11 +263,43 @@ module _ (T : TimetableData) (hops : ℕ → ℕ → List Hop) (Q : QueryData) (
     last_round (suc b) n small well = last_step n well (λ m below w. last_round b m (omega (arith, below, small)) w)
 
     -- each best value with rides is found
-    pub best_value_found : 0 < v.rides → Found
-    best_value_found some_ride = by_rides v.rides refl
+    value_found : 0 < v.rides → Found
+    value_found some_ride = by_rides v.rides refl
       where
         by_rides : (k : ℕ) → k ≡ v.rides → Found
         by_rides zero e = absurd (omega (arith, e, some_ride))
         by_rides (suc k) e =
             let w : (n : ℕ) × GoesWell (suc k) n = each_round k (omega (arith, e)) in
             last_round (suc w.0) w.0 (omega arith) (subst (λ x. GoesWell x w.0) e w.1)
+
+-- a search that goes on from everywhere
+searched_whole : (T : TimetableData) (hops : ℕ → ℕ → List Hop) (origins : List ℕ) (asked : ℤ) (segments : List RoundSegment) → IsSearched T hops origins asked segments → IsPrunedSearch T hops origins asked [] segments
+searched_whole T hops origins asked segments s = record { reached = s.reached; starts = s.starts; goes_on = λ n i h inside onward within in_set. inl (s.goes_on n i h inside onward within in_set); ends = s.ends }
+
+none_late : (time : ℤ) (rides : ℕ) → IsLate [] time rides → ⊥
+none_late time rides (w, inside, le) = omega (arith, inside.1)
+
+pub best_value_found : (T : TimetableData) (hops : ℕ → ℕ → List Hop) (Q : QueryData) (segments : List RoundSegment) → IsSearched T hops Q.from Q.leave segments → (v : Value) → IsBest T Q v → AreSufficient T hops → 0 < v.rides → IsFound T Q.to segments v
+best_value_found T hops Q segments searched v best sufficient some_ride =
+    value_found T hops Q [] segments (searched_whole T hops Q.from Q.leave segments searched) v best (λ r rest target rides on in_time fewer is_late. none_late (alighting_time T r) rides is_late) sufficient some_ride
+
+-- a search that does not go on where it arrives late, with no value before it, is a whole one
+pub whole_search : (T : TimetableData) (hops : ℕ → ℕ → List Hop) (origins : List ℕ) (asked : ℤ) (segments : List RoundSegment) → IsPrunedSearch T hops origins asked [] segments → IsSearched T hops origins asked segments
+whole_search T hops origins asked segments s = record {
+  reached = s.reached;
+  starts = s.starts;
+  goes_on = λ n i h inside onward within in_set. elim (s.goes_on n i h inside onward within in_set) [ inl covered ↦ covered | inr is_late ↦ absurd (none_late _ _ is_late) ];
+  ends = s.ends;
+}
+
+-- Where all values are attained, a search that does not go on where it arrives late finds each best value.
+pub pruned_value_found : (T : TimetableData) (hops : ℕ → ℕ → List Hop) (Q : QueryData) (values : List Value) (segments : List RoundSegment) → IsSound T → IsPrunedSearch T hops Q.from Q.leave values segments → All (IsAttained T Q) values → AreSufficient T hops →
+    (v : Value) → IsBest T Q v → 0 < v.rides → IsFound T Q.to segments v
+pruned_value_found T hops Q values segments sound searched attained sufficient v best some_ride = value_found T hops Q values segments searched v best never_late sufficient some_ride
+  where
+    never_late : IsNeverLate T values v
+    never_late r rest target rides on in_time fewer (w, inside, le) =
+        let sooner : w.arrive ≤ℤ v.arrive = ≤ℤ-trans _ _ _ le.0 (≤ℤ-trans _ _ _ (arrives_behind T sound r rest target on) in_time) in
+        let same : w ≡ v = best.undominated w (All-contains (IsAttained T Q) values w attained inside) (sooner, omega (arith, le.1, fewer)) in
+        let e : w.rides ≡ v.rides = ap (λ (x : Value). x.rides) same in
+        omega (arith, e, le.1, fewer)

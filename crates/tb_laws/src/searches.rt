@@ -1,18 +1,34 @@
-ghost use Rattle.std.specs.Prelude.{◌≤ℤ◌, ◌≡◌, ◌+ℤ◌, ◌<◌, ◌∷◌, ◌++◌, ℕ, ℤ, List, Contains, IsSome, Some, suc, pos};
+ghost use Rattle.std.specs.Prelude.{◌≤ℤ◌, ◌≡◌, ◌+ℤ◌, ◌<◌, ◌∷◌, ◌++◌, ℕ, [], ℤ, List, All, Contains, IsSome, Some, suc, pos};
 ghost use Rattle.tb_base.specs.BestValues.{IsAttained, IsBest, QueryData};
 ghost use Rattle.tb_base.specs.Journeys.{IsRide, Leads, LeadsOn, LeavesNoEarlier, Ride, walk_secs};
 ghost use Rattle.tb_base.specs.Search.{IsFound, IsReached, IsSearched, RoundSegment};
+ghost use Rattle.tb_base.specs.Soundness.{IsSound};
 ghost use Rattle.tb_base.specs.Sufficiency.{AreSufficient, IsPossibleHop};
 ghost use Rattle.tb_base.specs.TimetableData.{MayAlight, MayBoard, TimetableData, arrival_at, departure_at, stop_at};
 ghost use Rattle.tb_base.specs.Walking.{walk};
 ghost use Rattle.tb_base.specs.declared.query.Value.{Value};
 ghost use Rattle.tb_base.specs.declared.transfer.Hop.{Hop};
+ghost use Rattle.tb_laws.specs.Pruning.{IsPrunedSearch};
 
 /// A search over enough hops finds each best value with rides, by alighting from a segment of its round.
 pub fn best_value_found()
     ensures { (T : TimetableData) (hops : ℕ → ℕ → List Hop) (Q : QueryData) (segments : List RoundSegment) →
         IsSearched T hops Q.from Q.leave segments → AreSufficient T hops → (v : Value) → IsBest T Q v → 0 < v.rides →
         IsFound T Q.to segments v }
+{}
+
+/// A search over enough hops that does not go on where it arrives late still finds each best value with rides, where the values
+/// that it holds against an arrival are attained: whatever goes on from a late arrival is no best value.
+pub fn pruned_value_found()
+    ensures { (T : TimetableData) (hops : ℕ → ℕ → List Hop) (Q : QueryData) (values : List Value) (segments : List RoundSegment) →
+        IsSound T → IsPrunedSearch T hops Q.from Q.leave values segments → All (IsAttained T Q) values → AreSufficient T hops →
+        (v : Value) → IsBest T Q v → 0 < v.rides → IsFound T Q.to segments v }
+{}
+
+/// A search with no value to hold against an arrival goes on from everywhere.
+pub fn whole_search()
+    ensures { (T : TimetableData) (hops : ℕ → ℕ → List Hop) (origins : List ℕ) (asked : ℤ) (segments : List RoundSegment) →
+        IsPrunedSearch T hops origins asked [] segments → IsSearched T hops origins asked segments }
 {}
 
 /// A trip that is boarded in time after a walk from an origin is reached in the first round.

@@ -8,7 +8,7 @@ use Rattle.tb_base.specs.declared.transfer.Hop.{Hop}
 use Rattle.tb_base.specs.declared.transfer.Transfer.{Transfer}
 use Rattle.tb_base.specs.TimetableData.{TimetableData, events_of}
 use Rattle.tb_base.specs.Lines.{AreDividedInto}
-use Rattle.tb_base.specs.OutSets.{AreRowsOf, IsTransferOf, ListedHops, hops_at, listed, row_of}
+use Rattle.tb_base.specs.OutSets.{AreRowsOf, IsTransferOf, hops_at, row_of}
 use Rattle.tb_base.specs.Soundness.{IsSound}
 use Rattle.tb_base.specs.Sufficiency.{AreSufficient}
 use Rattle.tb_base.specs.Transfers.{kept_hops, numbers_below, numbers_down, transfers_of}
@@ -18,6 +18,7 @@ use Rattle.tb_base.proofs.Placed.{get_or-left}
 use Rattle.tb_laws.proofs.Members.{Member-flat_map_back}
 use Rattle.tb_laws.proofs.KeptLaws.{kept_hops_sufficient}
 use Rattle.segment_queue.proofs.Distinct.{all_by_member}
+use Rattle.transfer_pack.specs.Packed.{PackedHops, packed}
 use Rattle.transfer_set.specs.Reductions.{first_rows}
 use Rattle.transfer_set.proofs.Counts.{length-numbers_below}
 
@@ -146,9 +147,9 @@ module _ (T : TimetableData) (hops : ℕ → ℕ → List Hop) (enough : AreSuff
   as_sufficient set each = subst (AreSufficient T) (λ k t i. sym (each t i) k) enough
 
 -- what a set of the kept transfers has, and that it is sufficient
-module _ (T : TimetableData) (sound : IsSound T) (set : ListedHops) (rows : List (List Transfer)) (hops : (t i : ℕ) → listed set t i ≡ hops_at (row_of rows t) i) (lines : List (List ℕ)) (divided : AreDividedInto T lines) (kept : rows ≡ first_rows T (kept_hops T lines) (length T.trips)) where
-  pub has_kept : (t i : ℕ) → listed set t i ≡ kept_hops T lines t i
+module _ (T : TimetableData) (sound : IsSound T) (set : PackedHops) (rows : List (List Transfer)) (hops : (t i : ℕ) → packed set t i ≡ hops_at (row_of rows t) i) (lines : List (List ℕ)) (divided : AreDividedInto T lines) (kept : rows ≡ first_rows T (kept_hops T lines) (length T.trips)) where
+  pub has_kept : (t i : ℕ) → packed set t i ≡ kept_hops T lines t i
   has_kept t i = hops t i ∙ ap (λ rs. hops_at (row_of rs t) i) kept ∙ hops_of_rows T (kept_hops T lines) (kept_hops_sufficient T lines sound divided) t i
 
-  pub has_enough : AreSufficient T (listed set)
-  has_enough = as_sufficient T (kept_hops T lines) (kept_hops_sufficient T lines sound divided) (listed set) has_kept
+  pub has_enough : AreSufficient T (packed set)
+  has_enough = as_sufficient T (kept_hops T lines) (kept_hops_sufficient T lines sound divided) (packed set) has_kept

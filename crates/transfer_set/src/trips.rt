@@ -2,16 +2,18 @@
 ghost use Rattle.std.specs.Prelude.{◌≡◌, ◌+◌, ◌<◌, ℕ, List, IfOk, OnOk, length};
 ghost use Rattle.tb_base.specs.TimetableData.{TimetableData};
 ghost use Rattle.tb_base.specs.Transfers.{candidates, candidates_without_u_turns, kept_hops, transfers_of};
-ghost use Rattle.tb_base.specs.OutSets.{AreRowsOf, listed};
+ghost use Rattle.tb_base.specs.OutSets.{AreRowsOf};
 ghost use Rattle.tb_base.specs.Sufficiency.{AreSufficient};
 ghost use Rattle.line_split.specs.LinesOf.{AreLinesOf};
+ghost use Rattle.transfer_pack.specs.Packed.{packed};
 ghost use Rattle.transfer_set.specs.Reductions.{first_reduced, reduced};
 
 use super::reduced::Reduced;
 use line_split::Lines;
 use std::alloc::Global;
-use tb_base::{Memory, Rows, Timetable, Transfer, TripNo};
+use tb_base::{Memory, Timetable, Transfer, TripNo};
 use transfer_make::make;
+use transfer_pack::Set;
 use transfer_reduce::{Labels, reduce};
 use uturn_cut::cut;
 
@@ -116,11 +118,11 @@ pub fn reduce_trips(alloc: Global, table: &Timetable, lines: &Lines) -> Result<R
 
 /// The set of the kept transfers of a timetable with these lines. It is sufficient: a search over it finds all best values.
 /// Refused only for want of memory.
-pub fn kept_set(alloc: Global, table: &Timetable, lines: &Lines) -> Result<Rows, Memory>
+pub fn kept_set(alloc: Global, table: &Timetable, lines: &Lines) -> Result<Set, Memory>
     requires { AreLinesOf table.now lines.now }
     ensures table { IfOk result (λ set. set.table ≡ table.now) }
-    ensures hops { IfOk result (λ set. (t i : ℕ) → listed set t i ≡ kept_hops table.now lines.now.lines t i) }
-    ensures sufficient { IfOk result (λ set. AreSufficient table.now (listed set)) }
+    ensures hops { IfOk result (λ set. (t i : ℕ) → packed set t i ≡ kept_hops table.now lines.now.lines t i) }
+    ensures sufficient { IfOk result (λ set. AreSufficient table.now (packed set)) }
 {
     line_split::laws::lines_divide();
     reduce_trips(alloc, table, lines)?.into_set(alloc, table)

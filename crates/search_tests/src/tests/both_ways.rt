@@ -1,6 +1,6 @@
 //! The values by a search over kept transfers, and those by plain rounds.
 ghost use Rattle.std.specs.Prelude.{◌≡◌, ◌<◌, ◌≤ℤ◌, pos, All, IfOk, length};
-ghost use Rattle.tb_base.specs.OutSets.{listed};
+ghost use Rattle.transfer_pack.specs.Packed.{packed};
 ghost use Rattle.tb_base.specs.Sufficiency.{AreSufficient};
 ghost use Rattle.line_split.specs.LinesOf.{AreLinesOf};
 
@@ -13,7 +13,8 @@ use std::alloc::{AllocError, Global};
 use std::process::Abort;
 use std::test::Fail;
 use table_tests::town;
-use tb_base::{Choice, Memory, Place, Query, Rows, Sec, StopNo, Timetable, Value};
+use tb_base::{Choice, Memory, Place, Query, Sec, StopNo, Timetable, Value};
+use transfer_pack::Set;
 use transfer_set::kept_set;
 
 // A ring through B twice, three times a day, of which the last overtakes; a trip that is at C twice, where one may not
@@ -88,19 +89,19 @@ fn assert_same<R: Abort>(
     alloc: Global,
     table: &Timetable,
     lines: &Lines,
-    set: &Rows,
+    set: &Set,
     from: u32,
     to: u32,
 ) -> Result<(), Fail>
     requires lines { AreLinesOf table.now lines.now }
     requires set { set.now.table ≡ table.now }
-    requires sufficient { AreSufficient table.now (listed set.now) }
+    requires sufficient { AreSufficient table.now (packed set.now) }
     requires from { from < length table.now.stops }
     requires to { to < length table.now.stops }
 {
     let mut desk = Desk::new(alloc);
     for leave in [28_800, 28_801, 29_400, 30_060, 31_200] {
-        desk.make_room(&View::<Rows>::new(table, lines, set))?;
+        desk.make_room(&View::<Set>::new(table, lines, set))?;
         let query = between(alloc, table, from, to, leave)?;
         let searched = ask(alloc, &mut desk, table, lines, set, &query)?;
         let searched = values_of(alloc, searched.as_slice())?;

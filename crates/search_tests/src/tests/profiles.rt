@@ -1,6 +1,6 @@
 //! The profile of a short window, and the best values asked at each of its seconds.
 ghost use Rattle.std.specs.Prelude.{◌≡◌, ◌<◌, ◌≤ℤ◌, pos, All, IfOk, length};
-ghost use Rattle.tb_base.specs.OutSets.{listed};
+ghost use Rattle.transfer_pack.specs.Packed.{packed};
 ghost use Rattle.tb_base.specs.Sufficiency.{AreSufficient};
 ghost use Rattle.line_split.specs.LinesOf.{AreLinesOf};
 
@@ -12,7 +12,8 @@ use segment_queue::{Desk, View};
 use std::alloc::{AllocError, Global};
 use std::process::Abort;
 use std::test::Fail;
-use tb_base::{Memory, Offer, Place, Rows, Sec, Slot, StopNo, Timetable, Value, Window};
+use tb_base::{Memory, Offer, Place, Sec, Slot, StopNo, Timetable, Value, Window};
+use transfer_pack::Set;
 use transfer_set::kept_set;
 
 // A window of two minutes: within it one can leave A, and on foot B and E, for trips.
@@ -96,13 +97,13 @@ fn profile_slots(
     alloc: Global,
     table: &Timetable,
     lines: &Lines,
-    set: &Rows,
+    set: &Set,
     from: u32,
     to: u32,
 ) -> Result<Vec<Slot>, Memory>
     requires lines { AreLinesOf table.now lines.now }
     requires set { set.now.table ≡ table.now }
-    requires sufficient { AreSufficient table.now (listed set.now) }
+    requires sufficient { AreSufficient table.now (packed set.now) }
     requires from { from < length table.now.stops }
     requires to { to < length table.now.stops }
 {
@@ -112,7 +113,7 @@ fn profile_slots(
         first: FIRST,
         last: FIRST + SECONDS as i32,
     };
-    let view = View::<Rows>::new(table, lines, set);
+    let view = View::<Set>::new(table, lines, set);
     let mut desk = Desk::new(alloc);
     desk.make_room(&view)?;
     let offers = profile(alloc, &view, table, &window, &mut desk)?;

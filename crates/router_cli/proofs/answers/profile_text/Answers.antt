@@ -1,6 +1,6 @@
 use Rattle.std.proofs.Common.{◌≡◌, ◌∙◌, ap, subst, sym}
 use Rattle.answer_text.specs.Journeys.{offers_text}
-use Rattle.tb_base.specs.OutSets.{listed}
+use Rattle.transfer_pack.specs.Packed.{packed}
 use Rattle.tb_base.specs.Profiles.{OfferData}
 use Rattle.tb_base.specs.Sufficiency.{AreSufficient}
 use Rattle.router_cli.proofs.AnswerLemmas.{numbers_of_offers, kept_changes, if_ok-map}
@@ -8,7 +8,7 @@ use Rattle.router_cli.proofs.answers.profile_text.Goals as goal
 
 pub profile-requires-clause-sufficient : goal.profile-requires-clause-sufficient
 profile-requires-clause-sufficient c =
-    subst (λ set. AreSufficient c.args.table.now (λ t i. listed set t i)) (sym c.new-view.ensures.set) c.in_ok-set.ensures.sufficient
+    subst (λ set. AreSufficient c.args.table.now (λ t i. packed set t i)) (sym c.new-view.ensures.set) c.in_ok-set.ensures.sufficient
 
 pub offers_text-requires : goal.offers_text-requires
 offers_text-requires c =
@@ -17,8 +17,8 @@ offers_text-requires c =
 
 pub returns : goal.returns
 returns c =
-    let kept = kept_changes c.args.table.now c.in_ok-lines.lines.lines c.in_ok-lines.ensures.lines (listed c.new-view.result.2)
-    (λ t i. ap (λ set. listed set t i) c.new-view.ensures.set ∙ c.in_ok-set.ensures.hops t i)
+    let kept = kept_changes c.args.table.now c.in_ok-lines.lines.lines c.in_ok-lines.ensures.lines (packed c.new-view.result.2)
+    (λ t i. ap (λ set. packed set t i) c.new-view.ensures.set ∙ c.in_ok-set.ensures.hops t i)
     OfferData.legs c.in_ok-offers.offers.items c.in_ok-offers.ensures.hops in
     if_ok-map c.offers_text.result _ _
     (λ text same. record {

@@ -1,6 +1,6 @@
 use Rattle.std.proofs.Common.{◌≡◌, ◌∙◌, ap, sym, subst}
 use Rattle.answer_text.specs.Journeys.{choices_text}
-use Rattle.tb_base.specs.OutSets.{listed}
+use Rattle.transfer_pack.specs.Packed.{packed}
 use Rattle.tb_base.specs.BestValues.{ChoiceData}
 use Rattle.router_cli.proofs.AnswerLemmas.{numbers_of_choices, kept_changes, if_ok-map}
 use Rattle.router_cli.proofs.answers.search_text.Goals as goal
@@ -12,7 +12,7 @@ choices_text-requires c =
 
 pub returns : goal.returns
 returns c =
-    let kept = kept_changes c.args.table.now c.in_ok-lines.lines.lines c.in_ok-lines.ensures.lines (listed c.in_ok-set.set) c.in_ok-set.ensures.hops ChoiceData.legs
+    let kept = kept_changes c.args.table.now c.in_ok-lines.lines.lines c.in_ok-lines.ensures.lines (packed c.in_ok-set.set) c.in_ok-set.ensures.hops ChoiceData.legs
     c.in_ok-choices.choices.items c.in_ok-choices.ensures.hops in
     if_ok-map c.choices_text.result _ _
     (λ text same. record {

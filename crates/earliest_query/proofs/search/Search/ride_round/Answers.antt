@@ -2,9 +2,9 @@ use Rattle.std.proofs.Common.{◌≡◌, ◌∙◌, ℕ, suc, ◌+◌, ◌<◌, 
 use Rattle.std.proofs.lemmas.List.Sums.{sum_by_more}
 use Rattle.segment_queue.specs.Queue.{DeskData, covered_indices}
 use Rattle.segment_queue.specs.Traced.{no_segment, segment_of}
-use Rattle.earliest_query.specs.UnderWay.{Covers, IsBounded, IsFollowed}
+use Rattle.earliest_query.specs.UnderWay.{Covers, IsBounded, IsDone}
 use Rattle.earliest_query.proofs.Growing.{extends-long, extends-round, extends-segment, extends-trans}
-use Rattle.earliest_query.proofs.Following.{followed-kept}
+use Rattle.earliest_query.proofs.Lateness.{done-kept}
 use Rattle.earliest_query.proofs.BestSoFar.{bounded-improved, bounded-same, covers-kept, improved-trans}
 use Rattle.earliest_query.proofs.search.Search.ride_round.Goals as goal
 
@@ -30,8 +30,8 @@ loop-n-preserved g c =
       queue = c.ride-best.ensures.queue;
       extends = extends-trans D E F top before.extends c.ride-best.ensures.extends;
       followed = λ n i from below covers. elim (below_or_at n c.loop-n.n below) [
-        | inl earlier ↦ followed-kept T (g.S.Scan.hops c.args.self.now.scan.now) E F top n i c.ride-best.ensures.extends (omega (arith, earlier, inside, extends-long D E top before.extends)) (before.followed n i from earlier covers)
-        | inr e ↦ subst (λ m. IsFollowed T (g.S.Scan.hops c.args.self.now.scan.now) F m i) e (c.ride-best.ensures.followed i (covers-kept D E c.loop-n.n i (sym same) (subst (λ m. Covers D m i) (sym e) covers)))
+        | inl earlier ↦ done-kept T (g.S.Scan.hops c.args.self.now.scan.now) Q E F top c.args.round n i c.loop-n.best c.ride-best.result c.ride-best.ensures.extends (omega (arith, earlier, inside, extends-long D E top before.extends)) c.ride-best.ensures.improved (before.followed n i from earlier covers)
+        | inr e ↦ subst (λ m. IsDone T (g.S.Scan.hops c.args.self.now.scan.now) F c.ride-best.result m i) e (c.ride-best.ensures.followed i (covers-kept D E c.loop-n.n i (sym same) (subst (λ m. Covers D m i) (sym e) covers)))
       ];
       bounded = λ n i from below covers. elim (below_or_at n c.loop-n.n below) [
         | inl earlier ↦ bounded-improved T Q D F c.args.round c.loop-n.best c.ride-best.result n i c.ride-best.ensures.improved (before.bounded n i from earlier covers)

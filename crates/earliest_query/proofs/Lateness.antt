@@ -1,0 +1,48 @@
+-- Where one arrives too late to go on.
+use Rattle.std.proofs.Common.{◌≡◌, ◌∙◌, ℕ, ◌<◌, ◌≤◌, ◌⊎◌, inl, inr, List, length, refl, sym, ap, subst, arith, Option, None, Some, ℤ, pos, ◌+ℤ◌, ◌≤ℤ◌}
+use Rattle.std.proofs.lemmas.Int.{ints}
+use Rattle.tb_base.specs.declared.transfer.Hop.{Hop}
+use Rattle.tb_base.specs.TimetableData.{TimetableData, arrival_at, departure_at, events_of}
+use Rattle.tb_base.specs.Soundness.{IsSound}
+use Rattle.tb_base.specs.BestValues.{QueryData}
+use Rattle.tb_laws.proofs.UTurnLaws.{departs_first}
+use Rattle.segment_queue.specs.declared.desk.Segment.{Segment}
+use Rattle.segment_queue.specs.declared.desk.Hit.{Hit}
+use Rattle.segment_queue.specs.Queue.{DeskData}
+use Rattle.segment_queue.specs.Traced.{segment_of}
+use Rattle.earliest_query.specs.Choices.{ArrivesBy}
+use Rattle.earliest_query.specs.UnderWay.{Extends, IsBounded, IsDone, IsFollowed, IsImproved}
+use Rattle.earliest_query.proofs.Growing.{extends-segment}
+use Rattle.earliest_query.proofs.Following.{followed-kept, sound_event}
+use Rattle.earliest_query.proofs.BestSoFar.{arrives_by-improved}
+
+-- what the best arrives by, it arrives by later too
+pub arrives_by-later : (best : Option Hit) (a b : ℤ) → a ≤ℤ b → ArrivesBy best a → ArrivesBy best b
+arrives_by-later None a b le by = by
+arrives_by-later (Some h) a b le by = omega (arith, ints, le, by)
+
+-- along a trip the arrivals never fall
+pub arrives_on : (T : TimetableData) (t i k : ℕ) → IsSound T → t < length T.trips → i ≤ k → k < length (events_of T t) → arrival_at T t i ≤ℤ arrival_at T t k
+arrives_on T t i k sound trip le inside = elim (same_or_less i k le) [ inl e ↦ same (ap (λ m. arrival_at T t m) e) | inr less ↦ chained _ _ _ (sound_event T t i sound trip (omega (arith, less, inside))).waits (departs_first T sound t i k trip less inside) ]
+  where
+    same_or_less : (i k : ℕ) → i ≤ k → (i ≡ k) ⊎ (i < k)
+    same_or_less i k h = grind arith
+
+    same : {a b : ℤ} → a ≡ b → a ≤ℤ b
+    same e = omega (arith, ints, e)
+
+    chained : (a b c : ℤ) → a ≤ℤ b → b ≤ℤ c → a ≤ℤ c
+    chained a b c g h = omega (arith, ints, g, h)
+
+-- what has been done with an index stays done, with a better hit too
+pub done-kept : (T : TimetableData) (hops : ℕ → ℕ → List Hop) (Q : QueryData) (D D' : DeskData) (joined round n i : ℕ) (a b : Option Hit) → Extends D D' joined → n < length D.segments → IsImproved T Q D' round a b → IsDone T hops D a n i → IsDone T hops D' b n i
+done-kept T hops Q D D' joined round n i a b extends inside improved (inl followed) = inl (followed-kept T hops D D' joined n i extends inside followed)
+done-kept T hops Q D D' joined round n i a b extends inside improved (inr late) =
+    inr (subst (λ (s : Segment). ArrivesBy b (arrival_at T s.trip i)) (sym (extends-segment D D' joined extends n inside)) (arrives_by-improved T Q D' round a b (arrival_at T (segment_of D.segments n).trip i) improved late))
+
+-- who arrives late is bounded, with a walk too
+pub late-bounded : (T : TimetableData) (Q : QueryData) (D : DeskData) (best : Option Hit) (n i : ℕ) → ArrivesBy best (arrival_at T (segment_of D.segments n).trip i) → IsBounded T Q D best n i
+late-bounded T Q D best n i late = λ q secs offer. arrives_by-later best _ _ (walked (arrival_at T (segment_of D.segments n).trip i) secs) late
+  where
+    walked : (a : ℤ) (n : ℕ) → a ≤ℤ (a +ℤ pos n)
+    walked a n = omega (arith, ints)

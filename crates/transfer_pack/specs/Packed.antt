@@ -1,0 +1,31 @@
+-- Lists of hops one behind the other in one list.
+use Rattle.std.specs.Prelude.{◌≡◌, ℕ, ◌+◌, ◌-◌, ◌<◌, ◌≤◌, List, [], ◌∷◌, length, take, drop, slice_index_or, nat_lt, if◌then◌else◌}
+use Rattle.tb_base.specs.declared.transfer.Hop.{Hop}
+use Rattle.tb_base.specs.TimetableData.{TimetableData, events_of}
+
+-- the runs of hops between each bound and the next
+abbrev pub runs_in : List Hop → List ℕ → List (List Hop)
+runs_in hops [] = []
+runs_in hops (a ∷ []) = []
+runs_in hops (a ∷ b ∷ bounds) = take (b - a) (drop a hops) ∷ runs_in hops (b ∷ bounds)
+
+-- bounds ascend, and the last is the end
+abbrev pub AreBounds : List ℕ → ℕ → Type 0
+AreBounds [] end = ⊥
+AreBounds (a ∷ []) end = a ≡ end
+AreBounds (a ∷ b ∷ bounds) end = (a ≤ b) × AreBounds (b ∷ bounds) end
+
+-- the hops of all events of a timetable, one list an event, trip after trip, and the number of each trip's first list
+pub record PackedHops : Type 0 where
+  pub table : TimetableData
+  pub starts : List ℕ
+  pub runs : List (List Hop)
+
+-- each event of the timetable has a list
+pub record FitsRuns (S : PackedHops) : Type 0 where
+  pub trips : length S.starts ≡ length S.table.trips
+  pub events : (t : ℕ) → t < length S.table.trips → slice_index_or S.starts t 0 + length (events_of S.table t) ≤ length S.runs
+
+-- the hops from event i of trip t
+abbrev pub packed : PackedHops → ℕ → ℕ → List Hop
+packed S t i = if nat_lt i (length (events_of S.table t)) then slice_index_or S.runs (slice_index_or S.starts t 0 + i) [] else []
