@@ -1,0 +1,121 @@
+#!/usr/bin/env python3
+"""What the gate costs, crate by crate: gate_cost.py [--watch FOLDER]
+
+Runs `rt ci --anew` at the top of this checkout, so that everything is proved from nothing, and prints a table: for each crate the
+processor seconds of its code, of its tests and of its must-fail edits, and the most memory that one prover held. With `--watch` it
+starts nothing, and watches a gate that runs in another checkout until that ends. It samples the prover's processes twice a second;
+what a process used after its last sample is missed.
+"""
+import collections
+import os
+import subprocess
+import sys
+import time
+
+HERE = os.path.dirname(os.path.abspath(__file__))
+TICKS = os.sysconf("SC_CLK_TCK")
+CODE, TESTS, EDITS = "code", "tests", "edits"
+
+
+def read(path):
+    try:
+        with open(path, "rb") as file:
+            return file.read()
+    except OSError:
+        return b""
+
+
+def is_gate(pid, top):
+    words = read(f"/proc/{pid}/cmdline").split(b"\0")
+    return b"ci" in words and any(w.endswith(b"/rt") for w in words) and folder_of(pid) == top
+
+
+def folder_of(pid):
+    try:
+        return os.path.realpath(os.readlink(f"/proc/{pid}/cwd"))
+    except OSError:
+        return ""
+
+
+def parent_of(pid):
+    fields = read(f"/proc/{pid}/stat").rpartition(b")")[2].split()
+    return int(fields[1]) if fields else 0
+
+
+def stands_under(pid, gate):
+    while pid > 1 and pid != gate:
+        pid = parent_of(pid)
+    return pid == gate
+
+
+def work_of(pid):
+    """The crate and the kind of work of a prover, or None where the process is no prover."""
+    words = [w.decode(errors="replace") for w in read(f"/proc/{pid}/cmdline").split(b"\0")]
+    if not words or os.path.basename(words[0]) != "rattle" or "--crate-name" not in words:
+        return None
+    crate = words[words.index("--crate-name") + 1]
+    if os.path.join("crates", crate) not in folder_of(pid) or "must" in folder_of(pid):
+        return crate, EDITS
+    return crate, TESTS if "--test" in words else CODE
+
+
+def sample(gate, seen):
+    for name in os.listdir("/proc"):
+        if not name.isdigit():
+            continue
+        pid = int(name)
+        work = work_of(pid)
+        if work is None or not stands_under(pid, gate):
+            continue
+        fields = read(f"/proc/{pid}/stat").rpartition(b")")[2].split()
+        if len(fields) < 22:
+            continue
+        seconds = (int(fields[11]) + int(fields[12])) / TICKS
+        held = int(fields[21]) * os.sysconf("SC_PAGE_SIZE") / 1e6
+        start = int(fields[19])
+        old = seen.get((pid, start), (work, 0.0, 0.0))
+        seen[pid, start] = (work, max(seconds, old[1]), max(held, old[2]))
+
+
+def gate_in(top):
+    for name in os.listdir("/proc"):
+        if name.isdigit() and is_gate(int(name), top):
+            return int(name)
+    return None
+
+
+def table(seen):
+    rows = collections.defaultdict(lambda: {CODE: 0.0, TESTS: 0.0, EDITS: 0.0, "held": 0.0})
+    for (crate, kind), seconds, held in seen.values():
+        rows[crate][kind] += seconds
+        rows[crate]["held"] = max(rows[crate]["held"], held)
+    print("| crate | code s | tests s | edits s | all s | most MB |")
+    print("|---|---|---|---|---|---|")
+    total = collections.Counter()
+    for crate, row in sorted(rows.items(), key=lambda item: -sum(item[1][kind] for kind in (CODE, TESTS, EDITS))):
+        spent = sum(row[kind] for kind in (CODE, TESTS, EDITS))
+        print(f"| {crate} | {row[CODE]:.0f} | {row[TESTS]:.0f} | {row[EDITS]:.0f} | {spent:.0f} | {row['held']:.0f} |")
+        total.update({kind: row[kind] for kind in (CODE, TESTS, EDITS)})
+    print(f"| all | {total[CODE]:.0f} | {total[TESTS]:.0f} | {total[EDITS]:.0f} | {sum(total.values()):.0f} | |")
+
+
+def main(words):
+    if words[:1] == ["--watch"]:
+        top = os.path.realpath(words[1])
+        gate, child = gate_in(top), None
+        if gate is None:
+            sys.exit(f"gate_cost: no gate runs in {top}")
+    else:
+        top = os.path.realpath(os.path.join(HERE, ".."))
+        child = subprocess.Popen(["rt", "ci", "--anew"], cwd=top, stdout=subprocess.DEVNULL)
+        gate = child.pid
+    seen = {}
+    while (child.poll() is None) if child else os.path.exists(f"/proc/{gate}"):
+        sample(gate, seen)
+        time.sleep(0.5)
+    table(seen)
+    sys.exit(child.returncode if child else 0)
+
+
+if __name__ == "__main__":
+    main(sys.argv[1:])
