@@ -1,8 +1,8 @@
 -- A search that has ridden all segments holds the answer.
-use Rattle.std.proofs.Common.{◌≡◌, ◌∙◌, ℕ, zero, suc, ◌+◌, ◌<◌, ◌≤◌, ◌⊎◌, inl, inr, List, [], ◌∷◌, ◌++◌, length, map, take, drop, refl, sym, ap, subst, arith, Option, Some, None, ℤ, pos, ◌+ℤ◌, ◌≤ℤ◌, length-append}
+use Rattle.std.proofs.Common.{◌≡◌, ◌∙◌, ℕ, zero, suc, ◌<◌, ◌≤◌, ◌⊎◌, inl, inr, List, [], ◌∷◌, ◌++◌, length, map, refl, sym, ap, subst, arith, Option, Some, None, ℤ, pos, ◌+ℤ◌, ◌≤ℤ◌}
 use Rattle.std.specs.Prelude.{All, AllPairs, Contains, IfSome, IsSome, slice_index, sum_by}
 use Rattle.std.proofs.lemmas.Int.{ints}
-use Rattle.std.proofs.lemmas.List.{append_assoc, take-append-drop, take_all, take_more}
+use Rattle.std.proofs.lemmas.List.{take_all}
 use Rattle.std.proofs.lemmas.List.Elements.{All-map, All-weaker, All-contains, All-nil, All-cons}
 use Rattle.tb_base.specs.declared.transfer.Hop.{Hop}
 use Rattle.tb_base.specs.declared.query.Value.{Value}
@@ -16,7 +16,6 @@ use Rattle.tb_base.specs.Sufficiency.{AreSufficient}
 use Rattle.tb_base.proofs.Ordered.{Member, Member-from_Contains, Contains-from_Member, AllPairs-tail}
 use Rattle.segment_queue.proofs.Distinct.{before_member, pairs_from_head}
 use Rattle.earliest_query.proofs.LineBoarding.{member_map_back}
-use Rattle.tb_laws.proofs.ReachedLaws.{reached_by_hop, reached_first, reached_value}
 use Rattle.tb_laws.specs.Pruning.{IsLate, IsPrunedSearch}
 use Rattle.tb_laws.proofs.SearchLaws.{pruned_value_found}
 use Rattle.tb_laws.proofs.StaircaseLaws.{best_values_from_staircase}
@@ -24,50 +23,17 @@ use Rattle.tb_laws.proofs.Triangles.{walk_secs-is}
 use Rattle.tb_laws.proofs.UTurnLaws.{some}
 use Rattle.segment_queue.specs.declared.desk.Segment.{Segment}
 use Rattle.segment_queue.specs.declared.desk.Hit.{Hit}
-use Rattle.segment_queue.specs.declared.desk.LastLeg.{LastLeg}
-use Rattle.segment_queue.specs.declared.desk.LastLeg.TheVariants.{OnFoot, Aboard}
 use Rattle.segment_queue.specs.Queue.{DeskData, IsInStep, covered_indices}
-use Rattle.segment_queue.specs.Traced.{IsAnswered, IsEntered, IsTracedBy, IsTracedHit, no_segment, round_after, round_of, round_segments, segment_of}
+use Rattle.segment_queue.specs.Traced.{IsAnswered, IsTracedHit, no_segment, round_of, round_segments, segment_of}
 use Rattle.segment_queue.proofs.Totals.{last_le_events}
 use Rattle.earliest_query.specs.Choices.{ArrivesBy, hits_of}
 use Rattle.earliest_query.specs.UnderWay.{AreBoarded, Extends, IsHit, IsQueue, covered_before}
 use Rattle.earliest_query.specs.Ridden.{IsRidden}
-use Rattle.earliest_query.proofs.Rounds.{board_of, end_of, length-round_segments, round_of-kept, segment_at-kept, segment_at-last, trip_of}
+use Rattle.earliest_query.proofs.Rounds.{board_of, end_of, length-round_segments, trip_of}
+use Rattle.earliest_query.proofs.Reaching.{hit_attained, reached_all, same_values}
 use Rattle.earliest_query.proofs.Following.{get_or-inside}
 use Rattle.earliest_query.proofs.BestSoFar.{IsWalkHit}
-use Rattle.earliest_query.proofs.Keeping.{hits_of-same}
-
--- the round of a segment is that behind its parent
-pub round_behind : (segments : List Segment) (n : ℕ) → n < length segments → (parent : Option (ℕ × ℕ)) → (segment_of segments n).parent ≡ parent → IfSome parent (λ p. p.0 < n) → round_of segments n ≡ round_after (round_segments segments) parent
-round_behind segments n inside parent is earlier =
-    let before : List Segment = take n segments in
-    let s : Segment = segment_of segments n in
-    let after : List Segment = drop (n + 1) segments in
-    let whole : segments ≡ (before ++ s ∷ []) ++ after = split segments n inside in
-    let long : length before ≡ n = taken segments n inside in
-    let longer : length (before ++ s ∷ []) ≡ n + 1 = omega (arith, length-append before (s ∷ []), long) in
-    ap (λ xs. round_of xs n) whole
-    ∙ round_of-kept (before ++ s ∷ []) after n (omega (arith, longer))
-    ∙ ap (round_of (before ++ s ∷ [])) (sym long)
-    ∙ ap (λ (r : RoundSegment). r.round) (segment_at-last before s)
-    ∙ ap (round_after (round_segments before)) is
-    ∙ by_parent parent earlier before after s whole long
-  where
-    taken : (xs : List Segment) (n : ℕ) → n < length xs → length (take n xs) ≡ n
-    taken [] n h = absurd (omega (arith, h))
-    taken (x ∷ xs) zero h = refl
-    taken (x ∷ xs) (suc n) h = omega (arith, taken xs n (omega (arith, h)))
-
-    split : (xs : List Segment) (n : ℕ) → n < length xs → xs ≡ (take n xs ++ segment_of xs n ∷ []) ++ drop (n + 1) xs
-    split xs n h = sym (take-append-drop (n + 1) xs) ∙ ap (λ ys. ys ++ drop (n + 1) xs) (take_more xs n no_segment h)
-
-    by_parent : (o : Option (ℕ × ℕ)) → IfSome o (λ p. p.0 < n) → (before after : List Segment) (s : Segment) → segments ≡ (before ++ s ∷ []) ++ after → length before ≡ n → round_after (round_segments before) o ≡ round_after (round_segments segments) o
-    by_parent None h before after s whole long = refl
-    by_parent (Some p) h before after s whole long =
-        ap suc (ap (λ (r : RoundSegment). r.round) (sym (ap (λ xs. segment_at (round_segments xs) p.0) (whole ∙ append_assoc before (s ∷ []) after) ∙ segment_at-kept before (s ∷ [] ++ after) p.0 (omega (arith, h, long)))))
-
-same_values : (a b : ℤ) (m n : ℕ) → a ≡ b → m ≡ n → ◌≡◌ {A = Value} (record { arrive = a; rides = m }) (record { arrive = b; rides = n })
-same_values a b m n e f = cc
+use Rattle.earliest_query.proofs.Keeping.{hits_of-same, value_member}
 
 -- the origin that a stop is boarded from
 record BestOf (T : TimetableData) (origins : List ℕ) (stop n : ℕ) : Type 0 where
@@ -146,47 +112,6 @@ module _ (T : TimetableData) (origins : List ℕ) (stop : ℕ) where
       ]
 
 module _ (T : TimetableData) (lines : List (List ℕ)) (hops : ℕ → ℕ → List Hop) (Q : QueryData) (D : DeskData) (round : ℕ) (ridden : IsRidden T lines hops Q D (length D.segments) round) where
-  abbrev Reached : ℕ → Type 0
-  Reached n = IsReached T Q.from Q.leave (round_of D.segments n) (segment_of D.segments n).trip (segment_of D.segments n).board
-
-  -- each segment leads back to an origin
-  reached_below : (bound n : ℕ) → n < bound → n < length D.segments → Reached n
-  reached_below zero n small inside = absurd (omega (arith, small))
-  reached_below (suc b) n small inside = by_parent (segment_of D.segments n).parent refl (ridden.queue.entered n inside) (λ m below. reached_below b m (omega (arith, small, below)) (omega (arith, below, inside)))
-    where
-      by_parent : (o : Option (ℕ × ℕ)) → (segment_of D.segments n).parent ≡ o → IsEntered T Q D.segments n o (segment_of D.segments n).trip (segment_of D.segments n).board → ((m : ℕ) → m < n → Reached m) → Reached n
-      by_parent None is e earlier =
-          subst (λ r. IsReached T Q.from Q.leave r (segment_of D.segments n).trip (segment_of D.segments n).board) (sym (round_behind D.segments n inside None is tt))
-          (reached_first T Q.from Q.leave e.origin (segment_of D.segments n).trip (segment_of D.segments n).board e.secs e.from e.boards e.walks e.in_time)
-      by_parent (Some p) is e earlier =
-          subst (λ r. IsReached T Q.from Q.leave r (segment_of D.segments n).trip (segment_of D.segments n).board) (sym (round_behind D.segments n inside (Some p) is e.earlier))
-          (reached_by_hop T Q.from Q.leave (round_of D.segments p.0) (segment_of D.segments p.0).trip (segment_of D.segments p.0).board p.1 (record { trip = (segment_of D.segments n).trip; at = (segment_of D.segments n).board }) (earlier p.0 e.earlier) e.onward e.possible)
-
-  reached_all : (n : ℕ) → n < length D.segments → Reached n
-  reached_all n inside = reached_below (suc n) n (omega arith) inside
-
-  attained : (h : Hit) → IsTracedHit T Q D.segments h → IsAttained T Q h.value
-  attained h traced = by_leg h.last traced
-    where
-      by_leg : (last : LastLeg) → IsTracedBy T Q D.segments last h.value.arrive h.value.rides → IsAttained T Q h.value
-      by_leg (OnFoot from to) k = (
-        record { origin = from; rides = []; target = to },
-        record {
-          journey = record { origin = k.origin; target = k.target; leads = subst (λ o. IsSome o) (sym k.walks) refl };
-          leaves = tt;
-          value = same h.value _ _ (k.arrives ∙ ap (λ z. Q.leave +ℤ z) (sym (walk_secs-is T from to k.secs k.walks))) k.no_ride;
-        },
-      )
-        where
-          same : (v : Value) (a : ℤ) (n : ℕ) → v.arrive ≡ a → v.rides ≡ n → v ≡ record { arrive = a; rides = n }
-          same v a n e f = same_values v.arrive a v.rides n e f
-      by_leg (Aboard n i to) k =
-          subst (IsAttained T Q) (sym (same h.value _ _ (k.arrives ∙ ap (λ z. arrival_at T (segment_of D.segments n).trip i +ℤ z) (sym (walk_secs-is T (stop_at T (segment_of D.segments n).trip i) to k.secs k.walks))) k.rounds))
-          (reached_value T Q.from Q.leave Q refl refl (round_of D.segments n) (segment_of D.segments n).trip (segment_of D.segments n).board i to (reached_all n k.inside) k.onward k.alights k.target (subst (λ o. IsSome o) (sym k.walks) refl))
-        where
-          same : (v : Value) (a : ℤ) (n : ℕ) → v.arrive ≡ a → v.rides ≡ n → v ≡ record { arrive = a; rides = n }
-          same v a n e f = same_values v.arrive a v.rides n e f
-
   abbrev rounds : List RoundSegment
   rounds = round_segments D.segments
 
@@ -196,24 +121,19 @@ module _ (T : TimetableData) (lines : List (List ℕ)) (hops : ℕ → ℕ → L
   abbrev values : List Value
   values = map (λ (h : Hit). h.value) D.hits
 
-  value_member : (h : Hit) (hs : List Hit) → Member h hs → Member h.value (map (λ (x : Hit). x.value) hs)
-  value_member h [] m = m
-  value_member h (x ∷ xs) (inl e) = inl (ap (λ (y : Hit). y.value) e)
-  value_member h (x ∷ xs) (inr m) = inr (value_member h xs m)
-
   -- a hit that is no worse makes it late
   late_by : (time : ℤ) (rides : ℕ) → IsHit D.hits (record { arrive = time; rides = rides }) → IsLate values time rides
   late_by time rides hit = (hit.by.value, Contains-from_Member hit.by.value values (value_member hit.by D.hits (Member-from_Contains hit.by D.hits hit.one)), hit.no_worse)
 
   -- the value of each hit is attained
   all_attained : All (IsAttained T Q) values
-  all_attained = All-map (IsAttained T Q) (λ (h : Hit). h.value) D.hits (All-weaker (IsTracedHit T Q D.segments) (λ (h : Hit). IsAttained T Q h.value) (λ h t. attained h t) D.hits ridden.traced)
+  all_attained = All-map (IsAttained T Q) (λ (h : Hit). h.value) D.hits (All-weaker (IsTracedHit T Q D.segments) (λ (h : Hit). IsAttained T Q h.value) (λ h t. hit_attained T Q D.segments ridden.queue.entered h t) D.hits ridden.traced)
 
   pub searched : IsPrunedSearch T hops Q.from Q.leave values rounds
   searched = record {
     reached = λ n h. let inside : n < length D.segments = omega (arith, h, long) in
         subst (λ t. IsReached T Q.from Q.leave (round_of D.segments n) t (segment_at rounds n).board) (sym (trip_of D.segments n inside))
-        (subst (λ b. IsReached T Q.from Q.leave (round_of D.segments n) (segment_of D.segments n).trip b) (sym (board_of D.segments n inside)) (reached_all n inside));
+        (subst (λ b. IsReached T Q.from Q.leave (round_of D.segments n) (segment_of D.segments n).trip b) (sym (board_of D.segments n inside)) (reached_all T Q D.segments ridden.queue.entered n inside));
     starts = λ p t b secs from boards not_last walks in_time.
         let choice = first_choice T Q.from (stop_at T t b) p secs from walks in
         subst (λ m. IsCovered T rounds m 1 t b) (sym long)
@@ -236,7 +156,7 @@ module _ (T : TimetableData) (lines : List (List ℕ)) (hops : ℕ → ℕ → L
   -- a best value that some hit is no worse than is the value of the hit
   best_hit : (v : Value) → IsBest T Q v → IsHit D.hits v → Contains values v
   best_hit v best hit =
-      let same : hit.by.value ≡ v = best.undominated hit.by.value (attained hit.by (All-contains (IsTracedHit T Q D.segments) D.hits hit.by ridden.traced hit.one)) hit.no_worse in
+      let same : hit.by.value ≡ v = best.undominated hit.by.value (hit_attained T Q D.segments ridden.queue.entered hit.by (All-contains (IsTracedHit T Q D.segments) D.hits hit.by ridden.traced hit.one)) hit.no_worse in
       Contains-from_Member v values (subst (λ w. Member w values) same (value_member hit.by D.hits (Member-from_Contains hit.by D.hits hit.one)))
 
   module _ (sound : IsSound T) (sufficient : AreSufficient T hops) where
@@ -285,6 +205,24 @@ module _ (T : TimetableData) (lines : List (List ℕ)) (hops : ℕ → ℕ → L
       best = best_values_from_staircase T Q values sound all_attained complete (map_pairs D.hits ridden.stairs);
     }
 
+-- the hits when only the walks have been looked at
+pub record AreWalkHits (T : TimetableData) (Q : QueryData) (segments : List Segment) (walked : Option Hit) (hits : List Hit) : Type 0 where
+  pub traced : All (IsTracedHit T Q segments) hits
+  pub fewer : All (λ (h : Hit). h.value.rides < 1) hits
+  pub by : (time : ℤ) → ArrivesBy walked time → IsHit hits (record { arrive = time; rides = 0 })
+  pub one : length hits ≤ 1
+
+pub walk_hits : (T : TimetableData) (Q : QueryData) (segments : List Segment) (walked : Option Hit) → IfSome walked (IsWalkHit T Q) → AreWalkHits T Q segments walked (hits_of 0 walked)
+walk_hits T Q segments None w = record { traced = All-nil (IsTracedHit T Q segments); fewer = All-nil (λ (h : Hit). h.value.rides < 1); by = λ time by. absurd by; one = omega arith }
+walk_hits T Q segments (Some h) w =
+    subst (AreWalkHits T Q segments (Some h)) (sym (hits_of-same 0 h w.1))
+    (record {
+      traced = All-cons (IsTracedHit T Q segments) h [] (w.0 segments) (All-nil (IsTracedHit T Q segments));
+      fewer = All-cons (λ (x : Hit). x.value.rides < 1) h [] (omega (arith, w.1)) (All-nil (λ (x : Hit). x.value.rides < 1));
+      by = λ time by. record { by = h; one = Contains-from_Member h (h ∷ []) (inl refl); no_worse = (by, omega (arith, w.1)) };
+      one = omega arith;
+    })
+
 -- the desk when the first rides have been boarded
 pub first_ridden : (T : TimetableData) (lines : List (List ℕ)) (hops : ℕ → ℕ → List Hop) (Q : QueryData) (C D E : DeskData) (walked : Option Hit) → C.segments ≡ [] → C.hits ≡ [] → D ≡ record C { hits = C.hits ++ hits_of 0 walked } →
     IsQueue T lines hops Q E 1 → Extends D E 1 → ((place : ℕ) → place < length Q.from → AreBoarded T Q E place) → IfSome walked (IsWalkHit T Q) →
@@ -292,7 +230,7 @@ pub first_ridden : (T : TimetableData) (lines : List (List ℕ)) (hops : ℕ →
 first_ridden T lines hops Q C D E walked no_segment no_hit is queue extends boarded traced bounded =
     let hits : E.hits ≡ hits_of 0 walked = extends.hits ∙ ap (λ (d : DeskData). d.hits) is ∙ ap (λ hs. hs ++ hits_of 0 walked) no_hit in
     let none : length D.segments ≡ 0 = ap (λ (d : DeskData). length d.segments) is ∙ ap length no_segment in
-    let first = walk_facts walked traced in
+    let first = walk_hits T Q E.segments walked traced in
     record {
       queue = queue;
       some_round = omega arith;
@@ -301,23 +239,13 @@ first_ridden T lines hops Q C D E walked no_segment no_hit is queue extends boar
       this_round = λ n h inside. extends.rounds n (omega (arith, none)) inside;
       boarded = boarded;
       followed = λ n i h. absurd (omega (arith, h));
-      walks = λ p q secs a b w. subst (λ hs. IsHit hs (record { arrive = Q.leave +ℤ pos secs; rides = 0 })) (sym hits) (first.2 (Q.leave +ℤ pos secs) (bounded p q secs a b w));
+      walks = λ p q secs a b w. subst (λ hs. IsHit hs (record { arrive = Q.leave +ℤ pos secs; rides = 0 })) (sym hits) (first.by (Q.leave +ℤ pos secs) (bounded p q secs a b w));
       values = λ n i q secs h. absurd (omega (arith, h));
-      traced = subst (All (IsTracedHit T Q E.segments)) (sym hits) first.0;
-      stairs = subst (AllPairs (λ (h k : Hit). IsStep h.value k.value)) (sym hits) (λ i j d a b. absurd (omega (arith, a, b, first.3)));
-      fewer = subst (All (λ (h : Hit). h.value.rides < 1)) (sym hits) first.1;
-      few_hits = omega (arith, ap length hits, first.3);
+      traced = subst (All (IsTracedHit T Q E.segments)) (sym hits) first.traced;
+      stairs = subst (AllPairs (λ (h k : Hit). IsStep h.value k.value)) (sym hits) (λ i j d a b. absurd (omega (arith, a, b, first.one)));
+      fewer = subst (All (λ (h : Hit). h.value.rides < 1)) (sym hits) first.fewer;
+      few_hits = omega (arith, ap length hits, first.one);
     }
-  where
-    walk_facts : (o : Option Hit) → IfSome o (IsWalkHit T Q) → All (IsTracedHit T Q E.segments) (hits_of 0 o) × All (λ (h : Hit). h.value.rides < 1) (hits_of 0 o) × ((time : ℤ) → ArrivesBy o time → IsHit (hits_of 0 o) (record { arrive = time; rides = 0 })) × (length (hits_of 0 o) ≤ 1)
-    walk_facts None w = (All-nil (IsTracedHit T Q E.segments), All-nil (λ (h : Hit). h.value.rides < 1), λ time by. absurd by, omega arith)
-    walk_facts (Some h) w =
-        subst (λ hs. All (IsTracedHit T Q E.segments) hs × All (λ (x : Hit). x.value.rides < 1) hs × ((time : ℤ) → ArrivesBy (Some h) time → IsHit hs (record { arrive = time; rides = 0 })) × (length hs ≤ 1)) (sym (hits_of-same 0 h w.1)) (
-          All-cons (IsTracedHit T Q E.segments) h [] (w.0 E.segments) (All-nil (IsTracedHit T Q E.segments)),
-          All-cons (λ (x : Hit). x.value.rides < 1) h [] (omega (arith, w.1)) (All-nil (λ (x : Hit). x.value.rides < 1)),
-          λ time by. record { by = h; one = Contains-from_Member h (h ∷ []) (inl refl); no_worse = (by, omega (arith, w.1)) },
-          omega arith,
-        )
 
 -- what all segments cover is at most all events
 pub covered_all : (T : TimetableData) (lines : List (List ℕ)) (D : DeskData) → IsInStep T lines D → covered_before D.segments (length D.segments) ≤ event_total T

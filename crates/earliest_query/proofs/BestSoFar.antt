@@ -135,11 +135,11 @@ pub weighed_as : (T : TimetableData) (Q : QueryData) (p q : ℕ) (a b : ℤ) (x 
 weighed_as T Q p q a b x y n i round best result e f g w =
     subst (λ z. IsWeighed T Q q b z n i round best result) g (subst (λ z. IsWeighed T Q q z x n i round best result) f (subst (λ z. IsWeighed T Q z a x n i round best result) e w))
 
-earlier_kept : (best : Option Hit) (h : Hit) → (earlier_hit best h ≡ best) ⊎ (earlier_hit best h ≡ Some h)
+pub earlier_kept : (best : Option Hit) (h : Hit) → (earlier_hit best h ≡ best) ⊎ (earlier_hit best h ≡ Some h)
 earlier_kept None h = inr refl
 earlier_kept (Some b) h = elim (int_lt_cases h.value.arrive b.value.arrive) [ inl e ↦ inr (ap (λ t. cond t (Some h) (Some b)) e.1) | inr e ↦ inl (ap (λ t. cond t (Some h) (Some b)) e.1) ]
 
-earlier_still : (best : Option Hit) (h : Hit) (time : ℤ) → ArrivesBy best time → ArrivesBy (earlier_hit best h) time
+pub earlier_still : (best : Option Hit) (h : Hit) (time : ℤ) → ArrivesBy best time → ArrivesBy (earlier_hit best h) time
 earlier_still None h time by = absurd by
 earlier_still (Some b) h time by =
     elim (int_lt_cases h.value.arrive b.value.arrive) [

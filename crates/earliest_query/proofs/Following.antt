@@ -21,6 +21,9 @@ get_or-inside (x ∷ xs) (suc k) a b h = get_or-inside xs k a b (omega arith)
 pub contains_read : {X : Type 0} (xs : List X) (k : ℕ) (x : X) → k < length xs → x ≡ get_or xs k x → Contains xs x
 contains_read xs k x inside is = (k, inside, sym is)
 
+pub contains_at : {X : Type 0} (xs : List X) (k : ℕ) (d : X) → k < length xs → Contains xs (get_or xs k d)
+contains_at xs k d inside = (k, inside, get_or-inside xs k (get_or xs k d) d inside)
+
 module _ (T : TimetableData) (hops : ℕ → ℕ → List Hop) (D D' : DeskData) (joined n i : ℕ) (h : Hop) (sufficient : AreSufficient T hops) (inside : n < length D.segments) (covers : Covers D n i) (extends : Extends D D' joined) (in_set : Contains (hops (segment_of D.segments n).trip i) h) where
   possible : IsPossibleHop T (segment_of D.segments n).trip i h
   possible = sufficient.possible (segment_of D.segments n).trip i h in_set

@@ -1,5 +1,5 @@
 -- The best hit of a round is kept.
-use Rattle.std.proofs.Common.{◌≡◌, ◌∙◌, ℕ, zero, suc, ◌+◌, ◌-◌, ◌<◌, ◌≤◌, ◌⊎◌, inl, inr, ◌==◌, List, [], ◌∷◌, ◌++◌, true, false, cond, length, get_or, refl, sym, ap, subst, arith, Option, Some, None, ℤ, pos, ◌+ℤ◌, ◌≤ℤ◌, ◌<ℤ◌, length-append}
+use Rattle.std.proofs.Common.{◌≡◌, ◌∙◌, ℕ, zero, suc, ◌+◌, ◌-◌, ◌<◌, ◌≤◌, ◌⊎◌, inl, inr, ◌==◌, List, [], ◌∷◌, ◌++◌, true, false, cond, length, map, get_or, refl, sym, ap, subst, arith, Option, Some, None, ℤ, pos, ◌+ℤ◌, ◌≤ℤ◌, ◌<ℤ◌, length-append}
 use Rattle.std.specs.Prelude.{All, AllPairs, Contains, IfSome, slice_get}
 use Rattle.std.proofs.lemmas.Bool.Decides.{nat_tests}
 use Rattle.std.proofs.lemmas.Int.{ints}
@@ -49,6 +49,14 @@ queue-hits T lines hops Q D hs round q = record {
 pub hit-more : (hits more : List Hit) (arrive : ℤ) (rides : ℕ) → IsHit hits (record { arrive = arrive; rides = rides }) → IsHit (hits ++ more) (record { arrive = arrive; rides = rides })
 hit-more hits more arrive rides h = record { by = h.by; one = Contains-from_Member h.by (hits ++ more) (Member-left h.by hits more (Member-from_Contains h.by hits h.one)); no_worse = h.no_worse }
 
+pub hit-added : (hits more : List Hit) (arrive : ℤ) (rides : ℕ) → IsHit more (record { arrive = arrive; rides = rides }) → IsHit (hits ++ more) (record { arrive = arrive; rides = rides })
+hit-added hits more arrive rides h = record { by = h.by; one = Contains-from_Member h.by (hits ++ more) (Member-right h.by hits more (Member-from_Contains h.by more h.one)); no_worse = h.no_worse }
+
+pub value_member : (h : Hit) (hs : List Hit) → Member h hs → Member h.value (map (λ (x : Hit). x.value) hs)
+value_member h [] m = m
+value_member h (x ∷ xs) (inl e) = inl (ap (λ (y : Hit). y.value) e)
+value_member h (x ∷ xs) (inr m) = inr (value_member h xs m)
+
 test_same : (a b : ℕ) → a ≡ b → (a == b) ≡ true
 test_same a b h = grind (arith, nat_tests, h)
 
@@ -62,13 +70,13 @@ hits_of-earlier : (round : ℕ) (best : Option Hit) → IfSome best (λ h. h.val
 hits_of-earlier round None less = refl
 hits_of-earlier round (Some h) less = ap (λ b. cond b (h ∷ []) []) (test_other h.value.rides round less)
 
--- what is added to the hits of earlier rounds
-pub record Adds (T : TimetableData) (Q : QueryData) (E : DeskData) (hits : List Hit) (round : ℕ) (best : Option Hit) (added : List Hit) : Type 0 where
+-- what a round adds to the hits of the rounds before, where the best so far was this when it began
+pub record Adds (T : TimetableData) (Q : QueryData) (E : DeskData) (hits : List Hit) (round : ℕ) (start best : Option Hit) (added : List Hit) : Type 0 where
   pub traced : All (IsTracedHit T Q E.segments) added
   pub one : length added ≤ 1
   pub later : (h k : Hit) → Member h hits → Member k added → IsStep h.value k.value
   pub fewer : All (λ (h : Hit). h.value.rides < round + 1) added
-  pub hit : (time : ℤ) → ArrivesBy best time → IsHit (hits ++ added) (record { arrive = time; rides = round })
+  pub by : (time : ℤ) → ArrivesBy best time → ArrivesBy start time ⊎ IsHit added (record { arrive = time; rides = round })
 
 -- the last of hits with ever earlier arrivals arrives first
 last_first : (hits : List Hit) (l h : Hit) → AllPairs (λ (h k : Hit). IsStep h.value k.value) hits → last_of hits ≡ Some l → Member h hits → l.value.arrive ≤ℤ h.value.arrive
@@ -100,56 +108,87 @@ none_last (x ∷ xs) h is member = some_last (x ∷ xs) (length (x ∷ xs) - 1) 
     some_last (y ∷ ys) zero inside e = cc
     some_last (y ∷ ys) (suc k) inside e = some_last ys k (omega (arith, inside)) e
 
-module _ (T : TimetableData) (Q : QueryData) (E : DeskData) (hits : List Hit) (round : ℕ) (stairs : AllPairs (λ (h k : Hit). IsStep h.value k.value) hits) (fewer : All (λ (h : Hit). h.value.rides < round) hits) where
+module _ (hits : List Hit) (round : ℕ) (fewer : All (λ (h : Hit). h.value.rides < round) hits) where
   rides_less : (h : Hit) → Member h hits → h.value.rides < round
   rides_less h member = of_member (λ (x : Hit). x.value.rides < round) hits h fewer member
 
-  before : (last : Option Hit) → last_of hits ≡ last → IfSome last (λ h. h.value.rides < round)
-  before None is = tt
-  before (Some l) is = rides_less l (Member-from_Contains l hits (last_member hits l is))
+  earlier_last : (last : Option Hit) → last_of hits ≡ last → IfSome last (λ h. h.value.rides < round)
+  earlier_last None is = tt
+  earlier_last (Some l) is = rides_less l (Member-from_Contains l hits (last_member hits l is))
 
-  adds_none : (last : Option Hit) → last_of hits ≡ last → Adds T Q E hits round last (hits_of round last)
-  adds_none last is = subst (Adds T Q E hits round last) (sym (hits_of-earlier round last (before last is))) (record {
+  -- the last hit is of an earlier round
+  pub last_earlier : IfSome (last_of hits) (λ h. h.value.rides < round)
+  last_earlier = earlier_last (last_of hits) refl
+
+  hit_of_last : (last : Option Hit) → last_of hits ≡ last → (time : ℤ) → ArrivesBy last time → IsHit hits (record { arrive = time; rides = round })
+  hit_of_last None is time by = absurd by
+  hit_of_last (Some l) is time by = record { by = l; one = last_member hits l is; no_worse = (by, (let less = rides_less l (Member-from_Contains l hits (last_member hits l is)) in omega (arith, less))) }
+
+  -- so where it has arrived, with the rides of this round, a hit is no worse
+  pub last_no_worse : (time : ℤ) → ArrivesBy (last_of hits) time → IsHit hits (record { arrive = time; rides = round })
+  last_no_worse time by = hit_of_last (last_of hits) refl time by
+
+sooner_by : (best : Option Hit) (a time : ℤ) → ArrivesBy best time → IfSome best (λ b. a <ℤ b.value.arrive) → a <ℤ time
+sooner_by None a time by sooner = absurd by
+sooner_by (Some b) a time by sooner = omega (arith, ints, by, sooner)
+
+arrives_itself : (h : Hit) → ArrivesBy (Some h) h.value.arrive
+arrives_itself h = omega (arith, ints)
+
+module _ (T : TimetableData) (Q : QueryData) (E : DeskData) (hits : List Hit) (round : ℕ) (start : Option Hit) (stairs : AllPairs (λ (h k : Hit). IsStep h.value k.value) hits) (fewer : All (λ (h : Hit). h.value.rides < round) hits)
+    (earlier : IfSome start (λ h. h.value.rides < round)) (no_later : (time : ℤ) → ArrivesBy (last_of hits) time → ArrivesBy start time) where
+  adds_none : Adds T Q E hits round start start (hits_of round start)
+  adds_none = subst (Adds T Q E hits round start start) (sym (hits_of-earlier round start earlier)) (record {
     traced = All-nil (IsTracedHit T Q E.segments);
     one = omega arith;
     later = λ h k a b. absurd b;
     fewer = All-nil (λ (h : Hit). h.value.rides < round + 1);
-    hit = λ time by. old last is time by;
+    by = λ time b. inl b;
   })
-    where
-      old : (last : Option Hit) → last_of hits ≡ last → (time : ℤ) → ArrivesBy last time → IsHit (hits ++ []) (record { arrive = time; rides = round })
-      old None is time by = absurd by
-      old (Some l) is time by =
-          hit-more hits [] time round (record { by = l; one = last_member hits l is; no_worse = (by, (let less = rides_less l (Member-from_Contains l hits (last_member hits l is)) in omega (arith, less))) })
 
-  adds_new : (last : Option Hit) (h : Hit) → last_of hits ≡ last → IsNewHit T Q E round last h → Adds T Q E hits round (Some h) (hits_of round (Some h))
-  adds_new last h is new = subst (Adds T Q E hits round (Some h)) (sym (hits_of-same round h new.rides)) (record {
+  adds_new : (h : Hit) → IsNewHit T Q E round start h → Adds T Q E hits round start (Some h) (hits_of round (Some h))
+  adds_new h new = subst (Adds T Q E hits round start (Some h)) (sym (hits_of-same round h new.rides)) (record {
     traced = All-cons (IsTracedHit T Q E.segments) h [] new.traced (All-nil (IsTracedHit T Q E.segments));
     one = omega arith;
     later = λ g k a b. later g k a b;
     fewer = All-cons (λ (x : Hit). x.value.rides < round + 1) h [] (omega (arith, new.rides)) (All-nil (λ (x : Hit). x.value.rides < round + 1));
-    hit = λ time by. record { by = h; one = Contains-from_Member h (hits ++ h ∷ []) (Member-right h hits (h ∷ []) (inl refl)); no_worse = (by, omega (arith, new.rides)) };
+    by = λ time b. inr (record { by = h; one = Contains-from_Member h (h ∷ []) (inl refl); no_worse = (b, omega (arith, new.rides)) });
   })
     where
-      sooner : (g : Hit) → Member g hits → (o : Option Hit) → last_of hits ≡ o → IfSome o (λ b. h.value.arrive <ℤ b.value.arrive) → h.value.arrive <ℤ g.value.arrive
-      sooner g a None e s = absurd (none_last hits g e a)
-      sooner g a (Some l) e s = (let first = last_first hits l g stairs e a in omega (arith, ints, first, s))
+      sooner : (g : Hit) → Member g hits → (o : Option Hit) → last_of hits ≡ o → h.value.arrive <ℤ g.value.arrive
+      sooner g a None e = absurd (none_last hits g e a)
+      sooner g a (Some l) e =
+          let first = last_first hits l g stairs e a in
+          let less = sooner_by start h.value.arrive l.value.arrive (no_later l.value.arrive (subst (λ o. ArrivesBy o l.value.arrive) (sym e) (arrives_itself l))) new.sooner in
+          omega (arith, ints, first, less)
 
       later : (g k : Hit) → Member g hits → Member k (h ∷ []) → IsStep g.value k.value
-      later g k a (inl e) = subst (λ x. IsStep g.value (Hit.value x)) e ((let less = rides_less g a in omega (arith, less, new.rides)), sooner g a last is new.sooner)
+      later g k a (inl e) = subst (λ x. IsStep g.value (Hit.value x)) e ((let less = rides_less hits round fewer g a in omega (arith, less, new.rides)), sooner g a (last_of hits) refl)
       later g k a (inr none) = absurd none
 
-  pub adds_best : (best : Option Hit) → IsImproved T Q E round (last_of hits) best → Adds T Q E hits round best (hits_of round best)
-  adds_best best (inl same) = adds_none best (sym same)
+  pub adds_best : (best : Option Hit) → IsImproved T Q E round start best → Adds T Q E hits round start best (hits_of round best)
+  adds_best best (inl same) = subst (λ b. Adds T Q E hits round start b (hits_of round b)) (sym same) adds_none
   adds_best None (inr new) = absurd new
-  adds_best (Some h) (inr new) = adds_new (last_of hits) h refl new
+  adds_best (Some h) (inr new) = adds_new h new
 
-module _ (T : TimetableData) (lines : List (List ℕ)) (hops : ℕ → ℕ → List Hop) (Q : QueryData) (D E : DeskData) (best : Option Hit) (from to round : ℕ) (ridden : IsRidden T lines hops Q D from round) (to_is : to ≡ length D.segments) (below : from < length D.segments)
-    (queue : IsQueue T lines hops Q E (suc round)) (extends : Extends D E (suc round)) (followed : (n i : ℕ) → from ≤ n → n < to → Covers D n i → IsDone T hops E best n i) (bounded : (n i : ℕ) → from ≤ n → n < to → Covers D n i → IsBounded T Q D best n i)
-    (adds : Adds T Q E D.hits round best (hits_of round best)) where
-  abbrev added : List Hit
-  added = hits_of round best
+-- the hits after a round
+module _ (T : TimetableData) (Q : QueryData) (D E : DeskData) (joined round : ℕ) (start best : Option Hit) (added : List Hit) (extends : Extends D E joined) (adds : Adds T Q E D.hits round start best added) where
+  pub traced_next : All (IsTracedHit T Q D.segments) D.hits → All (IsTracedHit T Q E.segments) (D.hits ++ added)
+  traced_next traced = All-append (IsTracedHit T Q E.segments) D.hits added (All-weaker (IsTracedHit T Q D.segments) (IsTracedHit T Q E.segments) (λ h t. traced-kept T Q D E joined h extends t) D.hits traced) adds.traced
 
+  pub stairs_next : AllPairs (λ (h k : Hit). IsStep h.value k.value) D.hits → AllPairs (λ (h k : Hit). IsStep h.value k.value) (D.hits ++ added)
+  stairs_next stairs = pairs_append (λ (h k : Hit). IsStep h.value k.value) D.hits added stairs (single added adds.one) adds.later
+    where
+      single : (hs : List Hit) → length hs ≤ 1 → AllPairs (λ (h k : Hit). IsStep h.value k.value) hs
+      single hs one = λ i j d a b. absurd (omega (arith, one, a, b))
+
+  pub fewer_next : All (λ (h : Hit). h.value.rides < round) D.hits → All (λ (h : Hit). h.value.rides < round + 1) (D.hits ++ added)
+  fewer_next fewer = All-append (λ (h : Hit). h.value.rides < round + 1) D.hits added (All-weaker (λ (h : Hit). h.value.rides < round) (λ (h : Hit). h.value.rides < round + 1) (λ h l. omega (arith, l)) D.hits fewer) adds.fewer
+
+-- what has been done after a round, where one was late by an old measure before it, and is by a new one behind it
+module _ (T : TimetableData) (hops : ℕ → ℕ → List Hop) (Q : QueryData) (D E : DeskData) (best : Option Hit) (from to round : ℕ) (to_is : to ≡ length D.segments) (this_round : (n : ℕ) → from ≤ n → n < length D.segments → round_of D.segments n ≡ round) (extends : Extends D E (suc round))
+    (followed : (n i : ℕ) → from ≤ n → n < to → Covers D n i → IsDone T hops E best n i) (bounded : (n i : ℕ) → from ≤ n → n < to → Covers D n i → IsBounded T Q D best n i)
+    (Old Late : ℤ → ℕ → Type 0) (still : (time : ℤ) (rides : ℕ) → Old time rides → Late time rides) (by_best : (time : ℤ) → ArrivesBy best time → Late time round) where
   ridden_or_now : (n : ℕ) → (n < from) ⊎ (from ≤ n)
   ridden_or_now n = grind arith
 
@@ -159,6 +198,32 @@ module _ (T : TimetableData) (lines : List (List ℕ)) (hops : ℕ → ℕ → L
   same_round : (n : ℕ) → n < to → round_of E.segments n ≡ round_of D.segments n
   same_round n h = extends-round D E (suc round) extends n (omega (arith, h, to_is))
 
+  now_round : (n : ℕ) → n < to → from ≤ n → round_of D.segments n ≡ round
+  now_round n h now = this_round n now (omega (arith, h, to_is))
+
+  -- what is late of a segment, once the queue has grown
+  late_grown : (n : ℕ) (time : Segment → ℤ) → n < to → Late (time (segment_of D.segments n)) (round_of D.segments n) → Late (time (segment_of E.segments n)) (round_of E.segments n)
+  late_grown n time h late =
+      subst (λ (s : Segment). Late (time s) (round_of E.segments n)) (sym (same n h))
+      (subst (λ r. Late (time (segment_of D.segments n)) r) (sym (same_round n h)) late)
+
+  done_before : (n i : ℕ) → n < to → IsFollowed T hops D n i ⊎ Old (arrival_at T (segment_of D.segments n).trip i) (round_of D.segments n) → IsFollowed T hops E n i ⊎ Late (arrival_at T (segment_of E.segments n).trip i) (round_of E.segments n)
+  done_before n i h (inl followed) = inl (followed-kept T hops D E (suc round) n i extends (omega (arith, h, to_is)) followed)
+  done_before n i h (inr late) = inr (late_grown n (λ (s : Segment). arrival_at T s.trip i) h (still (arrival_at T (segment_of D.segments n).trip i) (round_of D.segments n) late))
+
+  done_now : (n i : ℕ) → n < to → from ≤ n → IsDone T hops E best n i → IsFollowed T hops E n i ⊎ Late (arrival_at T (segment_of E.segments n).trip i) (round_of E.segments n)
+  done_now n i h now (inl followed) = inl followed
+  done_now n i h now (inr late) =
+      inr (subst (λ r. Late (arrival_at T (segment_of E.segments n).trip i) r) (sym (same_round n h ∙ now_round n h now))
+      (by_best (arrival_at T (segment_of E.segments n).trip i) late))
+
+  pub done_next : ((n i : ℕ) → n < from → Covers D n i → IsFollowed T hops D n i ⊎ Old (arrival_at T (segment_of D.segments n).trip i) (round_of D.segments n)) →
+      (n i : ℕ) → n < to → Covers E n i → IsFollowed T hops E n i ⊎ Late (arrival_at T (segment_of E.segments n).trip i) (round_of E.segments n)
+  done_next before n i h covers = elim (ridden_or_now n) [
+    | inl old ↦ done_before n i h (before n i old (covers-kept E D n i (same n h) covers))
+    | inr now ↦ done_now n i h now (followed n i now h (covers-kept E D n i (same n h) covers))
+  ]
+
   offered : (n i q secs : ℕ) → n < to → IsOffered T Q E n i q secs → IsOffered T Q D n i q secs
   offered n i q secs h offer = record {
     alights = subst (λ (s : Segment). MayAlight T s.trip i) (same n h) offer.alights;
@@ -166,38 +231,38 @@ module _ (T : TimetableData) (lines : List (List ℕ)) (hops : ℕ → ℕ → L
     walks = subst (λ (s : Segment). walk T (stop_at T s.trip i) q ≡ Some secs) (same n h) offer.walks;
   }
 
-  value_of_old : (n i q secs : ℕ) → n < to → IsHit (D.hits ++ added) (record { arrive = arrival_at T (segment_of D.segments n).trip i +ℤ pos secs; rides = round_of D.segments n }) →
-      IsHit (D.hits ++ added) (record { arrive = arrival_at T (segment_of E.segments n).trip i +ℤ pos secs; rides = round_of E.segments n })
-  value_of_old n i q secs h hit =
-      subst (λ (s : Segment). IsHit (D.hits ++ added) (record { arrive = arrival_at T s.trip i +ℤ pos secs; rides = round_of E.segments n })) (sym (same n h))
-      (subst (λ r. IsHit (D.hits ++ added) (record { arrive = arrival_at T (segment_of D.segments n).trip i +ℤ pos secs; rides = r })) (sym (same_round n h)) hit)
+  pub offers_next : ((n i q secs : ℕ) → n < from → Covers D n i → IsOffered T Q D n i q secs → Old (arrival_at T (segment_of D.segments n).trip i +ℤ pos secs) (round_of D.segments n)) →
+      (n i q secs : ℕ) → n < to → Covers E n i → IsOffered T Q E n i q secs → Late (arrival_at T (segment_of E.segments n).trip i +ℤ pos secs) (round_of E.segments n)
+  offers_next before n i q secs h covers offer =
+      late_grown n (λ (s : Segment). arrival_at T s.trip i +ℤ pos secs) h (elim (ridden_or_now n) [
+        | inl old ↦ still (arrival_at T (segment_of D.segments n).trip i +ℤ pos secs) (round_of D.segments n) (before n i q secs old (covers-kept E D n i (same n h) covers) (offered n i q secs h offer))
+        | inr now ↦ subst (λ r. Late (arrival_at T (segment_of D.segments n).trip i +ℤ pos secs) r) (sym (now_round n h now))
+            (by_best (arrival_at T (segment_of D.segments n).trip i +ℤ pos secs) (bounded n i now h (covers-kept E D n i (same n h) covers) q secs (offered n i q secs h offer)))
+      ])
 
-  arrival_of_old : (n i : ℕ) → n < to → IsHit (D.hits ++ added) (record { arrive = arrival_at T (segment_of D.segments n).trip i; rides = round_of D.segments n }) →
-      IsHit (D.hits ++ added) (record { arrive = arrival_at T (segment_of E.segments n).trip i; rides = round_of E.segments n })
-  arrival_of_old n i h hit =
-      subst (λ (s : Segment). IsHit (D.hits ++ added) (record { arrive = arrival_at T s.trip i; rides = round_of E.segments n })) (sym (same n h))
-      (subst (λ r. IsHit (D.hits ++ added) (record { arrive = arrival_at T (segment_of D.segments n).trip i; rides = r })) (sym (same_round n h)) hit)
+module _ (T : TimetableData) (lines : List (List ℕ)) (hops : ℕ → ℕ → List Hop) (Q : QueryData) (D E : DeskData) (best : Option Hit) (from to round : ℕ) (ridden : IsRidden T lines hops Q D from round) (to_is : to ≡ length D.segments) (below : from < length D.segments)
+    (queue : IsQueue T lines hops Q E (suc round)) (extends : Extends D E (suc round)) (followed : (n i : ℕ) → from ≤ n → n < to → Covers D n i → IsDone T hops E best n i) (bounded : (n i : ℕ) → from ≤ n → n < to → Covers D n i → IsBounded T Q D best n i)
+    (improved : IsImproved T Q E round (last_of D.hits) best) where
+  abbrev added : List Hit
+  added = hits_of round best
 
-  abbrev DoneNow : ℕ → ℕ → Type 0
-  DoneNow n i = IsFollowed T hops (record E { hits = D.hits ++ added }) n i ⊎ IsHit (D.hits ++ added) (record { arrive = arrival_at T (segment_of E.segments n).trip i; rides = round_of E.segments n })
+  adds : Adds T Q E D.hits round (last_of D.hits) best added
+  adds = adds_best T Q E D.hits round (last_of D.hits) ridden.stairs ridden.fewer (last_earlier D.hits round ridden.fewer) (λ time by. by) best improved
 
-  -- what was done before this round
-  done_before : (n i : ℕ) → n < to → IsFollowed T hops D n i ⊎ IsHit D.hits (record { arrive = arrival_at T (segment_of D.segments n).trip i; rides = round_of D.segments n }) → n < length D.segments → DoneNow n i
-  done_before n i h (inl followed) inside = inl (followed-kept T hops D E (suc round) n i extends inside followed)
-  done_before n i h (inr hit) inside = inr (arrival_of_old n i h (hit-more D.hits added (arrival_at T (segment_of D.segments n).trip i) (round_of D.segments n) hit))
+  abbrev Old : ℤ → ℕ → Type 0
+  Old time rides = IsHit D.hits (record { arrive = time; rides = rides })
 
-  -- what was done in this round
-  done_now : (n i : ℕ) → n < to → from ≤ n → IsDone T hops E best n i → DoneNow n i
-  done_now n i h now (inl followed) = inl followed
-  done_now n i h now (inr late) =
-      inr (subst (λ r. IsHit (D.hits ++ added) (record { arrive = arrival_at T (segment_of E.segments n).trip i; rides = r })) (sym (same_round n h ∙ ridden.this_round n now (omega (arith, h, to_is))))
-      (adds.hit (arrival_at T (segment_of E.segments n).trip i) late))
+  abbrev Late : ℤ → ℕ → Type 0
+  Late time rides = IsHit (D.hits ++ added) (record { arrive = time; rides = rides })
+
+  still : (time : ℤ) (rides : ℕ) → Old time rides → Late time rides
+  still time rides hit = hit-more D.hits added time rides hit
+
+  by_best : (time : ℤ) → ArrivesBy best time → Late time round
+  by_best time by = elim (adds.by time by) [ inl last ↦ still time round (last_no_worse D.hits round ridden.fewer time last) | inr new ↦ hit-added D.hits added time round new ]
 
   next : suc round ≡ round + 1
   next = omega arith
-
-  more : length (D.hits ++ added) ≤ round + 1
-  more = omega (arith, length-append D.hits added, adds.one, ridden.few_hits)
 
   pub ridden_next : IsRidden T lines hops Q (record E { hits = D.hits ++ added }) to (round + 1)
   ridden_next = record {
@@ -208,24 +273,12 @@ module _ (T : TimetableData) (lines : List (List ℕ)) (hops : ℕ → ℕ → L
     this_round = λ n h inside. extends.rounds n (omega (arith, h, to_is)) inside ∙ next;
     boarded = λ place h. λ stop secs walks first. λ t b boards not_last here in_time.
         extends-reached T D E (suc round) (length D.segments) (length E.segments) 1 1 t b extends (ridden.boarded place h stop secs walks first t b boards not_last here in_time) (omega arith) (extends-long D E (suc round) extends) (omega arith);
-    followed = λ n i h covers. elim (ridden_or_now n) [
-      | inl old ↦ done_before n i h (ridden.followed n i old (covers-kept E D n i (same n h) (record { onward = covers.onward; within = covers.within })))
-          (omega (arith, h, to_is))
-      | inr now ↦ done_now n i h now (followed n i now h (covers-kept E D n i (same n h) (record { onward = covers.onward; within = covers.within })))
-    ];
+    followed = λ n i h covers. done_next T hops Q D E best from to round to_is ridden.this_round extends followed bounded Old Late still by_best ridden.followed n i h (record { onward = covers.onward; within = covers.within });
     walks = λ p q secs a b w. hit-more D.hits added (Q.leave +ℤ pos secs) 0 (ridden.walks p q secs a b w);
-    values = λ n i q secs h covers offer. value_of_old n i q secs h (elim (ridden_or_now n) [
-      | inl old ↦ hit-more D.hits added (arrival_at T (segment_of D.segments n).trip i +ℤ pos secs) (round_of D.segments n)
-          (ridden.values n i q secs old (covers-kept E D n i (same n h) (record { onward = covers.onward; within = covers.within })) (offered n i q secs h (record { alights = offer.alights; target = offer.target; walks = offer.walks })))
-      | inr now ↦ subst (λ r. IsHit (D.hits ++ added) (record { arrive = arrival_at T (segment_of D.segments n).trip i +ℤ pos secs; rides = r })) (sym (ridden.this_round n now (omega (arith, h, to_is))))
-          (adds.hit (arrival_at T (segment_of D.segments n).trip i +ℤ pos secs)
-          (bounded n i now h (covers-kept E D n i (same n h) (record { onward = covers.onward; within = covers.within })) q secs (offered n i q secs h (record { alights = offer.alights; target = offer.target; walks = offer.walks }))))
-    ]);
-    traced = All-append (IsTracedHit T Q E.segments) D.hits added (All-weaker (IsTracedHit T Q D.segments) (IsTracedHit T Q E.segments) (λ h t. traced-kept T Q D E (suc round) h extends t) D.hits ridden.traced) adds.traced;
-    stairs = pairs_append (λ (h k : Hit). IsStep h.value k.value) D.hits added ridden.stairs (single added adds.one) adds.later;
-    fewer = All-append (λ (h : Hit). h.value.rides < round + 1) D.hits added (All-weaker (λ (h : Hit). h.value.rides < round) (λ (h : Hit). h.value.rides < round + 1) (λ h l. omega (arith, l)) D.hits ridden.fewer) adds.fewer;
-    few_hits = more;
+    values = λ n i q secs h covers offer. offers_next T hops Q D E best from to round to_is ridden.this_round extends followed bounded Old Late still by_best ridden.values n i q secs h
+        (record { onward = covers.onward; within = covers.within }) (record { alights = offer.alights; target = offer.target; walks = offer.walks });
+    traced = traced_next T Q D E (suc round) round (last_of D.hits) best added extends adds ridden.traced;
+    stairs = stairs_next T Q D E (suc round) round (last_of D.hits) best added extends adds ridden.stairs;
+    fewer = fewer_next T Q D E (suc round) round (last_of D.hits) best added extends adds ridden.fewer;
+    few_hits = omega (arith, length-append D.hits added, adds.one, ridden.few_hits);
   }
-    where
-      single : (hs : List Hit) → length hs ≤ 1 → AllPairs (λ (h k : Hit). IsStep h.value k.value) hs
-      single hs one = λ i j d a b. absurd (omega (arith, one, a, b))

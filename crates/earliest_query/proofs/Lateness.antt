@@ -1,20 +1,20 @@
 -- Where one arrives too late to go on.
-use Rattle.std.proofs.Common.{◌≡◌, ◌∙◌, ℕ, ◌<◌, ◌≤◌, ◌⊎◌, inl, inr, List, length, refl, sym, ap, subst, arith, Option, None, Some, ℤ, pos, ◌+ℤ◌, ◌≤ℤ◌}
+use Rattle.std.proofs.Common.{◌≡◌, ℕ, ◌<◌, ◌≤◌, ◌⊎◌, inl, inr, List, length, sym, ap, subst, arith, Option, None, Some, ℤ, pos, ◌+ℤ◌, ◌≤ℤ◌}
 use Rattle.std.proofs.lemmas.Int.{ints}
 use Rattle.tb_base.specs.declared.transfer.Hop.{Hop}
-use Rattle.tb_base.specs.TimetableData.{TimetableData, arrival_at, departure_at, events_of}
+use Rattle.tb_base.specs.TimetableData.{TimetableData, arrival_at, events_of}
 use Rattle.tb_base.specs.Soundness.{IsSound}
 use Rattle.tb_base.specs.BestValues.{QueryData}
 use Rattle.tb_laws.proofs.UTurnLaws.{departs_first}
 use Rattle.segment_queue.specs.declared.desk.Segment.{Segment}
 use Rattle.segment_queue.specs.declared.desk.Hit.{Hit}
-use Rattle.segment_queue.specs.Queue.{DeskData}
+use Rattle.segment_queue.specs.Queue.{DeskData, IsSoundSegment}
 use Rattle.segment_queue.specs.Traced.{segment_of}
 use Rattle.earliest_query.specs.Choices.{ArrivesBy}
-use Rattle.earliest_query.specs.UnderWay.{Extends, IsBounded, IsDone, IsFollowed, IsImproved}
-use Rattle.earliest_query.proofs.Growing.{extends-segment}
+use Rattle.earliest_query.specs.UnderWay.{Covers, Extends, IsBounded, IsDone, IsImproved}
+use Rattle.earliest_query.proofs.Growing.{extends-long, extends-refl, extends-segment}
 use Rattle.earliest_query.proofs.Following.{followed-kept, sound_event}
-use Rattle.earliest_query.proofs.BestSoFar.{arrives_by-improved}
+use Rattle.earliest_query.proofs.BestSoFar.{arrives_by-improved, bounded-improved}
 
 -- what the best arrives by, it arrives by later too
 pub arrives_by-later : (best : Option Hit) (a b : ℤ) → a ≤ℤ b → ArrivesBy best a → ArrivesBy best b
@@ -46,3 +46,24 @@ late-bounded T Q D best n i late = λ q secs offer. arrives_by-later best _ _ (w
   where
     walked : (a : ℤ) (n : ℕ) → a ≤ℤ (a +ℤ pos n)
     walked a n = omega (arith, ints)
+
+-- what has been ridden when the segment is left
+module _ (T : TimetableData) (hops : ℕ → ℕ → List Hop) (Q : QueryData) (D E : DeskData) (n at top round : ℕ) (best result : Option Hit) (sound : IsSound T) (inside : n < length D.segments) (whole : IsSoundSegment T (segment_of D.segments n)) (extends : Extends D E top) (improved : IsImproved T Q E round best result)
+    (late : ArrivesBy result (arrival_at T (segment_of D.segments n).trip at)) where
+  before_or_from : (i : ℕ) → (i < at) ⊎ (at ≤ i)
+  before_or_from i = grind arith
+
+  late_from : (i : ℕ) → Covers D n i → at ≤ i → ArrivesBy result (arrival_at T (segment_of D.segments n).trip i)
+  late_from i covers from = arrives_by-later result _ _ (arrives_on T (segment_of D.segments n).trip at i sound whole.trip from (omega (arith, covers.within, whole.within))) late
+
+  pub left_done : ((i : ℕ) → (segment_of D.segments n).board < i → i < at → IsDone T hops E best n i) → (i : ℕ) → Covers D n i → IsDone T hops E result n i
+  left_done done i covers = elim (before_or_from i) [
+    | inl before ↦ done-kept T hops Q E E top round n i best result (extends-refl E top) (omega (arith, inside, extends-long D E top extends)) improved (done i covers.onward before)
+    | inr from ↦ inr (subst (λ (s : Segment). ArrivesBy result (arrival_at T s.trip i)) (sym (extends-segment D E top extends n inside)) (late_from i covers from))
+  ]
+
+  pub left_bounded : ((i : ℕ) → (segment_of D.segments n).board < i → i < at → IsBounded T Q D best n i) → (i : ℕ) → Covers D n i → IsBounded T Q D result n i
+  left_bounded bounded i covers = elim (before_or_from i) [
+    | inl before ↦ bounded-improved T Q D E round best result n i improved (bounded i covers.onward before)
+    | inr from ↦ late-bounded T Q D result n i (late_from i covers from)
+  ]

@@ -8,5 +8,14 @@ pub mod LineBoarding
 pub mod StopSums
 pub mod FromOrigins
 pub mod Keeping
+pub mod Reaching
 pub mod Answering
-mod Lateness
+pub mod Lateness
+pub mod LookingAt
+pub mod SegmentBySegment
+pub mod SweptRounds
+pub mod SweptSearch
+pub mod SweptOnto
+pub mod FoundValues
+pub mod SweptBegin
+pub mod SweptDown

@@ -103,14 +103,44 @@ module _ (T : TimetableData) (lines : List (List ℕ)) (p : ℕ) (divided : AreD
       by_test true e k = by_trip (earliest_trip T b.line b.at time) refl (sym e) k
       by_test false e k = cc
 
+  member_at : (xs : List LineIndex) (k : ℕ) → k < length xs → Member (get_or xs k no_line_index) xs
+  member_at [] k h = absurd (omega (arith, h))
+  member_at (x ∷ xs) zero h = inl refl
+  member_at (x ∷ xs) (suc k) h = inr (member_at xs k (omega (arith, h)))
+
   -- whoever boards a line index of the stop does so
   pub boarding_facts : (k : ℕ) (time : ℤ) (h : Hop) → k < length (line_indices_at T lines p) → boarding_hop T (get_or (line_indices_at T lines p) k no_line_index) time ≡ Some h → Boards T p time h
   boarding_facts k time h inside is = hop_facts (get_or (line_indices_at T lines p) k no_line_index) time h (member_at (line_indices_at T lines p) k inside) is
+
+  -- who is boarded from another time on, that is no later than when the hop departs, departs no later than the hop
+  pub record IsSooner (b : LineIndex) (since : ℤ) (h : Hop) : Type 0 where
+    pub hop : Hop
+    pub is : boarding_hop T b since ≡ Some hop
+    pub no_later : departure_at T hop.trip hop.at ≤ℤ departure_at T h.trip h.at
+
+  pub boarded_sooner : (k : ℕ) (time since : ℤ) (h : Hop) → k < length (line_indices_at T lines p) → boarding_hop T (get_or (line_indices_at T lines p) k no_line_index) time ≡ Some h → since ≤ℤ departure_at T h.trip h.at →
+      IsSooner (get_or (line_indices_at T lines p) k no_line_index) since h
+  boarded_sooner k time since h inside is late = by_test (may_be_boarded T (first_trip b.line) b.at) refl is
     where
-      member_at : (xs : List LineIndex) (k : ℕ) → k < length xs → Member (get_or xs k no_line_index) xs
-      member_at [] k h = absurd (omega (arith, h))
-      member_at (x ∷ xs) zero h = inl refl
-      member_at (x ∷ xs) (suc k) h = inr (member_at xs k (omega (arith, h)))
+      b : LineIndex
+      b = get_or (line_indices_at T lines p) k no_line_index
+
+      by_trip : (o : Option ℕ) → o ≡ earliest_trip T b.line b.at time → may_be_boarded T (first_trip b.line) b.at ≡ true → option_map (λ u. record { trip = u; at = b.at }) o ≡ Some h → IsSooner b since h
+      by_trip None e may f = cc
+      by_trip (Some u) e may f =
+          let hop : record { trip = u; at = b.at } ≡ h = cc in
+          let found = find_found (λ u. int_le time (departure_at T u b.at)) b.line u (sym e) in
+          let in_time : since ≤ℤ departure_at T u b.at = subst (λ (x : Hop). since ≤ℤ departure_at T x.trip x.at) (sym hop) late in
+          let first = find_first (MayFollow T) (λ u. int_le since (departure_at T u b.at)) b.line u (pairs b.line (index_facts b (member_at (line_indices_at T lines p) k inside)).0) found.0 (le_time _ _ in_time) in
+          record {
+            hop = record { trip = first.0; at = b.at };
+            is = ap (λ x. cond x (option_map (λ u. record { trip = u; at = b.at }) (earliest_trip T b.line b.at since)) None) may ∙ ap (option_map (λ u. record { trip = u; at = b.at })) first.1;
+            no_later = subst (λ (x : Hop). departure_at T first.0 b.at ≤ℤ departure_at T x.trip x.at) hop ((no_later T first.0 u first.4).at b.at).dep;
+          }
+
+      by_test : (x : Bool) → x ≡ may_be_boarded T (first_trip b.line) b.at → cond x (option_map (λ u. record { trip = u; at = b.at }) (earliest_trip T b.line b.at time)) None ≡ Some h → IsSooner b since h
+      by_test true e f = by_trip (earliest_trip T b.line b.at time) refl (sym e) f
+      by_test false e f = cc
 
   -- a trip that may be boarded at the stop, for which some line index is boarded by a trip that is no later
   pub record IsServed (time : ℤ) (t b : ℕ) : Type 0 where

@@ -1,16 +1,16 @@
 -- Each stop is boarded from one origin.
 use Rattle.std.proofs.Common.{◌≡◌, ◌≢◌, ◌∙◌, ℕ, ◌+◌, ◌<◌, ◌≤◌, ◌⊎◌, inl, inr, List, [], ◌∷◌, ◌++◌, length, get_or, refl, sym, ap, subst, arith, Some}
-use Rattle.std.specs.Prelude.{AllPairs, Contains, is_some, slice_index, sum_by}
+use Rattle.std.specs.Prelude.{AllPairs, Contains, is_some, slice_index}
 use Rattle.std.specs.List.{list_any}
 use Rattle.std.proofs.lemmas.List.Elements.{All-append, All-nil, All-push, All-weaker}
 use Rattle.std.proofs.lemmas.List.Folds.{list_any_at}
-use Rattle.std.proofs.lemmas.List.Sums.{sum_by-append, sum_by-cons, sum_by_push}
+use Rattle.std.proofs.lemmas.List.Sums.{sum_by-append, sum_by_push}
 use Rattle.tb_base.specs.declared.table.Path.{Path}
 use Rattle.tb_base.specs.TimetableData.{TimetableData}
 use Rattle.tb_base.specs.Transfers.{numbers_below}
 use Rattle.tb_base.specs.Walking.{walk}
 use Rattle.tb_base.proofs.Ordered.{Member, Member-from_Contains, Contains-from_Member, AllPairs-tail}
-use Rattle.tb_laws.proofs.Members.{Member-append, Member-left, Member-right, Member-filter, Member-numbers_below}
+use Rattle.tb_laws.proofs.Members.{Member-append, Member-filter, Member-numbers_below}
 use Rattle.segment_queue.specs.Scans.{line_indices_at}
 use Rattle.segment_queue.proofs.Totals.{distinct_sum}
 use Rattle.segment_queue.proofs.Distinct.{before_member, of_member, pairs_from_head}

@@ -1,3 +1,5 @@
 pub mod Choices
 pub mod UnderWay
 pub mod Ridden
+pub mod Sweeping
+pub mod Bounding

@@ -34,7 +34,7 @@ fn walking(query: &Query, origin: StopNo, path: Path) -> Hit
 }
 
 // The last hit of a desk.
-fn last_hit(desk: &Desk) -> Option<Hit>
+pub(crate) fn last_hit(desk: &Desk) -> Option<Hit>
     ensures { result ≡ last_of desk.now.hits }
 {
     let hits = desk.hits();

@@ -22,7 +22,7 @@ fn may_improve(best: &Option<Hit>, visit: &Visit<'_>) -> bool
 }
 
 // Whether the best hit so far arrives no later than an event is reached.
-fn is_late(best: &Option<Hit>, visit: &Visit<'_>) -> bool
+pub(crate) fn is_late(best: &Option<Hit>, visit: &Visit<'_>) -> bool
     ensures { IsTrue result ↔ ArrivesBy best.now visit.now.arr }
 {
     match best {
@@ -68,7 +68,7 @@ fn alighting(visit: &Visit<'_>, path: Path, entry: u32, at: u32, round: u32) -> 
 
 impl<S: Scan> Search<'_, S> {
     // The best hit so far, or to alight at an event of a segment where that is earlier.
-    fn weigh(
+    pub(crate) fn weigh(
         &self,
         best: Option<Hit>,
         visit: &Visit<'_>,

@@ -1,21 +1,19 @@
--- Leaving times gathered one after another, and taken from the last on.
-use Rattle.std.proofs.Common.{◌≡◌, ℕ, suc, ◌<◌, ◌⊎◌, inl, inr, List, [], ◌∷◌, ◌++◌, length, get_or, refl, subst, arith, Option, Some, None, ℤ, pos, negsuc, ◌+ℤ◌, ◌-ℤ◌, ◌≤ℤ◌, ◌<ℤ◌}
-use Rattle.std.specs.Prelude.{Contains}
+-- Leaving times gathered from line indices, and taken from the last on.
+use Rattle.std.proofs.Common.{◌≡◌, ◌∙◌, ℕ, suc, ◌<◌, ◌⊎◌, inl, inr, List, [], ◌∷◌, ◌++◌, length, get_or, refl, sym, subst, arith, Option, Some, None, ℤ, pos, negsuc, ◌+ℤ◌, ◌-ℤ◌, ◌≤ℤ◌, ◌<ℤ◌}
+use Rattle.std.specs.Prelude.{All, AllPairs, Contains, slice_get, ◌↔◌}
 use Rattle.std.proofs.lemmas.Int.{ints}
 use Rattle.std.proofs.lemmas.List.{get_or_append_left, get_or_push, length_push}
-use Rattle.std.proofs.lemmas.List.Elements.{All-contains, All-nil, All-push, All-weaker, Contains-append_left, Contains-push, Contains-push_cases}
-use Rattle.std.proofs.lemmas.List.Quantifiers.{all_pairs_push}
+use Rattle.std.proofs.lemmas.List.Elements.{All-contains, All-contains_itself, All-weaker, Contains-push, Contains-push_cases}
+use Rattle.tb_base.specs.declared.table.Path.{Path}
 use Rattle.tb_base.specs.TimetableData.{TimetableData}
-use Rattle.tb_base.specs.BestValues.{IsLeast}
+use Rattle.tb_base.specs.Lines.{AreDividedInto}
 use Rattle.tb_base.specs.Profiles.{WindowData}
-use Rattle.profile_query.specs.Leaving.{AreLeavingTimes, IsLeavingBefore, IsLeavingTime}
-
--- the leaving times before a bound are gathered, and the next one from it on is known
-pub record AreGathered (T : TimetableData) (W : WindowData) (times : List ℤ) (next : Option ℤ) : Type 0 where
-  pub bound : ℤ
-  pub from : W.first ≤ℤ bound
-  pub so_far : AreLeavingTimes T W bound times
-  pub following : IsLeast (λ n. (bound ≤ℤ n) × (n ≤ℤ W.last) × IsLeavingTime T W.from n) next
+use Rattle.tb_base.specs.Soundness.{IsSoundPath}
+use Rattle.segment_queue.specs.Scans.{line_indices_at}
+use Rattle.profile_query.specs.Leaving.{AreLeavingTimes, DepartsAt, HaveJoined, IsLeavingBefore, IsLeavingTime, IsLineDeparture, IsWithin, LeavesFor, line_departure}
+use Rattle.profile_query.proofs.Departures.{departs_by_line, departs_sooner, departs_then, line_departs}
+use Rattle.profile_query.proofs.FromOrigin.{LeavesBy, by_walk, leaves, no_path}
+use Rattle.profile_query.proofs.Joining.{joined_all, joined_none, joined_push, joined_same}
 
 -- how many seconds are left from the next time on
 abbrev pub seconds_to : ℤ → ℕ
@@ -35,93 +33,186 @@ fewer (negsuc m) (negsuc n) h k = absurd (omega (arith, ints, h))
 before_or_from : (a b : ℤ) → (a <ℤ b) ⊎ (b ≤ℤ a)
 before_or_from a b = grind (arith, ints)
 
-through : (a b c : ℤ) → a ≤ℤ b → b ≤ℤ c → a ≤ℤ c
-through a b c g h = omega (arith, ints, g, h)
+-- one leaves within the window who takes the path, and departs by the line index with this number
+abbrev pub LeavesByLine : TimetableData → List (List ℕ) → WindowData → Path → ℕ → ℤ → Type 0
+LeavesByLine T lines W path berth n = IsWithin W n × IsLineDeparture T lines path.to berth (n +ℤ pos path.secs)
+
+-- the leaving times with a departure before some time have joined, and the next departure from it on is known
+pub record AreGathered (T : TimetableData) (lines : List (List ℕ)) (W : WindowData) (path : Path) (berth : ℕ) (old times : List ℤ) (next : Option ℤ) : Type 0 where
+  pub since : ℤ
+  pub from : (W.first +ℤ pos path.secs) ≤ℤ since
+  pub following : line_departure T lines path.to since berth ≡ next
+  pub so_far : HaveJoined (λ n. LeavesByLine T lines W path berth n × ((n +ℤ pos path.secs) <ℤ since)) old times
+
+module _ (T : TimetableData) (lines : List (List ℕ)) (W : WindowData) (path : Path) (berth : ℕ) (divided : AreDividedInto T lines) (inside : berth < length (line_indices_at T lines path.to)) where
+  pub gather_begun : (times : List ℤ) (since : ℤ) (next : Option ℤ) → since ≡ (W.first +ℤ pos path.secs) → next ≡ line_departure T lines path.to since berth → AreGathered T lines W path berth times times next
+  gather_begun times since next e is = record {
+    since = since;
+    from = at_most e;
+    following = sym is;
+    so_far = joined_none (λ n. LeavesByLine T lines W path berth n × ((n +ℤ pos path.secs) <ℤ since)) times (λ n p. clash W.first n since path.secs e p.0.0.0 p.1);
+  }
+    where
+      at_most : {a b : ℤ} → a ≡ b → b ≤ℤ a
+      at_most e = omega (arith, ints, e)
+
+      clash : (a n b : ℤ) (s : ℕ) → b ≡ (a +ℤ pos s) → a ≤ℤ n → (n +ℤ pos s) <ℤ b → ⊥
+      clash a n b s e h k = omega (arith, ints, e, h, k)
+
+  module _ (old times : List ℤ) (next : Option ℤ) (g : AreGathered T lines W path berth old times next) where
+    -- no departure is between
+    none_before : (m n : ℤ) → next ≡ Some m → LeavesByLine T lines W path berth n → g.since ≤ℤ (n +ℤ pos path.secs) → m ≤ℤ (n +ℤ pos path.secs)
+    none_before m n e p late =
+        let s : (x : ℤ) × (line_departure T lines path.to g.since berth ≡ Some x) × (x ≤ℤ (n +ℤ pos path.secs)) = departs_sooner T lines path.to divided (n +ℤ pos path.secs) g.since berth (n +ℤ pos path.secs) inside p.1 late in
+        let same : s.0 ≡ m = (let k : ◌≡◌ {A = Option ℤ} (Some s.0) (Some m) = sym s.1 ∙ g.following ∙ e in cc) in
+        subst (λ x. x ≤ℤ (n +ℤ pos path.secs)) same s.2
+
+    -- the times are complete where what may follow is not within the window
+    complete_before : ((n : ℤ) → LeavesByLine T lines W path berth n → g.since ≤ℤ (n +ℤ pos path.secs) → ⊥) → HaveJoined (LeavesByLine T lines W path berth) old times
+    complete_before none =
+        joined_same (λ n. LeavesByLine T lines W path berth n × ((n +ℤ pos path.secs) <ℤ g.since)) (LeavesByLine T lines W path berth) old times (λ n p. p.0) (λ n p. by_time n p (before_or_from (n +ℤ pos path.secs) g.since)) g.so_far
+      where
+        by_time : (n : ℤ) → LeavesByLine T lines W path berth n → ((n +ℤ pos path.secs) <ℤ g.since) ⊎ (g.since ≤ℤ (n +ℤ pos path.secs)) → LeavesByLine T lines W path berth n × ((n +ℤ pos path.secs) <ℤ g.since)
+        by_time n p (inl h) = (p, h)
+        by_time n p (inr h) = absurd (none n p h)
+
+    -- nothing departs any more
+    pub gather_ended : next ≡ None → HaveJoined (LeavesByLine T lines W path berth) old times
+    gather_ended e = complete_before (λ n p late.
+        let s : (x : ℤ) × (line_departure T lines path.to g.since berth ≡ Some x) × (x ≤ℤ (n +ℤ pos path.secs)) = departs_sooner T lines path.to divided (n +ℤ pos path.secs) g.since berth (n +ℤ pos path.secs) inside p.1 late in
+        let k : ◌≡◌ {A = Option ℤ} (Some s.0) None = sym s.1 ∙ g.following ∙ e in
+        cc)
+
+    pub next_departs : (d : ℤ) → next ≡ Some d → DepartsAt T path.to d
+    next_departs d e = (line_departs T lines path.to divided g.since berth d inside (g.following ∙ e)).1
+
+    module _ (d : ℤ) (e : next ≡ Some d) where
+      is_next : (g.since ≤ℤ d) × IsLineDeparture T lines path.to berth d
+      is_next = ((line_departs T lines path.to divided g.since berth d inside (g.following ∙ e)).0, departs_then T lines path.to divided g.since berth d inside (g.following ∙ e))
+
+      -- the next one leaves after the window
+      pub gather_past : (time : ℤ) → time ≡ (d -ℤ pos path.secs) → W.last <ℤ time → HaveJoined (LeavesByLine T lines W path berth) old times
+      gather_past time is past = complete_before (λ n p late. clash d n W.last time path.secs is past p.0.1 (none_before d n e p late))
+        where
+          clash : (d n last time : ℤ) (s : ℕ) → time ≡ (d -ℤ pos s) → last <ℤ time → n ≤ℤ last → d ≤ℤ (n +ℤ pos s) → ⊥
+          clash d n last time s is past h k = omega (arith, ints, is, past, h, k)
+
+      -- the next one has joined
+      pub gather_more : (time since : ℤ) (then : Option ℤ) → time ≡ (d -ℤ pos path.secs) → time ≤ℤ W.last → since ≡ (d +ℤ pos 1) → then ≡ line_departure T lines path.to since berth → AreGathered T lines W path berth old (times ++ time ∷ []) then
+      gather_more time since then is within next_is then_is = record {
+        since = since;
+        from = on W.first g.since d since path.secs g.from is_next.0 next_is;
+        following = sym then_is;
+        so_far = joined_same (λ n. (LeavesByLine T lines W path berth n × ((n +ℤ pos path.secs) <ℤ g.since)) ⊎ (time ≡ n)) (λ n. LeavesByLine T lines W path berth n × ((n +ℤ pos path.secs) <ℤ since)) old (times ++ time ∷ [])
+            (λ n p. is_one n p) (λ n p. by_time n p (before_or_from (n +ℤ pos path.secs) g.since))
+            (joined_push (λ n. LeavesByLine T lines W path berth n × ((n +ℤ pos path.secs) <ℤ g.since)) old times time g.so_far);
+      }
+        where
+          on : (a b d c : ℤ) (s : ℕ) → (a +ℤ pos s) ≤ℤ b → b ≤ℤ d → c ≡ (d +ℤ pos 1) → (a +ℤ pos s) ≤ℤ c
+          on a b d c s g h e = omega (arith, ints, g, h, e)
+
+          before : (n b d c : ℤ) (s : ℕ) → (n +ℤ pos s) <ℤ b → b ≤ℤ d → c ≡ (d +ℤ pos 1) → (n +ℤ pos s) <ℤ c
+          before n b d c s g h e = omega (arith, ints, g, h, e)
+
+          back : (d t : ℤ) (s : ℕ) → t ≡ (d -ℤ pos s) → (t +ℤ pos s) ≡ d
+          back d t s e = omega (arith, ints, e)
+
+          first_in : (a b d t : ℤ) (s : ℕ) → (a +ℤ pos s) ≤ℤ b → b ≤ℤ d → t ≡ (d -ℤ pos s) → a ≤ℤ t
+          first_in a b d t s g h e = omega (arith, ints, g, h, e)
+
+          below : {x d c : ℤ} → x ≡ d → c ≡ (d +ℤ pos 1) → x <ℤ c
+          below e f = omega (arith, ints, e, f)
+
+          same : (n d c t : ℤ) (s : ℕ) → (n +ℤ pos s) <ℤ c → c ≡ (d +ℤ pos 1) → d ≤ℤ (n +ℤ pos s) → t ≡ (d -ℤ pos s) → t ≡ n
+          same n d c t s g e h f = omega (arith, ints, g, e, h, f)
+
+          here : LeavesByLine T lines W path berth time × ((time +ℤ pos path.secs) <ℤ since)
+          here = (
+            ((first_in W.first g.since d time path.secs g.from is_next.0 is, within), subst (IsLineDeparture T lines path.to berth) (sym (back d time path.secs is)) is_next.1),
+            below (back d time path.secs is) next_is,
+          )
+
+          is_one : (n : ℤ) → (LeavesByLine T lines W path berth n × ((n +ℤ pos path.secs) <ℤ g.since)) ⊎ (time ≡ n) → LeavesByLine T lines W path berth n × ((n +ℤ pos path.secs) <ℤ since)
+          is_one n (inl p) = (p.0, before n g.since d since path.secs p.1 is_next.0 next_is)
+          is_one n (inr e) = subst (λ x. LeavesByLine T lines W path berth x × ((x +ℤ pos path.secs) <ℤ since)) e here
+
+          by_time : (n : ℤ) → LeavesByLine T lines W path berth n × ((n +ℤ pos path.secs) <ℤ since) → ((n +ℤ pos path.secs) <ℤ g.since) ⊎ (g.since ≤ℤ (n +ℤ pos path.secs)) → (LeavesByLine T lines W path berth n × ((n +ℤ pos path.secs) <ℤ g.since)) ⊎ (time ≡ n)
+          by_time n p (inl h) = inl (p.0, h)
+          by_time n p (inr h) = inr (same n d since time path.secs p.1 next_is (none_before d n e p.0 h) is)
+
+      -- with it fewer seconds are left
+      pub gather_less : (time since end : ℤ) (then : Option ℤ) → time ≡ (d -ℤ pos path.secs) → time ≤ℤ W.last → since ≡ (d +ℤ pos 1) → end ≡ (W.last +ℤ pos path.secs) → then ≡ line_departure T lines path.to since berth → left_until end then < left_until end next
+      gather_less time since end then is within next_is end_is then_is = subst (λ o. left_until end then < left_until end o) (sym e) (by_next then (sym then_is))
+        where
+          there : (d t l x : ℤ) (s : ℕ) → t ≡ (d -ℤ pos s) → t ≤ℤ l → x ≡ (l +ℤ pos s) → pos 0 ≤ℤ (x -ℤ d)
+          there d t l x s e h f = omega (arith, ints, e, h, f)
+
+          less : (d c m x : ℤ) → c ≡ (d +ℤ pos 1) → c ≤ℤ m → (x -ℤ m) <ℤ (x -ℤ d)
+          less d c m x e h = omega (arith, ints, e, h)
+
+          some : (x : ℤ) → pos 0 ≤ℤ x → 0 < seconds_to x
+          some (pos n) h = omega arith
+          some (negsuc n) h = absurd (omega (arith, ints, h))
+
+          by_next : (o : Option ℤ) → line_departure T lines path.to since berth ≡ o → left_until end o < left_until end (Some d)
+          by_next None f = some (end -ℤ d) (there d time W.last end path.secs is within end_is)
+          by_next (Some m) f = fewer (end -ℤ m) (end -ℤ d) (there d time W.last end path.secs is within end_is) (less d since m end next_is (line_departs T lines path.to divided since berth m inside f).0)
+
+-- those of all line indices at the end of a path are those of the departures there
+pub lines_gathered : (T : TimetableData) (lines : List (List ℕ)) (W : WindowData) (path : Path) → AreDividedInto T lines → (count : ℕ) (old times : List ℤ) → count ≡ length (line_indices_at T lines path.to) →
+    HaveJoined (λ n. (k : ℕ) × (k < count) × LeavesByLine T lines W path k n) old times → HaveJoined (λ n. IsWithin W n × DepartsAt T path.to (n +ℤ pos path.secs)) old times
+lines_gathered T lines W path divided count old times all joined =
+    joined_same (λ n. (k : ℕ) × (k < count) × LeavesByLine T lines W path k n) (λ n. IsWithin W n × DepartsAt T path.to (n +ℤ pos path.secs)) old times
+    (λ n p. (p.2.0, (line_departs T lines path.to divided (n +ℤ pos path.secs) p.0 (n +ℤ pos path.secs) (subst (λ m. p.0 < m) all p.1) p.2.1).1))
+    (λ n q. (let d : (k : ℕ) × (k < length (line_indices_at T lines path.to)) × IsLineDeparture T lines path.to k (n +ℤ pos path.secs) = departs_by_line T lines path.to divided (n +ℤ pos path.secs) q.1 in
+    (d.0, subst (λ m. d.0 < m) (sym all) d.1, (q.0, d.2))))
+    joined
+
+-- those of an origin and of the paths from it are those at which one leaves it
+pub paths_gathered : (T : TimetableData) (W : WindowData) (origin : ℕ) (paths : List Path) → slice_get T.paths origin ≡ Some paths → AllPairs (λ (f g : Path). f.to < g.to) paths → All (IsSoundPath (length T.stops) origin) paths → (count : ℕ) (old times : List ℤ) → count ≡ length paths →
+    HaveJoined (λ n. (IsWithin W n × DepartsAt T origin (n +ℤ pos 0)) ⊎ ((k : ℕ) × (k < count) × (IsWithin W n × LeavesBy T (get_or paths k no_path) n))) old times → HaveJoined (λ n. IsWithin W n × LeavesFor T origin n) old times
+paths_gathered T W origin paths row ascending sound count old times all joined =
+    joined_same (λ n. (IsWithin W n × DepartsAt T origin (n +ℤ pos 0)) ⊎ ((k : ℕ) × (k < count) × (IsWithin W n × LeavesBy T (get_or paths k no_path) n))) (λ n. IsWithin W n × LeavesFor T origin n) old times
+    (λ n p. elim p [
+      | inl q ↦ (q.0, leaves T origin paths row ascending sound n (inl q.1))
+      | inr q ↦ (q.2.0, leaves T origin paths row ascending sound n (inr (q.0, subst (λ m. q.0 < m) all q.1, q.2.1)))
+    ])
+    (λ n q. elim (by_walk T origin paths row ascending sound n q.1) [ inl d ↦ inl (q.0, d) | inr r ↦ inr (r.0, subst (λ m. r.0 < m) (sym all) r.1, (q.0, r.2)) ])
+    joined
 
 module _ (T : TimetableData) (W : WindowData) where
-  -- with the next time fewer seconds are left
-  pub less_left : (bound time : ℤ) (next : Option ℤ) → time ≤ℤ W.last → IsLeast (λ n. ((time +ℤ pos 1) ≤ℤ n) × (n ≤ℤ W.last) × IsLeavingTime T W.from n) next → left_until W.last next < left_until W.last (Some time)
-  less_left bound time None inside least = some (W.last -ℤ time) (there time W.last inside)
-    where
-      there : (a b : ℤ) → a ≤ℤ b → pos 0 ≤ℤ (b -ℤ a)
-      there a b h = omega (arith, ints, h)
+  -- those of all origins are the leaving times
+  pub origins_gathered : (origins : List ℕ) → origins ≡ W.from → (count : ℕ) (times : List ℤ) → count ≡ length origins → HaveJoined (λ n. (k : ℕ) × (k < count) × (IsWithin W n × LeavesFor T (get_or origins k 0) n)) [] times → HaveJoined (λ n. IsWithin W n × IsLeavingTime T W.from n) [] times
+  origins_gathered origins same count times all joined =
+      subst (λ o. HaveJoined (λ n. IsWithin W n × IsLeavingTime T o n) [] times) same
+      (joined_same (λ n. (o : ℕ) × Contains origins o × (IsWithin W n × LeavesFor T o n)) (λ n. IsWithin W n × IsLeavingTime T origins n) [] times (λ n p. (p.2.0, (p.0, p.1, p.2.1))) (λ n q. (q.1.0, q.1.1, (q.0, q.1.2)))
+      (joined_all (λ o n. IsWithin W n × LeavesFor T o n) origins 0 count [] times all joined))
 
-      some : (d : ℤ) → pos 0 ≤ℤ d → 0 < seconds_to d
-      some (pos n) h = omega arith
-      some (negsuc n) h = absurd (omega (arith, ints, h))
-  less_left bound time (Some n) inside least = fewer (W.last -ℤ n) (W.last -ℤ time) (there time W.last inside) (less time n W.last least.0.0)
-    where
-      there : (a b : ℤ) → a ≤ℤ b → pos 0 ≤ℤ (b -ℤ a)
-      there a b h = omega (arith, ints, h)
-
-      less : (a b c : ℤ) → (a +ℤ pos 1) ≤ℤ b → (c -ℤ b) <ℤ (c -ℤ a)
-      less a b c h = omega (arith, ints, h)
-
-  -- none is before the first
-  pub none_gathered : (next : Option ℤ) → IsLeast (λ n. (W.first ≤ℤ n) × (n ≤ℤ W.last) × IsLeavingTime T W.from n) next → AreGathered T W [] next
-  none_gathered next least = record {
-    bound = W.first;
-    from = at_most W.first;
-    so_far = record { all = All-nil (IsLeavingBefore T W W.first); complete = λ n b. absurd (clash W.first n b.not_before b.before); ordered = λ i j d before below. absurd (omega (arith, below)) };
-    following = least;
+  -- within a window that ends before it begins there is none
+  pub none_within : W.last <ℤ W.first → AreLeavingTimes T W (W.last +ℤ pos 1) []
+  none_within empty = record {
+    all = λ k d h. absurd (omega (arith, h));
+    complete = λ n b. absurd (clash W.first n W.last b.not_before b.not_after empty);
+    ordered = λ i j d before h. absurd (omega (arith, h));
   }
     where
-      at_most : (a : ℤ) → a ≤ℤ a
-      at_most a = omega (arith, ints)
+      clash : (a n b : ℤ) → a ≤ℤ n → n ≤ℤ b → b <ℤ a → ⊥
+      clash a n b g h k = omega (arith, ints, g, h, k)
 
-      clash : (a b : ℤ) → a ≤ℤ b → b <ℤ a → ⊥
-      clash a b h k = omega (arith, ints, h, k)
-
-  -- the next time, and the one after it
-  pub more_gathered : (times : List ℤ) (time : ℤ) (next : Option ℤ) → AreGathered T W times (Some time) → IsLeast (λ n. ((time +ℤ pos 1) ≤ℤ n) × (n ≤ℤ W.last) × IsLeavingTime T W.from n) next → AreGathered T W (times ++ time ∷ []) next
-  more_gathered times time next g least = record {
-    bound = time +ℤ pos 1;
-    from = on W.first g.bound time g.from g.following.0.0;
-    so_far = record {
-      all = All-push (IsLeavingBefore T W (time +ℤ pos 1)) times time (All-weaker (IsLeavingBefore T W g.bound) (IsLeavingBefore T W (time +ℤ pos 1)) (λ n b. longer n b) times g.so_far.all)
-          (record { leaves = g.following.0.2; not_before = through W.first g.bound time g.from g.following.0.0; not_after = g.following.0.1; before = next_to time });
-      complete = λ n b. by_case n b (before_or_from n g.bound);
-      ordered = all_pairs_push (λ m n. m <ℤ n) times time g.so_far.ordered (λ k d inside. earlier (get_or times k d) g.bound time (g.so_far.all k d inside).before g.following.0.0);
-    };
-    following = least;
+  -- all times at which one leaves an origin, in order, are the leaving times
+  pub all_gathered : (gathered times : List ℤ) → HaveJoined (λ n. IsWithin W n × IsLeavingTime T W.from n) [] gathered → ((n : ℤ) → Contains gathered n ↔ Contains times n) → AllPairs (λ m n. m <ℤ n) times → AreLeavingTimes T W (W.last +ℤ pos 1) times
+  all_gathered gathered times joined same rise = record {
+    all = All-weaker (Contains times) (IsLeavingBefore T W (W.last +ℤ pos 1)) (λ n c. is_one n (joined.further n ((same n).1 c))) times (All-contains_itself times);
+    complete = λ n b. (same n).0 (joined.complete n ((b.not_before, b.not_after), b.leaves));
+    ordered = rise;
   }
     where
-      on : (a b c : ℤ) → a ≤ℤ b → b ≤ℤ c → a ≤ℤ (c +ℤ pos 1)
-      on a b c g h = omega (arith, ints, g, h)
+      next_to : (a b : ℤ) → a ≤ℤ b → a <ℤ (b +ℤ pos 1)
+      next_to a b h = omega (arith, ints, h)
 
-      next_to : (a : ℤ) → a <ℤ (a +ℤ pos 1)
-      next_to a = omega (arith, ints)
-
-      earlier : (a b c : ℤ) → a <ℤ b → b ≤ℤ c → a <ℤ c
-      earlier a b c g h = omega (arith, ints, g, h)
-
-      still : (a b c : ℤ) → a <ℤ b → b ≤ℤ c → a <ℤ (c +ℤ pos 1)
-      still a b c g h = omega (arith, ints, g, h)
-
-      same : (a b : ℤ) → a ≤ℤ b → b <ℤ (a +ℤ pos 1) → a ≡ b
-      same a b g h = omega (arith, ints, g, h)
-
-      longer : (n : ℤ) → IsLeavingBefore T W g.bound n → IsLeavingBefore T W (time +ℤ pos 1) n
-      longer n b = record { leaves = b.leaves; not_before = b.not_before; not_after = b.not_after; before = still n g.bound time b.before g.following.0.0 }
-
-      by_case : (n : ℤ) → IsLeavingBefore T W (time +ℤ pos 1) n → (n <ℤ g.bound) ⊎ (g.bound ≤ℤ n) → Contains (times ++ time ∷ []) n
-      by_case n b (inl h) = Contains-append_left times (time ∷ []) n (g.so_far.complete n (record { leaves = b.leaves; not_before = b.not_before; not_after = b.not_after; before = h }))
-      by_case n b (inr h) = subst (λ x. Contains (times ++ time ∷ []) x) (same time n (g.following.1 n (h, b.not_after, b.leaves)) b.before) (Contains-push times time)
-
-  -- with no next time they are all
-  pub all_gathered : (times : List ℤ) → AreGathered T W times None → AreLeavingTimes T W (W.last +ℤ pos 1) times
-  all_gathered times g = record {
-    all = All-weaker (IsLeavingBefore T W g.bound) (IsLeavingBefore T W (W.last +ℤ pos 1)) (λ n b. record { leaves = b.leaves; not_before = b.not_before; not_after = b.not_after; before = within n W.last b.not_after }) times g.so_far.all;
-    complete = λ n b. by_case n b (before_or_from n g.bound);
-    ordered = g.so_far.ordered;
-  }
-    where
-      within : (a b : ℤ) → a ≤ℤ b → a <ℤ (b +ℤ pos 1)
-      within a b h = omega (arith, ints, h)
-
-      by_case : (n : ℤ) → IsLeavingBefore T W (W.last +ℤ pos 1) n → (n <ℤ g.bound) ⊎ (g.bound ≤ℤ n) → Contains times n
-      by_case n b (inl h) = g.so_far.complete n (record { leaves = b.leaves; not_before = b.not_before; not_after = b.not_after; before = h })
-      by_case n b (inr h) = absurd (g.following n (h, b.not_after, b.leaves))
+      is_one : (n : ℤ) → Contains [] n ⊎ (IsWithin W n × IsLeavingTime T W.from n) → IsLeavingBefore T W (W.last +ℤ pos 1) n
+      is_one n (inl (k, none, is)) = absurd (omega (arith, none))
+      is_one n (inr p) = record { leaves = p.1; not_before = p.0.0; not_after = p.0.1; before = next_to n W.last p.0.1 }
 
   -- the last of them is taken: it is one, and none is between it and the end
   pub record IsTaken (end : ℤ) (rest : List ℤ) (time : ℤ) : Type 0 where

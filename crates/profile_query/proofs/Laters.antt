@@ -1,16 +1,39 @@
--- The values of a search, and none past the last second, are those of all later journeys.
-use Rattle.std.proofs.Common.{◌≡◌, ℕ, ◌<◌, List, [], ◌∷◌, length, get_or, ap, subst, arith, ℤ, pos, negsuc, ◌-ℤ◌, ◌≤ℤ◌, ◌<ℤ◌}
+-- The values of a sweep, and none past the last second, are those of all later journeys.
+use Rattle.std.proofs.Common.{◌≡◌, ℕ, ◌<◌, List, [], ◌∷◌, length, map, get_or, ap, subst, arith, Option, ℤ, pos, negsuc, ◌-ℤ◌, ◌≤ℤ◌, ◌<ℤ◌}
+use Rattle.std.specs.Prelude.{AllPairs}
 use Rattle.std.proofs.lemmas.Int.{ints}
-use Rattle.std.proofs.lemmas.List.Elements.{All-nil, All-weaker}
+use Rattle.std.proofs.lemmas.List.Elements.{All-map, All-nil, All-weaker}
 use Rattle.tb_base.specs.declared.query.Value.{Value}
+use Rattle.tb_base.specs.declared.transfer.Hop.{Hop}
 use Rattle.tb_base.specs.TimetableData.{TimetableData, events_of, no_event, MayBoard}
 use Rattle.tb_base.specs.Journeys.{Ride, Leads, LeavesNoEarlier, boarding_time}
-use Rattle.tb_base.specs.BestValues.{QueryData, AreBestValues, IsAttained, IsBest, value_of}
+use Rattle.tb_base.specs.BestValues.{QueryData, IsAttained, IsStep, value_of}
 use Rattle.tb_base.specs.Soundness.{IsSound, IsSoundEvent}
 use Rattle.tb_base.proofs.Events.{MayBoard-inside}
-use Rattle.tb_laws.proofs.CoverLaws.{best_values_contain}
+use Rattle.tb_base.specs.Sufficiency.{AreSufficient}
+use Rattle.tb_laws.specs.Pruning.{IsLate}
+use Rattle.segment_queue.specs.declared.desk.Hit.{Hit}
+use Rattle.segment_queue.specs.Queue.{DeskData}
+use Rattle.segment_queue.specs.Traced.{IsTraced, IsTracedHit}
+use Rattle.earliest_query.specs.Sweeping.{IsSweptSoFar, IsSweptTo, SweepData, values_with}
+use Rattle.earliest_query.proofs.Reaching.{hit_attained}
+use Rattle.earliest_query.proofs.SweptSearch.{swept_cover}
 use Rattle.profile_query.specs.Leaving.{DepartsAt}
-use Rattle.profile_query.specs.Slots.{AreLater}
+use Rattle.profile_query.specs.Slots.{AreFound, AreLater}
+use Rattle.profile_query.proofs.Rest.{pairs-map}
+
+-- at a time, a sweep has come down to it
+pub swept_so_far : (T : TimetableData) (lines : List (List ℕ)) (hops : ℕ → ℕ → List Hop) (Q : QueryData) (D : DeskData) (S : SweepData) → IsSweptTo T lines hops Q D S.levels S.values → IsSweptSoFar T lines hops Q D S
+swept_so_far T lines hops Q D S swept = record { queue = swept.queue; gone_on = swept.gone_on }
+
+-- the values of the hits of a sweep at a time
+pub hits_found : (T : TimetableData) (Q : QueryData) (D : DeskData) (later : List Value) → IsTraced T Q D → AllPairs (λ (h k : Hit). IsStep h.value k.value) D.hits →
+    ((w : Value) → IsAttained T Q w → IsLate (values_with D.hits later) w.arrive w.rides) → AreFound T Q later (map (λ (h : Hit). h.value) D.hits)
+hits_found T Q D later traced stairs cover = record {
+  attained = All-map (IsAttained T Q) (λ (h : Hit). h.value) D.hits (All-weaker (IsTracedHit T Q D.segments) (λ (h : Hit). IsAttained T Q h.value) (hit_attained T Q D.segments traced.entered) D.hits traced.hits);
+  stairs = pairs-map (λ (h k : Hit). IsStep h.value k.value) IsStep (λ (h : Hit). h.value) (λ h k step. step) D.hits stairs;
+  cover = cover;
+}
 
 module _ (T : TimetableData) (sound : IsSound T) where
   -- where one may board, one departs within the limits
@@ -29,11 +52,11 @@ module _ (T : TimetableData) (sound : IsSound T) where
       later : (a b c : ℤ) → a ≤ℤ b → b ≤ℤ c → a ≤ℤ c
       later a b c g h = omega (arith, ints, g, h)
 
-  -- the best values stand for all
-  pub later_from_best : (Q : QueryData) (values : List Value) → AreBestValues T Q values → AreLater T Q values
-  later_from_best Q values are = record {
-    attained = All-weaker (IsBest T Q) (IsAttained T Q) (λ v best. best.attained) values are.best;
-    cover = λ w attained some_ride. best_values_contain T sound Q values are w attained;
+  -- the values of a sweep stand for all
+  pub later_from_swept : (lines : List (List ℕ)) (hops : ℕ → ℕ → List Hop) (Q : QueryData) (D : DeskData) (levels : List (List (Option ℕ))) (values : List Value) → AreSufficient T hops → IsSweptTo T lines hops Q D levels values → AreLater T Q values
+  later_from_swept lines hops Q D levels values sufficient swept = record {
+    attained = swept.gone_on.attained;
+    cover = λ w attained some_ride. swept_cover T lines hops Q D levels values swept sound sufficient w attained;
   }
 
   -- nothing departs after the last second

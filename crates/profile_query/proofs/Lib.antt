@@ -1,8 +1,10 @@
 pub mod Results
 pub mod Departures
+pub mod Joining
 pub mod FromOrigin
 pub mod Gathering
-pub mod Laters
+pub mod Kept
 pub mod Rest
+pub mod Laters
 pub mod Offering
 pub mod Walk

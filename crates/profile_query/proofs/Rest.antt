@@ -1,9 +1,7 @@
 -- The slots of the rest of a window, from a time on, and one time more.
-use Rattle.std.proofs.Common.{◌≡◌, ◌∙◌, ℕ, suc, ◌<◌, ◌≤◌, ◌⊎◌, inl, inr, ◌&&◌, ◌||◌, not, Bool, true, false, List, [], ◌∷◌, ◌++◌, length, map, get_or, refl, sym, ap, subst, arith, Option, Some, None, ℤ, pos, ◌+ℤ◌, ◌≤ℤ◌, ◌<ℤ◌}
-use Rattle.std.specs.Prelude.{All, AllPairs, Contains, IsSome, filter, int_le, nat_le, nat_lt}
-use Rattle.std.specs.List.{list_any}
+use Rattle.std.proofs.Common.{◌≡◌, ◌∙◌, ℕ, suc, ◌<◌, ◌⊎◌, inl, inr, true, List, [], ◌∷◌, ◌++◌, length, map, get_or, refl, sym, ap, subst, arith, Option, Some, None, ℤ, pos, ◌+ℤ◌, ◌≤ℤ◌, ◌<ℤ◌}
+use Rattle.std.specs.Prelude.{All, AllPairs, Contains, IsSome, filter}
 use Rattle.std.proofs.lemmas.Int.{ints}
-use Rattle.std.proofs.lemmas.Bool.Decides.{nat_tests}
 use Rattle.std.proofs.lemmas.List.Elements.{All-append, All-contains, All-contains_itself, All-filter, All-map, All-nil, All-weaker, Contains-append_left, Contains-append_right, Contains-get_or, filter_passes}
 use Rattle.std.proofs.lemmas.List.Kept.{AllPairs-cons, AllPairs-filter}
 use Rattle.tb_base.specs.declared.query.Slot.{Slot}
@@ -11,16 +9,17 @@ use Rattle.tb_base.specs.declared.query.Value.{Value}
 use Rattle.tb_base.specs.TimetableData.{TimetableData}
 use Rattle.tb_base.specs.Walking.{walk}
 use Rattle.tb_base.specs.Journeys.{Ride, IsJourney, LeavesNoEarlier, leaving_time}
-use Rattle.tb_base.specs.BestValues.{QueryData, AreBestValues, IsAttained, IsBest, IsNoWorse, value_of}
+use Rattle.tb_base.specs.BestValues.{QueryData, IsAttained, IsBest, IsNoWorse, value_of}
 use Rattle.tb_base.specs.Profiles.{WindowData, IsOffered, IsProfile, IsProfileSlot, SlotPrecedes}
 use Rattle.tb_base.specs.Soundness.{IsSound}
 use Rattle.tb_base.proofs.Ordered.{AllPairs-tail, Member, Contains-from_Member, Member-from_Contains}
-use Rattle.tb_laws.proofs.Members.{both_true, Member-filter}
+use Rattle.tb_laws.proofs.Members.{Member-filter}
 use Rattle.tb_laws.proofs.ProfileLaws.{profile_slot, slot_best, slot_has_ride, slot_none_later}
 use Rattle.tb_laws.proofs.Triangles.{walk_secs-is}
 use Rattle.profile_query.specs.Leaving.{AreLeavingTimes, IsLeavingBefore, IsLeavingTime}
-use Rattle.profile_query.specs.Slots.{AreLater, is_kept, is_no_worse, slot_at, slots_at}
+use Rattle.profile_query.specs.Slots.{AreFound, AreLater, is_kept, slot_at, slots_at}
 use Rattle.profile_query.proofs.FromOrigin.{leaves_in_time}
+use Rattle.profile_query.proofs.Kept.{best_is_found, kept-from, kept_beaten_by_none, kept_has_ride, kept_is_best}
 
 -- the query of a window at a time
 abbrev pub query_at : WindowData → ℤ → QueryData
@@ -33,75 +32,6 @@ pub record AreFrom (T : TimetableData) (W : WindowData) (time : ℤ) (slots : Li
   pub complete : (slot : Slot) → IsProfileSlot T W slot → time ≤ℤ slot.leave → Contains slots slot
   pub ordered : AllPairs SlotPrecedes slots
 
--- what the test says
-no_worse_is : (u v : Value) → is_no_worse u v ≡ true → IsNoWorse u v
-no_worse_is u v h = let p = both_true (int_le u.arrive v.arrive) (nat_le u.rides v.rides) h in (at_most _ _ p.0, below _ _ p.1)
-  where
-    at_most : (a b : ℤ) → int_le a b ≡ true → a ≤ℤ b
-    at_most a b h = grind (arith, ints, h)
-
-    below : (m n : ℕ) → nat_le m n ≡ true → m ≤ n
-    below m n h = grind (arith, h)
-
-is_no_worse-from : (u v : Value) → IsNoWorse u v → is_no_worse u v ≡ true
-is_no_worse-from u v h = both (int_le u.arrive v.arrive) (nat_le u.rides v.rides) (at_most _ _ h.0) (below _ _ h.1)
-  where
-    at_most : (a b : ℤ) → a ≤ℤ b → int_le a b ≡ true
-    at_most a b h = grind (arith, ints, h)
-
-    below : (m n : ℕ) → m ≤ n → nat_le m n ≡ true
-    below m n h = grind (arith, h)
-
-    both : (a b : Bool) → a ≡ true → b ≡ true → (a && b) ≡ true
-    both a b g h = cc
-
--- what is kept has a ride, and none of the later ones is no worse
-kept_has_ride : (later : List Value) (v : Value) → is_kept later v ≡ true → 0 < v.rides
-kept_has_ride later v h = below (both_true (nat_lt 0 v.rides) (not (list_any (λ u. is_no_worse u v) later)) h).0
-  where
-    below : nat_lt 0 v.rides ≡ true → 0 < v.rides
-    below k = grind (arith, nat_tests, k)
-
-any_from : (later : List Value) (u v : Value) → Member u later → is_no_worse u v ≡ true → list_any (λ u. is_no_worse u v) later ≡ true
-any_from [] u v h k = absurd h
-any_from (x ∷ xs) u v (inl e) k = first (is_no_worse x v) (list_any (λ u. is_no_worse u v) xs) (ap (λ y. is_no_worse y v) e ∙ k)
-  where
-    first : (a b : Bool) → a ≡ true → (a || b) ≡ true
-    first a b h = cc
-any_from (x ∷ xs) u v (inr h) k = second (is_no_worse x v) (list_any (λ u. is_no_worse u v) xs) (any_from xs u v h k)
-  where
-    second : (a b : Bool) → b ≡ true → (a || b) ≡ true
-    second true b h = refl
-    second false b h = h
-
-any_is : (later : List Value) (v : Value) → list_any (λ u. is_no_worse u v) later ≡ true → (u : Value) × Member u later × (is_no_worse u v ≡ true)
-any_is [] v h = cc
-any_is (x ∷ xs) v h = by_test (any_is xs v) (is_no_worse x v) refl h
-  where
-    by_test : (list_any (λ u. is_no_worse u v) xs ≡ true → (u : Value) × Member u xs × (is_no_worse u v ≡ true)) → (b : Bool) → b ≡ is_no_worse x v → (b || list_any (λ u. is_no_worse u v) xs) ≡ true → (u : Value) × Member u (x ∷ xs) × (is_no_worse u v ≡ true)
-    by_test more true e k = (x, inl refl, sym e)
-    by_test more false e k = let r : (u : Value) × Member u xs × (is_no_worse u v ≡ true) = more k in (r.0, inr r.1, r.2)
-
-kept_beaten_by_none : (later : List Value) (u v : Value) → is_kept later v ≡ true → Contains later u → IsNoWorse u v → ⊥
-kept_beaten_by_none later u v h c le =
-    clash (list_any (λ u. is_no_worse u v) later) (any_from later u v (Member-from_Contains u later c) (is_no_worse-from u v le)) (both_true (nat_lt 0 v.rides) (not (list_any (λ u. is_no_worse u v) later)) h).1
-  where
-    clash : (b : Bool) → b ≡ true → not b ≡ true → ⊥
-    clash b g k = cc
-
-kept-from : (later : List Value) (v : Value) → 0 < v.rides → ((u : Value) → Member u later → IsNoWorse u v → ⊥) → is_kept later v ≡ true
-kept-from later v some_ride none = by_test (list_any (λ u. is_no_worse u v) later) refl
-  where
-    below : 0 < v.rides → nat_lt 0 v.rides ≡ true
-    below k = grind (arith, nat_tests, k)
-
-    both : (a b : Bool) → a ≡ true → b ≡ false → (a && not b) ≡ true
-    both a b g h = cc
-
-    by_test : (b : Bool) → b ≡ list_any (λ u. is_no_worse u v) later → is_kept later v ≡ true
-    by_test true e = absurd (let r = any_is later v (sym e) in none r.0 r.1 (no_worse_is r.0 v r.2))
-    by_test false e = both (nat_lt 0 v.rides) (list_any (λ u. is_no_worse u v) later) (below some_ride) (sym e)
-
 -- pairs of two lists in a row, and of a list that is mapped
 pairs-append : {X : Type 0} (R : X → X → Type 0) (xs ys : List X) → AllPairs R xs → AllPairs R ys → ((x y : X) → Contains xs x → Contains ys y → R x y) → AllPairs R (xs ++ ys)
 pairs-append R [] ys p q f = q
@@ -110,7 +40,7 @@ pairs-append R (x ∷ xs) ys p q f =
     (All-append (R x) xs ys (λ k d inside. p 0 (suc k) d (omega arith) (omega (arith, inside))) (λ k d inside. f x (get_or ys k d) (0, omega arith, refl) (Contains-get_or ys k d inside)))
     (pairs-append R xs ys (AllPairs-tail R x xs p) q (λ z y (k, inside, is) h. f z y (suc k, omega (arith, inside), is) h))
 
-pairs-map : {X Y : Type 0} (R : X → X → Type 0) (S : Y → Y → Type 0) (f : X → Y) → ((v w : X) → R v w → S (f v) (f w)) → (xs : List X) → AllPairs R xs → AllPairs S (map f xs)
+pub pairs-map : {X Y : Type 0} (R : X → X → Type 0) (S : Y → Y → Type 0) (f : X → Y) → ((v w : X) → R v w → S (f v) (f w)) → (xs : List X) → AllPairs R xs → AllPairs S (map f xs)
 pairs-map R S f g [] p = λ i j d before below. absurd (omega (arith, below))
 pairs-map R S f g (x ∷ xs) p =
     AllPairs-cons S (f x) (map f xs)
@@ -128,7 +58,7 @@ at_or_after a b h = grind (arith, ints, h)
 
 module _ (T : TimetableData) (sound : IsSound T) (W : WindowData) (end time : ℤ) (later values : List Value) (one : IsLeavingBefore T W end time)
     (gap : (n : ℤ) → IsLeavingBefore T W end n → time <ℤ n → ⊥) (covered : (n : ℤ) → n <ℤ end → n ≤ℤ W.last)
-    (are_later : AreLater T (query_at W end) later) (are_best : AreBestValues T (query_at W time) values) where
+    (are_later : AreLater T (query_at W end) later) (are_found : AreFound T (query_at W time) later values) where
   -- a journey with rides that leaves after the time leaves at the end or later
   leaves_late : (o : ℕ) (r : Ride) (rest : List Ride) (q : ℕ) → IsJourney T W.from W.to (record { origin = o; rides = r ∷ rest; target = q }) → (time +ℤ pos 1) ≤ℤ leaving_time T o r → end ≤ℤ leaving_time T o r
   leaves_late o r rest q journey late = by_case (before_or_from (leaving_time T o r) end)
@@ -154,10 +84,10 @@ module _ (T : TimetableData) (sound : IsSound T) (W : WindowData) (end time : �
       by_rides o [] q journey leaves value = absurd (let e : w.rides ≡ 0 = ap (λ (v : Value). v.rides) value in omega (arith, e, some_ride))
       by_rides o (r ∷ rest) q journey leaves value = (record { origin = o; rides = r ∷ rest; target = q }, record { journey = journey; leaves = leaves_late o r rest q journey leaves; value = value })
 
-  -- a best value that is kept is a slot
+  -- a value that is kept is a slot
   kept_is_slot : (v : Value) → Contains values v → is_kept later v ≡ true → IsProfileSlot T W (slot_at time v)
   kept_is_slot v in_values kept =
-      profile_slot T sound W time v (kept_has_ride later v kept) (All-contains (IsBest T (query_at W time)) values v are_best.best in_values)
+      profile_slot T sound W time v (kept_has_ride later v kept) (kept_is_best T (query_at W time) later values are_found v in_values kept)
       (λ w best some_ride le. (let u : (x : Value) × Contains later x × IsNoWorse x w = are_later.cover w (attained_late w some_ride best.attained) some_ride in
       kept_beaten_by_none later u.0 v kept u.1 (through u.0.arrive w.arrive v.arrive u.2.0 le.0, omega (arith, u.2.1, le.1))))
       one.not_before one.not_after
@@ -184,13 +114,13 @@ module _ (T : TimetableData) (sound : IsSound T) (W : WindowData) (end time : �
           (record { origin = o; rides = r ∷ rest; target = q }, record { journey = journey; leaves = since slot.leave time end (leaving_time T o r) now one.before leaves; value = value })
           (let e : u.rides ≡ suc (length rest) = ap (λ (v : Value). v.rides) value in omega (arith, e)) le
 
-  -- each slot at the time is a best value that is kept
+  -- each slot at the time is a value that is kept
   slot_is_kept : (slot : Slot) → IsProfileSlot T W slot → slot.leave ≡ time → Contains (slots_at time later values) slot
   slot_is_kept slot is now =
       let v : Value = record { arrive = slot.arrive; rides = slot.rides } in
       let best : IsBest T (query_at W time) v = subst (λ l. IsBest T (query_at W l) v) now (slot_best T W slot is) in
       let kept : is_kept later v ≡ true = kept-from later v (slot_has_ride T W slot is) (λ u m le. slot_beats slot is now u (All-contains (IsAttained T (query_at W end)) later u are_later.attained (Contains-from_Member u later m)) le) in
-      let member : Member v (filter (is_kept later) values) = Member-filter (is_kept later) v values (Member-from_Contains v values (are_best.complete v best)) kept in
+      let member : Member v (filter (is_kept later) values) = Member-filter (is_kept later) v values (Member-from_Contains v values (best_is_found T (query_at W time) later values are_found v best kept)) kept in
       Contains-from_Member slot (slots_at time later values) (subst (λ l. Member (record { leave = l; arrive = slot.arrive; rides = slot.rides }) (slots_at time later values)) (sym now) (mapped (filter (is_kept later) values) v member))
     where
       mapped : (vs : List Value) (v : Value) → Member v vs → Member (slot_at time v) (map (slot_at time) vs)
@@ -207,7 +137,7 @@ module _ (T : TimetableData) (sound : IsSound T) (W : WindowData) (end time : �
         (All-map (λ (s : Slot). time ≤ℤ s.leave) (slot_at time) (filter (is_kept later) values) (λ k d inside. at_most time));
     complete = λ slot is from. by_time slot is (at_or_after time slot.leave from);
     ordered = pairs-append SlotPrecedes slots (slots_at time later values) are.ordered
-        (pairs-map (λ (v w : Value). v.rides < w.rides) SlotPrecedes (slot_at time) (λ v w h. inr (refl, h)) (filter (is_kept later) values) (AllPairs-filter (λ (v w : Value). v.rides < w.rides) (is_kept later) values are_best.ordered))
+        (pairs-map (λ (v w : Value). v.rides < w.rides) SlotPrecedes (slot_at time) (λ v w h. inr (refl, h)) (filter (is_kept later) values) (AllPairs-filter (λ (v w : Value). v.rides < w.rides) (is_kept later) values (λ i j d before below. (are_found.stairs i j d before below).0)))
         (λ s t in_slots in_new. inl (earlier t.leave s.leave (new_leaves t in_new) (All-contains (λ (s : Slot). end ≤ℤ s.leave) slots s are.from in_slots)));
   }
     where

@@ -1,25 +1,26 @@
 -- The walk over a window, from its end to its beginning.
-use Rattle.std.proofs.Common.{◌≡◌, ℕ, List, [], ◌∷◌, ◌++◌, map, refl, sym, subst, arith, ℤ, pos, ◌+ℤ◌, ◌≤ℤ◌, ◌<ℤ◌}
+use Rattle.std.proofs.Common.{◌≡◌, ◌∙◌, ℕ, List, [], ◌∷◌, ◌++◌, map, refl, sym, ap, subst, arith, ℤ, pos, ◌+ℤ◌, ◌≤ℤ◌, ◌<ℤ◌}
 use Rattle.std.specs.Prelude.{All}
 use Rattle.std.proofs.lemmas.Int.{ints}
 use Rattle.std.proofs.lemmas.List.Elements.{All-nil, All-weaker}
 use Rattle.tb_base.specs.declared.query.Value.{Value}
 use Rattle.tb_base.specs.declared.transfer.Hop.{Hop}
 use Rattle.tb_base.specs.TimetableData.{TimetableData}
-use Rattle.tb_base.specs.BestValues.{QueryData, AreBestValues}
+use Rattle.tb_base.specs.BestValues.{QueryData}
 use Rattle.tb_base.specs.JourneyRules.{SpellSlot}
 use Rattle.tb_base.specs.Profiles.{OfferData, WindowData, IsProfile}
 use Rattle.tb_base.specs.Soundness.{IsSound}
+use Rattle.segment_queue.specs.Queue.{DeskData}
 use Rattle.segment_queue.specs.Traced.{LegsFollow}
+use Rattle.earliest_query.specs.Sweeping.{IsSweptSoFar, SweepData}
 use Rattle.profile_query.specs.Leaving.{AreLeavingTimes}
-use Rattle.profile_query.specs.Slots.{AreLater, IsShown, slots_at}
-use Rattle.profile_query.proofs.Gathering.{last_taken}
-use Rattle.profile_query.proofs.Laters.{later_from_best}
+use Rattle.profile_query.specs.Slots.{AreFound, AreLater, IsShown, slots_at}
+use Rattle.profile_query.proofs.Gathering.{IsTaken, last_taken}
 use Rattle.profile_query.proofs.Offering.{all_spell}
 use Rattle.profile_query.proofs.Rest.{AreFrom, none_after, one_time_more, query_at, whole_profile}
 
--- The window has been walked from its end back to the time of the query: these times are left, these values were found
--- last, and these are the offers.
+-- The window has been walked from its end back to the time of the query: these times are left, these are the values of all
+-- who leave then or later, and these are the offers.
 pub record IsWalked (T : TimetableData) (W : WindowData) (hops : ℕ → ℕ → List Hop) (Q : QueryData) (times : List ℤ) (later : List Value) (offers : List OfferData) : Type 0 where
   pub query : Q ≡ query_at W Q.leave
   pub within : Q.leave ≤ℤ (W.last +ℤ pos 1)
@@ -27,6 +28,10 @@ pub record IsWalked (T : TimetableData) (W : WindowData) (hops : ℕ → ℕ →
   pub found : AreLater T (query_at W Q.leave) later
   pub slots : AreFrom T W Q.leave (map OfferData.slot offers)
   pub shown : All (IsShown T W.from W.to hops) offers
+
+-- the query of a window, asked at another time
+pub query_on : (W : WindowData) (Q new : QueryData) (asked time : ℤ) → Q ≡ query_at W Q.leave → new ≡ record { from = Q.from; to = Q.to; leave = asked } → asked ≡ time → new ≡ query_at W time
+query_on W Q new asked time query e same = e ∙ ap (λ (q : QueryData). record { from = q.from; to = q.to; leave = asked }) query ∙ ap (query_at W) same
 
 module _ (T : TimetableData) (sound : IsSound T) (W : WindowData) (hops : ℕ → ℕ → List Hop) where
   -- at its end
@@ -44,29 +49,46 @@ module _ (T : TimetableData) (sound : IsSound T) (W : WindowData) (hops : ℕ �
       at_most : (a : ℤ) → a ≤ℤ a
       at_most a = omega (arith, ints)
 
-  -- one time further
-  pub walked_on : (Q new : QueryData) (times rest : List ℤ) (time : ℤ) (later values : List Value) (offers more : List OfferData) → IsWalked T W hops Q times later offers → times ≡ rest ++ time ∷ [] →
-      new ≡ query_at W time → AreBestValues T new values → map OfferData.slot more ≡ map OfferData.slot offers ++ slots_at new.leave later values →
-      (All (IsShown T new.from new.to hops) offers → All (IsShown T new.from new.to hops) more) → IsWalked T W hops new rest values more
-  walked_on Q new times rest time later values offers more walked popped e best added shown =
-      let taken = last_taken T W Q.leave rest time (subst (AreLeavingTimes T W Q.leave) popped walked.left) in
-      let best_now : AreBestValues T (query_at W time) values = subst (λ q. AreBestValues T q values) e best in
-      let added_now : map OfferData.slot more ≡ map OfferData.slot offers ++ slots_at time later values = subst (λ (q : QueryData). map OfferData.slot more ≡ map OfferData.slot offers ++ slots_at q.leave later values) e added in
-      subst (λ q. IsWalked T W hops q rest values more) (sym e) (record {
-        query = refl;
-        within = inside time W.last taken.one.not_after;
-        left = taken.remain;
-        found = later_from_best T sound (query_at W time) values best_now;
-        slots = subst (AreFrom T W time) (sym added_now)
-            (one_time_more T sound W Q.leave time later values taken.one taken.gap (λ n h. before n Q.leave W.last h walked.within) walked.found best_now (map OfferData.slot offers) walked.slots);
-        shown = subst (λ (q : QueryData). All (IsShown T q.from q.to hops) offers → All (IsShown T q.from q.to hops) more) e shown walked.shown;
-      })
-    where
-      inside : (a b : ℤ) → a ≤ℤ b → a ≤ℤ (b +ℤ pos 1)
-      inside a b h = omega (arith, ints, h)
+  -- The last of the times that are left is taken, and the query is asked again at it.
+  module _ (Q new : QueryData) (times rest : List ℤ) (time : ℤ) (later : List Value) (offers : List OfferData) (walked : IsWalked T W hops Q times later offers) (popped : times ≡ rest ++ time ∷ []) (asked : new ≡ query_at W time) where
+    taken : IsTaken T W Q.leave rest time
+    taken = last_taken T W Q.leave rest time (subst (AreLeavingTimes T W Q.leave) popped walked.left)
 
-      before : (a b c : ℤ) → a <ℤ b → b ≤ℤ (c +ℤ pos 1) → a ≤ℤ c
-      before a b c g h = omega (arith, ints, g, h)
+    pub asked_within : new.leave ≤ℤ W.last
+    asked_within = subst (λ q. q.leave ≤ℤ W.last) (sym asked) taken.one.not_after
+
+    -- a sweep that has come down to the query can come down to it again
+    pub asked_sooner : (lines : List (List ℕ)) (D : DeskData) (S : SweepData) → IsSweptSoFar T lines hops Q D S → (l : ℤ) × (new.leave ≤ℤ l) × IsSweptSoFar T lines hops (record { from = new.from; to = new.to; leave = l }) D S
+    asked_sooner lines D S swept = (
+      Q.leave,
+      subst (λ q. q.leave ≤ℤ Q.leave) (sym asked) (at_most time Q.leave taken.one.before),
+      subst (λ q. IsSweptSoFar T lines hops (record { from = q.from; to = q.to; leave = Q.leave }) D S) (sym asked) (subst (λ q. IsSweptSoFar T lines hops q D S) walked.query swept),
+    )
+      where
+        at_most : (a b : ℤ) → a <ℤ b → a ≤ℤ b
+        at_most a b h = omega (arith, ints, h)
+
+    -- so the window has been walked one time further
+    pub walked_on : (values so_far : List Value) (more : List OfferData) → AreFound T new later values → AreLater T new so_far → map OfferData.slot more ≡ map OfferData.slot offers ++ slots_at new.leave later values →
+        (All (IsShown T new.from new.to hops) offers → All (IsShown T new.from new.to hops) more) → IsWalked T W hops new rest so_far more
+    walked_on values so_far more found are_later added shown =
+        let found_now : AreFound T (query_at W time) later values = subst (λ q. AreFound T q later values) asked found in
+        let added_now : map OfferData.slot more ≡ map OfferData.slot offers ++ slots_at time later values = subst (λ (q : QueryData). map OfferData.slot more ≡ map OfferData.slot offers ++ slots_at q.leave later values) asked added in
+        subst (λ q. IsWalked T W hops q rest so_far more) (sym asked) (record {
+          query = refl;
+          within = inside time W.last taken.one.not_after;
+          left = taken.remain;
+          found = subst (λ q. AreLater T q so_far) asked are_later;
+          slots = subst (AreFrom T W time) (sym added_now)
+              (one_time_more T sound W Q.leave time later values taken.one taken.gap (λ n h. before n Q.leave W.last h walked.within) walked.found found_now (map OfferData.slot offers) walked.slots);
+          shown = subst (λ (q : QueryData). All (IsShown T q.from q.to hops) offers → All (IsShown T q.from q.to hops) more) asked shown walked.shown;
+        })
+      where
+        inside : (a b : ℤ) → a ≤ℤ b → a ≤ℤ (b +ℤ pos 1)
+        inside a b h = omega (arith, ints, h)
+
+        before : (a b c : ℤ) → a <ℤ b → b ≤ℤ (c +ℤ pos 1) → a ≤ℤ c
+        before a b c g h = omega (arith, ints, g, h)
 
   -- at its beginning
   pub walk_ended : (Q : QueryData) (later : List Value) (offers : List OfferData) → IsWalked T W hops Q [] later offers → IsProfile T W (map OfferData.slot offers)

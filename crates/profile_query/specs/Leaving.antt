@@ -1,5 +1,5 @@
 -- When one can leave an origin for a first ride.
-use Rattle.std.specs.Prelude.{◌≡◌, ℕ, ◌+◌, ◌<◌, List, length, slice_index_or, ℤ, pos, ◌+ℤ◌, ◌≤ℤ◌, ◌<ℤ◌, Option, Some, All, AllPairs, Contains}
+use Rattle.std.specs.Prelude.{◌≡◌, ℕ, ◌+◌, ◌<◌, ◌⊎◌, List, length, slice_index_or, ℤ, pos, ◌+ℤ◌, ◌≤ℤ◌, ◌<ℤ◌, Option, Some, All, AllPairs, Contains}
 use Rattle.std.specs.Option.{option_map}
 use Rattle.tb_base.specs.TimetableData.{TimetableData, departure_at, events_of, stop_at, MayBoard}
 use Rattle.tb_base.specs.Walking.{walk}
@@ -31,6 +31,20 @@ pub record LeavesFor (T : TimetableData) (origin : ℕ) (time : ℤ) : Type 0 wh
 -- a leaving time: so it is from one of the origins
 abbrev pub IsLeavingTime : TimetableData → List ℕ → ℤ → Type 0
 IsLeavingTime T origins time = (origin : ℕ) × Contains origins origin × LeavesFor T origin time
+
+-- a time within the window
+abbrev pub IsWithin : WindowData → ℤ → Type 0
+IsWithin W time = (W.first ≤ℤ time) × (time ≤ℤ W.last)
+
+-- just at the time one departs at the stop by the line index with this number
+abbrev pub IsLineDeparture : TimetableData → List (List ℕ) → ℕ → ℕ → ℤ → Type 0
+IsLineDeparture T lines stop berth time = line_departure T lines stop time berth ≡ Some time
+
+-- all times of which P holds, and no others, have joined these, in any order and number
+pub record HaveJoined (P : ℤ → Type 0) (old new : List ℤ) : Type 0 where
+  pub kept : (time : ℤ) → Contains old time → Contains new time
+  pub further : (time : ℤ) → Contains new time → Contains old time ⊎ P time
+  pub complete : (time : ℤ) → P time → Contains new time
 
 -- a leaving time within the window, before the end
 pub record IsLeavingBefore (T : TimetableData) (W : WindowData) (end time : ℤ) : Type 0 where

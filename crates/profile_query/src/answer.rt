@@ -7,8 +7,9 @@ ghost use Rattle.segment_queue.specs.Queue.{Fits};
 ghost use Rattle.segment_queue.specs.Traced.{LegsFollow};
 
 use super::leaving::leaving_times;
-use super::searching::{ask_at, later_values, query_after, search};
-use super::slots::{add_offers, values_of};
+use super::searching::{ask_at, begin, copy_values, query_after, search};
+use super::slots::add_offers;
+use earliest_query::Sweep;
 use segment_queue::{Desk, Scan, Steps};
 use std::alloc::Global;
 use std::marker::Brand;
@@ -45,13 +46,15 @@ fn offers_of<S: Scan, L: Ledger>(
     let mut steps = Steps::<L>::new(blank);
     let mut query = query_after(alloc, window)?;
     let mut times = leaving_times(alloc, scan, table, window, &mut steps)?;
-    let mut later = later_values(alloc, scan, table, &query, desk, &mut steps)?;
+    let mut sweep = Sweep::new(alloc);
+    begin(alloc, scan, table, &query, desk, &mut sweep, &mut steps)?;
+    let mut later = Vec::new(alloc);
     let mut offers = Vec::new(alloc);
     while let Some(time) = times.pop() {
+        copy_values(&mut later, sweep.values())?;
         ask_at(&mut query, time);
-        search(scan, table, &query, desk, &mut steps);
+        search(alloc, scan, table, &query, desk, &mut sweep, &mut steps)?;
         add_offers(alloc, &mut offers, desk, table, &query, later.as_slice())?;
-        later = values_of(alloc, desk)?;
     }
     Ok(offers)
 }
@@ -70,11 +73,13 @@ fn empty<S: Scan>(alloc: Global, scan: &S, desk: &mut Desk)
     desk.begin(scan, &nothing);
 }
 
-/// The profile of a window: its slots by leaving time, greatest first, then by rides, smallest first, each with the legs of a
-/// journey that has it and changes by hops of the set alone. Any sufficient set of hops gives the same slots. The window is
-/// walked from its end: one search a second after it, and one at each time within it at which a trip departs that can be
-/// boarded from an origin. A search takes no memory, since the desk was made to fit before; the offers do. Refused only for want of
-/// memory, and then the desk fits still and its queue is empty.
+/// The profile of a window: its slots by leaving time, greatest first, then by rides, smallest
+/// first, each with the legs of a journey that has it and changes by hops of the set alone. Any
+/// sufficient set of hops gives the same slots. The window is swept from its end: once a second
+/// after it, and at each time within it at which one can leave an origin for a first ride. What a
+/// later time has reached with no more rides isn't entered again; no clause bounds the work.
+/// Refused only for want of memory, as which more segments count than 32 bits can number; then the
+/// desk fits still and its queue is empty.
 pub fn profile<S: Scan>(
     alloc: Global,
     scan: &S,

@@ -1,12 +1,12 @@
-//! Searches at one time after another.
-ghost use Rattle.std.specs.Prelude.{◌≡◌, ◌<◌, ◌≤ℤ◌, ◌+ℤ◌, All, IfOk, length, pos};
+//! Searches at one time after another, in one sweep.
+ghost use Rattle.std.specs.Prelude.{◌≡◌, ◌<◌, ◌≤ℤ◌, ◌+ℤ◌, ℤ, All, IfOk, OnOk, length, map, pos};
 ghost use Rattle.tb_base.specs.Sufficiency.{AreSufficient};
 ghost use Rattle.segment_queue.specs.Queue.{Fits};
-ghost use Rattle.segment_queue.specs.Traced.{IsAnswered};
-ghost use Rattle.profile_query.specs.Slots.{AreLater};
+ghost use Rattle.segment_queue.specs.Traced.{IsTraced, UsesHops};
+ghost use Rattle.earliest_query.specs.Sweeping.{IsSweptSoFar};
+ghost use Rattle.profile_query.specs.Slots.{AreFound, AreLater};
 
-use super::slots::values_of;
-use earliest_query::earliest;
+use earliest_query::Sweep;
 use segment_queue::{Desk, Scan, Steps};
 use std::alloc::Global;
 use std::sync::ledger::Ledger;
@@ -35,45 +35,73 @@ pub(crate) fn ask_at(query: &mut Query, time: Sec)
     query.leave = time;
 }
 
-/// Leaves the answer to the query in the desk.
-pub(crate) fn search<S: Scan, L: Ledger>(
-    scan: &S,
-    table: &Timetable,
-    query: &Query,
-    desk: &mut Desk,
-    steps: &mut Steps<L>,
-)
-    requires table { S.table scan.now ≡ table.now }
-    requires fits { Fits table.now desk.old }
-    requires origins { All (λ p. p < length table.now.stops) query.now.from }
-    requires leave { query.now.leave ≤ℤ pos 359999 }
-    requires sufficient { AreSufficient table.now (S.hops scan.now) }
-    ensures fits { Fits table.now desk.new }
-    ensures answered { IsAnswered table.now (S.hops scan.now) query.now desk.new }
+/// Makes some values a copy of others.
+pub(crate) fn copy_values(values: &mut Vec<Value>, others: &[Value]) -> Result<(), Memory>
+    ensures { OnOk result (values.new.items ≡ others.now) }
 {
-    earliest(scan, query, desk, steps);
+    values.clear();
+    values.extend_from_slice(others)?;
+    Ok(())
 }
 
-/// The values that a search finds, and none where nothing departs any more.
-pub(crate) fn later_values<S: Scan, L: Ledger>(
+/// Comes down to the time of the query, from a later one or the same. The desk has the values then
+/// found, and the sweep those of all who leave no earlier.
+pub(crate) fn search<S: Scan, L: Ledger>(
     alloc: Global,
     scan: &S,
     table: &Timetable,
     query: &Query,
     desk: &mut Desk,
+    sweep: &mut Sweep,
     steps: &mut Steps<L>,
-) -> Result<Vec<Value>, Memory>
+) -> Result<(), Memory>
+    requires table { S.table scan.now ≡ table.now }
+    requires fits { Fits table.now desk.old }
+    requires origins { All (λ p. p < length table.now.stops) query.now.from }
+    requires leave { query.now.leave ≤ℤ pos 359999 }
+    requires later { (later : ℤ) × (query.now.leave ≤ℤ later)
+        × IsSweptSoFar table.now (S.lines scan.now) (S.hops scan.now)
+        (record query.now { leave = later }) desk.old sweep.old }
+    requires sufficient { AreSufficient table.now (S.hops scan.now) }
+    ensures fits { Fits table.now desk.new }
+    ensures swept { OnOk result
+        (IsSweptSoFar table.now (S.lines scan.now) (S.hops scan.now) query.now desk.new sweep.new) }
+    ensures found { OnOk result
+        (AreFound table.now query.now sweep.old.values (map (λ h. h.value) desk.new.hits)) }
+    ensures later { OnOk result (AreLater table.now query.now sweep.new.values) }
+    ensures traced { OnOk result (IsTraced table.now query.now desk.new) }
+    ensures hops { OnOk result (UsesHops (S.hops scan.now) desk.new.segments) }
+{
+    table.soundness();
+    sweep.ask(alloc, scan, query, desk, steps)?;
+    Ok(())
+}
+
+/// Begins a sweep at the time of a query, with the values of all who leave no earlier: none where
+/// nothing departs any more.
+pub(crate) fn begin<S: Scan, L: Ledger>(
+    alloc: Global,
+    scan: &S,
+    table: &Timetable,
+    query: &Query,
+    desk: &mut Desk,
+    sweep: &mut Sweep,
+    steps: &mut Steps<L>,
+) -> Result<(), Memory>
     requires table { S.table scan.now ≡ table.now }
     requires fits { Fits table.now desk.old }
     requires origins { All (λ p. p < length table.now.stops) query.now.from }
     requires sufficient { AreSufficient table.now (S.hops scan.now) }
     ensures fits { Fits table.now desk.new }
-    ensures later { IfOk result (λ later. AreLater table.now query.now later.items) }
+    ensures swept { OnOk result
+        (IsSweptSoFar table.now (S.lines scan.now) (S.hops scan.now) query.now desk.new sweep.new) }
+    ensures later { OnOk result (AreLater table.now query.now sweep.new.values) }
 {
     table.soundness();
+    sweep.begin(alloc, scan, query, desk)?;
     if query.leave > LAST {
-        return Ok(Vec::new(alloc));
+        return Ok(());
     }
-    search(scan, table, query, desk, steps);
-    values_of(alloc, desk)
+    search(alloc, scan, table, query, desk, sweep, steps)?;
+    Ok(())
 }

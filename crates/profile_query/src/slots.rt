@@ -11,13 +11,6 @@ use segment_queue::{Desk, Hit};
 use std::alloc::Global;
 use tb_base::{Memory, Offer, Query, Slot, Timetable, Value};
 
-/// The values of the hits, in order.
-pub(crate) fn values_of(alloc: Global, desk: &Desk) -> Result<Vec<Value>, Memory>
-    ensures { IfOk result (λ values. values.items ≡ map (λ h. h.value) desk.now.hits) }
-{
-    Ok(desk.hits().iter().map(|hit| hit.value).collect(alloc)?)
-}
-
 // Whether a value arrives no later than another and has no more rides.
 fn is_no_worse(u: Value, v: Value) -> bool
     ensures { result ≡ is_no_worse u v }

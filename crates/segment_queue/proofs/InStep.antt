@@ -24,8 +24,14 @@ get_or-same zero t x = refl
 get_or-same (suc n) zero x = refl
 get_or-same (suc n) (suc t) x = get_or-same n t x
 
-first_mark : (T : TimetableData) (n t : ℕ) → mark_of T (replicate n None) t ≡ last_index T t
+-- the mark of a trip that has none is its last index
+pub first_mark : (T : TimetableData) (n t : ℕ) → mark_of T (replicate n None) t ≡ last_index T t
 first_mark T n t = let none : Option ℕ = None in ap (λ o. unwrap_or o (last_index T t)) (get_or-same n t none)
+
+-- along a line they never rise, since its trips are as long as one another
+pub first_falling : (T : TimetableData) (lines : List (List ℕ)) (n : ℕ) → AreDividedInto T lines → All (IsFalling T (replicate n None)) lines
+first_falling T lines n divided = all_by_member (IsFalling T (replicate n None)) lines (λ line h. pairs_weaker (MayFollow T) (λ t u. mark_of T (replicate n None) u ≤ mark_of T (replicate n None) t) line
+    (λ t u a b f. omega (arith, first_mark T n t, first_mark T n u, (no_later T t u (inr f)).long)) (of_member (λ l. AllPairs (MayFollow T) l) lines line divided.ordered h))
 
 pub long_trip : (T : TimetableData) (t : ℕ) → IsSound T → t < length T.trips → 2 ≤ length (events_of T t)
 long_trip T t sound inside = (All-get_or (IsSoundTrip (length T.stops)) T.trips t (record { name = []; events = [] }) inside sound.trip).long
@@ -43,8 +49,7 @@ in_step-emptied T lines D D' n sound divided fits marks many segments segment_ro
   segments = subst (All (IsSoundSegment T)) (sym segments) (All-nil (IsSoundSegment T));
   above = subst (All (λ s. mark_of T D'.marks s.trip ≤ s.board)) (sym segments) (All-nil (λ s. mark_of T D'.marks s.trip ≤ s.board));
   apart = subst (AllPairs (λ (s r : Segment). s.trip ≡ r.trip → r.end ≤ s.board)) (sym segments) (λ i j d before below. absurd (omega (arith, below)));
-  falling = all_by_member (IsFalling T D'.marks) lines (λ line h. pairs_weaker (MayFollow T) (λ t u. mark_of T D'.marks u ≤ mark_of T D'.marks t) line
-      (λ t u a b f. omega (arith, mark t, mark u, (no_later T t u (inr f)).long)) (of_member (λ l. AllPairs (MayFollow T) l) lines line divided.ordered h));
+  falling = subst (λ ms. All (IsFalling T ms) lines) (sym marks) (first_falling T lines n divided);
   counted = omega (arith, ap (sum_by covered_indices) segments, total_le (last_index T) (mark_of T D'.marks) (length T.trips) (λ t h. omega (arith, mark t)));
 }
   where

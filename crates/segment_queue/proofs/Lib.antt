@@ -5,3 +5,4 @@ pub mod Totals
 pub mod LoweredMarks
 pub mod InStep
 pub mod LineViews
+pub mod KeptLevels

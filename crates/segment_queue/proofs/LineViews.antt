@@ -1,25 +1,24 @@
 -- What a view finds in lines is what a scan shows.
 use Rattle.std.proofs.Common.{◌≡◌, ◌≢◌, ◌∙◌, ℕ, ℤ, zero, suc, ◌+◌, ◌<◌, ◌≤◌, ◌⊎◌, inl, inr, ◌==◌, List, [], ◌∷◌, ◌++◌, Bool, true, false, cond, length, map, take, drop, get_or, refl, sym, ap, subst, arith, Option, Some, None, length-append, add-one}
-use Rattle.std.specs.Prelude.{All, AllPairs, Contains, IfSome, filter, flat_map, fold, slice_get, sum_by}
+use Rattle.std.specs.Prelude.{All, filter, flat_map, fold, slice_get, sum_by}
 use Rattle.std.specs.List.{concat}
 use Rattle.std.specs.Option.{option_map}
 use Rattle.std.proofs.lemmas.Grind.{flat_map-append}
-use Rattle.std.proofs.lemmas.List.{append-nil, get_or-map, length-map, map-append, take_all, take_more}
+use Rattle.std.proofs.lemmas.List.{get_or-map, length-map, map-append, take_all, take_more}
 use Rattle.std.proofs.lemmas.Simd.{map-map}
 use Rattle.std.proofs.lemmas.List.Elements.{All-cons, All-head, All-nil, All-tail}
 use Rattle.std.proofs.lemmas.List.Sums.{sum_by-append, sum_by-cons}
 use Rattle.std.proofs.lemmas.Option.{get_or_from_slice_get, slice_get_read}
-use Rattle.tb_base.specs.TimetableData.{TimetableData, TripData, event_total, events_of, stop_at}
+use Rattle.tb_base.specs.TimetableData.{TimetableData, event_total, events_of, stop_at}
 use Rattle.tb_base.specs.Lines.{AreDividedInto, AreLines, last_trip, may_follow, place_trip}
 use Rattle.tb_base.specs.Transfers.{earliest_trip, line_from, may_be_boarded, numbers_below}
-use Rattle.tb_base.specs.declared.transfer.Hop.{Hop}
-use Rattle.tb_base.proofs.Ordered.{Member, Member-from_Contains, Contains-from_Member, AllPairs-tail}
+use Rattle.tb_base.proofs.Ordered.{Member, AllPairs-tail}
 use Rattle.tb_laws.proofs.Members.{Member-left, Member-right, Member-filter_back, Member-flat_map_back, Member-numbers_below}
 use Rattle.line_split.specs.declared.lines.Berth.{Berth}
-use Rattle.line_split.specs.LinesOf.{StandsAt, berths_at, calls_at, line_events}
+use Rattle.line_split.specs.LinesOf.{berths_at, calls_at, line_events}
 use Rattle.segment_queue.specs.Scans.{LineIndex, boarding_hop, first_trip, indices_at, line_indices_at, no_line_index, trips_from}
 use Rattle.segment_queue.proofs.Distinct.{AreDistinct, before_member, has_member, in_one_part, member_or_not, of_member, pairs_left, pairs_right, same_or_other}
-use Rattle.segment_queue.proofs.LineParts.{line_from-other, line_from-same, member_concat, member_lines, trips_from-here, trips_from-past}
+use Rattle.segment_queue.proofs.LineParts.{line_from-other, line_from-same, trips_from-here, trips_from-past}
 use Rattle.segment_queue.proofs.Totals.{distinct_sum, all_events}
 
 abbrev IsNonempty : List ℕ → Type 0

@@ -2,3 +2,4 @@ pub mod Stamped
 pub mod Scans
 pub mod Queue
 pub mod Traced
+pub mod Levels

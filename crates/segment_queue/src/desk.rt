@@ -80,7 +80,7 @@ fn make_room_for<T>(items: &mut Vec<T>, count: usize) -> Result<(), Memory>
 }
 
 // The mark of a trip.
-fn mark_on<S: Scan>(marks: &Marks, scan: &S, trip: TripNo) -> u32
+pub(crate) fn mark_on<S: Scan>(marks: &Marks, scan: &S, trip: TripNo) -> u32
     requires trip { trip < length (S.table scan.now).trips }
     requires room { trip < length marks.now }
     ensures { result ≡ mark_of (S.table scan.now) marks.now trip }
@@ -93,7 +93,7 @@ fn mark_on<S: Scan>(marks: &Marks, scan: &S, trip: TripNo) -> u32
 
 // Lowers the marks of a trip and of the later trips of its line to the index, where they are greater. Along a line marks
 // never rise, so it stops at the first that isn't greater.
-fn lower_marks<S: Scan>(marks: &mut Marks, scan: &S, trip: TripNo, at: u32)
+pub(crate) fn lower_marks<S: Scan>(marks: &mut Marks, scan: &S, trip: TripNo, at: u32)
     requires trip { trip < length (S.table scan.now).trips }
     requires room { length (S.table scan.now).trips ≤ length marks.old }
     requires divided { AreDividedInto (S.table scan.now) (S.lines scan.now) }
@@ -199,6 +199,18 @@ impl Desk {
         true
     }
 
+    /// Appends a segment, whatever the marks say. It needs memory, where there is no room; at a refusal the desk is as before.
+    pub fn add_segment(&mut self, segment: Segment) -> Result<(), Memory>
+        ensures segments { OnOk result (self.new.segments ≡ self.old.segments ++ segment ∷ []) }
+        ensures refused { OnErr result (self.new.segments ≡ self.old.segments) }
+        ensures hits { self.new.hits ≡ self.old.hits }
+        ensures marks { self.new.marks ≡ self.old.marks }
+        ensures still { (T : TimetableData) → Fits T self.old → Fits T self.new }
+    {
+        self.segments.push(segment)?;
+        Ok(())
+    }
+
     /// How many segments there are.
     pub fn segment_count(&self) -> usize
         ensures { result ≡ length self.now.segments }
@@ -219,6 +231,27 @@ impl Desk {
         ensures { self.new ≡ record self.old { hits = self.old.hits ++ hit ∷ [] } }
     {
         push_within(&mut self.hits, hit);
+    }
+
+    /// Appends a hit. It needs memory, where there is no room; at a refusal the desk is as before.
+    pub fn push_hit(&mut self, hit: Hit) -> Result<(), Memory>
+        ensures hits { OnOk result (self.new.hits ≡ self.old.hits ++ hit ∷ []) }
+        ensures refused { OnErr result (self.new.hits ≡ self.old.hits) }
+        ensures segments { self.new.segments ≡ self.old.segments }
+        ensures marks { self.new.marks ≡ self.old.marks }
+        ensures still { (T : TimetableData) → Fits T self.old → Fits T self.new }
+    {
+        let count = self.hits.len() + 1;
+        make_room_for(&mut self.hits, count)?;
+        push_within(&mut self.hits, hit);
+        Ok(())
+    }
+
+    /// Lets the hits go, and keeps all else.
+    pub fn clear_hits(&mut self)
+        ensures { self.new ≡ record self.old { hits = [] } }
+    {
+        self.hits.clear();
     }
 
     /// The hits, in order.

@@ -6,12 +6,15 @@
 #![tactic(auto)]
 
 mod desk;
+pub mod laws;
+mod levels;
 mod marks;
 mod scan;
 mod steps;
 mod view;
 
 pub use desk::{Desk, Hit, LastLeg, Segment};
+pub use levels::Levels;
 pub use marks::Marks;
 pub use scan::{Scan, Shape, Visit};
 pub use steps::Steps;

@@ -118,4 +118,14 @@ impl Marks {
         let stamp = self.stamp;
         self.entries[trip.index()] = Entry { stamp, at };
     }
+
+    /// The same marks once more.
+    pub fn copy(&self, alloc: Global) -> Result<Marks, Memory>
+        ensures { OnOk result (result ≡ Ok self.now) }
+    {
+        Ok(Marks {
+            entries: Vec::from_slice(alloc, self.entries.as_slice())?,
+            stamp: self.stamp,
+        })
+    }
 }

@@ -1,12 +1,14 @@
 use Rattle.std.proofs.Common.{vec_len}
 use Rattle.segment_queue.specs.Queue.{Fits}
+use Rattle.earliest_query.specs.Sweeping.{IsSweptSoFar}
 use Rattle.profile_query.proofs.Walk.{IsWalked}
 use Rattle.profile_query.proofs.answer.offers_of.Given as goal
 
 abbrev pub invariant-loop-time : goal.invariant-loop-time
 invariant-loop-time g l = record {
   fits : Fits l.table l.desk;
-  walked : IsWalked l.table l.window (g.S.Scan.hops l.scan) l.query l.times.items l.later.items l.offers.items;
+  swept : IsSweptSoFar l.table (g.S.Scan.lines l.scan) (g.S.Scan.hops l.scan) l.query l.desk l.sweep;
+  walked : IsWalked l.table l.window (g.S.Scan.hops l.scan) l.query l.times.items l.sweep.values l.offers.items;
 }
 
 abbrev pub decreases-loop-time : goal.decreases-loop-time

@@ -1,8 +1,6 @@
-use Rattle.profile_query.proofs.Gathering.{AreGathered, left_until}
+use Rattle.std.proofs.Common.{ℕ, ◌<◌, [], get_or}
+use Rattle.profile_query.specs.Leaving.{HaveJoined, IsWithin, LeavesFor}
 use Rattle.profile_query.proofs.leaving.leaving_times.Given as goal
 
-abbrev pub invariant-loop-next : goal.invariant-loop-next
-invariant-loop-next g l = AreGathered l.table l.window l.times.items l.next
-
-abbrev pub decreases-loop-next : goal.decreases-loop-next
-decreases-loop-next g l = left_until l.window.last l.next
+abbrev pub invariant-loop-origin : goal.invariant-loop-origin
+invariant-loop-origin g l = HaveJoined (λ n. (k : ℕ) × (k < l.origin-index) × (IsWithin l.window n × LeavesFor l.table (get_or l.origin-items k 0) n)) [] l.times.items

@@ -1,4 +1,4 @@
-use Rattle.std.proofs.Common.{◌≡◌, ◌+◌, ◌-◌, ◌≤◌}
+use Rattle.std.proofs.Common.{◌+◌, ◌-◌, ◌≤◌}
 use Rattle.earliest_query.specs.UnderWay.{covered_before}
 use Rattle.earliest_query.specs.Ridden.{IsRidden}
 use Rattle.earliest_query.proofs.search.Search.ride_all.Given as goal

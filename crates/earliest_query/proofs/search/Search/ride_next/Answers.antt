@@ -9,7 +9,7 @@ use Rattle.earliest_query.specs.Choices.{hits_of}
 use Rattle.earliest_query.specs.UnderWay.{IsImproved}
 use Rattle.earliest_query.specs.Ridden.{IsRidden}
 use Rattle.earliest_query.proofs.Growing.{extends-long}
-use Rattle.earliest_query.proofs.Keeping.{adds_best, ridden_next}
+use Rattle.earliest_query.proofs.Keeping.{ridden_next}
 use Rattle.earliest_query.proofs.search.Search.ride_next.Goals as goal
 
 pub keep-requires : goal.keep-requires
@@ -38,8 +38,7 @@ returns-clause-ridden g c =
     let more = c.ride_round-best.ensures in
     let improved = subst (λ o. IsImproved T Q E c.args.round o c.ride_round-best.result) c.last_hit-last.ensures more.improved in
     let next : IsRidden T lines hops Q (record E { hits = D.hits ++ hits_of c.args.round c.ride_round-best.result }) c.count-to.result (c.args.round + 1)
-    = ridden_next T lines hops Q D E c.ride_round-best.result c.args.from c.count-to.result c.args.round c.requires.ridden c.count-to.ensures.result c.requires.from more.queue more.extends more.followed more.bounded
-    (adds_best T Q E D.hits c.args.round c.requires.ridden.stairs c.requires.ridden.fewer c.ride_round-best.result improved) in
+    = ridden_next T lines hops Q D E c.ride_round-best.result c.args.from c.count-to.result c.args.round c.requires.ridden c.count-to.ensures.result c.requires.from more.queue more.extends more.followed more.bounded improved in
     subst (λ d. IsRidden T lines hops Q d c.count-to.result (c.args.round + 1))
     (ap (λ hs. record E { hits = hs ++ hits_of c.args.round c.ride_round-best.result }) (sym more.extends.hits) ∙ sym c.keep.ensures) next
 

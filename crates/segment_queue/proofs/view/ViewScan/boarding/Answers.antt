@@ -1,4 +1,4 @@
-use Rattle.std.proofs.Common.{◌≡◌, ◌∙◌, ℕ, ◌<◌, Bool, true, false, length, get_or, [], sym, ap, subst, arith, Option, Some, None, w32}
+use Rattle.std.proofs.Common.{◌≡◌, ◌∙◌, ◌<◌, true, false, length, get_or, [], sym, ap, arith, Some, None, w32}
 use Rattle.std.proofs.lemmas.Int.{to_z-of_z}
 use Rattle.std.specs.List.{concat}
 use Rattle.tb_base.specs.Transfers.{may_be_boarded, earliest_trip}

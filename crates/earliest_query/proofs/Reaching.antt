@@ -1,0 +1,91 @@
+-- Each segment of a queue leads back to an origin, and so does each hit.
+use Rattle.std.proofs.Common.{◌≡◌, ◌∙◌, ℕ, zero, suc, ◌+◌, ◌<◌, List, [], ◌∷◌, ◌++◌, length, take, drop, refl, sym, ap, subst, arith, Option, Some, None, ℤ, ◌+ℤ◌, length-append}
+use Rattle.std.specs.Prelude.{IfSome, IsSome}
+use Rattle.std.proofs.lemmas.List.{append_assoc, take-append-drop, take_more}
+use Rattle.tb_base.specs.declared.query.Value.{Value}
+use Rattle.tb_base.specs.TimetableData.{TimetableData, arrival_at, stop_at}
+use Rattle.tb_base.specs.BestValues.{IsAttained, QueryData}
+use Rattle.tb_base.specs.Search.{IsReached, RoundSegment, segment_at}
+use Rattle.tb_laws.proofs.ReachedLaws.{reached_by_hop, reached_first, reached_value}
+use Rattle.tb_laws.proofs.Triangles.{walk_secs-is}
+use Rattle.segment_queue.specs.declared.desk.Segment.{Segment}
+use Rattle.segment_queue.specs.declared.desk.Hit.{Hit}
+use Rattle.segment_queue.specs.declared.desk.LastLeg.{LastLeg}
+use Rattle.segment_queue.specs.declared.desk.LastLeg.TheVariants.{OnFoot, Aboard}
+use Rattle.segment_queue.specs.Traced.{IsEntered, IsTracedBy, IsTracedHit, no_segment, round_after, round_of, round_segments, segment_of}
+use Rattle.earliest_query.proofs.Rounds.{round_of-kept, segment_at-kept, segment_at-last}
+
+-- the round of a segment is that behind its parent
+pub round_behind : (segments : List Segment) (n : ℕ) → n < length segments → (parent : Option (ℕ × ℕ)) → (segment_of segments n).parent ≡ parent → IfSome parent (λ p. p.0 < n) → round_of segments n ≡ round_after (round_segments segments) parent
+round_behind segments n inside parent is earlier =
+    let before : List Segment = take n segments in
+    let s : Segment = segment_of segments n in
+    let after : List Segment = drop (n + 1) segments in
+    let whole : segments ≡ (before ++ s ∷ []) ++ after = split segments n inside in
+    let long : length before ≡ n = taken segments n inside in
+    let longer : length (before ++ s ∷ []) ≡ n + 1 = omega (arith, length-append before (s ∷ []), long) in
+    ap (λ xs. round_of xs n) whole
+    ∙ round_of-kept (before ++ s ∷ []) after n (omega (arith, longer))
+    ∙ ap (round_of (before ++ s ∷ [])) (sym long)
+    ∙ ap (λ (r : RoundSegment). r.round) (segment_at-last before s)
+    ∙ ap (round_after (round_segments before)) is
+    ∙ by_parent parent earlier before after s whole long
+  where
+    taken : (xs : List Segment) (n : ℕ) → n < length xs → length (take n xs) ≡ n
+    taken [] n h = absurd (omega (arith, h))
+    taken (x ∷ xs) zero h = refl
+    taken (x ∷ xs) (suc n) h = omega (arith, taken xs n (omega (arith, h)))
+
+    split : (xs : List Segment) (n : ℕ) → n < length xs → xs ≡ (take n xs ++ segment_of xs n ∷ []) ++ drop (n + 1) xs
+    split xs n h = sym (take-append-drop (n + 1) xs) ∙ ap (λ ys. ys ++ drop (n + 1) xs) (take_more xs n no_segment h)
+
+    by_parent : (o : Option (ℕ × ℕ)) → IfSome o (λ p. p.0 < n) → (before after : List Segment) (s : Segment) → segments ≡ (before ++ s ∷ []) ++ after → length before ≡ n → round_after (round_segments before) o ≡ round_after (round_segments segments) o
+    by_parent None h before after s whole long = refl
+    by_parent (Some p) h before after s whole long =
+        ap suc (ap (λ (r : RoundSegment). r.round) (sym (ap (λ xs. segment_at (round_segments xs) p.0) (whole ∙ append_assoc before (s ∷ []) after) ∙ segment_at-kept before (s ∷ [] ++ after) p.0 (omega (arith, h, long)))))
+
+pub same_values : (a b : ℤ) (m n : ℕ) → a ≡ b → m ≡ n → ◌≡◌ {A = Value} (record { arrive = a; rides = m }) (record { arrive = b; rides = n })
+same_values a b m n e f = cc
+
+module _ (T : TimetableData) (Q : QueryData) (segments : List Segment) (entered : (n : ℕ) → n < length segments → IsEntered T Q segments n (segment_of segments n).parent (segment_of segments n).trip (segment_of segments n).board) where
+  abbrev Reached : ℕ → Type 0
+  Reached n = IsReached T Q.from Q.leave (round_of segments n) (segment_of segments n).trip (segment_of segments n).board
+
+  -- each segment leads back to an origin
+  reached_below : (bound n : ℕ) → n < bound → n < length segments → Reached n
+  reached_below zero n small inside = absurd (omega (arith, small))
+  reached_below (suc b) n small inside = by_parent (segment_of segments n).parent refl (entered n inside) (λ m below. reached_below b m (omega (arith, small, below)) (omega (arith, below, inside)))
+    where
+      by_parent : (o : Option (ℕ × ℕ)) → (segment_of segments n).parent ≡ o → IsEntered T Q segments n o (segment_of segments n).trip (segment_of segments n).board → ((m : ℕ) → m < n → Reached m) → Reached n
+      by_parent None is e earlier =
+          subst (λ r. IsReached T Q.from Q.leave r (segment_of segments n).trip (segment_of segments n).board) (sym (round_behind segments n inside None is tt))
+          (reached_first T Q.from Q.leave e.origin (segment_of segments n).trip (segment_of segments n).board e.secs e.from e.boards e.walks e.in_time)
+      by_parent (Some p) is e earlier =
+          subst (λ r. IsReached T Q.from Q.leave r (segment_of segments n).trip (segment_of segments n).board) (sym (round_behind segments n inside (Some p) is e.earlier))
+          (reached_by_hop T Q.from Q.leave (round_of segments p.0) (segment_of segments p.0).trip (segment_of segments p.0).board p.1 (record { trip = (segment_of segments n).trip; at = (segment_of segments n).board }) (earlier p.0 e.earlier) e.onward e.possible)
+
+  pub reached_all : (n : ℕ) → n < length segments → Reached n
+  reached_all n inside = reached_below (suc n) n (omega arith) inside
+
+  -- the value of a hit that leads back to an origin is attained
+  pub hit_attained : (h : Hit) → IsTracedHit T Q segments h → IsAttained T Q h.value
+  hit_attained h traced = by_leg h.last traced
+    where
+      by_leg : (last : LastLeg) → IsTracedBy T Q segments last h.value.arrive h.value.rides → IsAttained T Q h.value
+      by_leg (OnFoot from to) k = (
+        record { origin = from; rides = []; target = to },
+        record {
+          journey = record { origin = k.origin; target = k.target; leads = subst (λ o. IsSome o) (sym k.walks) refl };
+          leaves = tt;
+          value = same h.value _ _ (k.arrives ∙ ap (λ z. Q.leave +ℤ z) (sym (walk_secs-is T from to k.secs k.walks))) k.no_ride;
+        },
+      )
+        where
+          same : (v : Value) (a : ℤ) (n : ℕ) → v.arrive ≡ a → v.rides ≡ n → v ≡ record { arrive = a; rides = n }
+          same v a n e f = same_values v.arrive a v.rides n e f
+      by_leg (Aboard n i to) k =
+          subst (IsAttained T Q) (sym (same h.value _ _ (k.arrives ∙ ap (λ z. arrival_at T (segment_of segments n).trip i +ℤ z) (sym (walk_secs-is T (stop_at T (segment_of segments n).trip i) to k.secs k.walks))) k.rounds))
+          (reached_value T Q.from Q.leave Q refl refl (round_of segments n) (segment_of segments n).trip (segment_of segments n).board i to (reached_all n k.inside) k.onward k.alights k.target (subst (λ o. IsSome o) (sym k.walks) refl))
+        where
+          same : (v : Value) (a : ℤ) (n : ℕ) → v.arrive ≡ a → v.rides ≡ n → v ≡ record { arrive = a; rides = n }
+          same v a n e f = same_values v.arrive a v.rides n e f

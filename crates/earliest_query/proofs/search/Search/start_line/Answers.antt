@@ -1,0 +1,31 @@
+use Rattle.std.proofs.Common.{◌∙◌, sym, ap, subst, rules, to_z, of_z, w32, ◌≤ℤ◌}
+use Rattle.std.specs.Prelude.{FitsSigned}
+use Rattle.std.proofs.lemmas.Int.{to_z-of_z}
+use Rattle.tb_base.specs.TimetableData.{departure_at}
+use Rattle.tb_base.specs.Walking.{walk}
+use Rattle.tb_base.proofs.Events.{MayBoard-inside}
+use Rattle.earliest_query.proofs.LineBoarding.{boarding_facts}
+use Rattle.earliest_query.proofs.search.Search.start_line.Goals as goal
+
+pub enter_level-requires-clause-trip : goal.enter_level-requires-clause-trip
+enter_level-requires-clause-trip g c =
+    let facts = boarding_facts (g.S.Scan.table c.args.self.now.scan.now) (g.S.Scan.lines c.args.self.now.scan.now) c.args.stop c.shape-shape.ensures.divided c.args.berth (to_z w32 (of_z w32 c.after-time.result)) c.in-Some.hop c.requires.berth (sym c.in-Some.ensures.hop) in
+    (MayBoard-inside (g.S.Scan.table c.args.self.now.scan.now) c.in-Some.hop.trip c.in-Some.hop.at facts.boards).0
+
+pub enter_level-requires-clause-not_last : goal.enter_level-requires-clause-not_last
+enter_level-requires-clause-not_last g c =
+    (boarding_facts (g.S.Scan.table c.args.self.now.scan.now) (g.S.Scan.lines c.args.self.now.scan.now) c.args.stop c.shape-shape.ensures.divided c.args.berth (to_z w32 (of_z w32 c.after-time.result)) c.in-Some.hop c.requires.berth (sym c.in-Some.ensures.hop)).not_last
+
+pub enter_level-requires-clause-boards : goal.enter_level-requires-clause-boards
+enter_level-requires-clause-boards g c =
+    let T = g.S.Scan.table c.args.self.now.scan.now in
+    let fits : FitsSigned w32 c.after-time.result = search rules in
+    let facts = boarding_facts T (g.S.Scan.lines c.args.self.now.scan.now) c.args.stop c.shape-shape.ensures.divided c.args.berth (to_z w32 (of_z w32 c.after-time.result)) c.in-Some.hop c.requires.berth (sym c.in-Some.ensures.hop) in
+    record {
+      boards = facts.boards;
+      origin = c.requires.near.origin;
+      from = c.requires.near.from;
+      secs = c.args.secs;
+      walks = ap (walk T c.requires.near.origin) facts.stop ∙ c.requires.near.walks;
+      in_time = subst (λ time. time ≤ℤ departure_at T c.in-Some.hop.trip c.in-Some.hop.at) (to_z-of_z w32 c.after-time.result fits ∙ c.after-time.ensures) facts.in_time;
+    }

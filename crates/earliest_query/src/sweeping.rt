@@ -1,0 +1,93 @@
+ghost use Rattle.std.specs.Prelude.{◌≡◌, ◌+◌, ◌<◌, ◌≤◌, ℕ, suc, List, Option, Some, Contains, OnOk, length};
+ghost use Rattle.tb_base.specs.Sufficiency.{AreSufficient};
+ghost use Rattle.tb_base.specs.TimetableData.{events_of};
+ghost use Rattle.segment_queue.specs.Queue.{Fits};
+ghost use Rattle.segment_queue.specs.Traced.{IsEntered, round_after, round_of, round_segments, segment_of};
+ghost use Rattle.earliest_query.specs.Sweeping.{IsSweptQueue};
+ghost use Rattle.earliest_query.specs.UnderWay.{Covers, Extends, IsFollowed, IsReachedBy};
+
+use super::search::Search;
+use segment_queue::{Desk, Levels, Scan, Segment};
+use tb_base::{Hop, Memory};
+
+impl<S: Scan> Search<'_, S> {
+    // Enters the trip of a hop where it is boarded, as a ride for which there is a level.
+    pub(crate) fn enter_level(
+        &self,
+        desk: &mut Desk,
+        levels: &mut Levels,
+        level: usize,
+        hop: Hop,
+        parent: Option<(u32, u32)>,
+    ) -> Result<(), Memory>
+        requires queue { IsSweptQueue (S.table self.now.scan.now) (S.lines self.now.scan.now)
+            (S.hops self.now.scan.now) self.now.query.now desk.old levels.old }
+        requires level { level < length levels.old }
+        requires round { round_after (round_segments desk.old.segments) parent ≡ suc level }
+        requires trip { hop.trip < length (S.table self.now.scan.now).trips }
+        requires not_last { hop.at + 1 < length (events_of (S.table self.now.scan.now) hop.trip) }
+        requires boards { IsEntered (S.table self.now.scan.now) self.now.query.now desk.old.segments
+            (length desk.old.segments) parent hop.trip hop.at }
+        requires in_set { (p : ℕ × ℕ) → parent ≡ Some p →
+            Contains (S.hops self.now.scan.now (segment_of desk.old.segments p.0).trip p.1) hop }
+        ensures queue { OnOk result (IsSweptQueue (S.table self.now.scan.now)
+            (S.lines self.now.scan.now) (S.hops self.now.scan.now) self.now.query.now desk.new
+            levels.new) }
+        ensures levels { OnOk result (length levels.new ≡ length levels.old) }
+        ensures reached { OnOk result (IsReachedBy (S.table self.now.scan.now) desk.new
+            (length desk.new.segments) (suc level) hop.trip hop.at) }
+        ensures extends { OnOk result (Extends desk.old desk.new (suc level)) }
+        ensures still { Fits (S.table self.now.scan.now) desk.old →
+            Fits (S.table self.now.scan.now) desk.new }
+    {
+        let scan = self.scan;
+        let _shape = scan.shape();
+        let end = levels.mark(scan, level, hop.trip);
+        if end <= hop.at {
+            return Ok(());
+        }
+        desk.add_segment(Segment {
+            trip: hop.trip,
+            board: hop.at,
+            end,
+            parent,
+        })?;
+        levels.lower(scan, level, hop.trip, hop.at);
+        Ok(())
+    }
+
+    // Follows the hops from an index that a segment covers, as rides for which there is a level.
+    pub(crate) fn follow_level(
+        &self,
+        desk: &mut Desk,
+        levels: &mut Levels,
+        level: usize,
+        hops: &[Hop],
+        segment: u32,
+        at: u32,
+    ) -> Result<(), Memory>
+        requires queue { IsSweptQueue (S.table self.now.scan.now) (S.lines self.now.scan.now)
+            (S.hops self.now.scan.now) self.now.query.now desk.old levels.old }
+        requires level { level < length levels.old }
+        requires segment { segment < length desk.old.segments }
+        requires round { round_of desk.old.segments segment ≡ level }
+        requires covers { Covers desk.old segment at }
+        requires hops { hops.now
+            ≡ S.hops self.now.scan.now (segment_of desk.old.segments segment).trip at }
+        requires sufficient { AreSufficient (S.table self.now.scan.now) (S.hops self.now.scan.now) }
+        ensures queue { OnOk result (IsSweptQueue (S.table self.now.scan.now)
+            (S.lines self.now.scan.now) (S.hops self.now.scan.now) self.now.query.now desk.new
+            levels.new) }
+        ensures levels { OnOk result (length levels.new ≡ length levels.old) }
+        ensures extends { OnOk result (Extends desk.old desk.new (suc level)) }
+        ensures followed { OnOk result (IsFollowed (S.table self.now.scan.now)
+            (S.hops self.now.scan.now) desk.new segment at) }
+        ensures still { Fits (S.table self.now.scan.now) desk.old →
+            Fits (S.table self.now.scan.now) desk.new }
+    {
+        for hop in hops {
+            self.enter_level(desk, levels, level, *hop, Some((segment, at)))?;
+        }
+        Ok(())
+    }
+}

@@ -1,0 +1,88 @@
+ghost use Rattle.std.specs.Prelude.{◌≡◌, ◌<◌, ◌≤◌, ◌∷◌, [], ℕ, List, Option, None, All, OnErr, OnOk, length, replicate, slice_index_or};
+ghost use Rattle.tb_base.specs.Lines.{AreDividedInto};
+ghost use Rattle.segment_queue.specs.Levels.{EntersLevel, level_mark, with_level};
+ghost use Rattle.segment_queue.specs.Queue.{IsFalling};
+
+use super::desk::{lower_marks, mark_on};
+use super::marks::Marks;
+use super::scan::Scan;
+use std::alloc::Global;
+use std::marker::Model;
+use tb_base::{Memory, TripNo};
+
+/// Marks by the number of rides. Level 0 is for one ride; a level is made when a search first comes to it.
+#[derive(Drop)]
+pub struct Levels {
+    levels: Vec<Marks>,
+}
+
+impl Model for Levels {
+    ghost use Rattle.std.specs.Prelude.{ℕ, List, Option};
+
+    ghost Value = { List (List (Option ℕ)) };
+
+    ghost view = { λ l. l.levels.items };
+}
+
+impl Levels {
+    /// No level.
+    pub fn new(alloc: Global) -> Levels
+        ensures { result ≡ [] }
+    {
+        Levels {
+            levels: Vec::new(alloc),
+        }
+    }
+
+    /// How many levels there are.
+    pub fn count(&self) -> usize
+        ensures { result ≡ length self.now }
+    {
+        self.levels.len()
+    }
+
+    /// A first level without marks, with room for so many trips.
+    pub fn begin(&mut self, alloc: Global, trips: u32) -> Result<(), Memory>
+        ensures { OnOk result (self.new ≡ replicate trips None ∷ []) }
+    {
+        self.levels.clear();
+        self.levels.push(Marks::at_stamp(alloc, trips, 1)?)?;
+        Ok(())
+    }
+
+    /// A level more, with the marks of the last.
+    pub fn make(&mut self, alloc: Global) -> Result<(), Memory>
+        requires { 0 < length self.old }
+        ensures { OnOk result (self.new ≡ with_level self.old) }
+    {
+        let last = self.levels[self.levels.len() - 1].copy(alloc)?;
+        self.levels.push(last)?;
+        Ok(())
+    }
+
+    /// The mark of a trip at a level.
+    pub fn mark<S: Scan>(&self, scan: &S, level: usize, trip: TripNo) -> u32
+        requires level { level < length self.now }
+        requires trip { trip < length (S.table scan.now).trips }
+        requires room { length (S.table scan.now).trips ≤ length (slice_index_or self.now level []) }
+        ensures { result ≡ level_mark (S.table scan.now) self.now level trip }
+    {
+        mark_on(&self.levels[level], scan, trip)
+    }
+
+    /// Lowers the marks of a trip and of the later trips of its line to the index, at a level and at all higher ones, where they
+    /// are greater.
+    pub fn lower<S: Scan>(&mut self, scan: &S, level: usize, trip: TripNo, at: u32)
+        requires trip { trip < length (S.table scan.now).trips }
+        requires room { All (λ marks. length (S.table scan.now).trips ≤ length marks) self.old }
+        requires divided { AreDividedInto (S.table scan.now) (S.lines scan.now) }
+        requires falling { All (λ marks. All (IsFalling (S.table scan.now) marks) (S.lines scan.now)) self.old }
+        ensures lowered { EntersLevel (S.table scan.now) (S.lines scan.now) level trip at self.old self.new }
+        ensures room { All (λ marks. length (S.table scan.now).trips ≤ length marks) self.new }
+        ensures falling { All (λ marks. All (IsFalling (S.table scan.now) marks) (S.lines scan.now)) self.new }
+    {
+        for k in level..self.levels.len() {
+            lower_marks(&mut self.levels[k], scan, trip, at);
+        }
+    }
+}
