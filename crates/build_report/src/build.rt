@@ -1,11 +1,13 @@
-ghost use Rattle.std.specs.Prelude.{◌≡◌, IfOk};
+ghost use Rattle.std.specs.Prelude.{◌≡◌, ◌<◌, ◌≤◌, IfOk};
 ghost use Rattle.build_report.specs.Reports.{IsReport, counts_of};
 
 use answer_text::{BuildCounts, build_list_text, build_text};
 use line_split::{Lines, split};
+use reduce_workers::reduce_all;
 use std::alloc::Global;
-use tb_base::{Memory, Timetable};
-use transfer_set::{Reduced, reduce_trips};
+use std::thread::Threads;
+use tb_base::{Gate, Memory, Timetable};
+use transfer_set::Reduced;
 
 // How many lines there are, and the counts of the reduction.
 fn counts_of(lines: &Lines, reduced: &Reduced) -> BuildCounts
@@ -21,12 +23,22 @@ fn counts_of(lines: &Lines, reduced: &Reduced) -> BuildCounts
 
 /// The report on what is built of a timetable: `stops N trips N events N footpaths N`, and
 /// `lines N generated N after_uturn N kept N`; with a list, `TRIP@I TRIP@J` for each kept transfer besides, trip after trip, each
-/// trip's from its last event down. Refused only for want of memory.
-pub fn report(alloc: Global, table: &Timetable, list: bool) -> Result<Vec<u8>, Memory>
+/// trip's from its last event down. So many workers reduce the transfers, at least one and at most 64; the gate is told of their
+/// pieces. The text is the same for every number of them. Refused only for want of memory.
+pub fn report<G: Gate, R: Threads + Sync>(
+    rt: &R,
+    alloc: Global,
+    table: &Timetable,
+    list: bool,
+    workers: u32,
+    gate: &G,
+) -> Result<Vec<u8>, Memory>
+    requires some { 0 < workers }
+    requires most { workers ≤ 64 }
     ensures { IfOk result (λ text. IsReport table.now list text.items) }
 {
     let lines = split(alloc, table)?;
-    let reduced = reduce_trips(alloc, table, &lines)?;
+    let reduced = reduce_all(rt, alloc, table, &lines, workers, gate)?;
     let counts = counts_of(&lines, &reduced);
     if list {
         build_list_text(alloc, table, counts, reduced.rows.as_slice())

@@ -4,18 +4,21 @@ use answer_text::fault_text;
 use service_day::day_of;
 use std::alloc::{AllocError, Global};
 use std::test::Fail;
-use tb_base::Timetable;
+use std::thread::Threads;
+use tb_base::{IdleGate, Timetable};
 use tb_io::MemFolder;
 use trip_table::{DayFault, Options, read_day};
 
+mod workers;
+
 // A feed with stops A to E and two or three trips.
 #[derive(Clone, Copy)]
-struct Feed {
-    trips: &'static str,
-    times: &'static str,
+struct Feed<'a> {
+    trips: &'a str,
+    times: &'a str,
 }
 
-const THREE_TRIPS: Feed = Feed {
+const THREE_TRIPS: Feed<'static> = Feed {
     trips: "service_id,trip_id\nS,T1\nS,T2\nS,T3\n",
     times: "trip_id,arrival_time,departure_time,stop_id,stop_sequence
 T1,08:00:00,08:00:00,A,1
@@ -29,7 +32,7 @@ T3,08:50:00,08:50:00,D,2
 };
 
 // The second trip overtakes the first, so there are two lines.
-const OVERTAKING: Feed = Feed {
+const OVERTAKING: Feed<'static> = Feed {
     trips: "service_id,trip_id\nS,U1\nS,U2\n",
     times: "trip_id,arrival_time,departure_time,stop_id,stop_sequence
 U1,08:00:00,08:00:00,A,1
@@ -42,7 +45,7 @@ U2,08:30:00,08:30:00,C,3
 };
 
 // The transfer at C leads back to B, where one could change before.
-const TURNING_BACK: Feed = Feed {
+const TURNING_BACK: Feed<'static> = Feed {
     trips: "service_id,trip_id\nS,T1\nS,T4\n",
     times: "trip_id,arrival_time,departure_time,stop_id,stop_sequence
 T1,08:00:00,08:00:00,A,1
@@ -55,7 +58,7 @@ T4,08:40:00,08:40:00,E,3
 };
 
 // The transfer at B does no better than the one at C.
-const TWICE_THE_SAME: Feed = Feed {
+const TWICE_THE_SAME: Feed<'static> = Feed {
     trips: "service_id,trip_id\nS,T1\nS,T5\n",
     times: "trip_id,arrival_time,departure_time,stop_id,stop_sequence
 T1,08:00:00,08:00:00,A,1
@@ -77,7 +80,7 @@ fn file(alloc: Global, name: &str, text: &str) -> Result<(String, Vec<u8>), Allo
 // The timetable of a feed, with rows of transfers.txt, its footpaths closed or not.
 fn timetable(
     alloc: Global,
-    feed: Feed,
+    feed: Feed<'_>,
     transfers: &str,
     close: bool,
 ) -> Result<Result<Timetable, DayFault>, Fail> {
@@ -135,7 +138,7 @@ fn small_feeds_are_reported(rt: HostRuntime) -> Result<(), Fail> {
             .ok()
             .ok_or("no timetable")?;
         assert_eq!(rt;
-            report(rt.alloc(), &table, list)?.as_slice(),
+            report(&rt, rt.alloc(), &table, list, 3, &IdleGate)?.as_slice(),
             text.as_bytes()
         );
     }
@@ -143,9 +146,15 @@ fn small_feeds_are_reported(rt: HostRuntime) -> Result<(), Fail> {
 }
 
 // The report on a feed, or the fault that it is refused with.
-fn told(alloc: Global, feed: Feed, transfers: &str, close: bool) -> Result<Vec<u8>, Fail> {
+fn told<R: Threads + Sync>(
+    rt: &R,
+    alloc: Global,
+    feed: Feed<'_>,
+    transfers: &str,
+    close: bool,
+) -> Result<Vec<u8>, Fail> {
     match timetable(alloc, feed, transfers, close)? {
-        Ok(table) => Ok(report(alloc, &table, false)?),
+        Ok(table) => Ok(report(rt, alloc, &table, false, 1, &IdleGate)?),
         Err(DayFault::Feed(fault)) => Ok(fault_text(alloc, &fault)?),
         Err(_) => Err("no fault of the feed".into()),
     }
@@ -174,7 +183,7 @@ fn footpaths_are_closed_where_asked(rt: HostRuntime) -> Result<(), Fail> {
         ("A,B,2,86400\nB,C,2,1\n", false, "18 OpenFootpaths A B C"),
         ("A,B,2,86400\nB,C,2,1\n", true, "22 FarFootpath A C"),
     ] {
-        let found = told(rt.alloc(), THREE_TRIPS, transfers, close)?;
+        let found = told(&rt, rt.alloc(), THREE_TRIPS, transfers, close)?;
         assert_eq!(rt; found.as_slice(), text.as_bytes());
     }
     Ok(())

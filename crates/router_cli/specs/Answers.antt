@@ -5,10 +5,11 @@ use Rattle.tb_base.specs.TimetableData.{TimetableData}
 use Rattle.tb_base.specs.Lines.{AreLines}
 use Rattle.tb_base.specs.Places.{place_named, stops_of}
 use Rattle.tb_base.specs.BestValues.{QueryData, ChoiceData, AreBestValues, IsLeast, IsDirectArrival}
-use Rattle.tb_base.specs.JourneyRules.{SpellSlot, SpellValue}
+use Rattle.tb_base.specs.JourneyRules.{SpellSlot}
 use Rattle.tb_base.specs.Profiles.{OfferData, WindowData, IsProfile}
 use Rattle.tb_base.specs.Transfers.{kept_hops}
 use Rattle.segment_queue.specs.Traced.{LegsFollow}
+use Rattle.plain_rounds.specs.Shown.{SpellShortest}
 use Rattle.answer_text.specs.Journeys.{arrival_text, choices_text, offers_text, unknown_text}
 use Rattle.build_report.specs.Reports.{IsReport}
 use Rattle.router_cli.specs.Inquiry.{InquiryData, WindowInquiryData}
@@ -22,12 +23,12 @@ use Rattle.router_cli.specs.declared.words.Command.TheVariants as command
 abbrev pub IsDirectText : TimetableData → QueryData → List ℕ → Type 0
 IsDirectText T Q bytes = (least : Option ℤ) × IsLeast (IsDirectArrival T Q) least × (bytes ≡ arrival_text least)
 
--- the best values of the query in order, each followed by the legs of a journey that has it; any such journey may be shown that is
--- of this kind
+-- the best values of the query in order, each followed by the legs of a journey that has it, by the shortest walks at both ends; any
+-- such journey may be shown that is of this kind
 pub record ShowsBestValues (T : TimetableData) (Q : QueryData) (OfKind : List Leg → Type 0) (bytes : List ℕ) : Type 0 where
   pub choices : List ChoiceData
   pub values : AreBestValues T Q (map ChoiceData.value choices)
-  pub journeys : All (λ c. SpellValue T Q (ChoiceData.legs c) (ChoiceData.value c)) choices
+  pub journeys : All (λ c. SpellShortest T Q (ChoiceData.legs c) (ChoiceData.value c)) choices
   pub kind : All (λ c. OfKind (ChoiceData.legs c)) choices
   pub text : bytes ≡ choices_text T choices
 

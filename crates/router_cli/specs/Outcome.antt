@@ -1,6 +1,7 @@
 -- What the program's status says of the words, the files and the bytes written.
-use Rattle.std.specs.Prelude.{◌≡◌, ℕ, ◌≤◌, List, [], ◌++◌, codes, length, take, Option, Result, Err, Ok, ⊤}
+use Rattle.std.specs.Prelude.{◌≡◌, ℕ, ◌≤◌, ◌⊎◌, List, [], ◌++◌, codes, length, take, Option, Result, Err, Ok, ⊤}
 use Rattle.std.specs.Io.KnownBytes.{Appends}
+use Rattle.tb_base.specs.Soundness.{IsSound}
 use Rattle.tb_base.specs.TimetableData.{TimetableData}
 use Rattle.answer_text.specs.Faults.{fault_text}
 use Rattle.gtfs_rows.specs.declared.fault.FeedFault.{FeedFault}
@@ -36,7 +37,7 @@ IsDayOf files r = IsTimetableOf (feed_of files r.dir) r.date r.options
 
 -- What a status says of a request, of the day's timetable or first fault, and of the bytes that a sink held before and
 -- holds now. Done: the answer was written whole. WriteFault: some first bytes of it.
--- FeedRefused: the fault is the day's. Of the others no clause speaks here.
+-- FeedRefused: the fault is the day's. Usage doesn't come here. Of ReadFault and Memory no clause speaks here.
 abbrev pub IsOutcome : (Result TimetableData FeedFault → Type 0) → RequestData → Status → Option (List ℕ) → Option (List ℕ) → Type 0
 IsOutcome IsDay r status.Done before now = (T : TimetableData) × (bytes : List ℕ) × IsDay (Ok T) × IsAnswer T r bytes × Appends before now bytes
 IsOutcome IsDay r status.WriteFault before now =
@@ -45,3 +46,21 @@ IsOutcome IsDay r (status.FeedRefused f) before now = IsDay (Err f)
 IsOutcome IsDay r status.Usage before now = ⊥
 IsOutcome IsDay r status.ReadFault before now = ⊤
 IsOutcome IsDay r status.Memory before now = ⊤
+
+-- How the program may end where nothing fails outside: with the answer or for want of memory on a lawful day, and else with the feed's
+-- first fault or for want of memory.
+abbrev pub IsEnding : Result TimetableData FeedFault → Status → Type 0
+IsEnding (Ok T) s = (s ≡ status.Done) ⊎ (s ≡ status.Memory)
+IsEnding (Err f) s = (s ≡ status.FeedRefused f) ⊎ (s ≡ status.Memory)
+
+-- Whatever the folder tells: with Done the answer over a sound timetable was written whole, with WriteFault some first bytes of it.
+abbrev pub WritesAnswer : RequestData → Status → Option (List ℕ) → Option (List ℕ) → Type 0
+WritesAnswer r status.Done before now =
+    (T : TimetableData) × (bytes : List ℕ) × IsSound T × IsAnswer T r bytes × Appends before now bytes
+WritesAnswer r status.WriteFault before now =
+    (T : TimetableData) × (bytes : List ℕ) × (n : ℕ) × IsSound T × IsAnswer T r bytes
+    × (n ≤ length bytes) × Appends before now (take n bytes)
+WritesAnswer r (status.FeedRefused f) before now = ⊤
+WritesAnswer r status.Usage before now = ⊤
+WritesAnswer r status.ReadFault before now = ⊤
+WritesAnswer r status.Memory before now = ⊤

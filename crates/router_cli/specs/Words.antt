@@ -6,15 +6,17 @@ use Rattle.footpaths.specs.declared.paths.Options.{Options}
 use Rattle.gtfs_rows.specs.Dates.{date_of}
 use Rattle.gtfs_rows.specs.Numbers.{time_of}
 use Rattle.router_cli.specs.Inquiry.{InquiryData, WindowInquiryData}
-use Rattle.router_cli.specs.Given.{given_with, none_given, option_named, options_of, takes_value}
+use Rattle.router_cli.specs.Given.{given_with, none_given, option_named, options_of, takes_value, workers_of}
 use Rattle.router_cli.specs.declared.given.Given.{Given}
 use Rattle.router_cli.specs.declared.given.OptionName.{OptionName}
 use Rattle.router_cli.specs.declared.words.Command.{Command}
 use Rattle.router_cli.specs.declared.words.Command.TheVariants as command
 
--- a request about one day of a feed: what is said of footpaths, whether round by round, the folder, the date, and what is asked for
+-- a request about one day of a feed: what is said of footpaths, how many workers reduce the transfers, whether round by round, the
+-- folder, the date, and what is asked for
 pub record RequestData : Type 0 where
   pub options : Options
+  pub workers : ℕ
   pub plain : Bool
   pub dir : List ℕ
   pub date : ℕ
@@ -63,8 +65,14 @@ command_of name words = None
 -- a request by the command's name, the folder, the date, and the words behind them
 abbrev pub request_line : Given → List ℕ → List ℕ → List ℕ → List (List ℕ) → Option RequestData
 request_line g name dir date words =
-    option_and_then (λ c. option_map (λ day. record { options = options_of g; plain = g.plain; dir = dir; date = day; command = c })
-    (date_of date)) (command_of name words)
+    option_and_then (λ c. option_map (λ day. record {
+      options = options_of g;
+      workers = workers_of g;
+      plain = g.plain;
+      dir = dir;
+      date = day;
+      command = c;
+    }) (date_of date)) (command_of name words)
 
 -- `COMMAND DIR DATE WORDS`
 abbrev pub plain_line : Given → List (List ℕ) → Option RequestData

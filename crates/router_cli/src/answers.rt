@@ -4,6 +4,7 @@ ghost use Rattle.tb_base.specs.BestValues.{QueryData};
 ghost use Rattle.tb_base.specs.Profiles.{WindowData};
 ghost use Rattle.tb_base.specs.Places.{HasPlace, stops_of};
 ghost use Rattle.trip_rides.specs.Times.{IsFileTime};
+ghost use Rattle.router_cli.specs.Given.{AreWorkers};
 ghost use Rattle.router_cli.specs.Answers.{HasKeptChanges, IsAnswer, IsInquiryText, IsProfileText, IsText, ShowsBestValues, ShowsProfile};
 
 use crate::words::{Command, Inquiry, Request, WindowInquiry};
@@ -13,11 +14,12 @@ use journey_unfold::ask;
 use line_split::split;
 use plain_rounds::{direct, plain_ask};
 use profile_query::profile;
+use reduce_workers::kept_set;
 use segment_queue::{Desk, View};
 use std::alloc::Global;
-use tb_base::{Memory, Place, Query, Sec, Timetable, Window};
+use std::thread::Threads;
+use tb_base::{Gate, Memory, Place, Query, Sec, Timetable, Window};
 use transfer_pack::Set;
-use transfer_set::kept_set;
 
 /// How journeys are looked for.
 #[derive(Clone, Copy, PartialEq, Eq, Debug)]
@@ -84,7 +86,15 @@ fn window_between(
 }
 
 // The profile of a window, each slot with a journey by kept transfers.
-fn profile_text(alloc: Global, table: &Timetable, window: &Window) -> Result<Vec<u8>, Memory>
+fn profile_text<G: Gate, R: Threads + Sync>(
+    rt: &R,
+    alloc: Global,
+    table: &Timetable,
+    window: &Window,
+    workers: u32,
+    gate: &G,
+) -> Result<Vec<u8>, Memory>
+    requires workers { AreWorkers workers }
     requires origins { All (λ p. p < length table.now.stops) window.now.from }
     requires targets { All (λ p. p < length table.now.stops) window.now.to }
     requires last { window.now.last ≤ℤ pos 359999 }
@@ -92,7 +102,7 @@ fn profile_text(alloc: Global, table: &Timetable, window: &Window) -> Result<Vec
 {
     table.soundness();
     let lines = split(alloc, table)?;
-    let set = kept_set(alloc, table, &lines)?;
+    let set = kept_set(rt, alloc, table, &lines, workers, gate)?;
     let view = View::<Set>::new(table, &lines, &set);
     let mut desk = Desk::new(alloc);
     desk.make_room(&view)?;
@@ -101,7 +111,15 @@ fn profile_text(alloc: Global, table: &Timetable, window: &Window) -> Result<Vec
 }
 
 // The best values, each with a journey by kept transfers.
-fn search_text(alloc: Global, table: &Timetable, query: &Query) -> Result<Vec<u8>, Memory>
+fn search_text<G: Gate, R: Threads + Sync>(
+    rt: &R,
+    alloc: Global,
+    table: &Timetable,
+    query: &Query,
+    workers: u32,
+    gate: &G,
+) -> Result<Vec<u8>, Memory>
+    requires workers { AreWorkers workers }
     requires origins { All (λ p. p < length table.now.stops) query.now.from }
     requires targets { All (λ p. p < length table.now.stops) query.now.to }
     requires time { query.now.leave ≤ℤ pos 359999 }
@@ -110,7 +128,7 @@ fn search_text(alloc: Global, table: &Timetable, query: &Query) -> Result<Vec<u8
 {
     table.soundness();
     let lines = split(alloc, table)?;
-    let set = kept_set(alloc, table, &lines)?;
+    let set = kept_set(rt, alloc, table, &lines, workers, gate)?;
     let mut desk = Desk::new(alloc);
     desk.make_room(&View::<Set>::new(table, &lines, &set))?;
     let choices = ask(alloc, &mut desk, table, &lines, &set, query)?;
@@ -130,12 +148,16 @@ fn rounds_text(alloc: Global, table: &Timetable, query: &Query) -> Result<Vec<u8
 }
 
 // What is written for a query.
-fn query_text(
+fn query_text<G: Gate, R: Threads + Sync>(
+    rt: &R,
     alloc: Global,
     table: &Timetable,
     query: &Query,
     method: Method,
+    workers: u32,
+    gate: &G,
 ) -> Result<Vec<u8>, Memory>
+    requires workers { AreWorkers workers }
     requires origins { All (λ p. p < length table.now.stops) query.now.from }
     requires targets { All (λ p. p < length table.now.stops) query.now.to }
     requires time { query.now.leave ≤ℤ pos 359999 }
@@ -143,18 +165,22 @@ fn query_text(
 {
     match method {
         Method::OneRide => arrival_text(alloc, direct(table, query)),
-        Method::Search => search_text(alloc, table, query),
+        Method::Search => search_text(rt, alloc, table, query, workers, gate),
         Method::Rounds => rounds_text(alloc, table, query),
     }
 }
 
 // What is written for an inquiry: its answer, or the name of an unknown stop.
-fn inquiry_text(
+fn inquiry_text<G: Gate, R: Threads + Sync>(
+    rt: &R,
     alloc: Global,
     table: &Timetable,
     inquiry: &Inquiry,
     method: Method,
+    workers: u32,
+    gate: &G,
 ) -> Result<Vec<u8>, Memory>
+    requires { AreWorkers workers }
     ensures { IfOk result (λ text. IsInquiryText table.now method inquiry.now text.items) }
 {
     let Some(origin) = table.place(inquiry.from.as_bytes()) else {
@@ -164,11 +190,19 @@ fn inquiry_text(
         return unknown_text(alloc, inquiry.to.as_bytes());
     };
     let query = query_between(alloc, table, origin, target, inquiry.time)?;
-    query_text(alloc, table, &query, method)
+    query_text(rt, alloc, table, &query, method, workers, gate)
 }
 
 // What is written for a window: its profile, or the name of an unknown stop.
-fn window_text(alloc: Global, table: &Timetable, asked: &WindowInquiry) -> Result<Vec<u8>, Memory>
+fn window_text<G: Gate, R: Threads + Sync>(
+    rt: &R,
+    alloc: Global,
+    table: &Timetable,
+    asked: &WindowInquiry,
+    workers: u32,
+    gate: &G,
+) -> Result<Vec<u8>, Memory>
+    requires { AreWorkers workers }
     ensures { IfOk result (λ text. IsProfileText table.now asked.now text.items) }
 {
     let Some(origin) = table.place(asked.from.as_bytes()) else {
@@ -178,20 +212,31 @@ fn window_text(alloc: Global, table: &Timetable, asked: &WindowInquiry) -> Resul
         return unknown_text(alloc, asked.to.as_bytes());
     };
     let window = window_between(alloc, table, origin, target, asked.first, asked.last)?;
-    profile_text(alloc, table, &window)
+    profile_text(rt, alloc, table, &window, workers, gate)
 }
 
-/// What is written for a request over the timetable of its day.
-pub fn answer(alloc: Global, table: &Timetable, request: &Request) -> Result<Vec<u8>, Memory>
+/// What is written for a request over the timetable of its day. Where transfers are reduced, the gate is told of the pieces.
+pub fn answer<G: Gate, R: Threads + Sync>(
+    rt: &R,
+    alloc: Global,
+    table: &Timetable,
+    request: &Request,
+    gate: &G,
+) -> Result<Vec<u8>, Memory>
     ensures { IfOk result (λ text. IsAnswer table.now request.now text.items) }
 {
+    let workers = request.workers;
     match &request.command {
-        Command::Direct(inquiry) => inquiry_text(alloc, table, inquiry, Method::OneRide),
-        Command::Ask(inquiry) if request.plain => {
-            inquiry_text(alloc, table, inquiry, Method::Rounds)
+        Command::Direct(inquiry) => {
+            inquiry_text(rt, alloc, table, inquiry, Method::OneRide, workers, gate)
         }
-        Command::Ask(inquiry) => inquiry_text(alloc, table, inquiry, Method::Search),
-        Command::Profile(inquiry) => window_text(alloc, table, inquiry),
-        Command::Build { list } => report(alloc, table, *list),
+        Command::Ask(inquiry) if request.plain => {
+            inquiry_text(rt, alloc, table, inquiry, Method::Rounds, workers, gate)
+        }
+        Command::Ask(inquiry) => {
+            inquiry_text(rt, alloc, table, inquiry, Method::Search, workers, gate)
+        }
+        Command::Profile(inquiry) => window_text(rt, alloc, table, inquiry, workers, gate),
+        Command::Build { list } => report(rt, alloc, table, *list, workers, gate),
     }
 }

@@ -5,6 +5,10 @@
 //! The files follow the GTFS Schedule Reference.
 #![tactic(auto)]
 
+ghost use Rattle.std.specs.Prelude.{◌≡◌};
+ghost use Rattle.std.specs.Process.{exit_status};
+ghost use Rattle.router_cli.specs.Outcome.{status_code};
+
 mod answers;
 mod given;
 mod route;
@@ -37,7 +41,9 @@ fn words_of(rt: &(impl Env + AllocGlobal)) -> Result<Vec<String>, Status> {
 }
 
 // Writes how the program ended to standard error, and gives the number to end with.
-fn end(rt: &(impl Eprint + AllocGlobal), status: Status) -> ExitCode {
+fn end(rt: &(impl Eprint + AllocGlobal), status: Status) -> ExitCode
+    ensures { exit_status result ≡ status_code status }
+{
     if let Ok(line) = status_text(rt.alloc(), &status) {
         if let Ok(text) = str::from_utf8(line.as_slice()) {
             let _ = eprint!(rt; "{text}");

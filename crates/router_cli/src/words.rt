@@ -1,7 +1,7 @@
 //! The words of the command line.
 ghost use Rattle.std.specs.Prelude.{◌≡◌, ℕ, List, map, string_bytes};
 ghost use Rattle.std.specs.List.{list_any};
-ghost use Rattle.router_cli.specs.Given.{IsWithinADay};
+ghost use Rattle.router_cli.specs.Given.{IsWithinLimits};
 ghost use Rattle.router_cli.specs.Words.{build_command, command_line, command_of, inquiry_command, inquiry_of, is_hyphened, list_command, profile_command, window_inquiry_of, request_from, request_line, request_of, travel_command};
 
 use crate::given::{Given, option_named};
@@ -71,6 +71,8 @@ pub enum Command<'a> {
 #[derive(Drop)]
 pub struct Request<'a> {
     pub options: Options,
+    /// How many workers reduce the transfers: 1 to 64.
+    pub workers: u32,
     /// Round by round, in place of the search over the kept transfers.
     pub plain: bool,
     pub dir: &'a str,
@@ -79,14 +81,21 @@ pub struct Request<'a> {
 }
 
 impl<'a> Model for Request<'a> {
-    ghost use Rattle.router_cli.specs.Given.{AreWithinADay};
+    ghost use Rattle.router_cli.specs.Given.{AreWithinADay, AreWorkers};
     ghost use Rattle.router_cli.specs.Words.{RequestData};
 
     ghost Value = { RequestData };
 
-    ghost view = { λ r. record { options = r.options; plain = r.plain; dir = r.dir.now; date = r.day; command = r.command } };
+    ghost view = { λ r. record {
+      options = r.options;
+      workers = r.workers;
+      plain = r.plain;
+      dir = r.dir.now;
+      date = r.day;
+      command = r.command;
+    } };
 
-    ghost invariant = { λ r. AreWithinADay r.options };
+    ghost invariant = { λ r. AreWithinADay r.options × AreWorkers r.workers };
 }
 
 fn is_hyphened(word: &str) -> bool
@@ -225,7 +234,7 @@ fn request_line<'a>(
     date: &str,
     words: &'a [String],
 ) -> Option<Request<'a>>
-    requires { IsWithinADay given }
+    requires { IsWithinLimits given }
     ensures { result ≡ request_line given name.now dir.now date.now (map string_bytes words.now) }
 {
     let command = command_of(name, words)?;
@@ -234,6 +243,7 @@ fn request_line<'a>(
     };
     Some(Request {
         options: given.options(),
+        workers: given.workers(),
         plain: given.plain,
         dir,
         day,
@@ -243,7 +253,7 @@ fn request_line<'a>(
 
 // `COMMAND DIR DATE WORDS`, where no word begins with a hyphen.
 fn command_line(given: Given, words: &[String]) -> Option<Request<'_>>
-    requires { IsWithinADay given }
+    requires { IsWithinLimits given }
     ensures { result ≡ command_line given (map string_bytes words.now) }
 {
     if any_hyphened(words) {
@@ -263,7 +273,7 @@ fn command_line(given: Given, words: &[String]) -> Option<Request<'_>>
 
 // A command behind options, where some were given before.
 fn request_from(given: Given, words: &[String]) -> Option<Request<'_>>
-    requires { IsWithinADay given }
+    requires { IsWithinLimits given }
     ensures { result ≡ request_from given (map string_bytes words.now) }
 {
     if words.len() < 2 {
@@ -282,8 +292,8 @@ fn request_from(given: Given, words: &[String]) -> Option<Request<'_>>
     }
 }
 
-/// What the words mean: `[--change SECS] [--station SECS] [--close] [--plain] COMMAND WORDS`, each option at most once and in any order, where
-/// no word of the command begins with a hyphen. The commands are `direct DIR DATE FROM TO TIME`, `ask DIR DATE FROM TO TIME`,
+/// What the words mean: `[--change SECS] [--station SECS] [--close] [--workers N] [--plain] COMMAND WORDS`, each option at most once
+/// and in any order, where no word of the command begins with a hyphen. The commands are `direct DIR DATE FROM TO TIME`, `ask DIR DATE FROM TO TIME`,
 /// `profile DIR DATE FROM TO FIRST LAST`, `build DIR DATE` and `build DIR DATE list`.
 pub fn request_of(words: &[String]) -> Option<Request<'_>>
     ensures { result ≡ request_of (map string_bytes words.now) }

@@ -1,11 +1,11 @@
 -- How many transfers there are: few enough to be counted in 64 bits.
-use Rattle.std.proofs.Common.{◌≡◌, ◌∙◌, ℕ, zero, suc, ◌+◌, ◌*◌, ◌≤◌, ◌==◌, ◌&&◌, ◌⊎◌, inl, inr, List, [], ◌∷◌, Bool, true, false, cond, Option, None, Some, length, map, refl, sym, ap, subst, arith, add-one, length-append}
+use Rattle.std.proofs.Common.{◌≡◌, ◌∙◌, ℕ, zero, suc, ◌+◌, ◌*◌, ◌≤◌, ◌==◌, ◌&&◌, List, [], ◌∷◌, ◌++◌, ◌-◌, Bool, true, false, cond, Option, None, Some, length, map, refl, sym, ap, subst, arith, add-one, length-append}
 use Rattle.std.specs.Prelude.{filter, filter_map, flat_map, nat_lt, not, sum_by}
-use Rattle.std.specs.List.{cons_option}
+use Rattle.std.specs.List.{cons_option, range_with_len}
 use Rattle.std.specs.Option.{option_map}
 use Rattle.std.proofs.Math.Nat.{add-mul, suc-mul}
-use Rattle.std.proofs.lemmas.List.{length-map}
-use Rattle.std.proofs.lemmas.List.Sums.{count_by-le-length, length-filter, sum_by_push}
+use Rattle.std.proofs.lemmas.List.{length-map, map-append}
+use Rattle.std.proofs.lemmas.List.Sums.{count_by-le-length, length-filter, sum_by-append, sum_by-cons}
 use Rattle.tb_base.specs.declared.transfer.Hop.{Hop}
 use Rattle.tb_base.specs.declared.transfer.Transfer.{Transfer}
 use Rattle.tb_base.specs.declared.table.Event.{Event}
@@ -17,7 +17,7 @@ use Rattle.tb_laws.proofs.TransferLaws.{kept_transfers}
 use Rattle.segment_queue.specs.Scans.{LineIndex, indices_at, line_indices_at}
 use Rattle.segment_queue.proofs.LineViews.{indices_le_events}
 use Rattle.segment_queue.proofs.Totals.{all_events}
-use Rattle.transfer_set.specs.Reductions.{first_count}
+use Rattle.transfer_set.specs.Reductions.{count_from, rows_from}
 
 pub length-numbers_below : (n : ℕ) → length (numbers_below n) ≡ n
 length-numbers_below zero = refl
@@ -137,41 +137,56 @@ kept_le T lines c t each =
         subst (λ n. length (alternatives T lines t) ≤ n * suc c) (length-numbers_down (length (events_of T t)))
         (flat_map_le (alternatives_at T lines t) (suc c) (numbers_down (length (events_of T t))) at_event)
 
-at_most_itself : (n : ℕ) → n ≤ n
-at_most_itself n = omega arith
+-- numbers in a row, cut in two
+pub range_split : (a n m : ℕ) → range_with_len a (n + m) ≡ range_with_len a n ++ range_with_len (a + n) m
+range_split a zero m = (let here : a ≡ a + 0 = omega arith in let none : 0 + m ≡ m = omega arith in ap (range_with_len a) none ∙ ap (λ b. range_with_len b m) here)
+range_split a (suc n) m =
+    let on : suc n + m ≡ suc (n + m) = omega arith in
+    let next : a + 1 + n ≡ a + suc n = omega arith in
+    ap (range_with_len a) on ∙ ap (λ xs. a ∷ xs) (range_split (a + 1) n m) ∙ ap (λ b. a ∷ (range_with_len (a + 1) n ++ range_with_len b m)) next
 
-below_or_same : (n m : ℕ) → n ≤ suc m → (n ≤ m) ⊎ (suc m ≡ n)
-below_or_same n m h = grind (arith, h)
+below_as_range : (n : ℕ) → numbers_below n ≡ range_with_len 0 n
+below_as_range zero = refl
+below_as_range (suc n) =
+    let here : n ≡ 0 + n = omega arith in
+    ap (λ xs. xs ++ n ∷ []) (below_as_range n) ∙ ap (λ k. range_with_len 0 n ++ k ∷ []) here ∙ sym (range_split 0 n 1) ∙ ap (range_with_len 0) (add-one n)
 
--- the sum over more numbers is no less
-sum_grows : (f : ℕ → ℕ) (n m : ℕ) → n ≤ m → sum_by f (numbers_below n) ≤ sum_by f (numbers_below m)
-sum_grows f n zero h = (let e : zero ≡ n = omega (arith, h) in subst (λ k. sum_by f (numbers_below k) ≤ sum_by f (numbers_below zero)) e (at_most_itself (sum_by f (numbers_below zero))))
-sum_grows f n (suc m) h = by_case (λ k. sum_grows f n m k) (below_or_same n m h)
-  where
-    by_case : (n ≤ m → sum_by f (numbers_below n) ≤ sum_by f (numbers_below m)) → (n ≤ m) ⊎ (suc m ≡ n) → sum_by f (numbers_below n) ≤ sum_by f (numbers_below (suc m))
-    by_case more (inl k) = omega (arith, more k, sum_by_push f (numbers_below m) m)
-    by_case more (inr e) = subst (λ k. sum_by f (numbers_below k) ≤ sum_by f (numbers_below (suc m))) e (at_most_itself (sum_by f (numbers_below (suc m))))
+sum_split : (f : ℕ → ℕ) (a n m : ℕ) → sum_by f (range_with_len a (n + m)) ≡ sum_by f (range_with_len a n) + sum_by f (range_with_len (a + n) m)
+sum_split f a n m = ap (sum_by f) (range_split a n m) ∙ sum_by-append f (range_with_len a n) (range_with_len (a + n) m)
 
-first_events : (T : TimetableData) (n : ℕ) → n ≤ length T.trips → sum_by (λ t. length (events_of T t)) (numbers_below n) ≤ event_total T
-first_events T n inside = omega (arith, sum_grows (λ t. length (events_of T t)) n (length T.trips) inside, all_events T)
+-- a sum over some of the numbers is no more than the one over all
+part_le : (f : ℕ → ℕ) (a n m : ℕ) → a + n ≤ m → sum_by f (range_with_len a n) ≤ sum_by f (range_with_len 0 m)
+part_le f a n m h =
+    let whole : a + (n + (m - (a + n))) ≡ m = omega (arith, h) in
+    let at : 0 + a ≡ a = omega arith in
+    let first = sum_split f 0 a (n + (m - (a + n))) ∙ ap (λ b. sum_by f (range_with_len 0 a) + sum_by f (range_with_len b (n + (m - (a + n))))) at in
+    let cut = sum_split f a n (m - (a + n)) in
+    subst (λ k. sum_by f (range_with_len a n) ≤ sum_by f (range_with_len 0 k)) whole (omega (arith, first, cut))
 
--- the first trips have at most so many transfers for each of their events
-count_le : (T : TimetableData) (hops : ℕ → ℕ → List Hop) (c : ℕ) → ((t : ℕ) → length (transfers_of T (hops t) t) ≤ length (events_of T t) * c) → (n : ℕ)
-    → first_count T hops n ≤ sum_by (λ t. length (events_of T t)) (numbers_below n) * c
-count_le T hops c each zero = omega arith
-count_le T hops c each (suc n) =
-    subst (λ m. first_count T hops (suc n) ≤ m * c) (sym (sum_by_push (λ t. length (events_of T t)) (numbers_below n) n))
+some_events : (T : TimetableData) (a n : ℕ) → a + n ≤ length T.trips → sum_by (λ t. length (events_of T t)) (range_with_len a n) ≤ event_total T
+some_events T a n inside =
+    omega (arith, part_le (λ t. length (events_of T t)) a n (length T.trips) inside, ap (sum_by (λ t. length (events_of T t))) (below_as_range (length T.trips)), all_events T)
+
+-- the trips have at most so many transfers for each of their events
+count_le : (T : TimetableData) (hops : ℕ → ℕ → List Hop) (c : ℕ) → ((t : ℕ) → length (transfers_of T (hops t) t) ≤ length (events_of T t) * c) → (a n : ℕ)
+    → count_from T hops a n ≤ sum_by (λ t. length (events_of T t)) (range_with_len a n) * c
+count_le T hops c each a zero = omega arith
+count_le T hops c each a (suc n) =
+    subst (λ m. count_from T hops a (suc n) ≤ m * c) (sym (sum_by-cons (λ t. length (events_of T t)) a (range_with_len (a + 1) n)))
     (omega (
       arith,
-      sum_by_push (λ t. length (transfers_of T (hops t) t)) (numbers_below n) n,
-      count_le T hops c each n,
-      each n,
-      add-mul (sum_by (λ t. length (events_of T t)) (numbers_below n)) (length (events_of T n)) c,
+      sum_by-cons (λ t. length (transfers_of T (hops t) t)) a (range_with_len (a + 1) n),
+      count_le T hops c each (a + 1) n,
+      each a,
+      add-mul (length (events_of T a)) (sum_by (λ t. length (events_of T t)) (range_with_len (a + 1) n)) c,
     ))
 
--- one trip more
-pub count_more : (T : TimetableData) (hops : ℕ → ℕ → List Hop) (n : ℕ) → first_count T hops (n + 1) ≡ first_count T hops n + length (transfers_of T (hops n) n)
-count_more T hops n = ap (first_count T hops) (add-one n) ∙ sum_by_push (λ t. length (transfers_of T (hops t) t)) (numbers_below n) n
+-- more trips
+pub count_more : (T : TimetableData) (hops : ℕ → ℕ → List Hop) (a n m : ℕ) → count_from T hops a (n + m) ≡ count_from T hops a n + count_from T hops (a + n) m
+count_more T hops = sum_split (λ t. length (transfers_of T (hops t) t))
+
+pub rows_more : (T : TimetableData) (hops : ℕ → ℕ → List Hop) (a n m : ℕ) → rows_from T hops a (n + m) ≡ rows_from T hops a n ++ rows_from T hops (a + n) m
+rows_more T hops a n m = ap (map (λ t. transfers_of T (hops t) t)) (range_split a n m) ∙ map-append (λ t. transfers_of T (hops t) t) (range_with_len a n) (range_with_len (a + n) m)
 
 -- the greatest count that is reached within the limits of timetables
 abbrev pub most : ℕ
@@ -184,14 +199,14 @@ module _ (T : TimetableData) (lines : List (List ℕ)) (sound : IsSound T) (are 
   stops_le : length T.stops * 10000000 ≤ 1000000000000
   stops_le = omega (arith, sound.stops)
 
-  within : (hops : ℕ → ℕ → List Hop) → ((t : ℕ) → length (transfers_of T (hops t) t) ≤ length (events_of T t) * 1000000000001) → (n : ℕ) → n ≤ length T.trips → first_count T hops n ≤ most
-  within hops each n inside = omega (arith, count_le T hops 1000000000001 each n, first_events T n inside, sound.events)
+  within : (hops : ℕ → ℕ → List Hop) → ((t : ℕ) → length (transfers_of T (hops t) t) ≤ length (events_of T t) * 1000000000001) → (a n : ℕ) → a + n ≤ length T.trips → count_from T hops a n ≤ most
+  within hops each a n inside = omega (arith, count_le T hops 1000000000001 each a n, some_events T a n inside, sound.events)
 
-  pub generated_most : (n : ℕ) → n ≤ length T.trips → first_count T (candidates T lines) n ≤ most
+  pub generated_most : (a n : ℕ) → a + n ≤ length T.trips → count_from T (candidates T lines) a n ≤ most
   generated_most = within (candidates T lines) (λ t. transfers_le T (candidates T lines t) 1000000000001 t (λ i. omega (arith, candidates_le T lines 10000000 at_stop t i, stops_le)))
 
-  pub uncut_most : (n : ℕ) → n ≤ length T.trips → first_count T (candidates_without_u_turns T lines) n ≤ most
+  pub uncut_most : (a n : ℕ) → a + n ≤ length T.trips → count_from T (candidates_without_u_turns T lines) a n ≤ most
   uncut_most = within (candidates_without_u_turns T lines) (λ t. transfers_le T (candidates_without_u_turns T lines t) 1000000000001 t (λ i. omega (arith, uncut_le T lines 10000000 at_stop t i, stops_le)))
 
-  pub kept_most : (n : ℕ) → n ≤ length T.trips → first_count T (kept_hops T lines) n ≤ most
+  pub kept_most : (a n : ℕ) → a + n ≤ length T.trips → count_from T (kept_hops T lines) a n ≤ most
   kept_most = within (kept_hops T lines) (λ t. kept_le T lines 1000000000000 t (λ i. omega (arith, uncut_le T lines 10000000 at_stop t i, stops_le)))

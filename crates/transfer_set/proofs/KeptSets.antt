@@ -1,8 +1,9 @@
 -- The kept transfers of all trips, as a set of hops.
-use Rattle.std.proofs.Common.{◌≡◌, ◌∙◌, ℕ, zero, suc, ◌<◌, ◌≤◌, ◌==◌, ◌⊎◌, inl, inr, List, [], ◌∷◌, ◌++◌, Bool, true, false, cond, length, map, get_or, refl, sym, ap, subst, arith}
+use Rattle.std.proofs.Common.{◌≡◌, ◌∙◌, ℕ, zero, suc, ◌<◌, ◌≤◌, ◌==◌, ◌⊎◌, inl, inr, List, [], ◌∷◌, ◌++◌, Bool, true, false, cond, length, map, refl, sym, ap, subst, arith}
 use Rattle.std.specs.Prelude.{All, filter, flat_map}
 use Rattle.std.proofs.lemmas.Bool.Decides.{nat_tests}
-use Rattle.std.proofs.lemmas.List.{append-nil, get_or-map, length-map, map-append}
+use Rattle.std.proofs.lemmas.List.{append-nil, map-append}
+use Rattle.std.proofs.lemmas.List.FromFn.{get_or-map-range_with_len, length-map-range_with_len}
 use Rattle.std.proofs.lemmas.List.Elements.{filter-append}
 use Rattle.tb_base.specs.declared.transfer.Hop.{Hop}
 use Rattle.tb_base.specs.declared.transfer.Transfer.{Transfer}
@@ -11,16 +12,14 @@ use Rattle.tb_base.specs.Lines.{AreDividedInto}
 use Rattle.tb_base.specs.OutSets.{AreRowsOf, IsTransferOf, hops_at, row_of}
 use Rattle.tb_base.specs.Soundness.{IsSound}
 use Rattle.tb_base.specs.Sufficiency.{AreSufficient}
-use Rattle.tb_base.specs.Transfers.{kept_hops, numbers_below, numbers_down, transfers_of}
+use Rattle.tb_base.specs.Transfers.{kept_hops, numbers_down, transfers_of}
 use Rattle.tb_base.proofs.Events.{MayAlight-inside, MayBoard-inside, get_or-past}
 use Rattle.tb_base.proofs.Ordered.{Member, Contains-from_Member}
-use Rattle.tb_base.proofs.Placed.{get_or-left}
 use Rattle.tb_laws.proofs.Members.{Member-flat_map_back}
 use Rattle.tb_laws.proofs.KeptLaws.{kept_hops_sufficient}
 use Rattle.segment_queue.proofs.Distinct.{all_by_member}
 use Rattle.transfer_pack.specs.Packed.{PackedHops, packed}
-use Rattle.transfer_set.specs.Reductions.{first_rows}
-use Rattle.transfer_set.proofs.Counts.{length-numbers_below}
+use Rattle.transfer_set.specs.Reductions.{rows_from}
 
 -- the transfer from t@i by a hop, and the hop of a transfer
 abbrev transfer_by : ℕ → ℕ → Hop → Transfer
@@ -64,32 +63,12 @@ module _ (hops : ℕ → List Hop) (t i : ℕ) where
           let same : true ≡ (n == i) = grind (arith, nat_tests, e) in
           ap (λ xs. xs ++ hops_at (by_events n) i) (of_event t n i (hops n) true same) ∙ ap (λ xs. hops n ++ xs) (past n (omega (arith, e))) ∙ append-nil (hops n) ∙ ap hops e
 
-last_number : (n d : ℕ) (xs : List ℕ) → length xs ≡ n → get_or (xs ++ n ∷ []) n d ≡ n
-last_number n d xs e = subst (λ m. get_or (xs ++ n ∷ []) m d ≡ n) e (at_end xs)
-  where
-    at_end : (ys : List ℕ) → get_or (ys ++ n ∷ []) (length ys) d ≡ n
-    at_end [] = refl
-    at_end (y ∷ ys) = at_end ys
-
-number_at : (n t d : ℕ) → t < n → get_or (numbers_below n) t d ≡ t
-number_at zero t d h = absurd (omega (arith, h))
-number_at (suc n) t d h = by_case (λ k. number_at n t d k) (below_or_last' t n h)
-  where
-    below_or_last' : (t n : ℕ) → t < suc n → (t < n) ⊎ (t ≡ n)
-    below_or_last' t n h = grind arith
-
-    by_case : (t < n → get_or (numbers_below n) t d ≡ t) → (t < n) ⊎ (t ≡ n) → get_or (numbers_below n ++ n ∷ []) t d ≡ t
-    by_case more (inl k) = (let within : t < length (numbers_below n) = omega (arith, k, length-numbers_below n) in get_or-left (numbers_below n) (n ∷ []) t d within ∙ more k)
-    by_case more (inr e) = subst (λ m. get_or (numbers_below n ++ n ∷ []) m d ≡ m) (sym e) (last_number n d (numbers_below n) (length-numbers_below n))
-
-length-first_rows : (T : TimetableData) (hops : ℕ → ℕ → List Hop) (n : ℕ) → length (first_rows T hops n) ≡ n
-length-first_rows T hops n = length-map (numbers_below n) (λ t. transfers_of T (hops t) t) ∙ length-numbers_below n
+length-all_rows : (T : TimetableData) (hops : ℕ → ℕ → List Hop) (n : ℕ) → length (rows_from T hops 0 n) ≡ n
+length-all_rows T hops n = length-map-range_with_len (λ t. transfers_of T (hops t) t) 0 n
 
 -- the transfers of a trip, read among those of all
-row_at : (T : TimetableData) (hops : ℕ → ℕ → List Hop) (n t : ℕ) → t < n → row_of (first_rows T hops n) t ≡ transfers_of T (hops t) t
-row_at T hops n t h =
-    let within : t < length (numbers_below n) = omega (arith, h, length-numbers_below n) in
-    get_or-map (λ t. transfers_of T (hops t) t) (numbers_below n) t 0 [] within ∙ ap (λ u. transfers_of T (hops u) u) (number_at n t 0 h)
+row_at : (T : TimetableData) (hops : ℕ → ℕ → List Hop) (n t : ℕ) → t < n → row_of (rows_from T hops 0 n) t ≡ transfers_of T (hops t) t
+row_at T hops n t h = get_or-map-range_with_len (λ t. transfers_of T (hops t) t) 0 n t t [] h (omega arith)
 
 map_back : {X Y : Type 0} (f : X → Y) (y : Y) (xs : List X) → Member y (map f xs) → (x : X) × Member x xs × (f x ≡ y)
 map_back f y [] h = absurd h
@@ -109,23 +88,23 @@ module _ (T : TimetableData) (hops : ℕ → ℕ → List Hop) (enough : AreSuff
       none (hops t i) (λ h m. let there = MayAlight-inside T t i (enough.possible t i h (Contains-from_Member h (hops t i) m)).alights in outside there.0 there.1)
 
   -- the set of these transfers has exactly the hops
-  pub hops_of_rows : (t i : ℕ) → hops_at (row_of (first_rows T hops (length T.trips)) t) i ≡ hops t i
+  pub hops_of_rows : (t i : ℕ) → hops_at (row_of (rows_from T hops 0 (length T.trips)) t) i ≡ hops t i
   hops_of_rows t i = by_trip (inside_or_past t (length T.trips))
     where
       by_event : (i < length (events_of T t)) ⊎ (length (events_of T t) ≤ i) → hops_at (transfers_of T (hops t) t) i ≡ hops t i
       by_event (inl k) = inside (hops t) t i (length (events_of T t)) k
       by_event (inr k) = past (hops t) t i (length (events_of T t)) k ∙ sym (no_such_event t i (λ a b. omega (arith, b, k)))
 
-      by_trip : (t < length T.trips) ⊎ (length T.trips ≤ t) → hops_at (row_of (first_rows T hops (length T.trips)) t) i ≡ hops t i
+      by_trip : (t < length T.trips) ⊎ (length T.trips ≤ t) → hops_at (row_of (rows_from T hops 0 (length T.trips)) t) i ≡ hops t i
       by_trip (inl k) = ap (λ row. hops_at row i) (row_at T hops (length T.trips) t k) ∙ by_event (inside_or_past i (length (events_of T t)))
       by_trip (inr k) =
-          let within : length (first_rows T hops (length T.trips)) ≤ t = omega (arith, k, length-first_rows T hops (length T.trips)) in
-          ap (λ row. hops_at row i) (get_or-past (first_rows T hops (length T.trips)) t [] within) ∙ sym (no_such_event t i (λ a b. omega (arith, a, k)))
+          let within : length (rows_from T hops 0 (length T.trips)) ≤ t = omega (arith, k, length-all_rows T hops (length T.trips)) in
+          ap (λ row. hops_at row i) (get_or-past (rows_from T hops 0 (length T.trips)) t [] within) ∙ sym (no_such_event t i (λ a b. omega (arith, a, k)))
 
   -- they are transfers from the events of their trips
-  pub are_rows : AreRowsOf T (first_rows T hops (length T.trips))
+  pub are_rows : AreRowsOf T (rows_from T hops 0 (length T.trips))
   are_rows = record {
-    long = length-first_rows T hops (length T.trips);
+    long = length-all_rows T hops (length T.trips);
     own = λ t h. subst (All (IsTransferOf T t)) (sym (row_at T hops (length T.trips) t h)) (all_by_member (IsTransferOf T t) (transfers_of T (hops t) t) (own_transfer t));
   }
     where
@@ -147,7 +126,7 @@ module _ (T : TimetableData) (hops : ℕ → ℕ → List Hop) (enough : AreSuff
   as_sufficient set each = subst (AreSufficient T) (λ k t i. sym (each t i) k) enough
 
 -- what a set of the kept transfers has, and that it is sufficient
-module _ (T : TimetableData) (sound : IsSound T) (set : PackedHops) (rows : List (List Transfer)) (hops : (t i : ℕ) → packed set t i ≡ hops_at (row_of rows t) i) (lines : List (List ℕ)) (divided : AreDividedInto T lines) (kept : rows ≡ first_rows T (kept_hops T lines) (length T.trips)) where
+module _ (T : TimetableData) (sound : IsSound T) (set : PackedHops) (rows : List (List Transfer)) (hops : (t i : ℕ) → packed set t i ≡ hops_at (row_of rows t) i) (lines : List (List ℕ)) (divided : AreDividedInto T lines) (kept : rows ≡ rows_from T (kept_hops T lines) 0 (length T.trips)) where
   pub has_kept : (t i : ℕ) → packed set t i ≡ kept_hops T lines t i
   has_kept t i = hops t i ∙ ap (λ rs. hops_at (row_of rs t) i) kept ∙ hops_of_rows T (kept_hops T lines) (kept_hops_sufficient T lines sound divided) t i
 

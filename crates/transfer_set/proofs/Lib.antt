@@ -1,3 +1,3 @@
 pub mod Counts
-pub mod OneMore
+pub mod MoreTrips
 pub mod KeptSets

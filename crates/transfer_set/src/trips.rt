@@ -1,13 +1,13 @@
 //! The reduction, trip by trip.
-ghost use Rattle.std.specs.Prelude.{◌≡◌, ◌+◌, ◌<◌, ℕ, List, IfOk, OnOk, length};
-ghost use Rattle.tb_base.specs.TimetableData.{TimetableData};
+ghost use Rattle.std.specs.Prelude.{◌≡◌, ◌+◌, ◌-◌, ◌<◌, ◌≤◌, ℕ, IfOk, OnOk, length};
 ghost use Rattle.tb_base.specs.Transfers.{candidates, candidates_without_u_turns, kept_hops, transfers_of};
 ghost use Rattle.tb_base.specs.OutSets.{AreRowsOf};
 ghost use Rattle.tb_base.specs.Sufficiency.{AreSufficient};
 ghost use Rattle.line_split.specs.LinesOf.{AreLinesOf};
 ghost use Rattle.transfer_pack.specs.Packed.{packed};
-ghost use Rattle.transfer_set.specs.Reductions.{first_reduced, reduced};
+ghost use Rattle.transfer_set.specs.Reductions.{reduced, reduced_from};
 
+use super::laws;
 use super::reduced::Reduced;
 use line_split::Lines;
 use std::alloc::Global;
@@ -41,8 +41,8 @@ fn reduce_trip(
         ≡ transfers_of table.now (kept_hops table.now lines.now.lines trip) trip) }
     ensures generated { IfOk result (λ r. r.generated
         ≡ length (transfers_of table.now (candidates table.now lines.now.lines trip) trip)) }
-    ensures after_uturn { IfOk result (λ r. r.after_uturn
-        ≡ length (transfers_of table.now (candidates_without_u_turns table.now lines.now.lines trip) trip)) }
+    ensures after_uturn { IfOk result (λ r. r.after_uturn ≡ length
+        (transfers_of table.now (candidates_without_u_turns table.now lines.now.lines trip) trip)) }
 {
     uturn_cut::laws::candidates_cut();
     let mut rows = make(alloc, table, lines, trip)?;
@@ -59,19 +59,7 @@ fn reduce_trip(
 }
 
 impl Reduced {
-    // Nothing of any trip.
-    fn new(alloc: Global) -> Reduced
-        ensures { (T : TimetableData) (lines : List (List ℕ)) → result ≡ first_reduced T lines 0 }
-    {
-        Reduced {
-            rows: Vec::new(alloc),
-            generated: 0,
-            after_uturn: 0,
-            kept: 0,
-        }
-    }
-
-    // Adds what the reduction makes of the next trip.
+    // Adds what the reduction makes of the trip that comes next.
     fn add(
         &mut self,
         alloc: Global,
@@ -83,9 +71,13 @@ impl Reduced {
         requires lines { AreLinesOf table.now lines.now }
         requires labels { length labels.old ≡ length table.now.stops }
         requires trip { trip < length table.now.trips }
-        requires before { self.old ≡ first_reduced table.now lines.now.lines trip }
+        requires trips { self.old.trips ≤ trip }
+        requires before { self.old
+            ≡ reduced_from table.now lines.now.lines (trip - self.old.trips) self.old.trips }
         ensures labels { length labels.new ≡ length labels.old }
-        ensures after { OnOk result (self.new ≡ first_reduced table.now lines.now.lines (trip + 1)) }
+        ensures trips { OnOk result (self.new.trips ≡ self.old.trips + 1) }
+        ensures after { OnOk result (self.new
+            ≡ reduced_from table.now lines.now.lines (trip - self.old.trips) (self.old.trips + 1)) }
     {
         line_split::laws::lines_divide();
         table.soundness();
@@ -94,8 +86,34 @@ impl Reduced {
         self.after_uturn += more.after_uturn as u64;
         self.kept += more.rows.len() as u64;
         self.rows.push(more.rows)?;
+        self.trips += 1;
         Ok(())
     }
+}
+
+/// Reduces the transfers of `count` trips from trip `first` on. The lines are those of the timetable; the labels are for its
+/// stops, and serve all trips. Takes memory for the kept transfers, and for the candidates of one trip besides. Refused only for
+/// want of memory.
+pub(crate) fn reduce_from(
+    alloc: Global,
+    table: &Timetable,
+    lines: &Lines,
+    labels: &mut Labels,
+    first: u32,
+    count: u32,
+) -> Result<Reduced, Memory>
+    requires lines { AreLinesOf table.now lines.now }
+    requires labels { length labels.old ≡ length table.now.stops }
+    requires within { first + count ≤ length table.now.trips }
+    ensures labels { length labels.new ≡ length labels.old }
+    ensures reduced { IfOk result (λ r. r ≡ reduced_from table.now lines.now.lines first count) }
+{
+    table.soundness();
+    let mut reduced = Reduced::new(alloc);
+    for t in first..first + count {
+        reduced.add(alloc, table, lines, labels, TripNo(t))?;
+    }
+    Ok(reduced)
 }
 
 /// Reduces the transfers of all trips: the kept transfers of each trip, and how many candidates there are, how many of them are no
@@ -107,13 +125,10 @@ pub fn reduce_trips(alloc: Global, table: &Timetable, lines: &Lines) -> Result<R
     ensures rows { IfOk result (λ r. AreRowsOf table.now r.rows) }
 {
     line_split::laws::lines_divide();
+    laws::kept_rows();
     table.soundness();
     let mut labels = Labels::new(alloc, table.stop_count())?;
-    let mut reduced = Reduced::new(alloc);
-    for t in 0..table.trip_count() {
-        reduced.add(alloc, table, lines, &mut labels, TripNo(t))?;
-    }
-    Ok(reduced)
+    reduce_from(alloc, table, lines, &mut labels, 0, table.trip_count())
 }
 
 /// The set of the kept transfers of a timetable with these lines. It is sufficient: a search over it finds all best values.
@@ -121,7 +136,8 @@ pub fn reduce_trips(alloc: Global, table: &Timetable, lines: &Lines) -> Result<R
 pub fn kept_set(alloc: Global, table: &Timetable, lines: &Lines) -> Result<Set, Memory>
     requires { AreLinesOf table.now lines.now }
     ensures table { IfOk result (λ set. set.table ≡ table.now) }
-    ensures hops { IfOk result (λ set. (t i : ℕ) → packed set t i ≡ kept_hops table.now lines.now.lines t i) }
+    ensures hops { IfOk result
+        (λ set. (t i : ℕ) → packed set t i ≡ kept_hops table.now lines.now.lines t i) }
     ensures sufficient { IfOk result (λ set. AreSufficient table.now (packed set)) }
 {
     line_split::laws::lines_divide();

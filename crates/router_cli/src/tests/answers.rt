@@ -20,6 +20,12 @@ fn assert_answered<R: Threads + Wait + Sync + Abort>(
     Ok(())
 }
 
+// The list of the example's kept transfers.
+const ALL_KEPT: &str = "stops 5 trips 3 events 7 footpaths 0
+lines 3 generated 1 after_uturn 1 kept 1
+T1@1 T2@0
+";
+
 #[test]
 fn answers_over_the_example(rt: HostRuntime) -> Result<(), Fail> {
     for (line, out) in [
@@ -46,12 +52,31 @@ fn answers_over_the_example(rt: HostRuntime) -> Result<(), Fail> {
             "build f1 20260302",
             "stops 5 trips 3 events 7 footpaths 0\nlines 3 generated 1 after_uturn 1 kept 1\n",
         ),
-        (
-            "build f1 20260302 list",
-            "stops 5 trips 3 events 7 footpaths 0\nlines 3 generated 1 after_uturn 1 kept 1\nT1@1 T2@0\n",
-        ),
+        ("build f1 20260302 list", ALL_KEPT),
     ] {
         assert_answered(&rt, rt.alloc(), &[], line, out)?;
+    }
+    Ok(())
+}
+
+#[test]
+fn every_number_of_workers_keeps_the_same(rt: HostRuntime) -> Result<(), Fail> {
+    for workers in [1, 3, 64] {
+        let line = format!(in rt.alloc(); "--workers {workers} build f1 20260302 list")?;
+        assert_answered(&rt, rt.alloc(), &[], line.as_str(), ALL_KEPT)?;
+    }
+    Ok(())
+}
+
+#[test]
+fn other_numbers_of_workers_have_no_meaning(rt: HostRuntime) -> Result<(), Fail> {
+    for line in [
+        "--workers 0 build f1 20260302",
+        "--workers 65 build f1 20260302",
+        "--workers 2 --workers 2 build f1 20260302",
+    ] {
+        let ended = run(&rt, rt.alloc(), feed(rt.alloc(), &[])?, line, NO_TROUBLE)?;
+        assert_eq!(rt; ended.code, 2, "{line}");
     }
     Ok(())
 }

@@ -7,17 +7,17 @@ use Rattle.build_report.proofs.Reporting.{report_listed, report_unlisted}
 use Rattle.build_report.proofs.build.report.Goals as goal
 
 pub build_list_text-requires : goal.build_list_text-requires
-build_list_text-requires c =
+build_list_text-requires g c =
     let rows = ap (map (λ row. row.items)) c.as_slice.ensures.value ∙ ap (λ (r : ReducedData). r.rows) c.reduced.view_is in
     all_named c.args.table.now (λ row. row.items) c.as_slice.result.now (subst (AreRowsOf c.args.table.now) (sym rows) c.in_ok-reduced.ensures.rows)
 
 pub returns-then-list : goal.returns-then-list
-returns-then-list c =
+returns-then-list g c =
     let rows = ap (map (λ row. row.items)) c.as_slice.ensures.value ∙ ap (λ (r : ReducedData). r.rows) c.reduced.view_is in
     let same = report_listed c.args.table.now c.in_ok-lines.lines.lines c.args.list c.in_ok-reduced.reduced c.in_ok-reduced.ensures.reduced c.counts_of-counts.result c.counts_of-counts.ensures _ rows c.if-list.true in
     IfOk-weaker c.build_list_text.result _ _ (λ text written. record { lines = c.in_ok-lines.lines.lines; are_lines = c.in_ok-lines.ensures.lines; text = written ∙ same }) c.build_list_text.ensures
 
 pub returns : goal.returns
-returns c =
+returns g c =
     let same = report_unlisted c.args.table.now c.in_ok-lines.lines.lines c.args.list c.in_ok-reduced.reduced c.in_ok-reduced.ensures.reduced c.counts_of-counts.result c.counts_of-counts.ensures c.if-list.false in
     IfOk-weaker c.build_text.result _ _ (λ text written. record { lines = c.in_ok-lines.lines.lines; are_lines = c.in_ok-lines.ensures.lines; text = written ∙ same }) c.build_text.ensures

@@ -7,16 +7,16 @@ use Rattle.router_cli.proofs.AnswerLemmas.{numbers_of_offers, kept_changes, if_o
 use Rattle.router_cli.proofs.answers.profile_text.Goals as goal
 
 pub profile-requires-clause-sufficient : goal.profile-requires-clause-sufficient
-profile-requires-clause-sufficient c =
+profile-requires-clause-sufficient g c =
     subst (λ set. AreSufficient c.args.table.now (λ t i. packed set t i)) (sym c.new-view.ensures.set) c.in_ok-set.ensures.sufficient
 
 pub offers_text-requires : goal.offers_text-requires
-offers_text-requires c =
+offers_text-requires g c =
     rw c.as_slice.ensures.value
     (numbers_of_offers c.args.table.now c.args.window.now c.soundness.ensures c.requires.origins c.in_ok-offers.offers.items c.in_ok-offers.ensures.journeys)
 
 pub returns : goal.returns
-returns c =
+returns g c =
     let kept = kept_changes c.args.table.now c.in_ok-lines.lines.lines c.in_ok-lines.ensures.lines (packed c.new-view.result.2)
     (λ t i. ap (λ set. packed set t i) c.new-view.ensures.set ∙ c.in_ok-set.ensures.hops t i)
     OfferData.legs c.in_ok-offers.offers.items c.in_ok-offers.ensures.hops in

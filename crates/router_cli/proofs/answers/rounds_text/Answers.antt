@@ -14,7 +14,7 @@ returns c =
     (λ text same. record {
       choices = c.in_ok-choices.choices.items;
       values = c.in_ok-choices.ensures.values;
-      journeys = c.in_ok-choices.ensures.journeys;
+      journeys = c.in_ok-choices.ensures.walks;
       kind = λ k d below. tt;
       text = same ∙ ap (λ cs. choices_text c.args.table.now cs) c.as_slice.ensures.value;
     })

@@ -6,19 +6,19 @@ use Rattle.router_cli.proofs.AnswerLemmas.{numbers_of_choices, kept_changes, if_
 use Rattle.router_cli.proofs.answers.search_text.Goals as goal
 
 pub choices_text-requires : goal.choices_text-requires
-choices_text-requires c =
+choices_text-requires g c =
     rw c.as_slice.ensures.value
     (numbers_of_choices c.args.table.now c.args.query.now c.soundness.ensures c.requires.origins c.in_ok-choices.choices.items c.in_ok-choices.ensures.journeys)
 
 pub returns : goal.returns
-returns c =
+returns g c =
     let kept = kept_changes c.args.table.now c.in_ok-lines.lines.lines c.in_ok-lines.ensures.lines (packed c.in_ok-set.set) c.in_ok-set.ensures.hops ChoiceData.legs
     c.in_ok-choices.choices.items c.in_ok-choices.ensures.hops in
     if_ok-map c.choices_text.result _ _
     (λ text same. record {
       choices = c.in_ok-choices.choices.items;
       values = c.in_ok-choices.ensures.values;
-      journeys = c.in_ok-choices.ensures.journeys;
+      journeys = c.in_ok-choices.ensures.walks;
       kind = kept;
       text = same ∙ ap (λ cs. choices_text c.args.table.now cs) c.as_slice.ensures.value;
     })

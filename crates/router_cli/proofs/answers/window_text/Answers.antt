@@ -7,7 +7,7 @@ use Rattle.router_cli.proofs.AnswerLemmas.{known_text, if_ok-map, file_time-fits
 use Rattle.router_cli.proofs.answers.window_text.Goals as goal
 
 pub returns : goal.returns
-returns c =
+returns g c =
     let T = c.args.table.now in
     let first = c.asked.inside.first in
     let last = c.asked.inside.last in

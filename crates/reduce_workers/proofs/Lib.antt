@@ -1,0 +1,4 @@
+pub mod Keeps
+pub mod Loops
+pub mod Drawing
+pub mod Placing

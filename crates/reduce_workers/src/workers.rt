@@ -1,0 +1,107 @@
+//! The reduction by several workers. The result is that of a single one.
+ghost use Rattle.std.specs.Prelude.{◌≡◌, ◌<◌, ◌≤◌, ℕ, [], IfOk, length};
+ghost use Rattle.tb_base.specs.OutSets.{AreRowsOf};
+ghost use Rattle.tb_base.specs.Sufficiency.{AreSufficient};
+ghost use Rattle.tb_base.specs.Transfers.{kept_hops};
+ghost use Rattle.line_split.specs.LinesOf.{AreLinesOf};
+ghost use Rattle.transfer_pack.specs.Packed.{packed};
+ghost use Rattle.transfer_set.specs.Reductions.{piece_count, piece_reduced, reduced};
+ghost use Rattle.reduce_workers.specs.Seats.{IsOpen};
+ghost use Rattle.reduce_workers.specs.Work.{Worked};
+
+use crate::claim::Claim;
+use crate::places::{Brought, collect, join_pieces, place};
+use crate::seat::ClaimSeat;
+use line_split::Lines;
+use std::alloc::Global;
+use std::thread;
+use std::thread::Threads;
+use tb_base::{Gate, Memory, Timetable, Work};
+use transfer_pack::Set;
+use transfer_reduce::Labels;
+use transfer_set::{Reduced, piece_count, reduce_piece};
+
+// Draws pieces and reduces them until none is left, with labels of its own. The gate is told of each piece.
+fn reduce_drawn<G: Gate>(
+    alloc: Global,
+    table: &Timetable,
+    lines: &Lines,
+    gate: &G,
+    claim: &Claim,
+    mut seat: ClaimSeat,
+) -> Result<Brought, Memory>
+    requires lines { AreLinesOf table.now lines.now }
+    requires pieces { claim.now.pieces ≡ piece_count (length table.now.trips) }
+    requires seat { IsOpen claim.now [] seat }
+    ensures { IfOk result (Worked claim.now (piece_reduced table.now lines.now.lines)) }
+{
+    let mut labels = Labels::new(alloc, table.stop_count())?;
+    let mut done = Vec::new(alloc);
+    while let Some(n) = claim.draw(&mut seat) {
+        gate.begin(Work::Piece(n));
+        let reduced = reduce_piece(alloc, table, lines, &mut labels, n);
+        gate.done(Work::Piece(n));
+        done.push((n, reduced?))?;
+    }
+    Ok((seat, done))
+}
+
+/// Reduces the transfers of all trips by so many workers, of which there are at least one and at most 64. The workers draw
+/// pieces of 64 trips; the gate is told when one begins a piece and when it is done with it. The kept transfers and the
+/// counts are the same for every number of workers, whoever draws which piece. Where no thread can be started the caller
+/// does that worker's part itself. The lines are those of the timetable. Takes memory for the kept transfers, and for each
+/// worker one label a stop and the candidates of one trip besides. Refused only for want of memory.
+pub fn reduce_all<G: Gate, R: Threads + Sync>(
+    rt: &R,
+    alloc: Global,
+    table: &Timetable,
+    lines: &Lines,
+    workers: u32,
+    gate: &G,
+) -> Result<Reduced, Memory>
+    requires some { 0 < workers }
+    requires most { workers ≤ 64 }
+    requires lines { AreLinesOf table.now lines.now }
+    ensures reduced { IfOk result (λ r. r ≡ reduced table.now lines.now.lines) }
+    ensures rows { IfOk result (λ r. AreRowsOf table.now r.rows) }
+{
+    line_split::laws::lines_divide();
+    transfer_set::laws::kept_rows();
+    table.soundness();
+    let (claim, seats) = Claim::new(alloc, piece_count(table), workers)?;
+    let shared = &claim;
+    let worker = |seat: ClaimSeat| -> Result<Brought, Memory>
+        requires lines { AreLinesOf table.now lines.now }
+        requires pieces { shared.now.pieces ≡ piece_count (length table.now.trips) }
+        requires seat { IsOpen shared.now [] seat }
+        ensures { IfOk result
+            (Worked shared.entry.now (piece_reduced table.entry.now lines.entry.now.lines)) }
+    { reduce_drawn(alloc, table, lines, gate, shared, seat) };
+    let brought = thread::map_vec(rt, seats, &worker)?;
+    let (seats, done) = collect(alloc, table, lines, &claim, brought)?;
+    let _drawn = claim.gather(seats);
+    let slots = place(alloc, piece_count(table), done)?;
+    join_pieces(alloc, table, lines, slots)
+}
+
+/// The set of the kept transfers of a timetable with these lines, reduced by so many workers as `reduce_all` does. It is
+/// sufficient: a search over it finds all best values. Refused only for want of memory.
+pub fn kept_set<G: Gate, R: Threads + Sync>(
+    rt: &R,
+    alloc: Global,
+    table: &Timetable,
+    lines: &Lines,
+    workers: u32,
+    gate: &G,
+) -> Result<Set, Memory>
+    requires some { 0 < workers }
+    requires most { workers ≤ 64 }
+    requires lines { AreLinesOf table.now lines.now }
+    ensures table { IfOk result (λ set. set.table ≡ table.now) }
+    ensures hops { IfOk result
+        (λ set. (t i : ℕ) → packed set t i ≡ kept_hops table.now lines.now.lines t i) }
+    ensures sufficient { IfOk result (λ set. AreSufficient table.now (packed set)) }
+{
+    line_split::laws::lines_divide();
+    reduce_all(rt, alloc, table, lines, workers, gate)?.into_set(alloc, table)
+}

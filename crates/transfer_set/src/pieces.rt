@@ -1,0 +1,44 @@
+//! The reduction in pieces of 64 trips.
+ghost use Rattle.std.specs.Prelude.{◌≡◌, ◌<◌, IfOk, length};
+ghost use Rattle.line_split.specs.LinesOf.{AreLinesOf};
+ghost use Rattle.transfer_set.specs.Reductions.{piece_count, piece_reduced};
+
+use super::reduced::Reduced;
+use super::trips::reduce_from;
+use line_split::Lines;
+use std::alloc::Global;
+use tb_base::{Memory, Timetable};
+use transfer_reduce::Labels;
+
+/// How many trips a piece has. Only the last piece may be shorter.
+const PIECE: u32 = 64;
+
+/// How many pieces the trips of a timetable are.
+pub fn piece_count(table: &Timetable) -> u32
+    ensures { result ≡ piece_count (length table.now.trips) }
+{
+    table.soundness();
+    (table.trip_count() + (PIECE - 1)) / PIECE
+}
+
+/// Reduces the transfers of the trips of a piece, from trip `64 piece` to trip `64 piece + 63`, or to the last one. The lines are
+/// those of the timetable; the labels are for its stops, and may have served any piece before. Takes memory for the kept transfers,
+/// and for the candidates of one trip besides. Refused only for want of memory.
+pub fn reduce_piece(
+    alloc: Global,
+    table: &Timetable,
+    lines: &Lines,
+    labels: &mut Labels,
+    piece: u32,
+) -> Result<Reduced, Memory>
+    requires lines { AreLinesOf table.now lines.now }
+    requires labels { length labels.old ≡ length table.now.stops }
+    requires piece { piece < piece_count (length table.now.trips) }
+    ensures labels { length labels.new ≡ length labels.old }
+    ensures reduced { IfOk result (λ r. r ≡ piece_reduced table.now lines.now.lines piece) }
+{
+    table.soundness();
+    let first = PIECE * piece;
+    let count = PIECE.min(table.trip_count() - first);
+    reduce_from(alloc, table, lines, labels, first, count)
+}
