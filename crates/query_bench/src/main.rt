@@ -2,14 +2,15 @@
 //!
 //! `query_bench DIR DATE COUNT METHOD` asks for the best values of COUNT pairs of stops, drawn by a generator with a fixed seed,
 //! at random times of the day: with the method `search` over the kept transfers, with the method `plain` round by round. It
-//! writes how many choices were found and the sum of their arrivals, so both methods can be compared. How long a query takes is
-//! the time of a run less that of a run with COUNT 0. Nothing is promised of it but that it is safe and ends.
+//! writes how many choices were found and the sum of their arrivals, so both methods can be compared. With the method `profile` it
+//! asks for profiles of 24 hours instead, and writes the same of their slots. How long a query takes is the time of a run less
+//! that of a run with COUNT 0. Nothing is promised of it but that it is safe and ends.
 #![tactic(auto)]
 
 mod queries;
 mod words;
 
-use queries::{Found, by_rounds, by_search};
+use queries::{Found, by_profiles, by_rounds, by_search};
 use service_day::Day;
 use std::alloc::Global;
 use std::process::ExitCode;
@@ -35,12 +36,13 @@ fn found(alloc: Global, table: &Timetable, words: &Words) -> Option<Found> {
     match words.method {
         Method::Search => by_search(alloc, table, words.count).ok(),
         Method::Plain => by_rounds(alloc, table, words.count).ok(),
+        Method::Profile => by_profiles(alloc, table, words.count).ok(),
     }
 }
 
 fn main(rt: HostRuntime) -> ExitCode {
     let Some(words) = words_of(&rt) else {
-        let _ = eprintln!(rt; "usage: query_bench DIR DATE COUNT search|plain");
+        let _ = eprintln!(rt; "usage: query_bench DIR DATE COUNT search|plain|profile");
         return ExitCode::from(2);
     };
     let Some(table) = timetable(&rt, words.dir.as_str(), &words.day) else {

@@ -1,17 +1,20 @@
 //! Random queries, and what they find.
 ghost use Rattle.std.specs.Prelude.{◌≡◌, ◌<◌, ◌≤ℤ◌, pos, All, IfOk, length};
 ghost use Rattle.tb_base.specs.BestValues.{QueryData};
+ghost use Rattle.tb_base.specs.Profiles.{WindowData};
 
 use journey_unfold::ask;
 use line_split::split;
+use made_feeds::Draw;
 use plain_rounds::plain_ask;
+use profile_query::profile;
 use segment_queue::{Desk, View};
 use std::alloc::Global;
-use tb_base::{Choice, Memory, Query, StopNo, Timetable};
+use tb_base::{Choice, Memory, Offer, Query, Sec, StopNo, Timetable, Window};
 use transfer_pack::Set;
 use transfer_set::kept_set;
 
-/// How many choices were found, and the sum of their arrivals.
+/// How many choices or slots were found, and the sum of their arrivals.
 #[derive(Clone, Copy)]
 pub struct Found {
     pub choices: u64,
@@ -24,31 +27,21 @@ impl Found {
         arrivals: 0,
     };
 
+    fn add_arrival(&mut self, arrive: Sec) {
+        self.choices = self.choices.wrapping_add(1);
+        self.arrivals = self.arrivals.wrapping_add(arrive.unsigned_abs() as u64);
+    }
+
     fn add(&mut self, choices: &[Choice]) {
         for choice in choices {
-            self.choices = self.choices.wrapping_add(1);
-            self.arrivals = self
-                .arrivals
-                .wrapping_add(choice.value.arrive.unsigned_abs() as u64);
+            self.add_arrival(choice.value.arrive);
         }
     }
-}
 
-/// Numbers that look random (Knuth's MMIX generator).
-#[derive(Drop)]
-struct Draw(u64);
-
-impl Draw {
-    // A number below a bound that isn't 0.
-    fn below(&mut self, bound: u32) -> u32
-        requires { 0 < bound }
-        ensures { result < bound }
-    {
-        self.0 = self
-            .0
-            .wrapping_mul(6_364_136_223_846_793_005)
-            .wrapping_add(1_442_695_040_888_963_407);
-        (self.0 >> 32) as u32 % bound
+    fn add_offers(&mut self, offers: &[Offer]) {
+        for offer in offers {
+            self.add_arrival(offer.slot.arrive);
+        }
     }
 }
 
@@ -69,6 +62,45 @@ fn query(alloc: Global, table: &Timetable, draw: &mut Draw) -> Result<Query, Mem
     })
 }
 
+// A window of a day between two stops.
+fn window(alloc: Global, table: &Timetable, draw: &mut Draw) -> Result<Window, Memory>
+    requires { 0 < length table.now.stops }
+    ensures origins { IfOk result (λ w. All (λ p. p < length table.now.stops) (WindowData.from w)) }
+    ensures targets { IfOk result (λ w. All (λ p. p < length table.now.stops) (WindowData.to w)) }
+    ensures last { IfOk result (λ w. WindowData.last w ≤ℤ pos 359999) }
+{
+    let stops = table.stop_count();
+    let from = vec![in alloc; StopNo(draw.below(stops))]?;
+    let to = vec![in alloc; StopNo(draw.below(stops))]?;
+    Ok(Window {
+        from,
+        to,
+        first: 0,
+        last: 86_399,
+    })
+}
+
+/// What so many profiles of 24 hours find.
+pub fn by_profiles(alloc: Global, table: &Timetable, count: u32) -> Result<Found, Memory> {
+    table.soundness();
+    let lines = split(alloc, table)?;
+    let set = kept_set(alloc, table, &lines)?;
+    let view = View::<Set>::new(table, &lines, &set);
+    let mut desk = Desk::new(alloc);
+    desk.make_room(&view)?;
+    let mut draw = Draw::new(1);
+    let mut found = Found::NOTHING;
+    if table.stop_count() == 0 {
+        return Ok(found);
+    }
+    for _turn in 0..count {
+        let window = window(alloc, table, &mut draw)?;
+        let offers = profile(alloc, &view, table, &window, &mut desk)?;
+        found.add_offers(offers.as_slice());
+    }
+    Ok(found)
+}
+
 /// What so many queries find by a search over the kept transfers.
 pub fn by_search(alloc: Global, table: &Timetable, count: u32) -> Result<Found, Memory> {
     table.soundness();
@@ -76,7 +108,7 @@ pub fn by_search(alloc: Global, table: &Timetable, count: u32) -> Result<Found, 
     let set = kept_set(alloc, table, &lines)?;
     let mut desk = Desk::new(alloc);
     desk.make_room(&View::<Set>::new(table, &lines, &set))?;
-    let mut draw = Draw(1);
+    let mut draw = Draw::new(1);
     let mut found = Found::NOTHING;
     if table.stop_count() == 0 {
         return Ok(found);
@@ -91,7 +123,7 @@ pub fn by_search(alloc: Global, table: &Timetable, count: u32) -> Result<Found, 
 
 /// What so many queries find round by round.
 pub fn by_rounds(alloc: Global, table: &Timetable, count: u32) -> Result<Found, Memory> {
-    let mut draw = Draw(1);
+    let mut draw = Draw::new(1);
     let mut found = Found::NOTHING;
     if table.stop_count() == 0 {
         return Ok(found);

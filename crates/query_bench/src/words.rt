@@ -9,6 +9,7 @@ use std::rt::Env;
 pub enum Method {
     Search,
     Plain,
+    Profile,
 }
 
 /// What is to be measured.
@@ -24,6 +25,7 @@ fn method_named(name: &str) -> Option<Method> {
     match name {
         "search" => Some(Method::Search),
         "plain" => Some(Method::Plain),
+        "profile" => Some(Method::Profile),
         _ => None,
     }
 }

@@ -1,5 +1,5 @@
-//! Tests of the search by lines and kept transfers: what the reduction keeps of small timetables, and that the search and
-//! the plain rounds give the same values between all stops. The timetables are read from feeds in memory.
+//! Tests over feeds in memory: what the reduction keeps of small timetables, that the packed set of hops is the plain one, and best
+//! values that were worked out by hand.
 #![tactic(auto)]
 
 #[cfg(test)]

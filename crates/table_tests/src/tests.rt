@@ -4,15 +4,9 @@ mod rounds;
 mod rules;
 mod tables;
 
-use crate::town;
 use std::alloc::Global;
 use std::test::Fail;
-use tb_base::{Leg, Memory, Query, Sec, StopNo, Timetable, TripNo};
-
-// The town, of which a test knows nothing before it asks.
-fn a_town(alloc: Global) -> Result<Timetable, Memory> {
-    town(alloc)
-}
+use tb_base::{Leg, Query, Sec, StopNo, Timetable, TripNo};
 
 // The walk from B to C.
 const ON_FOOT: Leg = Leg::Walk {

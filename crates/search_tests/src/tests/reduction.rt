@@ -1,6 +1,6 @@
 //! What the reduction keeps.
-use super::{Feed, timetable};
 use line_split::split;
+use made_feeds::{Feed, timetable};
 use std::alloc::Global;
 use std::process::Abort;
 use std::test::Fail;
@@ -67,28 +67,24 @@ fn reduced(alloc: Global, table: &Timetable) -> Result<Transfers, Memory> {
 // The timetable of the first times, with these change times and footpaths. It tells nothing of the texts.
 fn onward(alloc: Global, transfers: &str) -> Result<Timetable, Fail> {
     let transfers = format!(in alloc; "{HEADER}{transfers}")?;
-    timetable(
-        alloc,
-        Feed {
-            stops: STOPS,
-            trips: TRIPS,
-            times: ONWARD,
-            transfers: transfers.as_str(),
-        },
-    )
+    let feed = Feed {
+        stops: STOPS,
+        trips: TRIPS,
+        times: ONWARD,
+        transfers: transfers.as_str(),
+    };
+    Ok(timetable(alloc, feed)?)
 }
 
 // The timetable of the other times, without a footpath.
 fn and_back(alloc: Global) -> Result<Timetable, Fail> {
-    timetable(
-        alloc,
-        Feed {
-            stops: STOPS,
-            trips: TRIPS,
-            times: AND_BACK,
-            transfers: HEADER,
-        },
-    )
+    let feed = Feed {
+        stops: STOPS,
+        trips: TRIPS,
+        times: AND_BACK,
+        transfers: HEADER,
+    };
+    Ok(timetable(alloc, feed)?)
 }
 
 // Asserts that the hop is the only transfer that is no U-turn, and whether it is kept.

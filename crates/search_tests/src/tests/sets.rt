@@ -1,8 +1,8 @@
 //! The packed set of transfers, and the plain one.
-ghost use Rattle.std.specs.Prelude.{◌≡◌};
+ghost use Rattle.std.specs.Prelude.{◌≡◌, IfOk};
 
-use super::{Feed, timetable};
 use line_split::split;
+use made_feeds::{Feed, timetable};
 use std::alloc::Global;
 use std::process::Abort;
 use std::test::Fail;

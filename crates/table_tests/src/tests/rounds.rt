@@ -1,17 +1,17 @@
 //! The least arrival by one ride, and the best values with their legs.
 ghost use Rattle.std.specs.Prelude.{◌≤ℤ◌, pos};
 
-use super::{ON_FOOT, a_town, between, ride};
+use super::{ON_FOOT, between, ride};
+use made_feeds::town;
 use plain_rounds::{direct, plain_ask};
 use std::alloc::{AllocError, Global};
 use std::process::Abort;
 use std::test::Fail;
 use tb_base::{Choice, Leg, Sec, Value};
 
-#[test]
-fn least_arrivals(rt: HostRuntime) -> Result<(), Fail> {
-    let table = a_town(rt.alloc())?;
-    for (from, to, leave, arrive) in [
+// Two places, a time, and the least arrival.
+fn arrivals() -> [(&'static str, &'static str, Sec, Option<Sec>); 10] {
+    [
         ("A", "D", 28_900, Some(31_000)),
         ("A", "D", 28_901, None),
         ("A", "C", 28_800, Some(29_520)),
@@ -22,7 +22,13 @@ fn least_arrivals(rt: HostRuntime) -> Result<(), Fail> {
         ("S", "D", 29_520, Some(30_600)),
         ("S", "D", 30_031, None),
         ("D", "A", 0, None),
-    ] {
+    ]
+}
+
+#[test]
+fn least_arrivals(rt: HostRuntime) -> Result<(), Fail> {
+    let table = town(rt.alloc())?;
+    for (from, to, leave, arrive) in arrivals() {
         let query = between(rt.alloc(), &table, from, to, leave)?;
         assert_eq!(rt; direct(&table, &query), arrive, "{from} to {to} at {leave}");
     }
@@ -42,7 +48,7 @@ fn values_of(alloc: Global, choices: &[Choice]) -> Result<Vec<Value>, AllocError
     choices.iter().map(|choice| choice.value).collect(alloc)
 }
 
-// Whether these are the best values between two places, with these legs.
+// Asserts that these are the best values between two places, with these legs.
 fn assert_best<R: Abort>(
     rt: &R,
     alloc: Global,
@@ -54,7 +60,7 @@ fn assert_best<R: Abort>(
 ) -> Result<(), Fail>
     requires { leave ≤ℤ pos 359999 }
 {
-    let table = a_town(alloc)?;
+    let table = town(alloc)?;
     let query = between(alloc, &table, from, to, leave)?;
     let choices = plain_ask(alloc, &table, &query)?;
     let found = values_of(alloc, choices.as_slice())?;
@@ -69,26 +75,29 @@ fn value(arrive: Sec, rides: u32) -> Value {
 }
 
 #[test]
-fn best_values(rt: HostRuntime) -> Result<(), Fail> {
+fn best_values_of_rides(rt: HostRuntime) -> Result<(), Fail> {
     let alloc = rt.alloc();
     let two = [value(31_000, 1), value(30_600, 2)];
     let legs = [ride(2, 0, 2), ride(0, 0, 1), ON_FOOT, ride(1, 0, 1)];
     assert_best(&rt, alloc, "A", "D", 28_800, &two, &legs)?;
-    let legs = [ride(2, 0, 2)];
-    assert_best(&rt, alloc, "A", "D", 28_801, &[value(31_000, 1)], &legs)?;
-    assert_best(&rt, alloc, "A", "D", 28_901, &[], &[])?;
+    let one = [value(31_000, 1)];
+    assert_best(&rt, alloc, "A", "D", 28_801, &one, &[ride(2, 0, 2)])?;
+    assert_best(&rt, alloc, "A", "D", 28_901, &[], &[])
+}
+
+#[test]
+fn best_values_with_a_walk_at_an_end(rt: HostRuntime) -> Result<(), Fail> {
+    let alloc = rt.alloc();
     let legs = [ride(0, 0, 1), ON_FOOT];
     assert_best(&rt, alloc, "A", "C", 28_800, &[value(29_520, 1)], &legs)?;
     let legs = [ON_FOOT, ride(1, 0, 1)];
-    assert_best(&rt, alloc, "B", "D", 29_400, &[value(30_600, 1)], &legs)?;
-    assert_best(
-        &rt,
-        alloc,
-        "B",
-        "C",
-        29_000,
-        &[value(29_120, 0)],
-        &[ON_FOOT],
-    )?;
+    assert_best(&rt, alloc, "B", "D", 29_400, &[value(30_600, 1)], &legs)
+}
+
+#[test]
+fn best_values_of_no_ride(rt: HostRuntime) -> Result<(), Fail> {
+    let alloc = rt.alloc();
+    let walk = [value(29_120, 0)];
+    assert_best(&rt, alloc, "B", "C", 29_000, &walk, &[ON_FOOT])?;
     assert_best(&rt, alloc, "S", "C", 29_000, &[value(29_000, 0)], &[])
 }

@@ -1,8 +1,9 @@
 //! The ten rules of a journey, each broken once.
-use super::{ON_FOOT, a_town, between, ride};
+use super::{ON_FOOT, between, ride};
 use journey_rules::fault;
+use made_feeds::town;
 use std::test::Fail;
-use tb_base::{Leg, Rule, RuleBroken, StopNo};
+use tb_base::{Leg, Rule, RuleBroken, Sec, StopNo};
 
 fn walk(from: u32, to: u32, secs: u32) -> Leg {
     Leg::Walk {
@@ -16,11 +17,9 @@ fn broken(leg: u32, rule: Rule) -> Option<RuleBroken> {
     Some(RuleBroken { leg, rule })
 }
 
-#[test]
-fn rules_of_legs(rt: HostRuntime) -> Result<(), Fail> {
-    let table = a_town(rt.alloc())?;
-    let query = between(rt.alloc(), &table, "A", "D", 28_800)?;
-    for (leg, fault_of_one) in [
+// A leg from A to D at 28,800, and what it breaks.
+fn one_leg() -> [(Leg, Option<RuleBroken>); 7] {
+    [
         (ride(2, 0, 2), None),
         (ride(4, 0, 1), broken(0, Rule::BadNumber)),
         (ride(0, 1, 1), broken(0, Rule::BadNumber)),
@@ -28,10 +27,12 @@ fn rules_of_legs(rt: HostRuntime) -> Result<(), Fail> {
         (ride(2, 1, 2), broken(0, Rule::NoBoarding)),
         (ride(2, 0, 1), broken(0, Rule::NoAlighting)),
         (ride(1, 0, 1), broken(0, Rule::WrongStart)),
-    ] {
-        assert_eq!(rt; fault(&table, &query, &[leg]), fault_of_one, "{leg:?}");
-    }
-    for (first, second, fault_of_two) in [
+    ]
+}
+
+// Two legs there, and what they break.
+fn two_legs() -> [(Leg, Leg, Option<RuleBroken>); 8] {
+    [
         (ride(0, 0, 2), ride(3, 0, 1), None),
         (ride(0, 0, 1), walk(1, 4, 120), broken(1, Rule::BadNumber)),
         (ride(0, 0, 1), walk(2, 1, 120), broken(1, Rule::NoWalk)),
@@ -40,34 +41,33 @@ fn rules_of_legs(rt: HostRuntime) -> Result<(), Fail> {
         (ride(0, 0, 2), ride(1, 0, 1), broken(1, Rule::TooLate)),
         (ride(0, 0, 1), ON_FOOT, broken(1, Rule::WrongEnd)),
         (ride(4, 0, 1), walk(1, 4, 120), broken(0, Rule::BadNumber)),
-    ] {
-        assert_eq!(rt;
-            fault(&table, &query, &[first, second]),
-            fault_of_two,
-            "{second:?}"
-        );
-    }
-    Ok(())
+    ]
+}
+
+fn over_b() -> Leg {
+    ride(0, 0, 1)
+}
+
+fn onward() -> Leg {
+    ride(1, 0, 1)
 }
 
 // An origin, a time, three legs to D, and what they break.
-#[test]
-fn rules_of_three_legs(rt: HostRuntime) -> Result<(), Fail> {
-    let table = a_town(rt.alloc())?;
-    for (from, leave, first, second, third, fault_of_three) in [
-        ("A", 28_800, ride(0, 0, 1), ON_FOOT, ride(1, 0, 1), None),
+fn three_legs() -> [(&'static str, Sec, Leg, Leg, Leg, Option<RuleBroken>); 5] {
+    [
+        ("A", 28_800, over_b(), ON_FOOT, onward(), None),
         (
             "A",
             28_801,
-            ride(0, 0, 1),
+            over_b(),
             ON_FOOT,
-            ride(1, 0, 1),
+            onward(),
             broken(0, Rule::TooEarly),
         ),
         (
             "A",
             28_800,
-            ride(0, 0, 1),
+            over_b(),
             ON_FOOT,
             walk(2, 3, 1),
             broken(2, Rule::TwoWalks),
@@ -76,22 +76,49 @@ fn rules_of_three_legs(rt: HostRuntime) -> Result<(), Fail> {
             "B",
             29_400,
             ON_FOOT,
-            ride(1, 0, 1),
-            ride(1, 0, 1),
+            onward(),
+            onward(),
             broken(2, Rule::Apart),
         ),
         (
             "B",
             29_401,
             ON_FOOT,
-            ride(1, 0, 1),
-            ride(1, 0, 1),
+            onward(),
+            onward(),
             broken(1, Rule::TooEarly),
         ),
-    ] {
+    ]
+}
+
+#[test]
+fn rules_of_one_leg(rt: HostRuntime) -> Result<(), Fail> {
+    let table = town(rt.alloc())?;
+    let query = between(rt.alloc(), &table, "A", "D", 28_800)?;
+    for (leg, rule_broken) in one_leg() {
+        assert_eq!(rt; fault(&table, &query, &[leg]), rule_broken, "{leg:?}");
+    }
+    Ok(())
+}
+
+#[test]
+fn rules_of_two_legs(rt: HostRuntime) -> Result<(), Fail> {
+    let table = town(rt.alloc())?;
+    let query = between(rt.alloc(), &table, "A", "D", 28_800)?;
+    for (first, second, rule_broken) in two_legs() {
+        let found = fault(&table, &query, &[first, second]);
+        assert_eq!(rt; found, rule_broken, "{second:?}");
+    }
+    Ok(())
+}
+
+#[test]
+fn rules_of_three_legs(rt: HostRuntime) -> Result<(), Fail> {
+    let table = town(rt.alloc())?;
+    for (from, leave, first, second, third, rule_broken) in three_legs() {
         let query = between(rt.alloc(), &table, from, "D", leave)?;
         let found = fault(&table, &query, &[first, second, third]);
-        assert_eq!(rt; found, fault_of_three, "{from} at {leave}");
+        assert_eq!(rt; found, rule_broken, "{from} at {leave}");
     }
     Ok(())
 }

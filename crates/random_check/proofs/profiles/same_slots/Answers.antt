@@ -1,7 +1,7 @@
 use Rattle.std.proofs.Common.{◌≡◌, subst, sym}
 use Rattle.transfer_pack.specs.Packed.{packed}
 use Rattle.tb_base.specs.Sufficiency.{AreSufficient}
-use Rattle.search_tests.proofs.tests.profiles.profile_slots.Goals as goal
+use Rattle.random_check.proofs.profiles.same_slots.Goals as goal
 
 pub profile-requires-clause-sufficient : goal.profile-requires-clause-sufficient
 profile-requires-clause-sufficient c =

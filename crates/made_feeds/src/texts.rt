@@ -1,0 +1,69 @@
+//! Feeds as texts, and their timetables.
+ghost use Rattle.std.specs.Prelude.{◌≡◌, ◌≤◌, IfSome};
+
+use service_day::day_of;
+use std::alloc::{AllocError, Global};
+use tb_base::{Memory, Timetable};
+use tb_io::MemFolder;
+use trip_table::{DayFault, Options, read_day};
+
+/// The files of a folder by their paths.
+pub type Files = Vec<(String, Vec<u8>)>;
+
+// The folder that the files stand in.
+const FOLDER: &str = "made";
+
+// The day that each service of a feed runs on: 2 March 2026.
+const DATES: &str = "service_id,date,exception_type\nS,20260302,1\n";
+
+/// The texts of a feed. Each of its trips has the service S, which runs on one day.
+#[derive(Clone, Copy)]
+pub struct Feed<'a> {
+    /// stops.txt.
+    pub stops: &'a str,
+    /// trips.txt.
+    pub trips: &'a str,
+    /// stop_times.txt.
+    pub times: &'a str,
+    /// transfers.txt.
+    pub transfers: &'a str,
+}
+
+fn file(alloc: Global, name: &str, text: &str) -> Result<(String, Vec<u8>), AllocError> {
+    let bytes = text.as_bytes();
+    Ok((format!(in alloc; "{FOLDER}/{name}")?, bytes.to_vec(alloc)?))
+}
+
+/// The files of a feed.
+pub fn files(alloc: Global, feed: Feed<'_>) -> Result<Files, Memory> {
+    let mut files = Vec::new(alloc);
+    files.push(file(alloc, "stops.txt", feed.stops)?)?;
+    files.push(file(alloc, "calendar_dates.txt", DATES)?)?;
+    files.push(file(alloc, "trips.txt", feed.trips)?)?;
+    files.push(file(alloc, "stop_times.txt", feed.times)?)?;
+    files.push(file(alloc, "transfers.txt", feed.transfers)?)?;
+    Ok(files)
+}
+
+/// The timetable of a feed's files, or what is wrong with the feed. The seconds of the options are at most a day.
+pub fn timetable_of(alloc: Global, files: Files, options: &Options) -> Result<Timetable, DayFault>
+    requires change { options.now.change ≤ 86400 }
+    requires station { IfSome options.now.station (λ secs. secs ≤ 86400) }
+{
+    let mut folder = MemFolder::new(files, Vec::new(alloc));
+    let Ok(day) = day_of(b"20260302".as_slice()) else {
+        unreachable!()
+    };
+    read_day(alloc, &mut folder, FOLDER, &day, options)
+}
+
+/// The timetable of a feed, or what is wrong with the feed. A stop of which transfers.txt doesn't speak takes no time to change at,
+/// and a station makes no footpath.
+pub fn timetable(alloc: Global, feed: Feed<'_>) -> Result<Timetable, DayFault> {
+    let options = Options {
+        change: 0,
+        station: None,
+        close: false,
+    };
+    timetable_of(alloc, files(alloc, feed)?, &options)
+}

@@ -1,0 +1,115 @@
+//! The profile of a window, and the best values asked at each of its seconds.
+ghost use Rattle.std.specs.Prelude.{◌≡◌, ◌<◌, ◌≤◌, ◌≤ℤ◌, pos, All, length};
+ghost use Rattle.transfer_pack.specs.Packed.{packed};
+ghost use Rattle.tb_base.specs.Sufficiency.{AreSufficient};
+ghost use Rattle.line_split.specs.LinesOf.{AreLinesOf};
+ghost use Rattle.segment_queue.specs.Queue.{Fits};
+
+use line_split::Lines;
+use plain_rounds::plain_ask;
+use profile_query::profile;
+use segment_queue::{Desk, View};
+use std::alloc::Global;
+use tb_base::{Memory, Query, Sec, Slot, Timetable, Value, Window};
+use transfer_pack::Set;
+
+// The best values with rides of a query, by plain rounds.
+fn ridden_values(alloc: Global, table: &Timetable, query: &Query) -> Result<Vec<Value>, Memory>
+    requires origins { All (λ p. p < length table.now.stops) query.now.from }
+    requires targets { All (λ p. p < length table.now.stops) query.now.to }
+    requires time { query.now.leave ≤ℤ pos 359999 }
+{
+    let choices = plain_ask(alloc, table, query)?;
+    let values = choices.iter().map(|choice| choice.value);
+    Ok(values.filter(|value| value.rides > 0).collect(alloc)?)
+}
+
+// Whether no later value arrives no later with no more rides.
+fn is_new(value: Value, later: &[Value]) -> bool {
+    !later.iter().any(|other| other.arrive <= value.arrive && other.rides <= value.rides)
+}
+
+// Adds the slots that leave at a time: of its best values those that no value of a second later is as good as.
+fn add_slots(
+    slots: &mut Vec<Slot>,
+    leave: Sec,
+    values: &[Value],
+    later: &[Value],
+) -> Result<(), Memory> {
+    for value in values {
+        if is_new(*value, later) {
+            slots.push(Slot {
+                leave,
+                arrive: value.arrive,
+                rides: value.rides,
+            })?;
+        }
+    }
+    Ok(())
+}
+
+// Asks the query at another time.
+fn ask_at(query: &mut Query, time: Sec)
+    ensures { query.new ≡ record query.old { leave = time } }
+{
+    query.leave = time;
+}
+
+// The slots of a window, second by second from its end.
+fn slots_by_seconds(
+    alloc: Global,
+    table: &Timetable,
+    window: &Window,
+    seconds: u32,
+) -> Result<Vec<Slot>, Memory>
+    requires origins { All (λ p. p < length table.now.stops) window.now.from }
+    requires targets { All (λ p. p < length table.now.stops) window.now.to }
+    requires last { window.now.last ≤ℤ pos 359998 }
+    requires seconds { seconds ≤ 86400 }
+{
+    let mut query = Query {
+        from: Vec::from_slice(alloc, window.from.as_slice())?,
+        to: Vec::from_slice(alloc, window.to.as_slice())?,
+        leave: window.last + 1,
+    };
+    let mut slots = Vec::new(alloc);
+    let mut later = ridden_values(alloc, table, &query)?;
+    for back in 0..seconds {
+        let leave = window.last.saturating_sub(back as i32);
+        ask_at(&mut query, leave);
+        let values = ridden_values(alloc, table, &query)?;
+        add_slots(&mut slots, leave, values.as_slice(), later.as_slice())?;
+        later = values;
+    }
+    Ok(slots)
+}
+
+/// How many slots a window of so many seconds has, and none where its profile differs from asking at each second.
+pub fn same_slots(
+    alloc: Global,
+    desk: &mut Desk,
+    table: &Timetable,
+    lines: &Lines,
+    set: &Set,
+    window: &Window,
+    seconds: u32,
+) -> Result<Option<usize>, Memory>
+    requires fits { Fits table.now desk.old }
+    requires lines { AreLinesOf table.now lines.now }
+    requires set { set.now.table ≡ table.now }
+    requires sufficient { AreSufficient table.now (packed set.now) }
+    requires origins { All (λ p. p < length table.now.stops) window.now.from }
+    requires targets { All (λ p. p < length table.now.stops) window.now.to }
+    requires last { window.now.last ≤ℤ pos 359998 }
+    requires seconds { seconds ≤ 86400 }
+    ensures fits { Fits table.now desk.new }
+{
+    let asked = slots_by_seconds(alloc, table, window, seconds)?;
+    let view = View::<Set>::new(table, lines, set);
+    let offers = profile(alloc, &view, table, window, desk)?;
+    let same = offers
+        .iter()
+        .map(|offer| offer.slot)
+        .eq(asked.iter().copied());
+    Ok(if same { Some(asked.len()) } else { None })
+}

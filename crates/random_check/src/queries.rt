@@ -1,0 +1,99 @@
+//! The best values of a query, by the search and by plain rounds.
+ghost use Rattle.std.specs.Prelude.{◌≡◌, ◌<◌, ◌≤◌, ◌≤ℤ◌, pos, All, IfOk, length};
+ghost use Rattle.transfer_pack.specs.Packed.{packed};
+ghost use Rattle.tb_base.specs.Sufficiency.{AreSufficient};
+ghost use Rattle.line_split.specs.LinesOf.{AreLinesOf};
+ghost use Rattle.segment_queue.specs.Queue.{Fits};
+
+use journey_rules::fault;
+use journey_unfold::ask;
+use line_split::Lines;
+use made_feeds::Draw;
+use plain_rounds::plain_ask;
+use segment_queue::Desk;
+use std::alloc::Global;
+use tb_base::{Choice, Memory, Query, Sec, StopNo, Timetable, TripNo};
+use transfer_pack::Set;
+
+// The last second of a query.
+const LAST: Sec = 359_999;
+
+/// One stop, or at times two.
+pub fn some_stops(alloc: Global, draw: &mut Draw, stops: u32) -> Result<Vec<StopNo>, Memory>
+    requires { 0 < stops }
+    ensures { IfOk result (λ found. All (λ p. p < stops) found.items) }
+{
+    let first = StopNo(draw.below(stops));
+    let second = StopNo(draw.below(stops));
+    if draw.one_in(3) {
+        return Ok(vec![in alloc; first, second]?);
+    }
+    Ok(vec![in alloc; first]?)
+}
+
+/// A time up to ten minutes before a departure, the first of some trip more often than a later one, or a second after such a time.
+pub fn some_time(draw: &mut Draw, table: &Timetable) -> Sec
+    ensures { result ≤ℤ pos 359999 }
+{
+    let before = draw.below(10) as i32 * 60 - draw.below(2) as i32;
+    if table.trip_count() == 0 {
+        return 0;
+    }
+    let trip = TripNo(draw.below(table.trip_count()));
+    let mut time = 0;
+    for event in table.trip(trip).events.as_slice() {
+        if time == 0 || draw.one_in(4) {
+            time = event.dep;
+        }
+    }
+    time.saturating_sub(before).max(0).min(LAST)
+}
+
+// Whether the choices have the same values in the same order.
+fn have_same_values(one: &[Choice], other: &[Choice]) -> bool {
+    one.len() == other.len()
+        && one
+            .iter()
+            .zip(other.iter())
+            .all(|(c, d)| c.value == d.value)
+}
+
+// Whether the legs of each choice spell a journey.
+fn break_no_rule(table: &Timetable, query: &Query, choices: &[Choice]) -> bool
+    requires { All (λ p. p < length table.now.stops) query.now.from }
+{
+    for choice in choices {
+        let legs = choice.legs.as_slice();
+        if legs.len() as u64 >= 4_294_967_296 || fault(table, query, legs).is_some() {
+            return false;
+        }
+    }
+    true
+}
+
+/// How many best values a query has, and none where the two ways differ or the legs of a choice break a rule.
+pub fn same_values(
+    alloc: Global,
+    desk: &mut Desk,
+    table: &Timetable,
+    lines: &Lines,
+    set: &Set,
+    query: &Query,
+) -> Result<Option<usize>, Memory>
+    requires fits { Fits table.now desk.old }
+    requires lines { AreLinesOf table.now lines.now }
+    requires set { set.now.table ≡ table.now }
+    requires sufficient { AreSufficient table.now (packed set.now) }
+    requires origins { All (λ p. p < length table.now.stops) query.now.from }
+    requires targets { All (λ p. p < length table.now.stops) query.now.to }
+    requires time { query.now.leave ≤ℤ pos 359999 }
+    ensures fits { Fits table.now desk.new }
+{
+    let searched = ask(alloc, desk, table, lines, set, query)?;
+    let plain = plain_ask(alloc, table, query)?;
+    let same = have_same_values(searched.as_slice(), plain.as_slice());
+    if same && break_no_rule(table, query, searched.as_slice()) {
+        return Ok(Some(plain.len()));
+    }
+    Ok(None)
+}

@@ -1,0 +1,148 @@
+//! Feeds that look random, one after another, and what is compared over each.
+ghost use Rattle.std.specs.Prelude.{◌≡◌, ◌<◌, length};
+ghost use Rattle.transfer_pack.specs.Packed.{packed};
+ghost use Rattle.tb_base.specs.Sufficiency.{AreSufficient};
+ghost use Rattle.line_split.specs.LinesOf.{AreLinesOf};
+ghost use Rattle.segment_queue.specs.Queue.{Fits};
+
+use super::profiles::same_slots;
+use super::queries::{same_values, some_stops, some_time};
+use super::tally::{Difference, FeedName, Refused, Tally, read};
+use line_split::{Lines, split};
+use made_feeds::{Draw, small_feed, timetable_of};
+use segment_queue::{Desk, View};
+use std::alloc::Global;
+use tb_base::{Query, Timetable, Window};
+use transfer_pack::Set;
+use transfer_set::kept_set;
+use trip_table::Options;
+
+// How many queries and windows are asked over each feed.
+const QUERIES: u32 = 60;
+
+const WINDOWS: u32 = 2;
+
+// The seconds of a window are fewer than these.
+const WINDOW: u32 = 900;
+
+/// A trial over the feed of a seed.
+#[derive(Drop)]
+struct Trial {
+    draw: Draw,
+    feed: FeedName,
+}
+
+impl Trial {
+    // The timetable of the feed.
+    fn timetable(&mut self, alloc: Global) -> Result<Timetable, Refused> {
+        let files = small_feed(alloc, &mut self.draw)?;
+        let options = Options {
+            change: self.draw.below(2) * 60,
+            station: if self.draw.one_in(2) { Some(120) } else { None },
+            close: true,
+        };
+        read(timetable_of(alloc, files, &options), self.feed)
+    }
+
+    // Holds the best values of queries against plain rounds.
+    fn try_queries(
+        &mut self,
+        alloc: Global,
+        desk: &mut Desk,
+        table: &Timetable,
+        lines: &Lines,
+        set: &Set,
+        tally: &mut Tally,
+    ) -> Result<(), Refused>
+        requires fits { Fits table.now desk.old }
+        requires lines { AreLinesOf table.now lines.now }
+        requires set { set.now.table ≡ table.now }
+        requires sufficient { AreSufficient table.now (packed set.now) }
+        requires stops { 0 < length table.now.stops }
+        ensures fits { Fits table.now desk.new }
+    {
+        for _turn in 0..QUERIES {
+            let query = Query {
+                from: some_stops(alloc, &mut self.draw, table.stop_count())?,
+                to: some_stops(alloc, &mut self.draw, table.stop_count())?,
+                leave: some_time(&mut self.draw, table),
+            };
+            let Some(values) = same_values(alloc, desk, table, lines, set, &query)? else {
+                return Err(Refused::Differs(Difference::Values, self.feed));
+            };
+            tally.add_query(values);
+        }
+        Ok(())
+    }
+
+    // Holds the profiles of windows against asking at each second.
+    fn try_windows(
+        &mut self,
+        alloc: Global,
+        desk: &mut Desk,
+        table: &Timetable,
+        lines: &Lines,
+        set: &Set,
+        tally: &mut Tally,
+    ) -> Result<(), Refused>
+        requires fits { Fits table.now desk.old }
+        requires lines { AreLinesOf table.now lines.now }
+        requires set { set.now.table ≡ table.now }
+        requires sufficient { AreSufficient table.now (packed set.now) }
+        requires stops { 0 < length table.now.stops }
+        ensures fits { Fits table.now desk.new }
+    {
+        for _turn in 0..WINDOWS {
+            let seconds = self.draw.below(WINDOW) + 1;
+            let last = some_time(&mut self.draw, table)
+                .saturating_add(300)
+                .min(359_998)
+                .max(WINDOW as i32);
+            let window = Window {
+                from: some_stops(alloc, &mut self.draw, table.stop_count())?,
+                to: some_stops(alloc, &mut self.draw, table.stop_count())?,
+                first: last - (seconds as i32 - 1),
+                last,
+            };
+            let Some(slots) = same_slots(alloc, desk, table, lines, set, &window, seconds)? else {
+                return Err(Refused::Differs(Difference::Slots, self.feed));
+            };
+            tally.add_window(slots);
+        }
+        Ok(())
+    }
+
+    // Compares all over one feed.
+    fn run(&mut self, alloc: Global, desk: &mut Desk, tally: &mut Tally) -> Result<(), Refused> {
+        let table = self.timetable(alloc)?;
+        let lines = split(alloc, &table)?;
+        let set = kept_set(alloc, &table, &lines)?;
+        desk.make_room(&View::<Set>::new(&table, &lines, &set))?;
+        if table.stop_count() == 0 {
+            return Ok(());
+        }
+        self.try_queries(alloc, desk, &table, &lines, &set, tally)?;
+        self.try_windows(alloc, desk, &table, &lines, &set, tally)?;
+        tally.add_feed();
+        Ok(())
+    }
+}
+
+/// Compares over so many feeds that look random, from a seed on.
+pub fn try_random_feeds(
+    alloc: Global,
+    desk: &mut Desk,
+    count: u32,
+    seed: u32,
+    tally: &mut Tally,
+) -> Result<(), Refused> {
+    for turn in 0..count {
+        let seed = seed.wrapping_add(turn);
+        let mut trial = Trial {
+            draw: Draw::new(seed as u64),
+            feed: FeedName::Seed(seed),
+        };
+        trial.run(alloc, desk, tally)?;
+    }
+    Ok(())
+}
