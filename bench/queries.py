@@ -1,0 +1,57 @@
+#!/usr/bin/env python3
+"""Measures queries and profiles: queries.py [TRIPS ..] [--with PROGRAM]
+
+Writes a made city of each size to a temporary folder and asks it 1,000 random queries by the search and round by round, and 50
+random profiles of 24 hours, with the proved program (crates/query_bench/out/query_bench, which `rt run` in crates/query_bench
+builds). Prints processor milliseconds a query, without what a run with no query takes. With another build of query_bench both
+are measured in one run, one after the other.
+"""
+import os
+import subprocess
+import sys
+import tempfile
+
+HERE = os.path.dirname(os.path.abspath(__file__))
+PROGRAM = os.path.join(HERE, "..", "crates", "query_bench", "out", "query_bench")
+DAY = "20260302"
+COUNTS = {"search": 1000, "plain": 1000, "profile": 50}
+
+
+def seconds(program, folder, count, method):
+    """The processor seconds of a run, and what it found."""
+    with tempfile.TemporaryFile() as out:
+        child = subprocess.Popen([program, folder, DAY, str(count), method], stdout=out, stderr=subprocess.DEVNULL)
+        _, status, used = os.wait4(child.pid, 0)
+        out.seek(0)
+        return (used.ru_utime + used.ru_stime, out.read().decode().strip()) if status == 0 else (None, "")
+
+
+def measure(program, folder, method):
+    least, found = None, ""
+    for _ in range(3):
+        taken, found = seconds(program, folder, COUNTS[method], method)
+        empty, _ = seconds(program, folder, 0, method)
+        if taken is None or empty is None:
+            return None, "no such method"
+        each = (taken - empty) * 1000 / COUNTS[method]
+        least = each if least is None else min(least, each)
+    return least, found
+
+
+def main(words):
+    other = words[words.index("--with") + 1] if "--with" in words else None
+    sizes = [int(word) for word in words if word.isdigit()] or [2000, 20000]
+    programs = [("this", PROGRAM)] + ([("other", other)] if other else [])
+    print("| trips | method | program | ms each | found |\n|---|---|---|---|---|")
+    for trips in sizes:
+        with tempfile.TemporaryDirectory() as folder:
+            subprocess.run([sys.executable, os.path.join(HERE, "make_city.py"), folder, str(trips)], check=True)
+            for method in COUNTS:
+                for name, program in programs:
+                    each, found = measure(program, folder, method)
+                    shown = "" if each is None else f"{each:.2f}"
+                    print(f"| {trips:,} | {method} | {name} | {shown} | {found} |", flush=True)
+
+
+if __name__ == "__main__":
+    main(sys.argv[1:])
