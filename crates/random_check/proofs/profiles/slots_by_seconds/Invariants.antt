@@ -1,4 +1,4 @@
-use Rattle.std.proofs.Common.{◌×◌, ◌<◌, length}
+use Rattle.std.proofs.Common.{◌<◌, length}
 use Rattle.std.specs.Prelude.{All}
 use Rattle.random_check.proofs.profiles.slots_by_seconds.Given as goal
 
