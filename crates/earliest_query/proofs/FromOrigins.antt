@@ -9,7 +9,7 @@ use Rattle.tb_base.specs.TimetableData.{TimetableData}
 use Rattle.tb_base.specs.BestValues.{QueryData}
 use Rattle.tb_base.specs.Walking.{walk}
 use Rattle.tb_base.proofs.Ordered.{Member, AllPairs-head, AllPairs-tail}
-use Rattle.tb_laws.proofs.Members.{find_found}
+use Rattle.tb_base.proofs.Members.{find_found}
 use Rattle.tb_laws.proofs.Triangles.{equal_or_not, walk-same, walk-other}
 use Rattle.segment_queue.specs.Queue.{DeskData}
 use Rattle.earliest_query.specs.UnderWay.{AreBoarded, Extends, IsBoarded}

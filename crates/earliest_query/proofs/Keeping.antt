@@ -10,7 +10,7 @@ use Rattle.tb_base.specs.TimetableData.{TimetableData, arrival_at, stop_at, MayA
 use Rattle.tb_base.specs.Walking.{walk}
 use Rattle.tb_base.specs.BestValues.{IsStep, QueryData}
 use Rattle.tb_base.proofs.Ordered.{Member, Member-from_Contains, Contains-from_Member}
-use Rattle.tb_laws.proofs.Members.{Member-left, Member-right}
+use Rattle.tb_base.proofs.Members.{Member-left, Member-right}
 use Rattle.segment_queue.specs.declared.desk.Segment.{Segment}
 use Rattle.segment_queue.specs.declared.desk.Hit.{Hit}
 use Rattle.segment_queue.specs.Queue.{DeskData, IsInStep}

@@ -14,8 +14,8 @@ use Rattle.tb_base.specs.Transfers.{earliest_trip, may_be_boarded, numbers_below
 use Rattle.tb_base.proofs.Events.{MayBoard-inside}
 use Rattle.tb_base.proofs.Ordered.{Member, Member-from_Contains}
 use Rattle.tb_laws.proofs.Exchange.{≤ℤ-trans}
-use Rattle.tb_laws.proofs.LineFacts.{MayFollow, first_no_later, line_of, no_later}
-use Rattle.tb_laws.proofs.Members.{both_true, find_first, find_found, Member-filter, Member-filter_back, Member-flat_map, Member-flat_map_back, Member-numbers_below}
+use Rattle.tb_base.proofs.LineFacts.{MayFollow, first_no_later, line_of, no_later}
+use Rattle.tb_base.proofs.Members.{both_true, find_first, find_found, Member-filter, Member-filter_back, Member-flat_map, Member-flat_map_back, Member-numbers_below}
 use Rattle.segment_queue.specs.Scans.{LineIndex, boarding_hop, first_trip, indices_at, line_indices_at, no_line_index}
 use Rattle.segment_queue.proofs.Distinct.{of_member}
 

@@ -6,7 +6,7 @@ use Rattle.tb_base.specs.declared.table.Path.{Path}
 use Rattle.tb_base.specs.TimetableData.{TimetableData}
 use Rattle.tb_base.specs.Walking.{walk}
 use Rattle.tb_base.proofs.Ordered.{Member-from_Contains, Contains-from_Member}
-use Rattle.tb_laws.proofs.Members.{Member-append, Member-left, Member-right}
+use Rattle.tb_base.proofs.Members.{Member-append, Member-left, Member-right}
 use Rattle.earliest_query.specs.Choices.{IsNearest, IsPreferred, IsFirstChoice, nearer_of}
 
 pub contains_push : (xs : List ℕ) (x q : ℕ) → Contains (xs ++ x ∷ []) q → Contains xs q ⊎ (x ≡ q)

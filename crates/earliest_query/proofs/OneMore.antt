@@ -6,7 +6,7 @@ use Rattle.tb_base.specs.TimetableData.{TimetableData, events_of}
 use Rattle.tb_base.specs.BestValues.{QueryData}
 use Rattle.tb_base.specs.Lines.{AreDividedInto, IsTripNoLater}
 use Rattle.tb_base.specs.Search.{RoundSegment, IsCovered, segment_at}
-use Rattle.tb_laws.proofs.LineFacts.{no_later}
+use Rattle.tb_base.proofs.LineFacts.{no_later}
 use Rattle.segment_queue.specs.declared.desk.Segment.{Segment}
 use Rattle.segment_queue.specs.Scans.{trips_from}
 use Rattle.segment_queue.specs.Queue.{DeskData, EntersSegment, IsInStep, mark_of}

@@ -10,7 +10,7 @@ use Rattle.tb_base.specs.TimetableData.{TimetableData}
 use Rattle.tb_base.specs.Transfers.{numbers_below}
 use Rattle.tb_base.specs.Walking.{walk}
 use Rattle.tb_base.proofs.Ordered.{Member, Member-from_Contains, Contains-from_Member, AllPairs-tail}
-use Rattle.tb_laws.proofs.Members.{Member-append, Member-filter, Member-numbers_below}
+use Rattle.tb_base.proofs.Members.{Member-append, Member-filter, Member-numbers_below}
 use Rattle.segment_queue.specs.Scans.{line_indices_at}
 use Rattle.segment_queue.proofs.Totals.{distinct_sum}
 use Rattle.segment_queue.proofs.Distinct.{before_member, of_member, pairs_from_head}

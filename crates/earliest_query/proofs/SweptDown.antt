@@ -14,7 +14,7 @@ use Rattle.tb_base.specs.Soundness.{IsSound}
 use Rattle.tb_base.specs.Sufficiency.{AreSufficient}
 use Rattle.tb_base.proofs.Ordered.{Contains-from_Member, Member-from_Contains}
 use Rattle.tb_laws.specs.Pruning.{AreCoveredBy, IsLate}
-use Rattle.tb_laws.proofs.Members.{Member-append, Member-filter, Member-filter_back, Member-left, Member-right}
+use Rattle.tb_base.proofs.Members.{Member-append, Member-filter, Member-filter_back, Member-left, Member-right}
 use Rattle.tb_laws.proofs.SweepLaws.{late_still}
 use Rattle.tb_laws.proofs.Triangles.{walk_secs-is}
 use Rattle.tb_laws.proofs.UTurnLaws.{some}

@@ -9,7 +9,7 @@ use Rattle.tb_base.specs.declared.query.Value.{Value}
 use Rattle.tb_base.specs.TimetableData.{TimetableData}
 use Rattle.tb_base.specs.BestValues.{IsAttained, QueryData}
 use Rattle.tb_base.proofs.Ordered.{Member, Member-from_Contains, Contains-from_Member}
-use Rattle.tb_laws.proofs.Members.{Member-append, Member-left, Member-right}
+use Rattle.tb_base.proofs.Members.{Member-append, Member-left, Member-right}
 use Rattle.tb_laws.specs.Pruning.{IsLate}
 use Rattle.segment_queue.specs.declared.desk.Hit.{Hit}
 use Rattle.segment_queue.specs.Levels.{with_level}

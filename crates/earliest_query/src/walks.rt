@@ -1,21 +1,9 @@
-ghost use Rattle.std.specs.Prelude.{◌≡◌, ◌+◌, ◌<◌, ◌≤◌, ◌==◌, ℕ, All, AllPairs, IfSome, IsTrue, ◌↔◌, Some, Contains, find, length, slice_index, pos, ◌+ℤ◌, ◌≤ℤ◌};
-ghost use Rattle.std.specs.Option.{option_map};
+ghost use Rattle.std.specs.Prelude.{◌≡◌, ◌+◌, ◌<◌, ◌≤◌, ◌==◌, All, IfSome, IsTrue, ◌↔◌, Some, length, pos, ◌+ℤ◌, ◌≤ℤ◌};
 ghost use Rattle.tb_base.specs.Walking.{walk};
 ghost use Rattle.earliest_query.specs.Choices.{IsFirstChoice, IsNearest, IsPreferred, nearer_of};
 
 use segment_queue::Scan;
-use tb_base::{Path, Query, Sec, StopNo};
-
-// The seconds of the footpath to a stop, among those that leave one.
-fn path_secs(paths: &[Path], to: StopNo) -> Option<u32>
-    requires { AllPairs (λ f g. f.to < g.to) paths.now }
-    ensures { result ≡ option_map (λ f. f.secs) (find (λ f. f.to == to) paths.now) }
-{
-    match paths.binary_search_by_key(&to.index(), |path| path.to.index()) {
-        Ok(place) => Some(paths[place].secs),
-        Err(_) => None,
-    }
-}
+use tb_base::{Query, Sec, StopNo, path_secs};
 
 // The seconds of the walk from one stop to another, where there is one.
 pub(crate) fn walk_secs<S: Scan>(scan: &S, p: StopNo, q: StopNo) -> Option<u32>

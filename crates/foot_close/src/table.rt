@@ -1,6 +1,5 @@
 //! What chains of given changes lead to from each stop.
-ghost use Rattle.std.specs.Prelude.{◌≡◌, ◌<◌, ◌≤◌, ◌==◌, ℕ, AllPairs, MatchResult, filter_map, length, map, find, slice_index_or};
-ghost use Rattle.std.specs.Option.{option_map};
+ghost use Rattle.std.specs.Prelude.{◌≡◌, ◌<◌, ◌≤◌, ◌==◌, MatchResult, filter_map, length, map};
 ghost use Rattle.footpaths.specs.Law.{AreSoundPaths, change_between};
 ghost use Rattle.foot_close.specs.Searching.{reached_of};
 ghost use Rattle.foot_close.specs.Shortest.{closure_of};
@@ -12,7 +11,7 @@ use crate::search::{Reached, Search, own_change, path_row};
 use footpaths::Paths;
 use std::alloc::Global;
 use std::marker::Model;
-use tb_base::{Memory, Path, StopNo};
+use tb_base::{Memory, Path, StopNo, path_secs};
 
 // How many stops other than the first one chains lead to.
 fn other_stops(row: &[Reached], from: StopNo) -> u32
@@ -26,17 +25,6 @@ fn other_stops(row: &[Reached], from: StopNo) -> u32
         }
     }
     count
-}
-
-// The seconds of the footpath to a stop, among those that leave one.
-fn path_secs(row: &[Path], to: StopNo) -> Option<u32>
-    requires { AllPairs (λ f g. f.to < g.to) row.now }
-    ensures { result ≡ option_map (λ f. f.secs) (find (λ f. f.to == to) row.now) }
-{
-    match row.binary_search_by_key(&to.index(), |path| path.to.index()) {
-        Ok(place) => Some(row[place].secs),
-        Err(_) => None,
-    }
 }
 
 /// Given change times and footpaths, and for each stop those that chains lead to, in order.

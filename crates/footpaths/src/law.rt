@@ -1,11 +1,10 @@
 //! The test of the law on footpaths.
-ghost use Rattle.std.specs.Prelude.{◌≡◌, ◌≢◌, ◌<◌, ◌≤◌, ◌+◌, ◌==◌, ℕ, [], AllPairs, Some, MatchResult, length, find, slice_index_or};
-ghost use Rattle.std.specs.Option.{option_map};
+ghost use Rattle.std.specs.Prelude.{◌≡◌, ◌≢◌, ◌<◌, ◌≤◌, ◌+◌, ◌==◌, ℕ, [], Some, MatchResult, length, slice_index_or};
 ghost use Rattle.tb_base.specs.Walking.{KeepsFootpathLaw};
 ghost use Rattle.footpaths.specs.Law.{walking, footpath, change_between, AreSoundPaths, IsGood, IsBreach, IsFirstOver, IsFirstFrom, IsFirstBreach};
 
 use crate::Paths;
-use tb_base::{Path, StopNo};
+use tb_base::{Path, StopNo, path_secs};
 
 /// A breach of the law on footpaths at three stops: from the first over the second to the third.
 /// Absent where there is no change from the first to the third, Long where it takes more seconds
@@ -14,17 +13,6 @@ use tb_base::{Path, StopNo};
 pub enum LawFault {
     Absent(StopNo, StopNo, StopNo),
     Long(StopNo, StopNo, StopNo),
-}
-
-// The seconds of the footpath to a stop, among those that leave one.
-fn path_secs(row: &[Path], to: StopNo) -> Option<u32>
-    requires { AllPairs (λ f g. f.to < g.to) row.now }
-    ensures { result ≡ option_map (λ f. f.secs) (find (λ f. f.to == to) row.now) }
-{
-    match row.binary_search_by_key(&to.index(), |path| path.to.index()) {
-        Ok(place) => Some(row[place].secs),
-        Err(_) => None,
-    }
 }
 
 impl Paths {

@@ -7,8 +7,8 @@ use Rattle.std.proofs.lemmas.List.Elements.{All-nil, All-cons, All-contains}
 use Rattle.tb_base.specs.TimetableData.{TimetableData, events_of}
 use Rattle.tb_base.specs.Lines.{may_follow, place_trip, last_trip, AreDividedInto}
 use Rattle.tb_base.proofs.Ordered.{Member, Member-from_Contains, Contains-from_Member}
-use Rattle.tb_laws.proofs.Members.{Member-left, Member-right}
-use Rattle.tb_laws.proofs.LineFacts.{line_of}
+use Rattle.tb_base.proofs.Members.{Member-left, Member-right}
+use Rattle.tb_base.proofs.LineFacts.{line_of}
 use Rattle.line_split.specs.LinesOf.{StandsAt}
 
 module _ (T : TimetableData) where

@@ -10,7 +10,7 @@ use Rattle.std.proofs.lemmas.List.Concat.{flat_map-append}
 use Rattle.tb_base.specs.TimetableData.{TimetableData, departure_at}
 use Rattle.tb_base.specs.Transfers.{numbers_below, earliest_trip}
 use Rattle.tb_base.specs.Lines.{AreDividedInto}
-use Rattle.tb_laws.proofs.LineFacts.{MayFollow, no_later}
+use Rattle.tb_base.proofs.LineFacts.{MayFollow, no_later}
 use Rattle.line_split.specs.LinesOf.{departures_at, line_departures, line_events}
 use Rattle.line_split.proofs.CallLemmas.{numbers_below-more}
 

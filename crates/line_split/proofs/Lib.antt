@@ -1,3 +1,5 @@
+pub mod LineLaws
+pub mod OrderLaws
 pub mod RowLemmas
 pub mod EventLemmas
 pub mod Placing

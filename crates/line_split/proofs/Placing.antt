@@ -9,8 +9,8 @@ use Rattle.tb_base.specs.declared.table.Event.{Event}
 use Rattle.tb_base.specs.TimetableData.{TimetableData, events_of}
 use Rattle.tb_base.specs.Lines.{may_follow, place_trip, last_trip}
 use Rattle.tb_base.proofs.Ordered.{Member, Member-from_Contains, Contains-from_Member, AllPairs-head, AllPairs-tail}
-use Rattle.tb_laws.proofs.Members.{both_true, find_found}
-use Rattle.tb_laws.proofs.LineFacts.{event_no_later}
+use Rattle.tb_base.proofs.Members.{both_true, find_found}
+use Rattle.tb_base.proofs.LineFacts.{event_no_later}
 use Rattle.line_split.specs.Patterns.{mix, marks_of, bucket_of}
 use Rattle.line_split.specs.Buckets.{last_of, AreBucketed}
 

@@ -10,7 +10,7 @@ use Rattle.tb_base.specs.TimetableData.{TimetableData}
 use Rattle.tb_base.specs.Walking.{footpath_secs}
 use Rattle.tb_base.specs.Soundness.{IsSound, IsSoundPath}
 use Rattle.tb_base.proofs.Ordered.{Member, Member-from_Contains, Contains-from_Member}
-use Rattle.tb_laws.proofs.Members.{find_first, find_found}
+use Rattle.tb_base.proofs.Members.{find_first, find_found}
 
 abbrev pub no_path : Path
 no_path = record { to = 0; secs = 0 }

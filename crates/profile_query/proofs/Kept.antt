@@ -11,7 +11,7 @@ use Rattle.tb_base.specs.TimetableData.{TimetableData}
 use Rattle.tb_base.specs.BestValues.{QueryData, IsAttained, IsBest, IsNoWorse, IsStep}
 use Rattle.tb_base.proofs.Ordered.{Member, Member-from_Contains}
 use Rattle.tb_laws.specs.Pruning.{IsLate}
-use Rattle.tb_laws.proofs.Members.{both_true}
+use Rattle.tb_base.proofs.Members.{both_true}
 use Rattle.profile_query.specs.Slots.{AreFound, is_kept, is_no_worse}
 
 -- what the test says

@@ -13,7 +13,7 @@ use Rattle.tb_base.specs.BestValues.{QueryData, IsAttained, IsBest, IsNoWorse, v
 use Rattle.tb_base.specs.Profiles.{WindowData, IsOffered, IsProfile, IsProfileSlot, SlotPrecedes}
 use Rattle.tb_base.specs.Soundness.{IsSound}
 use Rattle.tb_base.proofs.Ordered.{AllPairs-tail, Member, Contains-from_Member, Member-from_Contains}
-use Rattle.tb_laws.proofs.Members.{Member-filter}
+use Rattle.tb_base.proofs.Members.{Member-filter}
 use Rattle.tb_laws.proofs.ProfileLaws.{profile_slot, slot_best, slot_has_ride, slot_none_later}
 use Rattle.tb_laws.proofs.Triangles.{walk_secs-is}
 use Rattle.profile_query.specs.Leaving.{AreLeavingTimes, IsLeavingBefore, IsLeavingTime}

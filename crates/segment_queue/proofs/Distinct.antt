@@ -7,7 +7,7 @@ use Rattle.std.proofs.lemmas.Bool.Decides.{nat_tests}
 use Rattle.std.proofs.lemmas.List.Elements.{All-weaker, All-contains, All-contains_itself}
 use Rattle.std.proofs.lemmas.List.Kept.{AllPairs-cons}
 use Rattle.tb_base.proofs.Ordered.{Member, Member-from_Contains, Contains-from_Member, AllPairs-head, AllPairs-tail}
-use Rattle.tb_laws.proofs.Members.{Member-left, Member-right}
+use Rattle.tb_base.proofs.Members.{Member-left, Member-right}
 
 abbrev pub has : ℕ → List ℕ → Bool
 has t xs = list_any (λ x. x == t) xs

@@ -10,7 +10,7 @@ use Rattle.tb_base.specs.TimetableData.{TimetableData, events_of, event_total}
 use Rattle.tb_base.specs.Lines.{AreDividedInto}
 use Rattle.tb_base.specs.Soundness.{IsSound, IsSoundTrip}
 use Rattle.tb_base.proofs.Ordered.{Member}
-use Rattle.tb_laws.proofs.LineFacts.{MayFollow, no_later}
+use Rattle.tb_base.proofs.LineFacts.{MayFollow, no_later}
 use Rattle.segment_queue.specs.declared.desk.Segment.{Segment}
 use Rattle.segment_queue.specs.Scans.{trips_from}
 use Rattle.segment_queue.specs.Queue.{DeskData, EntersSegment, Fits, IsFalling, IsInStep, IsSoundSegment, covered_indices, last_index, lowered, mark_of}

@@ -10,7 +10,7 @@ use Rattle.std.proofs.Math.Seq.{get_or-append_seam}
 use Rattle.tb_base.specs.TimetableData.{TimetableData, events_of}
 use Rattle.tb_base.specs.Lines.{AreDividedInto, IsTripNoLater}
 use Rattle.tb_base.specs.Search.{IsCovered, RoundSegment, segment_at}
-use Rattle.tb_laws.proofs.LineFacts.{no_later}
+use Rattle.tb_base.proofs.LineFacts.{no_later}
 use Rattle.segment_queue.specs.Scans.{trips_from}
 use Rattle.segment_queue.specs.Queue.{IsFalling, lowered, mark_of}
 use Rattle.segment_queue.specs.Levels.{AreDescending, AreKept, EntersLevel, level_mark, level_segment, with_level}

@@ -7,8 +7,8 @@ use Rattle.tb_base.specs.TimetableData.{TimetableData}
 use Rattle.tb_base.specs.Transfers.{line_from}
 use Rattle.tb_base.specs.Lines.{AreDividedInto, IsTripNoLater}
 use Rattle.tb_base.proofs.Ordered.{Member, Member-from_Contains, AllPairs-tail}
-use Rattle.tb_laws.proofs.Members.{Member-append, Member-left, Member-right}
-use Rattle.tb_laws.proofs.LineFacts.{MayFollow, no_later}
+use Rattle.tb_base.proofs.Members.{Member-append, Member-left, Member-right}
+use Rattle.tb_base.proofs.LineFacts.{MayFollow, no_later}
 use Rattle.segment_queue.specs.Scans.{trips_from}
 use Rattle.segment_queue.proofs.Distinct.{has, has_member, same_or_other, member_or_not, before_member, pairs_from_head, pairs_left, pairs_right, AreDistinct, in_one_part}
 

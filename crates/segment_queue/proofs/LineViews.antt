@@ -13,7 +13,7 @@ use Rattle.tb_base.specs.TimetableData.{TimetableData, event_total, events_of, s
 use Rattle.tb_base.specs.Lines.{AreDividedInto, AreLines, last_trip, may_follow, place_trip}
 use Rattle.tb_base.specs.Transfers.{earliest_trip, line_from, may_be_boarded, numbers_below}
 use Rattle.tb_base.proofs.Ordered.{Member, AllPairs-tail}
-use Rattle.tb_laws.proofs.Members.{Member-left, Member-right, Member-filter_back, Member-flat_map_back, Member-numbers_below}
+use Rattle.tb_base.proofs.Members.{Member-left, Member-right, Member-filter_back, Member-flat_map_back, Member-numbers_below}
 use Rattle.line_split.specs.declared.lines.Berth.{Berth}
 use Rattle.line_split.specs.LinesOf.{berths_at, calls_at, line_events}
 use Rattle.segment_queue.specs.Scans.{LineIndex, boarding_hop, first_trip, indices_at, line_indices_at, no_line_index, trips_from}

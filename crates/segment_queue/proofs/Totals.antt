@@ -7,7 +7,7 @@ use Rattle.std.proofs.lemmas.List.Elements.{All-head, All-tail}
 use Rattle.tb_base.specs.TimetableData.{TimetableData, TripData, events_of, event_total}
 use Rattle.tb_base.specs.Transfers.{numbers_below}
 use Rattle.tb_base.proofs.Ordered.{Member, AllPairs-tail}
-use Rattle.tb_laws.proofs.Members.{Member-append, Member-left, Member-right}
+use Rattle.tb_base.proofs.Members.{Member-append, Member-left, Member-right}
 use Rattle.segment_queue.proofs.Distinct.{before_member}
 use Rattle.segment_queue.specs.declared.desk.Segment.{Segment}
 use Rattle.segment_queue.specs.Queue.{IsSoundSegment, covered_indices, last_index, last_total}

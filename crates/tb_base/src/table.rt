@@ -38,6 +38,7 @@ impl Name {
 #[derive(Clone, Copy, Debug, PartialEq, Eq)]
 pub struct Event {
     pub stop: StopNo,
+    /// In seconds since noon minus twelve hours, as `dep`.
     pub arr: Sec,
     pub dep: Sec,
     pub board: bool,

@@ -1,11 +1,11 @@
-ghost use Rattle.std.specs.Prelude.{◌≡◌, ◌≢◌, ℕ, ◌<◌, ◌≤◌, ◌==◌, length, find, map, sum_by, All, AllPairs, Some};
-ghost use Rattle.std.specs.Option.{option_map};
+ghost use Rattle.std.specs.Prelude.{◌≡◌, ◌≢◌, ℕ, ◌<◌, ◌≤◌, length, map, sum_by, All, AllPairs, Some};
 ghost use Rattle.tb_base.specs.TimetableData.{TripData};
 
 use super::memory::Memory;
 use super::name_index::NameIndex;
 use super::numbers::{StopNo, TripNo};
 use super::query::Place;
+use super::paths::path_secs;
 use super::table::{Event, Parts, Path, Station, Stop, Trip};
 use std::alloc::Global;
 use std::marker::Model;
@@ -45,17 +45,6 @@ fn paths_in(rows: &[Vec<Path>]) -> u64
     ensures { result ≡ sum_by (λ row. length row.items) rows.now }
 {
     rows.iter().map(|row| row.len() as u64).sum()
-}
-
-// The seconds of the footpath to a stop, among those that leave one.
-fn path_secs(paths: &[Path], to: StopNo) -> Option<u32>
-    requires { AllPairs (λ f g. f.to < g.to) paths.now }
-    ensures { result ≡ option_map (λ f. f.secs) (find (λ f. f.to == to) paths.now) }
-{
-    match paths.binary_search_by_key(&to.index(), |path| path.to.index()) {
-        Ok(place) => Some(paths[place].secs),
-        Err(_) => None,
-    }
 }
 
 impl Parts {
@@ -163,6 +152,14 @@ impl Timetable {
         ensures sound { IsSoundTrip (length self.now.stops) result.now }
     {
         &self.parts.trips[t.index()]
+    }
+
+    /// The events of a trip, in order.
+    pub fn events(&self, t: TripNo) -> &[Event]
+        requires { t < length self.now.trips }
+        ensures { result.now ≡ events_of self.now t }
+    {
+        self.trip(t).events.as_slice()
     }
 
     /// The event of a trip with an index, counted from 0.

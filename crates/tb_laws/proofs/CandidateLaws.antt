@@ -16,8 +16,8 @@ use Rattle.tb_base.specs.Transfers.{candidates, hop_onto, boarding_indexes, may_
 use Rattle.tb_base.specs.Sufficiency.{IsPossibleHop, DoesAsWell, SavesARide, GoesByHop, AreSufficient}
 use Rattle.tb_base.proofs.Events.{MayBoard-inside, MayAlight-inside}
 use Rattle.tb_base.proofs.Ordered.{Member, Member-from_Contains, Contains-from_Member, AllPairs-head, AllPairs-tail}
-use Rattle.tb_laws.proofs.Members.{both_true, find_first, find_found, Member-flat_map, Member-flat_map_back, Member-filter, Member-filter_back, Member-filter_map, Member-filter_map_back, Member-numbers_below}
-use Rattle.tb_laws.proofs.LineFacts.{IsTripNoLater, MayFollow, no_later, first_no_later, line_of}
+use Rattle.tb_base.proofs.Members.{both_true, find_first, find_found, Member-flat_map, Member-flat_map_back, Member-filter, Member-filter_back, Member-filter_map, Member-filter_map_back, Member-numbers_below}
+use Rattle.tb_base.proofs.LineFacts.{IsTripNoLater, MayFollow, no_later, first_no_later, line_of}
 use Rattle.tb_laws.proofs.Exchange.{≤ℤ-refl, ≤ℤ-trans, AlightsAs, LeadsOn-alights, arrival_after-alights, Leads-at, replaced}
 
 -- what is known of a number that is there

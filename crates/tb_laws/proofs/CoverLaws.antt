@@ -8,7 +8,7 @@ use Rattle.tb_base.specs.Soundness.{IsSound}
 use Rattle.tb_base.specs.Journeys.{Ride, IsRide, Leads, LeadsOn, LeavesNoEarlier, arrival, arrival_after, boarding_time, alighting_time}
 use Rattle.tb_base.specs.BestValues.{QueryData, IsAttained, IsNoWorse, IsBest, AreBestValues}
 use Rattle.tb_base.proofs.Ordered.{Member, Member-from_Contains, Contains-from_Member}
-use Rattle.tb_laws.proofs.Members.{both_true}
+use Rattle.tb_base.proofs.Members.{both_true}
 use Rattle.tb_laws.proofs.CandidateLaws.{some_and}
 use Rattle.tb_laws.proofs.UTurnLaws.{ride_onward}
 

@@ -17,7 +17,7 @@ use Rattle.tb_base.specs.Transfers.{Alternative, alightings, alightings_by, numb
 use Rattle.tb_base.specs.Sufficiency.{IsPossibleHop, SavesARide, GoesByHop, AreSufficient}
 use Rattle.tb_base.proofs.Events.{MayBoard-inside, MayAlight-inside}
 use Rattle.tb_base.proofs.Ordered.{Member, Member-from_Contains, Contains-from_Member, AllPairs-head, AllPairs-tail}
-use Rattle.tb_laws.proofs.Members.{both_true, Member-append, Member-flat_map, Member-flat_map_back, Member-filter, Member-filter_back, Member-filter_map, Member-filter_map_back, Member-numbers_below, below_or_last, find_found}
+use Rattle.tb_base.proofs.Members.{AllPairs-append, AllPairs-cons, both_true, Member-append, Member-flat_map, Member-flat_map_back, Member-filter, Member-filter_back, Member-filter_map, Member-filter_map_back, Member-numbers_below, below_or_last, find_found}
 use Rattle.tb_laws.proofs.Offers.{Offers, offered_before}
 use Rattle.tb_laws.proofs.Exchange.{≤ℤ-refl, Leads-at, replaced}
 use Rattle.tb_laws.proofs.Triangles.{walk_secs-is}
@@ -96,18 +96,6 @@ module _ (T : TimetableData) (t : ℕ) where
       by_test more false h = inr (more h)
 
 -- ---- lists in order
-
-pub AllPairs-cons : {X : Type 0} (R : X → X → Type 0) (x : X) (xs : List X) → ((y : X) → Member y xs → R x y) → AllPairs R xs → AllPairs R (x ∷ xs)
-AllPairs-cons R x xs head tail zero zero d before below = absurd (omega (arith, before))
-AllPairs-cons R x xs head tail zero (suc j) d before below = head (get_or xs j d) (Member-from_Contains (get_or xs j d) xs (j, omega (arith, below), get_or_default xs j (get_or xs j d) d (omega (arith, below))))
-AllPairs-cons R x xs head tail (suc i) zero d before below = absurd (omega (arith, before))
-AllPairs-cons R x xs head tail (suc i) (suc j) d before below = tail i j d (omega (arith, before)) (omega (arith, below))
-
-pub AllPairs-append : {X : Type 0} (R : X → X → Type 0) (xs ys : List X) → AllPairs R xs → AllPairs R ys → ((x y : X) → Member x xs → Member y ys → R x y) → AllPairs R (xs ++ ys)
-AllPairs-append R [] ys p q r = q
-AllPairs-append R (x ∷ xs) ys p q r =
-    AllPairs-cons R x (xs ++ ys) (λ y h. elim (Member-append y xs ys h) [ inl k ↦ AllPairs-head R x xs p y (Contains-from_Member y xs k) | inr k ↦ r x y (inl refl) k ])
-    (AllPairs-append R xs ys (AllPairs-tail R x xs p) q (λ w y h k. r w y (inr h) k))
 
 Member-numbers_down : (k n : ℕ) → k < n → Member k (numbers_down n)
 Member-numbers_down k zero h = absurd (omega arith)

@@ -9,7 +9,7 @@ use Rattle.std.proofs.lemmas.List.Elements.{All-contains}
 use Rattle.tb_base.specs.declared.table.Event.{Event}
 use Rattle.tb_base.specs.Transfers.{least, earliest_offer, is_sooner, is_soonest}
 use Rattle.tb_base.proofs.Ordered.{Member, Member-from_Contains, Contains-from_Member}
-use Rattle.tb_laws.proofs.Members.{Member-filter_map, Member-filter_map_back}
+use Rattle.tb_base.proofs.Members.{Member-filter_map, Member-filter_map_back}
 
 -- by these seconds one of the events is at stop p by the time
 pub record Offers (secs_to : ℕ → ℕ → Option ℕ) (p : ℕ) (events : List Event) (time : ℤ) : Type 0 where

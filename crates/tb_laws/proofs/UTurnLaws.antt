@@ -13,7 +13,7 @@ use Rattle.tb_base.specs.Transfers.{candidates, candidates_without_u_turns, is_u
 use Rattle.tb_base.specs.Sufficiency.{DoesAsWell, SavesARide, GoesByHop, AreSufficient}
 use Rattle.tb_base.proofs.Events.{MayAlight-inside}
 use Rattle.tb_base.proofs.Ordered.{Member-from_Contains, Contains-from_Member}
-use Rattle.tb_laws.proofs.Members.{both_true, Member-filter, Member-filter_back}
+use Rattle.tb_base.proofs.Members.{both_true, Member-filter, Member-filter_back}
 use Rattle.tb_laws.proofs.Triangles.{change-same, walk_secs-is, change-change, walk-change, change-walk, walk-walk}
 use Rattle.tb_laws.proofs.Exchange.{≤ℤ-refl, ≤ℤ-trans, AlightsAs, LeadsOn-alights, arrival_after-alights, Leads-at, replaced}
 use Rattle.tb_laws.proofs.CandidateLaws.{some_and, and_some, test_le, GoesByCandidate, candidates_step, candidates_possible}

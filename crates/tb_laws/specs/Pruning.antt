@@ -1,5 +1,5 @@
 -- A search by segments that does not go on from where it comes too late.
-use Rattle.std.specs.Prelude.{ℕ, suc, ◌+◌, ◌<◌, ◌≤◌, ◌⊎◌, List, ◌++◌, length, Contains, Some, ℤ, pos, ◌+ℤ◌, ◌≤ℤ◌, ◌<ℤ◌, ◌≡◌}
+use Rattle.std.specs.Prelude.{ℕ, suc, ◌+◌, ◌<◌, ◌≤◌, ◌⊎◌, List, length, Contains, Some, ℤ, pos, ◌+ℤ◌, ◌≤ℤ◌, ◌≡◌}
 use Rattle.tb_base.specs.declared.transfer.Hop.{Hop}
 use Rattle.tb_base.specs.declared.query.Value.{Value}
 use Rattle.tb_base.specs.TimetableData.{TimetableData, arrival_at, departure_at, events_of, stop_at, MayBoard}
@@ -23,17 +23,6 @@ pub record IsPrunedSearch (T : TimetableData) (hops : ℕ → ℕ → List Hop) 
   -- what lies past the end of a segment is covered by a segment before it
   pub ends : (n : ℕ) → n < length segments →
       (length (events_of T (segment_at segments n).trip) ≤ suc (segment_at segments n).end) ⊎ IsCovered T segments n (segment_at segments n).round (segment_at segments n).trip (segment_at segments n).end
-
--- What a sweep from the last departure to the first adds when it comes from one time to an earlier one: the segments of before stay,
--- and of what is new each first ride that leaves between the two times, each hop and each end is covered by old segments or new ones.
-pub record IsSweptOn (T : TimetableData) (hops : ℕ → ℕ → List Hop) (origins : List ℕ) (asked later : ℤ) (values : List Value) (past new : List RoundSegment) : Type 0 where
-  pub reached : (n : ℕ) → n < length new → IsReached T origins asked (segment_at new n).round (segment_at new n).trip (segment_at new n).board
-  pub starts : (p t b secs : ℕ) → Contains origins p → MayBoard T t b → b + 1 < length (events_of T t) → walk T p (stop_at T t b) ≡ Some secs → (asked +ℤ pos secs) ≤ℤ departure_at T t b → departure_at T t b <ℤ (later +ℤ pos secs) →
-      IsCovered T (past ++ new) (length past + length new) 1 t b
-  pub goes_on : (n i : ℕ) (h : Hop) → n < length new → (segment_at new n).board < i → i ≤ (segment_at new n).end → Contains (hops (segment_at new n).trip i) h →
-      IsCovered T (past ++ new) (length past + length new) (suc (segment_at new n).round) h.trip h.at ⊎ IsLate values (arrival_at T (segment_at new n).trip i) (segment_at new n).round
-  pub ends : (n : ℕ) → n < length new →
-      (length (events_of T (segment_at new n).trip) ≤ suc (segment_at new n).end) ⊎ IsCovered T (past ++ new) (length past + n) (segment_at new n).round (segment_at new n).trip (segment_at new n).end
 
 -- each of these values has one among others that is no worse
 abbrev pub AreCoveredBy : List Value → List Value → Type 0

@@ -8,7 +8,7 @@ ghost use Rattle.tb_base.specs.TimetableData.{MayAlight, MayBoard, TimetableData
 ghost use Rattle.tb_base.specs.Walking.{walk};
 ghost use Rattle.tb_base.specs.declared.query.Value.{Value};
 ghost use Rattle.tb_base.specs.declared.transfer.Hop.{Hop};
-ghost use Rattle.tb_laws.specs.Pruning.{AreCoveredBy, HoldOffers, HoldWalks, IsLate, IsPrunedSearch, IsSweptOn};
+ghost use Rattle.tb_laws.specs.Pruning.{HoldOffers, HoldWalks, IsLate, IsPrunedSearch};
 
 /// A search over enough hops finds each best value with rides, by alighting from a segment of its round.
 pub fn best_value_found()
@@ -29,14 +29,6 @@ pub fn pruned_value_found()
 pub fn whole_search()
     ensures { (T : TimetableData) (hops : ℕ → ℕ → List Hop) (origins : List ℕ) (asked : ℤ) (segments : List RoundSegment) →
         IsPrunedSearch T hops origins asked [] segments → IsSearched T hops origins asked segments }
-{}
-
-/// A sweep over departures, from the last to the first, that keeps its segments and values: at each of its times they are those of
-/// a search at this time. A sweep that comes to an earlier time owes only what leaves between the two times.
-pub fn swept_on()
-    ensures { (T : TimetableData) (hops : ℕ → ℕ → List Hop) (origins : List ℕ) (asked later : ℤ) (old values : List Value) (past new : List RoundSegment) →
-        asked ≤ℤ later → AreCoveredBy old values → IsPrunedSearch T hops origins later old past → IsSweptOn T hops origins asked later values past new →
-        IsPrunedSearch T hops origins asked values (past ++ new) }
 {}
 
 /// Attained values that hold all that a search over enough hops offers, and all walks, hold every attained value.

@@ -14,8 +14,8 @@ use Rattle.tb_base.specs.TimetableData.{TimetableData, events_of, event_at, stop
 use Rattle.tb_base.specs.Transfers.{candidates, boarding_indexes, earliest_trip, hop_onto, is_own_line_onward, may_be_boarded, numbers_below, numbers_down}
 use Rattle.tb_base.specs.Walking.{change}
 use Rattle.tb_base.proofs.Ordered.{Member, Contains-from_Member}
-use Rattle.tb_laws.proofs.Members.{find_found, Member-filter_back, Member-flat_map_back}
-use Rattle.tb_laws.proofs.LineLaws.{lines_divide}
+use Rattle.tb_base.proofs.Members.{find_found, Member-filter_back, Member-flat_map_back}
+use Rattle.line_split.proofs.LineLaws.{lines_divide}
 use Rattle.tb_laws.proofs.Triangles.{change-same, change-other}
 use Rattle.line_split.specs.declared.lines.Berth.{Berth}
 use Rattle.line_split.specs.LinesData.{LinesData}

@@ -7,7 +7,7 @@ use Rattle.tb_base.specs.Lines.{AreDividedInto}
 use Rattle.tb_base.specs.TimetableData.{TimetableData}
 use Rattle.tb_base.specs.Transfers.{is_own_line_onward, line_from}
 use Rattle.tb_base.proofs.Ordered.{Member, Contains-from_Member, AllPairs-head, AllPairs-tail}
-use Rattle.tb_laws.proofs.Members.{Member-left, Member-right}
+use Rattle.tb_base.proofs.Members.{Member-left, Member-right}
 use Rattle.line_split.specs.LinesOf.{StandsAt}
 
 -- no number stands twice

@@ -8,7 +8,7 @@ use Rattle.std.proofs.lemmas.List.Elements.{All-head, All-tail}
 use Rattle.tb_base.specs.declared.table.Path.{Path}
 use Rattle.tb_base.specs.Transfers.{numbers_below}
 use Rattle.tb_base.proofs.Ordered.{Member, Contains-from_Member, AllPairs-head, AllPairs-tail}
-use Rattle.tb_laws.proofs.Members.{Member-left, Member-right, Member-append}
+use Rattle.tb_base.proofs.Members.{Member-left, Member-right, Member-append}
 use Rattle.line_split.proofs.TripOrders.{range_more}
 
 pub numbers_below-range : (n : ℕ) → numbers_below n ≡ range_with_len 0 n

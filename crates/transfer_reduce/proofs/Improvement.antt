@@ -12,7 +12,7 @@ use Rattle.tb_base.specs.Transfers.{is_improvement, is_sooner, is_soonest, least
 use Rattle.tb_base.specs.Walking.{change, walk}
 use Rattle.tb_base.proofs.Ordered.{Member}
 use Rattle.tb_laws.proofs.LabelLaws.{is_soonest-label}
-use Rattle.tb_laws.proofs.Members.{Member-numbers_below}
+use Rattle.tb_base.proofs.Members.{Member-numbers_below}
 use Rattle.tb_laws.proofs.Triangles.{change-change, change-other, equal_or_not, walk-other, walk-same, walk-walk}
 use Rattle.tb_laws.specs.Labels.{label}
 use Rattle.transfer_reduce.proofs.Lesser.{IsOffered, earliest_sooner, label_below, label_offered, not_sooner-some, offer_by, some_not_sooner}

@@ -13,7 +13,7 @@ use Rattle.tb_base.specs.TimetableData.{TripData, TimetableData, event_at, event
 use Rattle.tb_base.specs.Transfers.{Alternative, alightings, alternatives_at, boarding_indexes, candidates_without_u_turns, earliest_offer, hop_onto, improving_alternatives, is_improvement, is_u_turn, kept_alternatives, kept_hops, numbers_below, numbers_down, transfers_of}
 use Rattle.tb_base.specs.Walking.{walk}
 use Rattle.tb_base.proofs.Ordered.{Member}
-use Rattle.tb_laws.proofs.Members.{Member-append, both_true}
+use Rattle.tb_base.proofs.Members.{Member-append, both_true}
 use Rattle.tb_laws.proofs.TransferLaws.{kept_transfers}
 use Rattle.tb_laws.specs.Labels.{label, lesser}
 use Rattle.transfer_reduce.specs.Reduced.{HasRowAt, Reduces, alternative_row, hop_from, row_of}

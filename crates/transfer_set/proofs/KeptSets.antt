@@ -15,7 +15,7 @@ use Rattle.tb_base.specs.Sufficiency.{AreSufficient}
 use Rattle.tb_base.specs.Transfers.{kept_hops, numbers_down, transfers_of}
 use Rattle.tb_base.proofs.Events.{MayAlight-inside, MayBoard-inside, get_or-past}
 use Rattle.tb_base.proofs.Ordered.{Member, Contains-from_Member}
-use Rattle.tb_laws.proofs.Members.{Member-flat_map_back}
+use Rattle.tb_base.proofs.Members.{Member-flat_map_back}
 use Rattle.tb_laws.proofs.KeptLaws.{kept_hops_sufficient}
 use Rattle.segment_queue.proofs.Distinct.{all_by_member}
 use Rattle.transfer_pack.specs.Packed.{PackedHops, packed}

@@ -2,7 +2,7 @@ use Rattle.std.proofs.Common.{◌≡◌, ◌∙◌, ◌<◌, sym, ap, subst, fol
 use Rattle.std.specs.Prelude.{All}
 use Rattle.std.specs.List.{concat}
 use Rattle.tb_base.specs.Lines.{AreLines, place_trip}
-use Rattle.tb_laws.proofs.LineLaws.{lines_divide}
+use Rattle.line_split.proofs.LineLaws.{lines_divide}
 use Rattle.line_split.specs.LinesOf.{AreLinesOf}
 use Rattle.line_split.proofs.Counts.{rows-all, all_stand}
 use Rattle.line_split.proofs.split.Goals as goal

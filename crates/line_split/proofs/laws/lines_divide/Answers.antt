@@ -1,4 +1,4 @@
-use Rattle.tb_laws.proofs.LineLaws.{lines_divide}
+use Rattle.line_split.proofs.LineLaws.{lines_divide}
 use Rattle.line_split.proofs.laws.lines_divide.Goals as goal
 
 pub returns : goal.returns

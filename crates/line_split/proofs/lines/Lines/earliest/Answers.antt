@@ -2,7 +2,7 @@ use Rattle.std.proofs.Common.{◌∙◌, sym, ap, arith, ◌<◌, ◌≤◌, len
 use Rattle.std.proofs.lemmas.Int.{to_z-of_z}
 use Rattle.std.specs.Int.{w32}
 use Rattle.std.proofs.lemmas.Option.{slice_get-get_or}
-use Rattle.tb_laws.proofs.LineLaws.{lines_divide}
+use Rattle.line_split.proofs.LineLaws.{lines_divide}
 use Rattle.line_split.specs.LinesData.{LinesData}
 use Rattle.line_split.proofs.DepartureLemmas.{run_ascends, found_at, slice_get-past}
 use Rattle.line_split.proofs.lines.Lines.earliest.Goals as goal

@@ -10,9 +10,8 @@ use Rattle.tb_base.specs.declared.table.Event.{Event}
 use Rattle.tb_base.specs.TimetableData.{TimetableData, events_of}
 use Rattle.tb_base.specs.Lines.{may_follow, same_mark, place_trip, last_trip, times_of, TripPrecedes, AreLines, AreDividedInto}
 use Rattle.tb_base.proofs.Ordered.{Member, Member-from_Contains, Contains-from_Member, AllPairs-head, AllPairs-tail}
-use Rattle.tb_laws.proofs.Members.{both_true, Member-left, Member-right, Member-append}
-use Rattle.tb_laws.proofs.LineFacts.{MayFollow, IsEventNoLater, event_no_later}
-use Rattle.tb_laws.proofs.KeptLaws.{AllPairs-cons, AllPairs-append}
+use Rattle.tb_base.proofs.Members.{AllPairs-append, AllPairs-cons, both_true, Member-left, Member-right, Member-append}
+use Rattle.tb_base.proofs.LineFacts.{MayFollow, IsEventNoLater, event_no_later}
 
 same_true : (a b : ℕ) → a ≡ b → (a == b) ≡ true
 same_true a b h = grind arith

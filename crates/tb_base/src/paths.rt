@@ -1,0 +1,17 @@
+ghost use Rattle.std.specs.Prelude.{◌≡◌, ◌<◌, ◌==◌, find, AllPairs};
+ghost use Rattle.std.specs.Option.{option_map};
+
+use super::numbers::StopNo;
+use super::table::Path;
+
+/// The seconds of the footpath to a stop, among those that leave one, which ascend by the stop that they lead to. Takes time by the
+/// logarithm of their number.
+pub fn path_secs(paths: &[Path], to: StopNo) -> Option<u32>
+    requires { AllPairs (λ f g. f.to < g.to) paths.now }
+    ensures { result ≡ option_map (λ f. f.secs) (find (λ f. f.to == to) paths.now) }
+{
+    match paths.binary_search_by_key(&to.index(), |path| path.to.index()) {
+        Ok(place) => Some(paths[place].secs),
+        Err(_) => None,
+    }
+}
