@@ -2,7 +2,7 @@
 use Rattle.std.proofs.Common.{◌≡◌, ◌∙◌, ℕ, List, Bool, true, false, sym, ap}
 use Rattle.tb_base.specs.declared.transfer.Transfer.{Transfer}
 use Rattle.tb_base.specs.TimetableData.{TimetableData}
-use Rattle.transfer_set.specs.Reductions.{ReducedData, reduced}
+use Rattle.reduce_workers.specs.Reductions.{ReducedData, reduced}
 use Rattle.answer_text.specs.Builds.{build_list_text, build_text}
 use Rattle.answer_text.specs.declared.builds.BuildCounts.{BuildCounts}
 use Rattle.build_report.specs.Reports.{counts_of, report}

@@ -2,7 +2,7 @@
 use Rattle.std.specs.Prelude.{◌≡◌, ℕ, List, Bool, length, if◌then◌else◌}
 use Rattle.tb_base.specs.Lines.{AreLines}
 use Rattle.tb_base.specs.TimetableData.{TimetableData}
-use Rattle.transfer_set.specs.Reductions.{ReducedData, reduced}
+use Rattle.reduce_workers.specs.Reductions.{ReducedData, reduced}
 use Rattle.answer_text.specs.Builds.{build_list_text, build_text}
 use Rattle.answer_text.specs.declared.builds.BuildCounts.{BuildCounts}
 

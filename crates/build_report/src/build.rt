@@ -7,7 +7,7 @@ use reduce_workers::reduce_all;
 use std::alloc::Global;
 use std::thread::Threads;
 use tb_base::{Gate, Memory, Timetable};
-use transfer_set::Reduced;
+use reduce_workers::Reduced;
 
 // How many lines there are, and the counts of the reduction.
 fn counts_of(lines: &Lines, reduced: &Reduced) -> BuildCounts

@@ -12,7 +12,7 @@ use segment_queue::{Desk, View};
 use std::alloc::Global;
 use tb_base::{Choice, Memory, Offer, Query, Sec, StopNo, Timetable, Window};
 use transfer_pack::Set;
-use transfer_set::kept_set;
+use reduce_workers::kept_set;
 
 /// How many choices or slots were found, and the sum of their arrivals.
 #[derive(Clone, Copy)]

@@ -15,7 +15,7 @@ use segment_queue::{Desk, View};
 use std::alloc::Global;
 use tb_base::{Memory, Place, Query, Sec, StopNo, Timetable, Window};
 use transfer_pack::Set;
-use transfer_set::kept_set;
+use reduce_workers::kept_set;
 
 // A window is a quarter of an hour.
 const SECONDS: u32 = 900;

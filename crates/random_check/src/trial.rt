@@ -14,7 +14,7 @@ use segment_queue::{Desk, View};
 use std::alloc::Global;
 use tb_base::{Query, Timetable, Window};
 use transfer_pack::Set;
-use transfer_set::kept_set;
+use reduce_workers::kept_set;
 use trip_table::Options;
 
 // How many queries and windows are asked over each feed.

@@ -4,7 +4,7 @@ use Rattle.std.proofs.lemmas.List.{map-append, append-nil}
 use Rattle.std.proofs.lemmas.List.Elements.{All-push}
 use Rattle.std.proofs.lemmas.List.Concat.{flat_map-append}
 use Rattle.tb_base.specs.declared.memory.Memory.{Memory}
-use Rattle.transfer_set.specs.Reductions.{ReducedData}
+use Rattle.reduce_workers.specs.Reductions.{ReducedData}
 use Rattle.reduce_workers.specs.Claim.{hand}
 use Rattle.reduce_workers.specs.Seats.{ClaimData, SeatData, IsDone, IsOpen, drawn_of}
 use Rattle.reduce_workers.specs.Work.{Worked, piece_of, pieces_of}

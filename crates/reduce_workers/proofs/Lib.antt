@@ -1,3 +1,6 @@
+pub mod Counts
+pub mod MoreTrips
+pub mod KeptSets
 pub mod Keeps
 pub mod Loops
 pub mod Drawing

@@ -6,7 +6,7 @@ use Rattle.std.proofs.lemmas.List.Elements.{All-nil, All-map, All-append}
 use Rattle.std.proofs.lemmas.Grind.{get_or-set_at}
 use Rattle.std.proofs.lemmas.Bool.Decides.{nat_tests}
 use native.Mathlib.Decide.{ℕ_discrete}
-use Rattle.transfer_set.specs.Reductions.{ReducedData}
+use Rattle.reduce_workers.specs.Reductions.{ReducedData}
 use Rattle.reduce_workers.specs.Claim.{times, same, once_below}
 use Rattle.reduce_workers.specs.Seats.{SeatData, EachOnce, drawn_of}
 use Rattle.reduce_workers.specs.Work.{IsPieceOf, number, piece_of, pieces_of}

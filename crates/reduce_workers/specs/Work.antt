@@ -3,7 +3,7 @@ use Rattle.std.specs.Prelude.{◌≡◌, ℕ, List, map}
 use Rattle.std.specs.List.{flat_map}
 use Rattle.std.specs.Prelude.{Vec}
 use Rattle.std.specs.Global.{Global}
-use Rattle.transfer_set.specs.Reductions.{ReducedData}
+use Rattle.reduce_workers.specs.Reductions.{ReducedData}
 use Rattle.reduce_workers.specs.Seats.{ClaimData, SeatData, IsDone, drawn_of}
 
 -- a piece by its number, and what the reduction makes of it

@@ -1,7 +1,7 @@
 //! What the workers bring, put to its place by the numbers of the pieces.
 ghost use Rattle.std.specs.Prelude.{◌≡◌, ℕ, ◌<◌, All, IfOk, None, Some, length, map, slice_index_or, vec_len};
 ghost use Rattle.line_split.specs.LinesOf.{AreLinesOf};
-ghost use Rattle.transfer_set.specs.Reductions.{ReducedData, piece_count, piece_reduced, reduced};
+ghost use Rattle.reduce_workers.specs.Reductions.{ReducedData, piece_count, piece_reduced, reduced};
 ghost use Rattle.reduce_workers.specs.Claim.{times};
 ghost use Rattle.reduce_workers.specs.Seats.{IsDone};
 ghost use Rattle.reduce_workers.specs.Work.{Worked, number, IsPieceOf, pieces_of};
@@ -11,7 +11,7 @@ use crate::seat::ClaimSeat;
 use line_split::Lines;
 use std::alloc::Global;
 use tb_base::{Memory, Timetable};
-use transfer_set::Reduced;
+use crate::reduced::Reduced;
 
 /// A piece by its number, and what the reduction makes of it.
 pub(crate) type Piece = (u32, Reduced);

@@ -1,11 +1,8 @@
 //! The reduction by several workers. The result is that of a single one.
-ghost use Rattle.std.specs.Prelude.{◌≡◌, ◌<◌, ◌≤◌, ℕ, [], IfOk, length};
+ghost use Rattle.std.specs.Prelude.{◌≡◌, ◌<◌, ◌≤◌, [], IfOk, length};
 ghost use Rattle.tb_base.specs.OutSets.{AreRowsOf};
-ghost use Rattle.tb_base.specs.Sufficiency.{AreSufficient};
-ghost use Rattle.tb_base.specs.Transfers.{kept_hops};
 ghost use Rattle.line_split.specs.LinesOf.{AreLinesOf};
-ghost use Rattle.transfer_pack.specs.Packed.{packed};
-ghost use Rattle.transfer_set.specs.Reductions.{piece_count, piece_reduced, reduced};
+ghost use Rattle.reduce_workers.specs.Reductions.{piece_count, piece_reduced, reduced};
 ghost use Rattle.reduce_workers.specs.Seats.{IsOpen};
 ghost use Rattle.reduce_workers.specs.Work.{Worked};
 
@@ -17,9 +14,9 @@ use std::alloc::Global;
 use std::thread;
 use std::thread::Threads;
 use tb_base::{Gate, Memory, Timetable, Work};
-use transfer_pack::Set;
 use transfer_reduce::Labels;
-use transfer_set::{Reduced, piece_count, reduce_piece};
+use crate::pieces::{piece_count, reduce_piece};
+use crate::reduced::Reduced;
 
 // Draws pieces and reduces them until none is left, with labels of its own. The gate is told of each piece.
 fn reduce_drawn<G: Gate>(
@@ -66,7 +63,7 @@ pub fn reduce_all<G: Gate, R: Threads + Sync>(
     ensures rows { IfOk result (λ r. AreRowsOf table.now r.rows) }
 {
     line_split::laws::lines_divide();
-    transfer_set::laws::kept_rows();
+    crate::laws::kept_rows();
     table.soundness();
     let (claim, seats) = Claim::new(alloc, piece_count(table), workers)?;
     let shared = &claim;
@@ -82,26 +79,4 @@ pub fn reduce_all<G: Gate, R: Threads + Sync>(
     let _drawn = claim.gather(seats);
     let slots = place(alloc, piece_count(table), done)?;
     join_pieces(alloc, table, lines, slots)
-}
-
-/// The set of the kept transfers of a timetable with these lines, reduced by so many workers as `reduce_all` does. It is
-/// sufficient: a search over it finds all best values. Refused only for want of memory.
-pub fn kept_set<G: Gate, R: Threads + Sync>(
-    rt: &R,
-    alloc: Global,
-    table: &Timetable,
-    lines: &Lines,
-    workers: u32,
-    gate: &G,
-) -> Result<Set, Memory>
-    requires some { 0 < workers }
-    requires most { workers ≤ 64 }
-    requires lines { AreLinesOf table.now lines.now }
-    ensures table { IfOk result (λ set. set.table ≡ table.now) }
-    ensures hops { IfOk result
-        (λ set. (t i : ℕ) → packed set t i ≡ kept_hops table.now lines.now.lines t i) }
-    ensures sufficient { IfOk result (λ set. AreSufficient table.now (packed set)) }
-{
-    line_split::laws::lines_divide();
-    reduce_all(rt, alloc, table, lines, workers, gate)?.into_set(alloc, table)
 }

@@ -8,7 +8,7 @@ use std::process::Abort;
 use std::test::Fail;
 use tb_base::{Hop, Memory, OutSet, Rows, Timetable, TripNo};
 use transfer_pack::Set;
-use transfer_set::reduce_trips;
+use reduce_workers::reduce_trips;
 
 // Three trips, of which the first and the second meet at B.
 const MEETING: Feed<'static> = Feed {

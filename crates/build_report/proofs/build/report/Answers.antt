@@ -1,7 +1,7 @@
 use Rattle.std.proofs.Common.{◌∙◌, sym, ap, subst, map}
 use Rattle.std.proofs.lemmas.Result.{IfOk-weaker}
 use Rattle.tb_base.specs.OutSets.{AreRowsOf}
-use Rattle.transfer_set.specs.Reductions.{ReducedData}
+use Rattle.reduce_workers.specs.Reductions.{ReducedData}
 use Rattle.build_report.proofs.Named.{all_named}
 use Rattle.build_report.proofs.Reporting.{report_listed, report_unlisted}
 use Rattle.build_report.proofs.build.report.Goals as goal

@@ -1,5 +1,5 @@
 use Rattle.std.proofs.Common.{◌∙◌, ◌++◌, ◌∷◌, [], ap, length}
-use Rattle.transfer_set.specs.Reductions.{piece_reduced}
+use Rattle.reduce_workers.specs.Reductions.{piece_reduced}
 use Rattle.reduce_workers.proofs.Drawing.{collects_more}
 use Rattle.reduce_workers.proofs.places.collect.Goals as goal
 

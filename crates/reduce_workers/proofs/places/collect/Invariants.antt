@@ -1,5 +1,5 @@
 use Rattle.std.proofs.Common.{length}
-use Rattle.transfer_set.specs.Reductions.{piece_reduced}
+use Rattle.reduce_workers.specs.Reductions.{piece_reduced}
 use Rattle.reduce_workers.proofs.Drawing.{Collects}
 use Rattle.reduce_workers.proofs.places.collect.Given as goal
 

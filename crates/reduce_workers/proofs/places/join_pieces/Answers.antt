@@ -1,6 +1,6 @@
 use Rattle.std.proofs.Common.{◌≡◌, ◌∙◌, min, length, vec_len, refl, ap, arith}
 use Rattle.std.proofs.lemmas.Grind.{common_steps}
-use Rattle.transfer_set.specs.Reductions.{reduced_from}
+use Rattle.reduce_workers.specs.Reductions.{reduced_from}
 use Rattle.reduce_workers.proofs.places.join_pieces.Goals as goal
 
 pub loop-n-init : goal.loop-n-init

@@ -1,5 +1,5 @@
 use Rattle.std.proofs.Common.{◌≡◌, ◌*◌, ◌≤◌, ◌<◌, ℕ, None, Some, length, min, get_or}
-use Rattle.transfer_set.specs.Reductions.{piece_reduced, reduced_from}
+use Rattle.reduce_workers.specs.Reductions.{piece_reduced, reduced_from}
 use Rattle.reduce_workers.proofs.places.join_pieces.Given as goal
 
 abbrev pub invariant-loop-n : goal.invariant-loop-n

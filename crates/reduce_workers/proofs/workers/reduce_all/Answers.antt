@@ -1,5 +1,5 @@
 use Rattle.std.proofs.Common.{◌∙◌, ◌<◌, sym, subst, All, arith}
-use Rattle.transfer_set.specs.Reductions.{piece_reduced}
+use Rattle.reduce_workers.specs.Reductions.{piece_reduced}
 use Rattle.reduce_workers.specs.Work.{IsPieceOf}
 use Rattle.reduce_workers.proofs.Placing.{all_pieces, drawn_once, pieces_within, place_filled}
 use Rattle.reduce_workers.proofs.workers.reduce_all.Goals as goal

@@ -1,5 +1,5 @@
 use Rattle.std.proofs.Common.{◌≡◌, ◌-◌, length}
-use Rattle.transfer_set.specs.Reductions.{piece_reduced}
+use Rattle.reduce_workers.specs.Reductions.{piece_reduced}
 use Rattle.reduce_workers.specs.Seats.{drawn_of}
 use Rattle.reduce_workers.proofs.Drawing.{Works}
 use Rattle.reduce_workers.proofs.workers.reduce_drawn.Given as goal

@@ -1,10 +1,10 @@
 use Rattle.std.proofs.Common.{◌≡◌, ◌∙◌, ◌+◌, ◌-◌, [], ◌∷◌, ap, refl, arith, length, vec_len}
 use Rattle.std.proofs.lemmas.Grind.{common_steps}
 use Rattle.tb_base.specs.Transfers.{candidates, candidates_without_u_turns, kept_hops}
-use Rattle.transfer_set.specs.Reductions.{ReducedData, reduced_from}
-use Rattle.transfer_set.proofs.Counts.{generated_most, kept_most, uncut_most}
-use Rattle.transfer_set.proofs.MoreTrips.{more_trips, one_more_count, one_trip, one_trip_from, rows_joined}
-use Rattle.transfer_set.proofs.reduced.Reduced.add.Goals as goal
+use Rattle.reduce_workers.specs.Reductions.{ReducedData, reduced_from}
+use Rattle.reduce_workers.proofs.Counts.{generated_most, kept_most, uncut_most}
+use Rattle.reduce_workers.proofs.MoreTrips.{more_trips, one_more_count, one_trip, one_trip_from, rows_joined}
+use Rattle.reduce_workers.proofs.reduced.Reduced.add.Goals as goal
 
 pub overflow_add-self : goal.overflow_add-self
 overflow_add-self c =

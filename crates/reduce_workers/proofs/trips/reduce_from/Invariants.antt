@@ -1,6 +1,6 @@
 use Rattle.std.proofs.Common.{◌≡◌, ◌-◌, length}
-use Rattle.transfer_set.specs.Reductions.{reduced_from}
-use Rattle.transfer_set.proofs.trips.reduce_from.Given as goal
+use Rattle.reduce_workers.specs.Reductions.{reduced_from}
+use Rattle.reduce_workers.proofs.trips.reduce_from.Given as goal
 
 abbrev pub invariant-loop-t : goal.invariant-loop-t
 invariant-loop-t l = record {

@@ -1,7 +1,7 @@
 //! The reduction in pieces of 64 trips.
 ghost use Rattle.std.specs.Prelude.{◌≡◌, ◌<◌, IfOk, length};
 ghost use Rattle.line_split.specs.LinesOf.{AreLinesOf};
-ghost use Rattle.transfer_set.specs.Reductions.{piece_count, piece_reduced};
+ghost use Rattle.reduce_workers.specs.Reductions.{piece_count, piece_reduced};
 
 use super::reduced::Reduced;
 use super::trips::reduce_from;

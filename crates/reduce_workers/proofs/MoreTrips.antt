@@ -6,8 +6,8 @@ use Rattle.tb_base.specs.declared.transfer.Hop.{Hop}
 use Rattle.tb_base.specs.declared.transfer.Transfer.{Transfer}
 use Rattle.tb_base.specs.TimetableData.{TimetableData}
 use Rattle.tb_base.specs.Transfers.{candidates, candidates_without_u_turns, kept_hops, transfers_of}
-use Rattle.transfer_set.specs.Reductions.{ReducedData, count_from, reduced_from}
-use Rattle.transfer_set.proofs.Counts.{count_more, rows_more}
+use Rattle.reduce_workers.specs.Reductions.{ReducedData, count_from, reduced_from}
+use Rattle.reduce_workers.proofs.Counts.{count_more, rows_more}
 
 -- the next trips' lists stand behind those before, and the counts are added
 pub record IsJoined (old more new : ReducedData) : Type 0 where

@@ -1,4 +1,4 @@
-ghost use Rattle.std.specs.Prelude.{◌≡◌, ◌+◌, ◌≤◌, ℕ, List, IfOk, OnOk, length};
+ghost use Rattle.std.specs.Prelude.{◌≡◌, ◌+◌, ◌≤◌, ℕ, List, IfOk, OnErr, OnOk, length};
 ghost use Rattle.tb_base.specs.TimetableData.{TimetableData};
 ghost use Rattle.tb_base.specs.OutSets.{AreRowsOf};
 ghost use Rattle.tb_base.specs.Lines.{AreDividedInto};
@@ -6,7 +6,7 @@ ghost use Rattle.tb_base.specs.Sufficiency.{AreSufficient};
 ghost use Rattle.tb_base.specs.Transfers.{kept_hops};
 ghost use Rattle.line_split.specs.LinesOf.{AreLinesOf};
 ghost use Rattle.transfer_pack.specs.Packed.{packed};
-ghost use Rattle.transfer_set.specs.Reductions.{reduced, reduced_from};
+ghost use Rattle.reduce_workers.specs.Reductions.{reduced, reduced_from};
 
 use line_split::Lines;
 use std::alloc::Global;
@@ -27,7 +27,7 @@ pub struct Reduced {
 
 impl Model for Reduced {
     ghost use Rattle.std.specs.Prelude.{map};
-    ghost use Rattle.transfer_set.specs.Reductions.{ReducedData};
+    ghost use Rattle.reduce_workers.specs.Reductions.{ReducedData};
 
     ghost Value = { ReducedData };
 
@@ -61,8 +61,9 @@ impl Reduced {
         requires before { self.old ≡ reduced_from table.now lines.now.lines 0 self.old.trips }
         requires more { more ≡ reduced_from table.now lines.now.lines self.old.trips more.trips }
         requires within { self.old.trips + more.trips ≤ length table.now.trips }
-        ensures { OnOk result
+        ensures added { OnOk result
             (self.new ≡ reduced_from table.now lines.now.lines 0 (self.old.trips + more.trips)) }
+        ensures refused { OnErr result (self.new ≡ self.old) }
     {
         line_split::laws::lines_divide();
         table.soundness();

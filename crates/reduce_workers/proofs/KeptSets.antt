@@ -19,7 +19,7 @@ use Rattle.tb_base.proofs.Members.{Member-flat_map_back}
 use Rattle.tb_laws.proofs.KeptLaws.{kept_hops_sufficient}
 use Rattle.segment_queue.proofs.Distinct.{all_by_member}
 use Rattle.transfer_pack.specs.Packed.{PackedHops, packed}
-use Rattle.transfer_set.specs.Reductions.{rows_from}
+use Rattle.reduce_workers.specs.Reductions.{rows_from}
 
 -- the transfer from t@i by a hop, and the hop of a transfer
 abbrev transfer_by : ℕ → ℕ → Hop → Transfer

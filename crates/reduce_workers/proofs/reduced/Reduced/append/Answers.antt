@@ -1,9 +1,9 @@
 use Rattle.std.proofs.Common.{◌∙◌, ◌+◌, ap, refl, arith}
 use Rattle.tb_base.specs.Transfers.{candidates, candidates_without_u_turns, kept_hops}
-use Rattle.transfer_set.specs.Reductions.{ReducedData}
-use Rattle.transfer_set.proofs.Counts.{count_more, generated_most, kept_most, uncut_most}
-use Rattle.transfer_set.proofs.MoreTrips.{more_trips, rows_joined, same_trips}
-use Rattle.transfer_set.proofs.reduced.Reduced.append.Goals as goal
+use Rattle.reduce_workers.specs.Reductions.{ReducedData}
+use Rattle.reduce_workers.proofs.Counts.{count_more, generated_most, kept_most, uncut_most}
+use Rattle.reduce_workers.proofs.MoreTrips.{more_trips, rows_joined, same_trips}
+use Rattle.reduce_workers.proofs.reduced.Reduced.append.Goals as goal
 
 pub overflow_add-self : goal.overflow_add-self
 overflow_add-self c =
@@ -38,8 +38,8 @@ overflow_add-self-3 c =
     let few = kept_most T lines c.soundness.ensures c.requires.lines.lines (c.lines_divide.ensures T c.args.lines.now c.requires.lines) 0 (n + m) (omega (arith, c.requires.within)) in
     omega (arith, before, more, count_more T (kept_hops T lines) 0 n m, few)
 
-pub returns : goal.returns
-returns c =
+pub returns-clause-added : goal.returns-clause-added
+returns-clause-added c =
     let T = c.args.table.now in
     let lines = c.args.lines.now.lines in
     let n = c.args.self.now.trips in

@@ -1,11 +1,8 @@
 //! The reduction, trip by trip.
-ghost use Rattle.std.specs.Prelude.{◌≡◌, ◌+◌, ◌-◌, ◌<◌, ◌≤◌, ℕ, IfOk, OnOk, length};
+ghost use Rattle.std.specs.Prelude.{◌≡◌, ◌+◌, ◌-◌, ◌<◌, ◌≤◌, IfOk, OnOk, length};
 ghost use Rattle.tb_base.specs.Transfers.{candidates, candidates_without_u_turns, kept_hops, transfers_of};
-ghost use Rattle.tb_base.specs.OutSets.{AreRowsOf};
-ghost use Rattle.tb_base.specs.Sufficiency.{AreSufficient};
 ghost use Rattle.line_split.specs.LinesOf.{AreLinesOf};
-ghost use Rattle.transfer_pack.specs.Packed.{packed};
-ghost use Rattle.transfer_set.specs.Reductions.{reduced, reduced_from};
+ghost use Rattle.reduce_workers.specs.Reductions.{reduced, reduced_from};
 
 use super::laws;
 use super::reduced::Reduced;
@@ -13,7 +10,6 @@ use line_split::Lines;
 use std::alloc::Global;
 use tb_base::{Memory, Timetable, Transfer, TripNo};
 use transfer_make::make;
-use transfer_pack::Set;
 use transfer_reduce::{Labels, reduce};
 use uturn_cut::cut;
 
@@ -114,32 +110,4 @@ pub(crate) fn reduce_from(
         reduced.add(alloc, table, lines, labels, TripNo(t))?;
     }
     Ok(reduced)
-}
-
-/// Reduces the transfers of all trips: the kept transfers of each trip, and how many candidates there are, how many of them are no
-/// U-turns, and how many are kept. The lines are those of the timetable. Takes memory for the kept transfers, and for the
-/// candidates of one trip besides; one number a stop serves all trips. Refused only for want of memory.
-pub fn reduce_trips(alloc: Global, table: &Timetable, lines: &Lines) -> Result<Reduced, Memory>
-    requires { AreLinesOf table.now lines.now }
-    ensures reduced { IfOk result (λ r. r ≡ reduced table.now lines.now.lines) }
-    ensures rows { IfOk result (λ r. AreRowsOf table.now r.rows) }
-{
-    line_split::laws::lines_divide();
-    laws::kept_rows();
-    table.soundness();
-    let mut labels = Labels::new(alloc, table.stop_count())?;
-    reduce_from(alloc, table, lines, &mut labels, 0, table.trip_count())
-}
-
-/// The set of the kept transfers of a timetable with these lines. It is sufficient: a search over it finds all best values.
-/// Refused only for want of memory.
-pub fn kept_set(alloc: Global, table: &Timetable, lines: &Lines) -> Result<Set, Memory>
-    requires { AreLinesOf table.now lines.now }
-    ensures table { IfOk result (λ set. set.table ≡ table.now) }
-    ensures hops { IfOk result
-        (λ set. (t i : ℕ) → packed set t i ≡ kept_hops table.now lines.now.lines t i) }
-    ensures sufficient { IfOk result (λ set. AreSufficient table.now (packed set)) }
-{
-    line_split::laws::lines_divide();
-    reduce_trips(alloc, table, lines)?.into_set(alloc, table)
 }

@@ -1,6 +1,6 @@
 use Rattle.std.proofs.Common.{◌≡◌, ◌∙◌, ◌-◌, ap, arith}
-use Rattle.transfer_set.specs.Reductions.{reduced_from}
-use Rattle.transfer_set.proofs.trips.reduce_from.Goals as goal
+use Rattle.reduce_workers.specs.Reductions.{reduced_from}
+use Rattle.reduce_workers.proofs.trips.reduce_from.Goals as goal
 
 pub loop-t-init : goal.loop-t-init
 loop-t-init c =

@@ -17,7 +17,7 @@ use Rattle.tb_laws.proofs.TransferLaws.{kept_transfers}
 use Rattle.segment_queue.specs.Scans.{LineIndex, indices_at, line_indices_at}
 use Rattle.segment_queue.proofs.LineViews.{indices_le_events}
 use Rattle.segment_queue.proofs.Totals.{all_events}
-use Rattle.transfer_set.specs.Reductions.{count_from, rows_from}
+use Rattle.reduce_workers.specs.Reductions.{count_from, rows_from}
 
 pub length-numbers_below : (n : ℕ) → length (numbers_below n) ≡ n
 length-numbers_below zero = refl

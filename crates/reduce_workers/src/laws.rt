@@ -4,7 +4,7 @@ ghost use Rattle.tb_base.specs.Lines.{AreDividedInto};
 ghost use Rattle.tb_base.specs.OutSets.{AreRowsOf};
 ghost use Rattle.tb_base.specs.Soundness.{IsSound};
 ghost use Rattle.tb_base.specs.TimetableData.{TimetableData};
-ghost use Rattle.transfer_set.specs.Reductions.{reduced};
+ghost use Rattle.reduce_workers.specs.Reductions.{reduced};
 
 /// The kept transfers of all trips are one list a trip, of transfers from its events.
 pub fn kept_rows()

@@ -1,9 +1,9 @@
 use Rattle.std.proofs.Common.{◌∙◌, ap, map}
 use Rattle.std.proofs.lemmas.Result.{IfOk-weaker}
 use Rattle.tb_base.specs.OutSets.{hops_at, row_of}
-use Rattle.transfer_set.specs.Reductions.{ReducedData}
-use Rattle.transfer_set.proofs.KeptSets.{has_enough, has_kept}
-use Rattle.transfer_set.proofs.reduced.Reduced.into_set.Goals as goal
+use Rattle.reduce_workers.specs.Reductions.{ReducedData}
+use Rattle.reduce_workers.proofs.KeptSets.{has_enough, has_kept}
+use Rattle.reduce_workers.proofs.reduced.Reduced.into_set.Goals as goal
 
 pub returns-clause-hops : goal.returns-clause-hops
 returns-clause-hops c =
