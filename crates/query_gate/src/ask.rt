@@ -1,0 +1,58 @@
+//! The best values between two named places.
+ghost use Rattle.std.specs.Prelude.{◌≡◌, ◌≤ℤ◌, IfOk, pos};
+ghost use Rattle.query_gate.specs.Questions.{ends_between, query_at};
+ghost use Rattle.query_gate.specs.Replies.{IsAskReply};
+
+use crate::between::{Between, stops_between};
+use crate::choices::best_choices;
+use crate::reply::Reply;
+use edition_store::Edition;
+use segment_queue::Desk;
+use std::alloc::Global;
+use std::marker::Model;
+use tb_base::{Memory, Name, Query, Sec};
+
+/// A question for the best values: from which place to which, by the names of stops or stations, and how early one can leave, in
+/// seconds since noon minus twelve hours.
+#[derive(Drop)]
+pub struct AskText {
+    pub from: Name,
+    pub to: Name,
+    pub leave: Sec,
+}
+
+impl Model for AskText {
+    ghost use Rattle.query_gate.specs.Questions.{AskData};
+
+    ghost Value = { AskData };
+
+    ghost view = { λ q. record { from = q.from; to = q.to; leave = q.leave } };
+}
+
+/// Answers a question for the best values over an edition: `UnknownStop` exactly where it has no stop and no station with a name, the
+/// origin's tried first, else `Values`. The desk may have served any network before; it is made to fit. Refused only for want of
+/// memory.
+pub fn ask(
+    alloc: Global,
+    edition: &Edition,
+    desk: &mut Desk,
+    text: &AskText,
+) -> Result<Reply, Memory>
+    requires { text.now.leave ≤ℤ pos 359999 }
+    ensures { IfOk result (IsAskReply edition.now.net text.now) }
+{
+    edition.soundness();
+    let table = edition.table();
+    match stops_between(alloc, table, text.from.bytes(), text.to.bytes())? {
+        Between::Unknown(name) => Ok(Reply::UnknownStop(Name::new(alloc, name)?)),
+        Between::Stops(from, to) => {
+            let query = Query {
+                from,
+                to,
+                leave: text.leave,
+            };
+            desk.make_room(edition)?;
+            Ok(Reply::Values(best_choices(alloc, edition, table, &query, desk)?))
+        }
+    }
+}

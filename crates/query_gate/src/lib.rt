@@ -1,0 +1,19 @@
+//! The one door for questions about the network of a day.
+//!
+//! `ask` gives every best trade-off between early arrival and few rides between two named places, `profile` every best departure within
+//! a window, each with a journey that attains it and changes by kept transfers alone; a name that is none is answered as such. The
+//! search is that of Trip-Based Public Transit Routing (Witt, ESA 2015). `best_choices` answers the first question over any network
+//! whose hops suffice. To the layer above the crate promises that each reply is exactly the one of the definitions.
+#![tactic(auto)]
+
+mod ask;
+mod between;
+mod choices;
+mod profile;
+mod reply;
+
+pub use ask::{AskText, ask};
+pub use between::{Between, stops_between};
+pub use choices::best_choices;
+pub use profile::{ProfileText, profile};
+pub use reply::Reply;

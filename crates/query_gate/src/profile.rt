@@ -1,0 +1,58 @@
+//! The best departures between two named places within a window.
+ghost use Rattle.std.specs.Prelude.{◌≡◌, ◌≤ℤ◌, IfOk, pos};
+ghost use Rattle.query_gate.specs.Replies.{IsProfileReply};
+
+use crate::between::{Between, stops_between};
+use crate::reply::Reply;
+use edition_store::Edition;
+use segment_queue::Desk;
+use std::alloc::Global;
+use std::marker::Model;
+use tb_base::{Memory, Name, Sec, Window};
+
+/// A question for a profile: from which place to which, by the names of stops or stations, and within which window one leaves, both
+/// ends counted, in seconds since noon minus twelve hours.
+#[derive(Drop)]
+pub struct ProfileText {
+    pub from: Name,
+    pub to: Name,
+    pub first: Sec,
+    pub last: Sec,
+}
+
+impl Model for ProfileText {
+    ghost use Rattle.query_gate.specs.Questions.{ProfileData};
+
+    ghost Value = { ProfileData };
+
+    ghost view = { λ q. record { from = q.from; to = q.to; first = q.first; last = q.last } };
+}
+
+/// Answers a question for a profile over an edition: `UnknownStop` exactly where it has no stop and no station with a name, the
+/// origin's tried first, else `Slots`. The desk may have served any network before; it is made to fit. Refused only for want of memory.
+pub fn profile(
+    alloc: Global,
+    edition: &Edition,
+    desk: &mut Desk,
+    text: &ProfileText,
+) -> Result<Reply, Memory>
+    requires { text.now.last ≤ℤ pos 359999 }
+    ensures { IfOk result (IsProfileReply edition.now.net text.now) }
+{
+    edition.soundness();
+    let table = edition.table();
+    match stops_between(alloc, table, text.from.bytes(), text.to.bytes())? {
+        Between::Unknown(name) => Ok(Reply::UnknownStop(Name::new(alloc, name)?)),
+        Between::Stops(from, to) => {
+            let window = Window {
+                from,
+                to,
+                first: text.first,
+                last: text.last,
+            };
+            desk.make_room(edition)?;
+            let offers = profile_query::profile(alloc, edition, table, &window, desk)?;
+            Ok(Reply::Slots(offers))
+        }
+    }
+}
