@@ -59,10 +59,10 @@ pub(crate) fn keep(desk: &mut Desk, best: Option<Hit>, round: u32)
 impl<S: Scan> Search<'_, S> {
     // The better of the best walk so far and the walk from an origin to the nearest target.
     fn walk_from(&self, best: Option<Hit>, origin: StopNo) -> Option<Hit>
-        requires origin { origin < length (S.table self.now.scan.now).stops }
+        requires origin { origin < length (S.net self.now.scan.now).table.stops }
         requires from { Contains self.now.query.now.from origin }
         requires leave { self.now.query.now.leave ≤ℤ pos 359999 }
-        ensures { IsWalked (S.table self.now.scan.now) self.now.query.now origin best result }
+        ensures { IsWalked (S.net self.now.scan.now).table self.now.query.now origin best result }
     {
         match nearest(self.scan, origin, targets(self.query)) {
             Some(path) => earlier(best, walking(self.query, origin, path)),
@@ -72,10 +72,10 @@ impl<S: Scan> Search<'_, S> {
 
     // The best walk from an origin to a target.
     pub(crate) fn walk_hit(&self) -> Option<Hit>
-        requires origins { All (λ p. p < length (S.table self.now.scan.now).stops) self.now.query.now.from }
+        requires origins { All (λ p. p < length (S.net self.now.scan.now).table.stops) self.now.query.now.from }
         requires leave { self.now.query.now.leave ≤ℤ pos 359999 }
-        ensures traced { IfSome result (λ h. ((segments : List Segment) → IsTracedHit (S.table self.now.scan.now) self.now.query.now segments h) × (h.value.rides ≡ 0)) }
-        ensures bounded { (p q secs : ℕ) → Contains self.now.query.now.from p → Contains self.now.query.now.to q → walk (S.table self.now.scan.now) p q ≡ Some secs →
+        ensures traced { IfSome result (λ h. ((segments : List Segment) → IsTracedHit (S.net self.now.scan.now).table self.now.query.now segments h) × (h.value.rides ≡ 0)) }
+        ensures bounded { (p q secs : ℕ) → Contains self.now.query.now.from p → Contains self.now.query.now.to q → walk (S.net self.now.scan.now).table p q ≡ Some secs →
             ArrivesBy result (self.now.query.now.leave +ℤ pos secs) }
     {
         let mut best = None;
@@ -87,7 +87,7 @@ impl<S: Scan> Search<'_, S> {
 
     // How many segments there are.
     fn count(&self, desk: &Desk) -> u32
-        requires { IsInStep (S.table self.now.scan.now) (S.lines self.now.scan.now) desk.now }
+        requires { IsInStep (S.net self.now.scan.now).table (S.net self.now.scan.now).lines desk.now }
         ensures result { result ≡ length desk.now.segments }
         ensures most { result ≤ 10000000 }
     {
@@ -104,10 +104,10 @@ impl<S: Scan> Search<'_, S> {
         round: u32,
         steps: &mut Steps<L>,
     ) -> u32
-        requires ridden { IsRidden (S.table self.now.scan.now) (S.lines self.now.scan.now) (S.hops self.now.scan.now) self.now.query.now desk.old from round }
+        requires ridden { IsRidden (S.net self.now.scan.now).table (S.net self.now.scan.now).lines (S.net self.now.scan.now).hops self.now.query.now desk.old from round }
         requires from { from < length desk.old.segments }
-        requires sufficient { AreSufficient (S.table self.now.scan.now) (S.hops self.now.scan.now) }
-        ensures ridden { IsRidden (S.table self.now.scan.now) (S.lines self.now.scan.now) (S.hops self.now.scan.now) self.now.query.now desk.new result (round + 1) }
+        requires sufficient { AreSufficient (S.net self.now.scan.now).table (S.net self.now.scan.now).hops }
+        ensures ridden { IsRidden (S.net self.now.scan.now).table (S.net self.now.scan.now).lines (S.net self.now.scan.now).hops self.now.query.now desk.new result (round + 1) }
         ensures further { from < result }
         ensures most { result ≤ 10000000 }
         ensures steps { steps.new + covered_before desk.old.segments from ≤ steps.old + covered_before desk.new.segments result }
@@ -121,9 +121,9 @@ impl<S: Scan> Search<'_, S> {
 
     // Rides all segments, round by round.
     pub(crate) fn ride_all<L: Ledger>(&self, desk: &mut Desk, steps: &mut Steps<L>)
-        requires ridden { IsRidden (S.table self.now.scan.now) (S.lines self.now.scan.now) (S.hops self.now.scan.now) self.now.query.now desk.old 0 1 }
-        requires sufficient { AreSufficient (S.table self.now.scan.now) (S.hops self.now.scan.now) }
-        ensures ridden { (rounds : ℕ) × IsRidden (S.table self.now.scan.now) (S.lines self.now.scan.now) (S.hops self.now.scan.now) self.now.query.now desk.new (length desk.new.segments) rounds }
+        requires ridden { IsRidden (S.net self.now.scan.now).table (S.net self.now.scan.now).lines (S.net self.now.scan.now).hops self.now.query.now desk.old 0 1 }
+        requires sufficient { AreSufficient (S.net self.now.scan.now).table (S.net self.now.scan.now).hops }
+        ensures ridden { (rounds : ℕ) × IsRidden (S.net self.now.scan.now).table (S.net self.now.scan.now).lines (S.net self.now.scan.now).hops self.now.query.now desk.new (length desk.new.segments) rounds }
         ensures steps { steps.new ≤ steps.old + covered_before desk.new.segments (length desk.new.segments) }
     {
         let mut from = 0;

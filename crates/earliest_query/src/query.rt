@@ -17,14 +17,14 @@ use tb_base::Query;
 /// more rides; so for a query without targets the segments serve every stop. It takes no memory, and steps at most once for each
 /// event and once for each line index at the stops with a walk from an origin.
 pub fn earliest<S: Scan, L: Ledger>(scan: &S, query: &Query, desk: &mut Desk, steps: &mut Steps<L>)
-    requires fits { Fits (S.table scan.now) desk.old }
-    requires origins { All (λ p. p < length (S.table scan.now).stops) query.now.from }
+    requires fits { Fits (S.net scan.now).table desk.old }
+    requires origins { All (λ p. p < length (S.net scan.now).table.stops) query.now.from }
     requires leave { query.now.leave ≤ℤ pos 359999 }
-    requires sufficient { AreSufficient (S.table scan.now) (S.hops scan.now) }
-    ensures step { IsInStep (S.table scan.now) (S.lines scan.now) desk.new }
-    ensures answered { IsAnswered (S.table scan.now) (S.hops scan.now) query.now desk.new }
-    ensures searched { IsPrunedSearch (S.table scan.now) (S.hops scan.now) query.now.from query.now.leave (map (λ h. h.value) desk.new.hits) (round_segments desk.new.segments) }
-    ensures steps { steps.new ≤ steps.old + (event_total (S.table scan.now) + lines_near (S.table scan.now) (S.lines scan.now) query.now.from) }
+    requires sufficient { AreSufficient (S.net scan.now).table (S.net scan.now).hops }
+    ensures step { IsInStep (S.net scan.now).table (S.net scan.now).lines desk.new }
+    ensures answered { IsAnswered (S.net scan.now).table (S.net scan.now).hops query.now desk.new }
+    ensures searched { IsPrunedSearch (S.net scan.now).table (S.net scan.now).hops query.now.from query.now.leave (map (λ h. h.value) desk.new.hits) (round_segments desk.new.segments) }
+    ensures steps { steps.new ≤ steps.old + (event_total (S.net scan.now).table + lines_near (S.net scan.now).table (S.net scan.now).lines query.now.from) }
 {
     let _shape = scan.shape();
     let search = Search { scan, query };

@@ -61,11 +61,11 @@ impl Sweep {
         query: &Query,
         desk: &mut Desk,
     ) -> Result<(), Memory>
-        requires fits { Fits (S.table scan.now) desk.old }
-        ensures begun { OnOk result (IsSweptSoFar (S.table scan.now) (S.lines scan.now)
-            (S.hops scan.now) query.now desk.new self.new) }
+        requires fits { Fits (S.net scan.now).table desk.old }
+        ensures begun { OnOk result (IsSweptSoFar (S.net scan.now).table (S.net scan.now).lines
+            (S.net scan.now).hops query.now desk.new self.new) }
         ensures no_values { OnOk result (self.new.values ≡ []) }
-        ensures fits { Fits (S.table scan.now) desk.new }
+        ensures fits { Fits (S.net scan.now).table desk.new }
     {
         let shape = scan.shape();
         desk.begin(scan, query);
@@ -87,19 +87,19 @@ impl Sweep {
         steps: &mut Steps<L>,
     ) -> Result<(), Memory>
         requires later { (later : ℤ) × (query.now.leave ≤ℤ later)
-            × IsSweptSoFar (S.table scan.now) (S.lines scan.now) (S.hops scan.now)
+            × IsSweptSoFar (S.net scan.now).table (S.net scan.now).lines (S.net scan.now).hops
             (record query.now { leave = later }) desk.old self.old }
-        requires fits { Fits (S.table scan.now) desk.old }
-        requires origins { All (λ p. p < length (S.table scan.now).stops) query.now.from }
+        requires fits { Fits (S.net scan.now).table desk.old }
+        requires origins { All (λ p. p < length (S.net scan.now).table.stops) query.now.from }
         requires leave { query.now.leave ≤ℤ pos 359999 }
-        requires sufficient { AreSufficient (S.table scan.now) (S.hops scan.now) }
-        ensures swept { OnOk result (IsSweptTo (S.table scan.now) (S.lines scan.now)
-            (S.hops scan.now) query.now desk.new self.new.levels self.new.values) }
-        ensures traced { OnOk result (IsTraced (S.table scan.now) query.now desk.new) }
+        requires sufficient { AreSufficient (S.net scan.now).table (S.net scan.now).hops }
+        ensures swept { OnOk result (IsSweptTo (S.net scan.now).table (S.net scan.now).lines
+            (S.net scan.now).hops query.now desk.new self.new.levels self.new.values) }
+        ensures traced { OnOk result (IsTraced (S.net scan.now).table query.now desk.new) }
         ensures stairs { OnOk result (AllPairs (λ h k. IsStep h.value k.value) desk.new.hits) }
-        ensures found { OnOk result ((w : ValueData) → IsAttained (S.table scan.now) query.now w →
+        ensures found { OnOk result ((w : ValueData) → IsAttained (S.net scan.now).table query.now w →
             IsLate (values_with desk.new.hits self.old.values) w.arrive w.rides) }
-        ensures fits { Fits (S.table scan.now) desk.new }
+        ensures fits { Fits (S.net scan.now).table desk.new }
     {
         let _shape = scan.shape();
         let search = Search { scan, query };

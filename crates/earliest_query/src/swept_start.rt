@@ -23,26 +23,26 @@ impl<S: Scan> Search<'_, S> {
         secs: u32,
         steps: &mut Steps<L>,
     ) -> Result<(), Memory>
-        requires queue { IsSweptQueue (S.table self.now.scan.now) (S.lines self.now.scan.now)
-            (S.hops self.now.scan.now) self.now.query.now desk.old levels.old }
-        requires stop { stop < length (S.table self.now.scan.now).stops }
-        requires berth { berth < length (line_indices_at (S.table self.now.scan.now)
-            (S.lines self.now.scan.now) stop) }
-        requires near { IsNear (S.table self.now.scan.now) self.now.query.now.from stop secs }
+        requires queue { IsSweptQueue (S.net self.now.scan.now).table (S.net self.now.scan.now).lines
+            (S.net self.now.scan.now).hops self.now.query.now desk.old levels.old }
+        requires stop { stop < length (S.net self.now.scan.now).table.stops }
+        requires berth { berth < length (line_indices_at (S.net self.now.scan.now).table
+            (S.net self.now.scan.now).lines stop) }
+        requires near { IsNear (S.net self.now.scan.now).table self.now.query.now.from stop secs }
         requires secs { secs ≤ 86400 }
         requires leave { self.now.query.now.leave ≤ℤ pos 359999 }
-        ensures queue { OnOk result (IsSweptQueue (S.table self.now.scan.now)
-            (S.lines self.now.scan.now) (S.hops self.now.scan.now) self.now.query.now desk.new
+        ensures queue { OnOk result (IsSweptQueue (S.net self.now.scan.now).table
+            (S.net self.now.scan.now).lines (S.net self.now.scan.now).hops self.now.query.now desk.new
             levels.new) }
         ensures extends { OnOk result (Extends desk.old desk.new 1) }
-        ensures reached { OnOk result ((h : Hop) → boarding_hop (S.table self.now.scan.now)
-            (slice_index_or (line_indices_at (S.table self.now.scan.now)
-            (S.lines self.now.scan.now) stop) berth no_line_index)
+        ensures reached { OnOk result ((h : Hop) → boarding_hop (S.net self.now.scan.now).table
+            (slice_index_or (line_indices_at (S.net self.now.scan.now).table
+            (S.net self.now.scan.now).lines stop) berth no_line_index)
             (self.now.query.now.leave +ℤ pos secs) ≡ Some h →
-            IsReachedBy (S.table self.now.scan.now) desk.new (length desk.new.segments) 1
+            IsReachedBy (S.net self.now.scan.now).table desk.new (length desk.new.segments) 1
             h.trip h.at) }
-        ensures still { Fits (S.table self.now.scan.now) desk.old →
-            Fits (S.table self.now.scan.now) desk.new }
+        ensures still { Fits (S.net self.now.scan.now).table desk.old →
+            Fits (S.net self.now.scan.now).table desk.new }
     {
         let scan = self.scan;
         let _shape = scan.shape();
@@ -62,20 +62,20 @@ impl<S: Scan> Search<'_, S> {
         secs: u32,
         steps: &mut Steps<L>,
     ) -> Result<(), Memory>
-        requires queue { IsSweptQueue (S.table self.now.scan.now) (S.lines self.now.scan.now)
-            (S.hops self.now.scan.now) self.now.query.now desk.old levels.old }
-        requires stop { stop < length (S.table self.now.scan.now).stops }
-        requires near { IsNear (S.table self.now.scan.now) self.now.query.now.from stop secs }
+        requires queue { IsSweptQueue (S.net self.now.scan.now).table (S.net self.now.scan.now).lines
+            (S.net self.now.scan.now).hops self.now.query.now desk.old levels.old }
+        requires stop { stop < length (S.net self.now.scan.now).table.stops }
+        requires near { IsNear (S.net self.now.scan.now).table self.now.query.now.from stop secs }
         requires secs { secs ≤ 86400 }
         requires leave { self.now.query.now.leave ≤ℤ pos 359999 }
-        ensures queue { OnOk result (IsSweptQueue (S.table self.now.scan.now)
-            (S.lines self.now.scan.now) (S.hops self.now.scan.now) self.now.query.now desk.new
+        ensures queue { OnOk result (IsSweptQueue (S.net self.now.scan.now).table
+            (S.net self.now.scan.now).lines (S.net self.now.scan.now).hops self.now.query.now desk.new
             levels.new) }
         ensures extends { OnOk result (Extends desk.old desk.new 1) }
-        ensures boarded { OnOk result (IsBoarded (S.table self.now.scan.now) self.now.query.now
+        ensures boarded { OnOk result (IsBoarded (S.net self.now.scan.now).table self.now.query.now
             desk.new stop secs) }
-        ensures still { Fits (S.table self.now.scan.now) desk.old →
-            Fits (S.table self.now.scan.now) desk.new }
+        ensures still { Fits (S.net self.now.scan.now).table desk.old →
+            Fits (S.net self.now.scan.now).table desk.new }
     {
         let scan = self.scan;
         let _shape = scan.shape();
@@ -93,19 +93,19 @@ impl<S: Scan> Search<'_, S> {
         origin: StopNo,
         steps: &mut Steps<L>,
     ) -> Result<(), Memory>
-        requires queue { IsSweptQueue (S.table self.now.scan.now) (S.lines self.now.scan.now)
-            (S.hops self.now.scan.now) self.now.query.now desk.old levels.old }
-        requires origin { origin < length (S.table self.now.scan.now).stops }
+        requires queue { IsSweptQueue (S.net self.now.scan.now).table (S.net self.now.scan.now).lines
+            (S.net self.now.scan.now).hops self.now.query.now desk.old levels.old }
+        requires origin { origin < length (S.net self.now.scan.now).table.stops }
         requires from { Contains self.now.query.now.from origin }
         requires leave { self.now.query.now.leave ≤ℤ pos 359999 }
-        ensures queue { OnOk result (IsSweptQueue (S.table self.now.scan.now)
-            (S.lines self.now.scan.now) (S.hops self.now.scan.now) self.now.query.now desk.new
+        ensures queue { OnOk result (IsSweptQueue (S.net self.now.scan.now).table
+            (S.net self.now.scan.now).lines (S.net self.now.scan.now).hops self.now.query.now desk.new
             levels.new) }
         ensures extends { OnOk result (Extends desk.old desk.new 1) }
-        ensures boarded { OnOk result (IsWalkedFrom (S.table self.now.scan.now) self.now.query.now
+        ensures boarded { OnOk result (IsWalkedFrom (S.net self.now.scan.now).table self.now.query.now
             desk.new origin) }
-        ensures still { Fits (S.table self.now.scan.now) desk.old →
-            Fits (S.table self.now.scan.now) desk.new }
+        ensures still { Fits (S.net self.now.scan.now).table desk.old →
+            Fits (S.net self.now.scan.now).table desk.new }
     {
         let scan = self.scan;
         let _shape = scan.shape();
@@ -123,19 +123,19 @@ impl<S: Scan> Search<'_, S> {
         levels: &mut Levels,
         steps: &mut Steps<L>,
     ) -> Result<(), Memory>
-        requires queue { IsSweptQueue (S.table self.now.scan.now) (S.lines self.now.scan.now)
-            (S.hops self.now.scan.now) self.now.query.now desk.old levels.old }
-        requires origins { All (λ p. p < length (S.table self.now.scan.now).stops)
+        requires queue { IsSweptQueue (S.net self.now.scan.now).table (S.net self.now.scan.now).lines
+            (S.net self.now.scan.now).hops self.now.query.now desk.old levels.old }
+        requires origins { All (λ p. p < length (S.net self.now.scan.now).table.stops)
             self.now.query.now.from }
         requires leave { self.now.query.now.leave ≤ℤ pos 359999 }
-        ensures queue { OnOk result (IsSweptQueue (S.table self.now.scan.now)
-            (S.lines self.now.scan.now) (S.hops self.now.scan.now) self.now.query.now desk.new
+        ensures queue { OnOk result (IsSweptQueue (S.net self.now.scan.now).table
+            (S.net self.now.scan.now).lines (S.net self.now.scan.now).hops self.now.query.now desk.new
             levels.new) }
         ensures extends { OnOk result (Extends desk.old desk.new 1) }
-        ensures starts { OnOk result (AreStarted (S.table self.now.scan.now) self.now.query.now
+        ensures starts { OnOk result (AreStarted (S.net self.now.scan.now).table self.now.query.now
             desk.new) }
-        ensures still { Fits (S.table self.now.scan.now) desk.old →
-            Fits (S.table self.now.scan.now) desk.new }
+        ensures still { Fits (S.net self.now.scan.now).table desk.old →
+            Fits (S.net self.now.scan.now).table desk.new }
     {
         for origin in origins(self.query) {
             self.start_from(desk, levels, *origin, steps)?;

@@ -3,12 +3,12 @@ ghost use Rattle.tb_base.specs.Walking.{walk};
 ghost use Rattle.earliest_query.specs.Choices.{IsFirstChoice, IsNearest, IsPreferred, nearer_of};
 
 use segment_queue::Scan;
-use tb_base::{Query, Sec, StopNo, path_secs};
+use tb_base::{Path, Query, Sec, StopNo, path_secs};
 
 // The seconds of the walk from one stop to another, where there is one.
 pub(crate) fn walk_secs<S: Scan>(scan: &S, p: StopNo, q: StopNo) -> Option<u32>
-    requires { p < length (S.table scan.now).stops }
-    ensures walk { result ≡ walk (S.table scan.now) p q }
+    requires { p < length (S.net scan.now).table.stops }
+    ensures walk { result ≡ walk (S.net scan.now).table p q }
     ensures at_most_a_day { IfSome result (λ secs. secs ≤ 86400) }
 {
     let _shape = scan.shape();
@@ -37,8 +37,8 @@ fn nearer(best: Option<Path>, to: StopNo, secs: Option<u32>) -> Option<Path>
 
 // The nearest target to a stop.
 pub(crate) fn nearest<S: Scan>(scan: &S, p: StopNo, targets: &[StopNo]) -> Option<Path>
-    requires { p < length (S.table scan.now).stops }
-    ensures nearest { IsNearest (S.table scan.now) p targets.now result }
+    requires { p < length (S.net scan.now).table.stops }
+    ensures nearest { IsNearest (S.net scan.now).table p targets.now result }
     ensures at_most_a_day { IfSome result (λ f. f.secs ≤ 86400) }
 {
     let mut best = None;
@@ -67,9 +67,9 @@ pub(crate) fn is_first_choice<S: Scan>(
     stop: StopNo,
     secs: u32,
 ) -> bool
-    requires origins { All (λ p. p < length (S.table scan.now).stops) origins.now }
+    requires origins { All (λ p. p < length (S.net scan.now).table.stops) origins.now }
     requires place { place ≤ length origins.now }
-    ensures { IsTrue result ↔ IsFirstChoice (S.table scan.now) origins.now place stop secs }
+    ensures { IsTrue result ↔ IsFirstChoice (S.net scan.now).table origins.now place stop secs }
 {
     for (b, origin) in origins.iter().enumerate() {
         if is_preferred(walk_secs(scan, *origin, stop), secs, b < place) {

@@ -52,12 +52,12 @@ fn search_on<S: Scan, L: Ledger>(scan: &S, query: &Query, desk: &mut Desk, blank
     requires name { blank.name ≡ L.name }
     requires parts { blank.parts ≡ L.parts }
     requires some { 0 < L.parts }
-    requires fits { Fits (S.table scan.now) desk.old }
-    requires origins { All (λ p. p < length (S.table scan.now).stops) query.now.from }
+    requires fits { Fits (S.net scan.now).table desk.old }
+    requires origins { All (λ p. p < length (S.net scan.now).table.stops) query.now.from }
     requires leave { query.now.leave ≤ℤ pos 359999 }
-    requires sufficient { AreSufficient (S.table scan.now) (S.hops scan.now) }
-    ensures fits { Fits (S.table scan.now) desk.new }
-    ensures answered { IsAnswered (S.table scan.now) (S.hops scan.now) query.now desk.new }
+    requires sufficient { AreSufficient (S.net scan.now).table (S.net scan.now).hops }
+    ensures fits { Fits (S.net scan.now).table desk.new }
+    ensures answered { IsAnswered (S.net scan.now).table (S.net scan.now).hops query.now desk.new }
 {
     let mut steps = Steps::<L>::new(blank);
     earliest(scan, query, desk, &mut steps);

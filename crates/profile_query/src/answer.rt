@@ -28,18 +28,18 @@ fn offers_of<S: Scan, L: Ledger>(
     requires name { blank.name ≡ L.name }
     requires parts { blank.parts ≡ L.parts }
     requires some { 0 < L.parts }
-    requires table { S.table scan.now ≡ table.now }
+    requires table { (S.net scan.now).table ≡ table.now }
     requires fits { Fits table.now desk.old }
     requires origins { All (λ p. p < length table.now.stops) window.now.from }
     requires targets { All (λ p. p < length table.now.stops) window.now.to }
     requires last { window.now.last ≤ℤ pos 359999 }
-    requires sufficient { AreSufficient table.now (S.hops scan.now) }
+    requires sufficient { AreSufficient table.now (S.net scan.now).hops }
     ensures slots { IfOk result (λ offers.
         IsProfile table.now window.now (map OfferData.slot offers.items)) }
     ensures journeys { IfOk result (λ offers.
         All (λ o. SpellSlot table.now window.now (OfferData.legs o) (OfferData.slot o)) offers.items) }
     ensures hops { IfOk result (λ offers.
-        All (λ o. LegsFollow (S.hops scan.now) (OfferData.legs o)) offers.items) }
+        All (λ o. LegsFollow (S.net scan.now).hops (OfferData.legs o)) offers.items) }
     ensures fits { Fits table.now desk.new }
 {
     table.soundness();
@@ -61,8 +61,8 @@ fn offers_of<S: Scan, L: Ledger>(
 
 // Empties a desk.
 fn empty<S: Scan>(alloc: Global, scan: &S, desk: &mut Desk)
-    requires { Fits (S.table scan.now) desk.old }
-    ensures fits { Fits (S.table scan.now) desk.new }
+    requires { Fits (S.net scan.now).table desk.old }
+    ensures fits { Fits (S.net scan.now).table desk.new }
     ensures emptied { desk.new.segments ≡ [] }
 {
     let nothing = Query {
@@ -87,18 +87,18 @@ pub fn profile<S: Scan>(
     window: &Window,
     desk: &mut Desk,
 ) -> Result<Vec<Offer>, Memory>
-    requires table { S.table scan.now ≡ table.now }
+    requires table { (S.net scan.now).table ≡ table.now }
     requires fits { Fits table.now desk.old }
     requires origins { All (λ p. p < length table.now.stops) window.now.from }
     requires targets { All (λ p. p < length table.now.stops) window.now.to }
     requires last { window.now.last ≤ℤ pos 359999 }
-    requires sufficient { AreSufficient table.now (S.hops scan.now) }
+    requires sufficient { AreSufficient table.now (S.net scan.now).hops }
     ensures slots { IfOk result (λ offers.
         IsProfile table.now window.now (map OfferData.slot offers.items)) }
     ensures journeys { IfOk result (λ offers.
         All (λ o. SpellSlot table.now window.now (OfferData.legs o) (OfferData.slot o)) offers.items) }
     ensures hops { IfOk result (λ offers.
-        All (λ o. LegsFollow (S.hops scan.now) (OfferData.legs o)) offers.items) }
+        All (λ o. LegsFollow (S.net scan.now).hops (OfferData.legs o)) offers.items) }
     ensures fits { Fits table.now desk.new }
     ensures emptied { OnErr result (desk.new.segments ≡ []) }
 {

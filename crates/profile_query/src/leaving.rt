@@ -31,10 +31,10 @@ fn line_departure<S: Scan, L: Ledger>(
     time: Sec,
     steps: &mut Steps<L>,
 ) -> Option<Sec>
-    requires table { S.table scan.now ≡ table.now }
-    requires stop { stop < length (S.table scan.now).stops }
-    requires berth { berth < length (line_indices_at (S.table scan.now) (S.lines scan.now) stop) }
-    ensures { result ≡ line_departure (S.table scan.now) (S.lines scan.now) stop time berth }
+    requires table { (S.net scan.now).table ≡ table.now }
+    requires stop { stop < length (S.net scan.now).table.stops }
+    requires berth { berth < length (line_indices_at (S.net scan.now).table (S.net scan.now).lines stop) }
+    ensures { result ≡ line_departure (S.net scan.now).table (S.net scan.now).lines stop time berth }
 {
     let _shape = scan.shape();
     match scan.boarding(stop, berth, time, steps) {
@@ -54,15 +54,15 @@ fn gather_line<S: Scan, L: Ledger>(
     times: &mut Vec<Sec>,
     steps: &mut Steps<L>,
 ) -> Result<(), Memory>
-    requires table { S.table scan.now ≡ table.now }
+    requires table { (S.net scan.now).table ≡ table.now }
     requires stop { path.now.to < length table.now.stops }
     requires secs { path.now.secs ≤ 86400 }
     requires berth { berth
-        < length (line_indices_at (S.table scan.now) (S.lines scan.now) path.now.to) }
+        < length (line_indices_at (S.net scan.now).table (S.net scan.now).lines path.now.to) }
     requires first { window.now.first ≤ℤ pos 359999 }
     requires last { window.now.last ≤ℤ pos 359999 }
     ensures { OnOk result (HaveJoined (λ n. IsWithin window.now n
-        × IsLineDeparture (S.table scan.now) (S.lines scan.now) path.now.to berth
+        × IsLineDeparture (S.net scan.now).table (S.net scan.now).lines path.now.to berth
         (n +ℤ pos path.now.secs)) times.old.items times.new.items) }
 {
     let _shape = scan.shape();
@@ -88,7 +88,7 @@ fn gather_at<S: Scan, L: Ledger>(
     times: &mut Vec<Sec>,
     steps: &mut Steps<L>,
 ) -> Result<(), Memory>
-    requires table { S.table scan.now ≡ table.now }
+    requires table { (S.net scan.now).table ≡ table.now }
     requires stop { path.now.to < length table.now.stops }
     requires secs { path.now.secs ≤ 86400 }
     requires first { window.now.first ≤ℤ pos 359999 }
@@ -113,7 +113,7 @@ fn gather_from<S: Scan, L: Ledger>(
     times: &mut Vec<Sec>,
     steps: &mut Steps<L>,
 ) -> Result<(), Memory>
-    requires table { S.table scan.now ≡ table.now }
+    requires table { (S.net scan.now).table ≡ table.now }
     requires origin { origin < length table.now.stops }
     requires first { window.now.first ≤ℤ pos 359999 }
     requires last { window.now.last ≤ℤ pos 359999 }
@@ -150,7 +150,7 @@ pub(crate) fn leaving_times<S: Scan, L: Ledger>(
     window: &Window,
     steps: &mut Steps<L>,
 ) -> Result<Vec<Sec>, Memory>
-    requires table { S.table scan.now ≡ table.now }
+    requires table { (S.net scan.now).table ≡ table.now }
     requires origins { All (λ p. p < length table.now.stops) window.now.from }
     requires last { window.now.last ≤ℤ pos 359999 }
     ensures { IfOk result (λ times.

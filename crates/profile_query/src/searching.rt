@@ -55,22 +55,22 @@ pub(crate) fn search<S: Scan, L: Ledger>(
     sweep: &mut Sweep,
     steps: &mut Steps<L>,
 ) -> Result<(), Memory>
-    requires table { S.table scan.now ≡ table.now }
+    requires table { (S.net scan.now).table ≡ table.now }
     requires fits { Fits table.now desk.old }
     requires origins { All (λ p. p < length table.now.stops) query.now.from }
     requires leave { query.now.leave ≤ℤ pos 359999 }
     requires later { (later : ℤ) × (query.now.leave ≤ℤ later)
-        × IsSweptSoFar table.now (S.lines scan.now) (S.hops scan.now)
+        × IsSweptSoFar table.now (S.net scan.now).lines (S.net scan.now).hops
         (record query.now { leave = later }) desk.old sweep.old }
-    requires sufficient { AreSufficient table.now (S.hops scan.now) }
+    requires sufficient { AreSufficient table.now (S.net scan.now).hops }
     ensures fits { Fits table.now desk.new }
     ensures swept { OnOk result
-        (IsSweptSoFar table.now (S.lines scan.now) (S.hops scan.now) query.now desk.new sweep.new) }
+        (IsSweptSoFar table.now (S.net scan.now).lines (S.net scan.now).hops query.now desk.new sweep.new) }
     ensures found { OnOk result
         (AreFound table.now query.now sweep.old.values (map (λ h. h.value) desk.new.hits)) }
     ensures later { OnOk result (AreLater table.now query.now sweep.new.values) }
     ensures traced { OnOk result (IsTraced table.now query.now desk.new) }
-    ensures hops { OnOk result (UsesHops (S.hops scan.now) desk.new.segments) }
+    ensures hops { OnOk result (UsesHops (S.net scan.now).hops desk.new.segments) }
 {
     table.soundness();
     sweep.ask(alloc, scan, query, desk, steps)?;
@@ -88,13 +88,13 @@ pub(crate) fn begin<S: Scan, L: Ledger>(
     sweep: &mut Sweep,
     steps: &mut Steps<L>,
 ) -> Result<(), Memory>
-    requires table { S.table scan.now ≡ table.now }
+    requires table { (S.net scan.now).table ≡ table.now }
     requires fits { Fits table.now desk.old }
     requires origins { All (λ p. p < length table.now.stops) query.now.from }
-    requires sufficient { AreSufficient table.now (S.hops scan.now) }
+    requires sufficient { AreSufficient table.now (S.net scan.now).hops }
     ensures fits { Fits table.now desk.new }
     ensures swept { OnOk result
-        (IsSweptSoFar table.now (S.lines scan.now) (S.hops scan.now) query.now desk.new sweep.new) }
+        (IsSweptSoFar table.now (S.net scan.now).lines (S.net scan.now).hops query.now desk.new sweep.new) }
     ensures later { OnOk result (AreLater table.now query.now sweep.new.values) }
 {
     table.soundness();

@@ -81,9 +81,9 @@ fn make_room_for<T>(items: &mut Vec<T>, count: usize) -> Result<(), Memory>
 
 // The mark of a trip.
 pub(crate) fn mark_on<S: Scan>(marks: &Marks, scan: &S, trip: TripNo) -> u32
-    requires trip { trip < length (S.table scan.now).trips }
+    requires trip { trip < length (S.net scan.now).table.trips }
     requires room { trip < length marks.now }
-    ensures { result ≡ mark_of (S.table scan.now) marks.now trip }
+    ensures { result ≡ mark_of (S.net scan.now).table marks.now trip }
 {
     match marks.get(trip) {
         Some(at) => at,
@@ -94,13 +94,13 @@ pub(crate) fn mark_on<S: Scan>(marks: &Marks, scan: &S, trip: TripNo) -> u32
 // Lowers the marks of a trip and of the later trips of its line to the index, where they are greater. Along a line marks
 // never rise, so it stops at the first that isn't greater.
 pub(crate) fn lower_marks<S: Scan>(marks: &mut Marks, scan: &S, trip: TripNo, at: u32)
-    requires trip { trip < length (S.table scan.now).trips }
-    requires room { length (S.table scan.now).trips ≤ length marks.old }
-    requires divided { AreDividedInto (S.table scan.now) (S.lines scan.now) }
-    requires falling { IsFalling (S.table scan.now) marks.old (trips_from (S.lines scan.now) trip) }
+    requires trip { trip < length (S.net scan.now).table.trips }
+    requires room { length (S.net scan.now).table.trips ≤ length marks.old }
+    requires divided { AreDividedInto (S.net scan.now).table (S.net scan.now).lines }
+    requires falling { IsFalling (S.net scan.now).table marks.old (trips_from (S.net scan.now).lines trip) }
     ensures trips { length marks.new ≡ length marks.old }
-    ensures marks { (u : ℕ) → u < length (S.table scan.now).trips → mark_of (S.table scan.now) marks.new u
-        ≡ lowered (trips_from (S.lines scan.now) trip) at u (mark_of (S.table scan.now) marks.old u) }
+    ensures marks { (u : ℕ) → u < length (S.net scan.now).table.trips → mark_of (S.net scan.now).table marks.new u
+        ≡ lowered (trips_from (S.net scan.now).lines trip) at u (mark_of (S.net scan.now).table marks.old u) }
 {
     let mut next = Some(trip);
     while let Some(later) = next {
@@ -126,7 +126,7 @@ impl Desk {
 
     /// Room for the scan: the desk fits it. At a refusal it fits what it fitted.
     pub fn make_room<S: Scan>(&mut self, scan: &S) -> Result<(), Memory>
-        ensures fits { OnOk result (Fits (S.table scan.now) self.new) }
+        ensures fits { OnOk result (Fits (S.net scan.now).table self.new) }
         ensures still { (T : TimetableData) → Fits T self.old → Fits T self.new }
         ensures segments { self.new.segments ≡ self.old.segments }
         ensures hits { self.new.hits ≡ self.old.hits }
@@ -140,7 +140,7 @@ impl Desk {
 
     /// Whether there is room for the scan: a mark for each trip, a segment for each event, and one hit more.
     pub fn fits<S: Scan>(&self, scan: &S) -> bool
-        ensures { IsTrue result ↔ Fits (S.table scan.now) self.now }
+        ensures { IsTrue result ↔ Fits (S.net scan.now).table self.now }
     {
         let shape = scan.shape();
         shape.trips as usize <= self.marks.trips()
@@ -150,8 +150,8 @@ impl Desk {
 
     /// Empties the queue, the marks and the hits.
     pub fn begin<S: Scan>(&mut self, scan: &S, _query: &Query)
-        requires { Fits (S.table scan.now) self.old }
-        ensures step { IsInStep (S.table scan.now) (S.lines scan.now) self.new }
+        requires { Fits (S.net scan.now).table self.old }
+        ensures step { IsInStep (S.net scan.now).table (S.net scan.now).lines self.new }
         ensures emptied { self.new ≡ record self.old {
           marks = replicate (length self.old.marks) None;
           segments = [];
@@ -173,12 +173,12 @@ impl Desk {
         at: u32,
         parent: Option<(u32, u32)>,
     ) -> bool
-        requires step { IsInStep (S.table scan.now) (S.lines scan.now) self.old }
-        requires trip { trip < length (S.table scan.now).trips }
-        ensures step { IsInStep (S.table scan.now) (S.lines scan.now) self.new }
-        ensures told { IsTrue result ↔ (at < mark_of (S.table scan.now) self.old.marks trip) }
+        requires step { IsInStep (S.net scan.now).table (S.net scan.now).lines self.old }
+        requires trip { trip < length (S.net scan.now).table.trips }
+        ensures step { IsInStep (S.net scan.now).table (S.net scan.now).lines self.new }
+        ensures told { IsTrue result ↔ (at < mark_of (S.net scan.now).table self.old.marks trip) }
         ensures entered { MatchBool result
-            (EntersSegment (S.table scan.now) (S.lines scan.now) trip at parent self.old self.new)
+            (EntersSegment (S.net scan.now).table (S.net scan.now).lines trip at parent self.old self.new)
             (self.new ≡ self.old) }
     {
         let end = mark_on(&self.marks, scan, trip);

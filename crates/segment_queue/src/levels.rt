@@ -63,9 +63,9 @@ impl Levels {
     /// The mark of a trip at a level.
     pub fn mark<S: Scan>(&self, scan: &S, level: usize, trip: TripNo) -> u32
         requires level { level < length self.now }
-        requires trip { trip < length (S.table scan.now).trips }
-        requires room { length (S.table scan.now).trips ≤ length (slice_index_or self.now level []) }
-        ensures { result ≡ level_mark (S.table scan.now) self.now level trip }
+        requires trip { trip < length (S.net scan.now).table.trips }
+        requires room { length (S.net scan.now).table.trips ≤ length (slice_index_or self.now level []) }
+        ensures { result ≡ level_mark (S.net scan.now).table self.now level trip }
     {
         mark_on(&self.levels[level], scan, trip)
     }
@@ -73,13 +73,13 @@ impl Levels {
     /// Lowers the marks of a trip and of the later trips of its line to the index, at a level and at all higher ones, where they
     /// are greater.
     pub fn lower<S: Scan>(&mut self, scan: &S, level: usize, trip: TripNo, at: u32)
-        requires trip { trip < length (S.table scan.now).trips }
-        requires room { All (λ marks. length (S.table scan.now).trips ≤ length marks) self.old }
-        requires divided { AreDividedInto (S.table scan.now) (S.lines scan.now) }
-        requires falling { All (λ marks. All (IsFalling (S.table scan.now) marks) (S.lines scan.now)) self.old }
-        ensures lowered { EntersLevel (S.table scan.now) (S.lines scan.now) level trip at self.old self.new }
-        ensures room { All (λ marks. length (S.table scan.now).trips ≤ length marks) self.new }
-        ensures falling { All (λ marks. All (IsFalling (S.table scan.now) marks) (S.lines scan.now)) self.new }
+        requires trip { trip < length (S.net scan.now).table.trips }
+        requires room { All (λ marks. length (S.net scan.now).table.trips ≤ length marks) self.old }
+        requires divided { AreDividedInto (S.net scan.now).table (S.net scan.now).lines }
+        requires falling { All (λ marks. All (IsFalling (S.net scan.now).table marks) (S.net scan.now).lines) self.old }
+        ensures lowered { EntersLevel (S.net scan.now).table (S.net scan.now).lines level trip at self.old self.new }
+        ensures room { All (λ marks. length (S.net scan.now).table.trips ≤ length marks) self.new }
+        ensures falling { All (λ marks. All (IsFalling (S.net scan.now).table marks) (S.net scan.now).lines) self.new }
     {
         for k in level..self.levels.len() {
             lower_marks(&mut self.levels[k], scan, trip, at);

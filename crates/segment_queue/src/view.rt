@@ -1,5 +1,6 @@
-ghost use Rattle.std.specs.Prelude.{◌≡◌, ◌<◌, ◌+◌, ◌≤◌, ℕ, Some, IfSome, IsTrue, ◌↔◌, length, slice_get, slice_index_or};
-ghost use Rattle.tb_base.specs.TimetableData.{events_of};
+ghost use Rattle.std.specs.Prelude.{◌≡◌, ◌<◌, ◌+◌, ◌≤◌, ℕ, Some, All, AllPairs, IfSome, IsTrue, ◌↔◌, length, slice_get, slice_index_or};
+ghost use Rattle.tb_base.specs.Soundness.{IsSoundPath};
+ghost use Rattle.tb_base.specs.TimetableData.{arrival_at, event_at, events_of, stop_at};
 ghost use Rattle.tb_base.specs.Transfers.{may_be_boarded};
 ghost use Rattle.line_split.specs.LinesOf.{AreLinesOf};
 
@@ -42,6 +43,39 @@ impl<'a, O: OutSet> View<'a, O> {
     {
         View { table, lines, set }
     }
+
+    /// The footpaths that leave a stop, for as long as the timetable is lent.
+    pub fn paths_from(&self, p: StopNo) -> &'a [Path]
+        requires { p < length self.now.0.stops }
+        ensures paths { slice_get self.now.0.paths p ≡ Some result.now }
+        ensures sound { All (IsSoundPath (length self.now.0.stops) p) result.now }
+        ensures ascending { AllPairs (λ f g. f.to < g.to) result.now }
+    {
+        let table = self.table;
+        table.paths(p)
+    }
+
+    /// Event `at` of a trip, for as long as the set is lent. It is a step.
+    pub fn look_at<L: Ledger>(&self, trip: TripNo, at: u32, steps: &mut Steps<L>) -> Visit<'a>
+        requires trip { trip < length self.now.0.trips }
+        requires at { at < length (events_of self.now.0 trip) }
+        ensures stop { result.stop ≡ stop_at self.now.0 trip at }
+        ensures arr { result.arr ≡ arrival_at self.now.0 trip at }
+        ensures alight { result.alight ≡ (event_at self.now.0 trip at).alight }
+        ensures out { result.out.now ≡ O.hops self.now.2 trip at }
+        ensures step { steps.new ≡ steps.old + 1 }
+    {
+        steps.tick();
+        let table = self.table;
+        let event = table.trip(trip).events[at as usize];
+        let set = self.set;
+        Visit {
+            stop: event.stop,
+            arr: event.arr,
+            alight: event.alight,
+            out: set.out(trip, at),
+        }
+    }
 }
 
 // Whether boarding is allowed at an index of a trip, which is not its last one.
@@ -58,11 +92,7 @@ fn boards(table: &Timetable, trip: TripNo, at: u32) -> bool
 }
 
 impl<'a, O: OutSet> Scan for View<'a, O> {
-    ghost table = { λ v. v.0 };
-
-    ghost lines = { λ v. v.1.lines };
-
-    ghost hops = { λ v t i. O.hops v.2 t i };
+    ghost net = { λ v. record { table = v.0; lines = v.1.lines; hops = O.hops v.2 } };
 
     fn shape(&self) -> Shape {
         line_split::laws::lines_divide();
@@ -77,8 +107,7 @@ impl<'a, O: OutSet> Scan for View<'a, O> {
     }
 
     fn walks(&self, p: StopNo) -> &[Path] {
-        let table = self.table;
-        table.paths(p)
+        self.paths_from(p)
     }
 
     fn berths(&self, p: StopNo) -> u32 {
@@ -130,15 +159,6 @@ impl<'a, O: OutSet> Scan for View<'a, O> {
     }
 
     fn visit<L: Ledger>(&self, trip: TripNo, at: u32, steps: &mut Steps<L>) -> Visit<'_> {
-        steps.tick();
-        let table = self.table;
-        let event = table.trip(trip).events[at as usize];
-        let set = self.set;
-        Visit {
-            stop: event.stop,
-            arr: event.arr,
-            alight: event.alight,
-            out: set.out(trip, at),
-        }
+        self.look_at(trip, at, steps)
     }
 }

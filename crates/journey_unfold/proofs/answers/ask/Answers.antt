@@ -10,15 +10,15 @@ use Rattle.journey_unfold.proofs.answers.ask.Goals as goal
 pub search_on-requires-clause-sufficient : goal.search_on-requires-clause-sufficient
 search_on-requires-clause-sufficient g c =
     let view = c.new-view.result in
-    subst (λ T. AreSufficient T (λ t i. g.O.OutSet.hops view.2 t i)) (sym c.new-view.ensures.table)
-    (subst (λ s. AreSufficient c.args.table.now (λ t i. g.O.OutSet.hops s t i)) (sym c.new-view.ensures.set) c.requires.sufficient)
+    subst (λ T. AreSufficient T (g.O.OutSet.hops view.2)) (sym c.new-view.ensures.table)
+    (subst (λ s. AreSufficient c.args.table.now (g.O.OutSet.hops s)) (sym c.new-view.ensures.set) c.requires.sufficient)
 
 pub returns-clause-answered : goal.returns-clause-answered
 returns-clause-answered g c =
     let view = c.new-view.result in
     let D = c.search_on.new.desk in
-    subst (λ s. IsAnswered c.args.table.now (λ t i. g.O.OutSet.hops s t i) c.args.query.now D) c.new-view.ensures.set
-    (subst (λ T. IsAnswered T (λ t i. g.O.OutSet.hops view.2 t i) c.args.query.now D) c.new-view.ensures.table c.search_on.ensures.answered)
+    subst (λ s. IsAnswered c.args.table.now (g.O.OutSet.hops s) c.args.query.now D) c.new-view.ensures.set
+    (subst (λ T. IsAnswered T (g.O.OutSet.hops view.2) c.args.query.now D) c.new-view.ensures.table c.search_on.ensures.answered)
 
 pub returns-clause-hops : goal.returns-clause-hops
 returns-clause-hops g c =

@@ -15,7 +15,7 @@ pub loop-time-init : goal.loop-time-init
 loop-time-init g c =
     let T = c.args.table.now in
     let W : WindowData = c.args.window.now in
-    let hops : ℕ → ℕ → List Hop = g.S.Scan.hops c.args.scan.now in
+    let hops : ℕ → ℕ → List Hop = (g.S.Scan.net c.args.scan.now).hops in
     let Q : QueryData = c.in_ok-query.query in
     let times : List ℤ = c.in_ok-times.times.items in
     let values : List Value = c.begin.new.sweep.values in
@@ -33,7 +33,7 @@ at_most_last a b g h = omega (arith, ints, g, h)
 pub search-requires-clause-leave : goal.search-requires-clause-leave
 search-requires-clause-leave g c =
     let W : WindowData = c.args.window.now in
-    let hops : ℕ → ℕ → List Hop = g.S.Scan.hops c.args.scan.now in
+    let hops : ℕ → ℕ → List Hop = (g.S.Scan.net c.args.scan.now).hops in
     let Q : QueryData = c.loop-time.query in
     let new : QueryData = c.ask_at.new.query in
     let time : ℤ = c.in-Some.time in
@@ -46,19 +46,19 @@ search-requires-clause-leave g c =
 pub search-requires-clause-later : goal.search-requires-clause-later
 search-requires-clause-later g c =
     let W : WindowData = c.args.window.now in
-    let hops : ℕ → ℕ → List Hop = g.S.Scan.hops c.args.scan.now in
+    let hops : ℕ → ℕ → List Hop = (g.S.Scan.net c.args.scan.now).hops in
     let Q : QueryData = c.loop-time.query in
     let new : QueryData = c.ask_at.new.query in
     let time : ℤ = c.in-Some.time in
     let walked = c.loop-time.invariant.walked in
     let asked : new ≡ query_at W time = query_on W Q new (to_z w32 (of_z w32 time)) time walked.query c.ask_at.ensures (to_z-of_z w32 time (search rules)) in
     asked_sooner c.args.table.now c.soundness.ensures W hops Q new c.loop-time.times.items c.pop.new.self.items time c.loop-time.sweep.values c.loop-time.offers.items walked c.in-Some.ensures.items asked
-    (g.S.Scan.lines c.args.scan.now) c.loop-time.desk c.loop-time.sweep c.loop-time.invariant.swept
+    (g.S.Scan.net c.args.scan.now).lines c.loop-time.desk c.loop-time.sweep c.loop-time.invariant.swept
 
 pub loop-time-preserved : goal.loop-time-preserved
 loop-time-preserved g c =
     let W : WindowData = c.args.window.now in
-    let hops : ℕ → ℕ → List Hop = g.S.Scan.hops c.args.scan.now in
+    let hops : ℕ → ℕ → List Hop = (g.S.Scan.net c.args.scan.now).hops in
     let Q : QueryData = c.loop-time.query in
     let new : QueryData = c.ask_at.new.query in
     let time : ℤ = c.in-Some.time in
@@ -83,7 +83,7 @@ pub returns-clause-slots : goal.returns-clause-slots
 returns-clause-slots g c =
     let T = c.args.table.now in
     let W : WindowData = c.args.window.now in
-    let hops : ℕ → ℕ → List Hop = g.S.Scan.hops c.args.scan.now in
+    let hops : ℕ → ℕ → List Hop = (g.S.Scan.net c.args.scan.now).hops in
     let Q : QueryData = c.loop-time.query in
     let times : List ℤ = c.loop-time.times.items in
     let later : List Value = c.loop-time.sweep.values in
@@ -93,8 +93,8 @@ returns-clause-slots g c =
 
 pub returns-clause-journeys : goal.returns-clause-journeys
 returns-clause-journeys g c =
-    legs_spell c.args.table.now c.soundness.ensures c.args.window.now (g.S.Scan.hops c.args.scan.now) c.loop-time.query c.loop-time.times.items c.loop-time.sweep.values c.loop-time.offers.items c.loop-time.invariant.walked
+    legs_spell c.args.table.now c.soundness.ensures c.args.window.now (g.S.Scan.net c.args.scan.now).hops c.loop-time.query c.loop-time.times.items c.loop-time.sweep.values c.loop-time.offers.items c.loop-time.invariant.walked
 
 pub returns-clause-hops : goal.returns-clause-hops
 returns-clause-hops g c =
-    legs_follow c.args.table.now c.soundness.ensures c.args.window.now (g.S.Scan.hops c.args.scan.now) c.loop-time.query c.loop-time.times.items c.loop-time.sweep.values c.loop-time.offers.items c.loop-time.invariant.walked
+    legs_follow c.args.table.now c.soundness.ensures c.args.window.now (g.S.Scan.net c.args.scan.now).hops c.loop-time.query c.loop-time.times.items c.loop-time.sweep.values c.loop-time.offers.items c.loop-time.invariant.walked

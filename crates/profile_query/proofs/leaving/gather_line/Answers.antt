@@ -10,27 +10,27 @@ use Rattle.profile_query.proofs.leaving.gather_line.Goals as goal
 
 pub loop-next-init : goal.loop-next-init
 loop-next-init g c =
-    let T : TimetableData = g.S.Scan.table c.args.scan.now in
+    let T : TimetableData = (g.S.Scan.net c.args.scan.now).table in
     let W : WindowData = c.args.window.now in
     let path : Path = c.args.path.now in
     let first : to_z w32 (of_z w32 c.window.inside.first) ≡ W.first = to_z-of_z w32 c.window.inside.first (search rules) ∙ ap (λ (w : WindowData). w.first) c.window.view_is in
     let bound = c.requires.first in
     let since : ℤ = to_z w32 (of_z w32 (to_z w32 (of_z w32 c.window.inside.first) +ℤ to_z w32 path.secs)) in
     let is : since ≡ (W.first +ℤ pos path.secs) = omega (arith, ints, first, bound, c.requires.secs) in
-    gather_begun T (g.S.Scan.lines c.args.scan.now) W path c.args.berth c.shape-shape.ensures.divided c.requires.berth c.args.times.now.items since c.line_departure-next.result is c.line_departure-next.ensures
+    gather_begun T (g.S.Scan.net c.args.scan.now).lines W path c.args.berth c.shape-shape.ensures.divided c.requires.berth c.args.times.now.items since c.line_departure-next.result is c.line_departure-next.ensures
 
 pub overflow_sub-time : goal.overflow_sub-time
 overflow_sub-time g c =
-    let T : TimetableData = g.S.Scan.table c.args.scan.now in
+    let T : TimetableData = (g.S.Scan.net c.args.scan.now).table in
     let d : ℤ = c.in-Some.departure in
     let within = departs_within T c.shape-shape.ensures.sound c.args.path.now.to d
-    (next_departs T (g.S.Scan.lines c.args.scan.now) c.args.window.now c.args.path.now c.args.berth c.shape-shape.ensures.divided c.requires.berth c.args.times.now.items c.loop-next.times.items c.loop-next.next c.loop-next.invariant d c.in-Some.is) in
+    (next_departs T (g.S.Scan.net c.args.scan.now).lines c.args.window.now c.args.path.now c.args.berth c.shape-shape.ensures.divided c.requires.berth c.args.times.now.items c.loop-next.times.items c.loop-next.next c.loop-next.invariant d c.in-Some.is) in
     omega (arith, ints, within.0, within.1, c.requires.secs)
 
 pub returns-then-is_past : goal.returns-then-is_past
 returns-then-is_past g c =
-    let T : TimetableData = g.S.Scan.table c.args.scan.now in
-    let lines = g.S.Scan.lines c.args.scan.now in
+    let T : TimetableData = (g.S.Scan.net c.args.scan.now).table in
+    let lines = (g.S.Scan.net c.args.scan.now).lines in
     let path : Path = c.args.path.now in
     let d : ℤ = c.in-Some.departure in
     let within = departs_within T c.shape-shape.ensures.sound path.to d
@@ -41,16 +41,16 @@ returns-then-is_past g c =
 
 pub overflow_add-departure : goal.overflow_add-departure
 overflow_add-departure g c =
-    let T : TimetableData = g.S.Scan.table c.args.scan.now in
+    let T : TimetableData = (g.S.Scan.net c.args.scan.now).table in
     let d : ℤ = c.in-Some.departure in
     let within = departs_within T c.shape-shape.ensures.sound c.args.path.now.to d
-    (next_departs T (g.S.Scan.lines c.args.scan.now) c.args.window.now c.args.path.now c.args.berth c.shape-shape.ensures.divided c.requires.berth c.args.times.now.items c.loop-next.times.items c.loop-next.next c.loop-next.invariant d c.in-Some.is) in
+    (next_departs T (g.S.Scan.net c.args.scan.now).lines c.args.window.now c.args.path.now c.args.berth c.shape-shape.ensures.divided c.requires.berth c.args.times.now.items c.loop-next.times.items c.loop-next.next c.loop-next.invariant d c.in-Some.is) in
     omega (arith, ints, within.0, within.1)
 
 pub loop-next-preserved : goal.loop-next-preserved
 loop-next-preserved g c =
-    let T : TimetableData = g.S.Scan.table c.args.scan.now in
-    let lines = g.S.Scan.lines c.args.scan.now in
+    let T : TimetableData = (g.S.Scan.net c.args.scan.now).table in
+    let lines = (g.S.Scan.net c.args.scan.now).lines in
     let W : WindowData = c.args.window.now in
     let path : Path = c.args.path.now in
     let d : ℤ = c.in-Some.departure in
@@ -70,8 +70,8 @@ loop-next-preserved g c =
 
 pub loop-next-smaller : goal.loop-next-smaller
 loop-next-smaller g c =
-    let T : TimetableData = g.S.Scan.table c.args.scan.now in
-    let lines = g.S.Scan.lines c.args.scan.now in
+    let T : TimetableData = (g.S.Scan.net c.args.scan.now).table in
+    let lines = (g.S.Scan.net c.args.scan.now).lines in
     let W : WindowData = c.args.window.now in
     let path : Path = c.args.path.now in
     let d : ℤ = c.in-Some.departure in
@@ -88,4 +88,4 @@ loop-next-smaller g c =
 
 pub returns : goal.returns
 returns g c =
-    gather_ended (g.S.Scan.table c.args.scan.now) (g.S.Scan.lines c.args.scan.now) c.args.window.now c.args.path.now c.args.berth c.shape-shape.ensures.divided c.requires.berth c.args.times.now.items c.loop-next.times.items c.loop-next.next c.loop-next.invariant c.in_default.is
+    gather_ended (g.S.Scan.net c.args.scan.now).table (g.S.Scan.net c.args.scan.now).lines c.args.window.now c.args.path.now c.args.berth c.shape-shape.ensures.divided c.requires.berth c.args.times.now.items c.loop-next.times.items c.loop-next.next c.loop-next.invariant c.in_default.is

@@ -23,6 +23,6 @@ at_most a = omega (arith, ints)
 pub search-requires-clause-later : goal.search-requires-clause-later
 search-requires-clause-later g c =
     let Q : QueryData = c.args.query.now in
-    let lines : List (List ℕ) = g.S.Scan.lines c.args.scan.now in
-    let hops : ℕ → ℕ → List Hop = g.S.Scan.hops c.args.scan.now in
+    let lines : List (List ℕ) = (g.S.Scan.net c.args.scan.now).lines in
+    let hops : ℕ → ℕ → List Hop = (g.S.Scan.net c.args.scan.now).hops in
     (Q.leave, at_most Q.leave, subst (λ T. IsSweptSoFar T lines hops Q c.begin.new.desk c.begin.new.self) c.requires.table c.in_ok-begin.ensures.begun)

@@ -9,8 +9,8 @@ use Rattle.segment_queue.proofs.desk.lower_marks.Goals as goal
 
 pub returns-then-mark_on-at-clause-marks : goal.returns-then-mark_on-at-clause-marks
 returns-then-mark_on-at-clause-marks g c =
-    let T : TimetableData = g.S.Scan.table c.args.scan.now in
-    let lines = g.S.Scan.lines c.args.scan.now in
+    let T : TimetableData = (g.S.Scan.net c.args.scan.now).table in
+    let lines = (g.S.Scan.net c.args.scan.now).lines in
     let inside : c.in-Some.later < length T.trips = subst (λ o. IfSome o (λ u. u < length T.trips)) c.in-Some.is c.loop-next.invariant.inside in
     let falling = subst (λ o. IsFalling T c.loop-next.marks (onward lines o)) c.in-Some.is c.loop-next.invariant.falling in
     λ u h. sym (c.loop-next.invariant.todo u h ∙ ap (λ o. lowered (onward lines o) c.args.at u (mark_of T c.loop-next.marks u)) c.in-Some.is
@@ -18,15 +18,15 @@ returns-then-mark_on-at-clause-marks g c =
 
 pub loop-next-smaller : goal.loop-next-smaller
 loop-next-smaller g c =
-    let T : TimetableData = g.S.Scan.table c.args.scan.now in
-    let lines = g.S.Scan.lines c.args.scan.now in
+    let T : TimetableData = (g.S.Scan.net c.args.scan.now).table in
+    let lines = (g.S.Scan.net c.args.scan.now).lines in
     let inside : c.in-Some.later < length T.trips = subst (λ o. IfSome o (λ u. u < length T.trips)) c.in-Some.is c.loop-next.invariant.inside in
     rw (c.after-next.ensures.next, c.in-Some.is) (rest_smaller T lines c.requires.divided c.in-Some.later inside)
 
 pub loop-next-preserved : goal.loop-next-preserved
 loop-next-preserved g c =
-    let T : TimetableData = g.S.Scan.table c.args.scan.now in
-    let lines = g.S.Scan.lines c.args.scan.now in
+    let T : TimetableData = (g.S.Scan.net c.args.scan.now).table in
+    let lines = (g.S.Scan.net c.args.scan.now).lines in
     let inside : c.in-Some.later < length T.trips = subst (λ o. IfSome o (λ u. u < length T.trips)) c.in-Some.is c.loop-next.invariant.inside in
     let falling = subst (λ o. IsFalling T c.loop-next.marks (onward lines o)) c.in-Some.is c.loop-next.invariant.falling in
     let room : length T.trips ≤ length c.loop-next.marks = omega (arith, c.loop-next.invariant.trips, c.requires.room) in

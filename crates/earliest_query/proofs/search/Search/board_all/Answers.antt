@@ -13,12 +13,12 @@ loop-place-init g c = record {
   queue = c.requires.queue;
   extends = extends-refl c.args.desk.now 1;
   boarded = λ place below. absurd (omega (arith, below));
-  steps = boards_none (g.S.Scan.table c.args.self.now.scan.now) (g.S.Scan.lines c.args.self.now.scan.now) c.args.self.now.query.now.from 0 0 c.args.steps.now;
+  steps = boards_none (g.S.Scan.net c.args.self.now.scan.now).table (g.S.Scan.net c.args.self.now.scan.now).lines c.args.self.now.query.now.from 0 0 c.args.steps.now;
 }
 
 pub loop-place-preserved : goal.loop-place-preserved
 loop-place-preserved g c =
-    let T = g.S.Scan.table c.args.self.now.scan.now in
+    let T = (g.S.Scan.net c.args.self.now.scan.now).table in
     let Q = c.args.self.now.query.now in
     let E = c.loop-place.desk in
     let F = c.board_from.new.desk in
@@ -29,9 +29,9 @@ loop-place-preserved g c =
         | inl before ↦ are_boarded-kept T Q E F place c.board_from.ensures.extends (c.loop-place.invariant.boarded place before)
         | inr e ↦ subst (λ m. AreBoarded T Q F m) e c.board_from.ensures.boarded
       ];
-      steps = boards_join T (g.S.Scan.lines c.args.self.now.scan.now) Q.from 0 c.loop-place.place (c.loop-place.place + 1) c.args.steps.now c.loop-place.steps c.board_from.new.steps (omega arith) (omega arith) c.loop-place.invariant.steps c.board_from.ensures.steps;
+      steps = boards_join T (g.S.Scan.net c.args.self.now.scan.now).lines Q.from 0 c.loop-place.place (c.loop-place.place + 1) c.args.steps.now c.loop-place.steps c.board_from.new.steps (omega arith) (omega arith) c.loop-place.invariant.steps c.board_from.ensures.steps;
     }
 
 pub returns-clause-steps : goal.returns-clause-steps
 returns-clause-steps g c =
-    boards_bounded (g.S.Scan.table c.args.self.now.scan.now) (g.S.Scan.lines c.args.self.now.scan.now) c.args.self.now.query.now.from 0 c.loop-place.place c.args.steps.now c.loop-place.steps c.loop-place.invariant.steps
+    boards_bounded (g.S.Scan.net c.args.self.now.scan.now).table (g.S.Scan.net c.args.self.now.scan.now).lines c.args.self.now.query.now.from 0 c.loop-place.place c.args.steps.now c.loop-place.steps c.loop-place.invariant.steps

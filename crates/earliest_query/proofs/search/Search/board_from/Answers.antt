@@ -17,8 +17,8 @@ use Rattle.earliest_query.proofs.search.Search.board_from.Goals as goal
 
 pub loop-path-init : goal.loop-path-init
 loop-path-init g c =
-    let T : TimetableData = g.S.Scan.table c.args.self.now.scan.now in
-    let lines = g.S.Scan.lines c.args.self.now.scan.now in
+    let T : TimetableData = (g.S.Scan.net c.args.self.now.scan.now).table in
+    let lines = (g.S.Scan.net c.args.self.now.scan.now).lines in
     let Q : QueryData = c.args.self.now.query.now in
     let o : ℕ = c.index-origins-place.result in
     let is : o ≡ get_or Q.from c.args.place 0 = origin_is c.origins.result.now Q.from c.args.place o c.origins.ensures c.requires.place c.index-origins-place.is in
@@ -37,7 +37,7 @@ board_if_first-requires-in-loop-path-clause-queue g c = c.loop-path.invariant.qu
 
 pub board_if_first-requires-in-loop-path-clause-walks : goal.board_if_first-requires-in-loop-path-clause-walks
 board_if_first-requires-in-loop-path-clause-walks g c =
-    let T : TimetableData = g.S.Scan.table c.args.self.now.scan.now in
+    let T : TimetableData = (g.S.Scan.net c.args.self.now.scan.now).table in
     let Q : QueryData = c.args.self.now.query.now in
     let o : ℕ = c.index-origins-place.result in
     let is : o ≡ get_or Q.from c.args.place 0 = origin_is c.origins.result.now Q.from c.args.place o c.origins.ensures c.requires.place c.index-origins-place.is in
@@ -53,8 +53,8 @@ below_or_at k i h = grind arith
 
 pub loop-path-preserved : goal.loop-path-preserved
 loop-path-preserved g c =
-    let T : TimetableData = g.S.Scan.table c.args.self.now.scan.now in
-    let lines = g.S.Scan.lines c.args.self.now.scan.now in
+    let T : TimetableData = (g.S.Scan.net c.args.self.now.scan.now).table in
+    let lines = (g.S.Scan.net c.args.self.now.scan.now).lines in
     let Q : QueryData = c.args.self.now.query.now in
     let E : DeskData = c.loop-path.desk in
     let F : DeskData = c.board_if_first-in-loop-path.new.desk in
@@ -83,7 +83,7 @@ loop-path-preserved g c =
 
 pub returns-clause-boarded : goal.returns-clause-boarded
 returns-clause-boarded g c = λ stop secs walks first.
-    let T : TimetableData = g.S.Scan.table c.args.self.now.scan.now in
+    let T : TimetableData = (g.S.Scan.net c.args.self.now.scan.now).table in
     let Q : QueryData = c.args.self.now.query.now in
     let D : DeskData = c.loop-path.desk in
     let o : ℕ = c.index-origins-place.result in
@@ -106,4 +106,4 @@ returns-clause-boarded g c = λ stop secs walks first.
 pub returns-clause-steps : goal.returns-clause-steps
 returns-clause-steps g c =
     let Q : QueryData = c.args.self.now.query.now in
-    among_all (g.S.Scan.table c.args.self.now.scan.now) (g.S.Scan.lines c.args.self.now.scan.now) Q.from c.args.place (get_or Q.from c.args.place 0) c.walks-path-items.result.now c.requires.place c.loop-path.path-index c.args.steps.now c.loop-path.steps c.loop-path.invariant.steps
+    among_all (g.S.Scan.net c.args.self.now.scan.now).table (g.S.Scan.net c.args.self.now.scan.now).lines Q.from c.args.place (get_or Q.from c.args.place 0) c.walks-path-items.result.now c.requires.place c.loop-path.path-index c.args.steps.now c.loop-path.steps c.loop-path.invariant.steps

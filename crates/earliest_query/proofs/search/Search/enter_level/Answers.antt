@@ -5,14 +5,14 @@ use Rattle.earliest_query.proofs.search.Search.enter_level.Goals as goal
 
 pub returns-then-end-hop-clause-reached : goal.returns-then-end-hop-clause-reached
 returns-then-end-hop-clause-reached g c =
-    swept_before (g.S.Scan.table c.args.self.now.scan.now) (g.S.Scan.lines c.args.self.now.scan.now) (g.S.Scan.hops c.args.self.now.scan.now) c.args.self.now.query.now c.args.desk.now c.args.levels.now c.args.level c.args.hop.trip c.args.hop.at c.args.parent
+    swept_before (g.S.Scan.net c.args.self.now.scan.now).table (g.S.Scan.net c.args.self.now.scan.now).lines (g.S.Scan.net c.args.self.now.scan.now).hops c.args.self.now.query.now c.args.desk.now c.args.levels.now c.args.level c.args.hop.trip c.args.hop.at c.args.parent
     c.shape-shape.ensures.divided c.requires.trip c.requires.level c.requires.queue (omega (arith, c.if-end-hop.true, c.mark-end.ensures)) c.requires.not_last
 
 pub returns-clause-queue : goal.returns-clause-queue
 returns-clause-queue g c =
-    let T = g.S.Scan.table c.args.self.now.scan.now in
-    let lines = g.S.Scan.lines c.args.self.now.scan.now in
-    let hops = g.S.Scan.hops c.args.self.now.scan.now in
+    let T = (g.S.Scan.net c.args.self.now.scan.now).table in
+    let lines = (g.S.Scan.net c.args.self.now.scan.now).lines in
+    let hops = (g.S.Scan.net c.args.self.now.scan.now).hops in
     let below : c.args.hop.at < level_mark T c.args.levels.now c.args.level c.args.hop.trip = omega (arith, c.if-end-hop.false, c.mark-end.ensures) in
     let is : c.add_segment.new.self.segments ≡ c.args.desk.now.segments ++ record { trip = c.args.hop.trip; board = c.args.hop.at; end = level_mark T c.args.levels.now c.args.level c.args.hop.trip; parent = c.args.parent } ∷ []
     = c.in_ok-add_segment.ensures.segments ∙ ap (λ e. c.args.desk.now.segments ++ record { trip = c.args.hop.trip; board = c.args.hop.at; end = e; parent = c.args.parent } ∷ []) c.mark-end.ensures in
@@ -21,9 +21,9 @@ returns-clause-queue g c =
 
 pub returns-clause-reached : goal.returns-clause-reached
 returns-clause-reached g c =
-    let T = g.S.Scan.table c.args.self.now.scan.now in
-    let lines = g.S.Scan.lines c.args.self.now.scan.now in
-    let hops = g.S.Scan.hops c.args.self.now.scan.now in
+    let T = (g.S.Scan.net c.args.self.now.scan.now).table in
+    let lines = (g.S.Scan.net c.args.self.now.scan.now).lines in
+    let hops = (g.S.Scan.net c.args.self.now.scan.now).hops in
     let below : c.args.hop.at < level_mark T c.args.levels.now c.args.level c.args.hop.trip = omega (arith, c.if-end-hop.false, c.mark-end.ensures) in
     let is : c.add_segment.new.self.segments ≡ c.args.desk.now.segments ++ record { trip = c.args.hop.trip; board = c.args.hop.at; end = level_mark T c.args.levels.now c.args.level c.args.hop.trip; parent = c.args.parent } ∷ []
     = c.in_ok-add_segment.ensures.segments ∙ ap (λ e. c.args.desk.now.segments ++ record { trip = c.args.hop.trip; board = c.args.hop.at; end = e; parent = c.args.parent } ∷ []) c.mark-end.ensures in
@@ -32,9 +32,9 @@ returns-clause-reached g c =
 
 pub returns-clause-extends : goal.returns-clause-extends
 returns-clause-extends g c =
-    let T = g.S.Scan.table c.args.self.now.scan.now in
-    let lines = g.S.Scan.lines c.args.self.now.scan.now in
-    let hops = g.S.Scan.hops c.args.self.now.scan.now in
+    let T = (g.S.Scan.net c.args.self.now.scan.now).table in
+    let lines = (g.S.Scan.net c.args.self.now.scan.now).lines in
+    let hops = (g.S.Scan.net c.args.self.now.scan.now).hops in
     let below : c.args.hop.at < level_mark T c.args.levels.now c.args.level c.args.hop.trip = omega (arith, c.if-end-hop.false, c.mark-end.ensures) in
     let is : c.add_segment.new.self.segments ≡ c.args.desk.now.segments ++ record { trip = c.args.hop.trip; board = c.args.hop.at; end = level_mark T c.args.levels.now c.args.level c.args.hop.trip; parent = c.args.parent } ∷ []
     = c.in_ok-add_segment.ensures.segments ∙ ap (λ e. c.args.desk.now.segments ++ record { trip = c.args.hop.trip; board = c.args.hop.at; end = e; parent = c.args.parent } ∷ []) c.mark-end.ensures in

@@ -13,30 +13,30 @@ enter_level-requires-clause-round g c = ap suc (extends-round c.args.desk.now c.
 
 pub enter_level-requires-clause-trip : goal.enter_level-requires-clause-trip
 enter_level-requires-clause-trip g c =
-    let in_set : Contains (g.S.Scan.hops c.args.self.now.scan.now (segment_of c.args.desk.now.segments c.args.segment).trip c.args.at) c.hop-item.result
+    let in_set : Contains ((g.S.Scan.net c.args.self.now.scan.now).hops (segment_of c.args.desk.now.segments c.args.segment).trip c.args.at) c.hop-item.result
     = subst (λ hs. Contains hs c.hop-item.result) c.requires.hops (contains_read c.args.hops.now c.loop-hop.hop-index c.hop-item.result c.loop-hop-test.true c.hop-item.is) in
-    hop_trip (g.S.Scan.table c.args.self.now.scan.now) (g.S.Scan.hops c.args.self.now.scan.now) c.args.desk.now c.loop-hop.desk (suc c.args.level) c.args.segment c.args.at c.hop-item.result
+    hop_trip (g.S.Scan.net c.args.self.now.scan.now).table (g.S.Scan.net c.args.self.now.scan.now).hops c.args.desk.now c.loop-hop.desk (suc c.args.level) c.args.segment c.args.at c.hop-item.result
     c.requires.sufficient c.requires.segment c.requires.covers c.loop-hop.invariant.extends in_set
 
 pub enter_level-requires-clause-not_last : goal.enter_level-requires-clause-not_last
 enter_level-requires-clause-not_last g c =
-    let in_set : Contains (g.S.Scan.hops c.args.self.now.scan.now (segment_of c.args.desk.now.segments c.args.segment).trip c.args.at) c.hop-item.result
+    let in_set : Contains ((g.S.Scan.net c.args.self.now.scan.now).hops (segment_of c.args.desk.now.segments c.args.segment).trip c.args.at) c.hop-item.result
     = subst (λ hs. Contains hs c.hop-item.result) c.requires.hops (contains_read c.args.hops.now c.loop-hop.hop-index c.hop-item.result c.loop-hop-test.true c.hop-item.is) in
-    hop_not_last (g.S.Scan.table c.args.self.now.scan.now) (g.S.Scan.hops c.args.self.now.scan.now) c.args.desk.now c.loop-hop.desk (suc c.args.level) c.args.segment c.args.at c.hop-item.result
+    hop_not_last (g.S.Scan.net c.args.self.now.scan.now).table (g.S.Scan.net c.args.self.now.scan.now).hops c.args.desk.now c.loop-hop.desk (suc c.args.level) c.args.segment c.args.at c.hop-item.result
     c.requires.sufficient c.requires.segment c.requires.covers c.loop-hop.invariant.extends in_set
 
 pub enter_level-requires-clause-boards : goal.enter_level-requires-clause-boards
 enter_level-requires-clause-boards g c =
-    let in_set : Contains (g.S.Scan.hops c.args.self.now.scan.now (segment_of c.args.desk.now.segments c.args.segment).trip c.args.at) c.hop-item.result
+    let in_set : Contains ((g.S.Scan.net c.args.self.now.scan.now).hops (segment_of c.args.desk.now.segments c.args.segment).trip c.args.at) c.hop-item.result
     = subst (λ hs. Contains hs c.hop-item.result) c.requires.hops (contains_read c.args.hops.now c.loop-hop.hop-index c.hop-item.result c.loop-hop-test.true c.hop-item.is) in
-    hop_boards (g.S.Scan.table c.args.self.now.scan.now) (g.S.Scan.hops c.args.self.now.scan.now) c.args.desk.now c.loop-hop.desk (suc c.args.level) c.args.segment c.args.at c.hop-item.result
+    hop_boards (g.S.Scan.net c.args.self.now.scan.now).table (g.S.Scan.net c.args.self.now.scan.now).hops c.args.desk.now c.loop-hop.desk (suc c.args.level) c.args.segment c.args.at c.hop-item.result
     c.requires.sufficient c.requires.segment c.requires.covers c.loop-hop.invariant.extends in_set
 
 pub enter_level-requires-clause-in_set : goal.enter_level-requires-clause-in_set
 enter_level-requires-clause-in_set g c =
-    let in_set : Contains (g.S.Scan.hops c.args.self.now.scan.now (segment_of c.args.desk.now.segments c.args.segment).trip c.args.at) c.hop-item.result
+    let in_set : Contains ((g.S.Scan.net c.args.self.now.scan.now).hops (segment_of c.args.desk.now.segments c.args.segment).trip c.args.at) c.hop-item.result
     = subst (λ hs. Contains hs c.hop-item.result) c.requires.hops (contains_read c.args.hops.now c.loop-hop.hop-index c.hop-item.result c.loop-hop-test.true c.hop-item.is) in
-    hop_in_set (g.S.Scan.table c.args.self.now.scan.now) (g.S.Scan.hops c.args.self.now.scan.now) c.args.desk.now c.loop-hop.desk (suc c.args.level) c.args.segment c.args.at c.hop-item.result
+    hop_in_set (g.S.Scan.net c.args.self.now.scan.now).table (g.S.Scan.net c.args.self.now.scan.now).hops c.args.desk.now c.loop-hop.desk (suc c.args.level) c.args.segment c.args.at c.hop-item.result
     c.requires.sufficient c.requires.segment c.requires.covers c.loop-hop.invariant.extends in_set
 
 below_or_at : (k i : ℕ) → k < i + 1 → (k < i) ⊎ (i ≡ k)
@@ -47,7 +47,7 @@ loop-hop-init g c = record { queue = c.requires.queue; levels = refl; extends = 
 
 pub loop-hop-preserved : goal.loop-hop-preserved
 loop-hop-preserved g c =
-    let T = g.S.Scan.table c.args.self.now.scan.now in
+    let T = (g.S.Scan.net c.args.self.now.scan.now).table in
     let top : ℕ = suc c.args.level in
     let joined : Extends c.loop-hop.desk c.enter_level.new.desk top = c.in_ok-enter_level.ensures.extends in
     record {
@@ -65,13 +65,13 @@ loop-hop-preserved g c =
 
 pub returns-clause-followed : goal.returns-clause-followed
 returns-clause-followed g c = λ h in_set.
-    let T = g.S.Scan.table c.args.self.now.scan.now in
+    let T = (g.S.Scan.net c.args.self.now.scan.now).table in
     let D = c.args.desk.now in
     let D' = c.loop-hop.desk in
     let top : ℕ = suc c.args.level in
     let same : segment_of D'.segments c.args.segment ≡ segment_of D.segments c.args.segment = extends-segment D D' top c.loop-hop.invariant.extends c.args.segment c.requires.segment in
     let found : Contains c.args.hops.now h
-    = subst (λ hs. Contains hs h) (sym c.requires.hops) (subst (λ (s : Segment). Contains (g.S.Scan.hops c.args.self.now.scan.now s.trip c.args.at) h) same in_set) in
+    = subst (λ hs. Contains hs h) (sym c.requires.hops) (subst (λ (s : Segment). Contains ((g.S.Scan.net c.args.self.now.scan.now).hops s.trip c.args.at) h) same in_set) in
     let reached : IsReachedBy T D' (length D'.segments) top h.trip h.at
     = subst (λ (x : Hop). IsReachedBy T D' (length D'.segments) top x.trip x.at) found.2 (c.loop-hop.invariant.reached found.0 h (omega (arith, c.loop-hop-test.false, found.1))) in
     subst (λ r. IsReachedBy T D' (length D'.segments) r h.trip h.at) (ap suc (sym (extends-round D D' top c.loop-hop.invariant.extends c.args.segment c.requires.segment ∙ c.requires.round))) reached

@@ -7,9 +7,9 @@ use Rattle.earliest_query.proofs.search.Search.follow_level.Given as goal
 
 abbrev pub invariant-loop-hop : goal.invariant-loop-hop
 invariant-loop-hop g l = record {
-  queue : IsSweptQueue (g.S.Scan.table l.self.scan.now) (g.S.Scan.lines l.self.scan.now) (g.S.Scan.hops l.self.scan.now) l.self.query.now l.desk l.levels;
+  queue : IsSweptQueue (g.S.Scan.net l.self.scan.now).table (g.S.Scan.net l.self.scan.now).lines (g.S.Scan.net l.self.scan.now).hops l.self.query.now l.desk l.levels;
   levels : length l.levels ≡ length l.initial.levels;
   extends : Extends l.initial.desk l.desk (suc l.level);
-  still : Fits (g.S.Scan.table l.self.scan.now) l.initial.desk → Fits (g.S.Scan.table l.self.scan.now) l.desk;
-  reached : (k : ℕ) (d : Hop) → k < l.hop-index → IsReachedBy (g.S.Scan.table l.self.scan.now) l.desk (length l.desk.segments) (suc l.level) (get_or l.hops k d).trip (get_or l.hops k d).at;
+  still : Fits (g.S.Scan.net l.self.scan.now).table l.initial.desk → Fits (g.S.Scan.net l.self.scan.now).table l.desk;
+  reached : (k : ℕ) (d : Hop) → k < l.hop-index → IsReachedBy (g.S.Scan.net l.self.scan.now).table l.desk (length l.desk.segments) (suc l.level) (get_or l.hops k d).trip (get_or l.hops k d).at;
 }

@@ -28,19 +28,19 @@ loop-before-init g c =
 pub visit-visit-requires-clause-trip : goal.visit-visit-requires-clause-trip
 visit-visit-requires-clause-trip g c =
     let same : segment_of c.args.desk.now.segments c.args.n ≡ c.in-Some.segment = get_or_from_slice_get c.args.desk.now.segments c.args.n c.in-Some.segment no_segment (sym c.in-Some.ensures) in
-    let sound = subst (IsSoundSegment (g.S.Scan.table c.args.self.now.scan.now)) same (c.requires.queue.step.segments c.args.n no_segment c.requires.segment) in
+    let sound = subst (IsSoundSegment (g.S.Scan.net c.args.self.now.scan.now).table) same (c.requires.queue.step.segments c.args.n no_segment c.requires.segment) in
     sound.trip
 
 pub visit-visit-requires-clause-at : goal.visit-visit-requires-clause-at
 visit-visit-requires-clause-at g c =
     let same : segment_of c.args.desk.now.segments c.args.n ≡ c.in-Some.segment = get_or_from_slice_get c.args.desk.now.segments c.args.n c.in-Some.segment no_segment (sym c.in-Some.ensures) in
-    let sound = subst (IsSoundSegment (g.S.Scan.table c.args.self.now.scan.now)) same (c.requires.queue.step.segments c.args.n no_segment c.requires.segment) in
+    let sound = subst (IsSoundSegment (g.S.Scan.net c.args.self.now.scan.now).table) same (c.requires.queue.step.segments c.args.n no_segment c.requires.segment) in
     omega (arith, sound.within, c.loop-before-test.true)
 
 pub follow-requires-clause-queue : goal.follow-requires-clause-queue
 follow-requires-clause-queue g c =
     let top : ℕ = suc c.args.round in
-    subst (λ r. IsQueue (g.S.Scan.table c.args.self.now.scan.now) (g.S.Scan.lines c.args.self.now.scan.now) (g.S.Scan.hops c.args.self.now.scan.now) c.args.self.now.query.now c.loop-before.desk (suc r))
+    subst (λ r. IsQueue (g.S.Scan.net c.args.self.now.scan.now).table (g.S.Scan.net c.args.self.now.scan.now).lines (g.S.Scan.net c.args.self.now.scan.now).hops c.args.self.now.query.now c.loop-before.desk (suc r))
     (sym (extends-round c.args.desk.now c.loop-before.desk top c.loop-before.invariant.extends c.args.n c.requires.segment ∙ c.requires.round)) c.loop-before.invariant.queue
 
 pub follow-requires-clause-segment : goal.follow-requires-clause-segment
@@ -58,11 +58,11 @@ follow-requires-clause-hops g c =
     let same : segment_of c.loop-before.desk.segments c.args.n ≡ c.in-Some.segment
     = extends-segment c.args.desk.now c.loop-before.desk (suc c.args.round) c.loop-before.invariant.extends c.args.n c.requires.segment
     ∙ get_or_from_slice_get c.args.desk.now.segments c.args.n c.in-Some.segment no_segment (sym c.in-Some.ensures) in
-    c.visit-visit.ensures.out ∙ ap (λ (s : Segment). g.S.Scan.hops c.args.self.now.scan.now s.trip (c.loop-before.before + 1)) (sym same)
+    c.visit-visit.ensures.out ∙ ap (λ (s : Segment). (g.S.Scan.net c.args.self.now.scan.now).hops s.trip (c.loop-before.before + 1)) (sym same)
 
 pub weigh-best-requires-clause-stop : goal.weigh-best-requires-clause-stop
 weigh-best-requires-clause-stop g c =
-    let T : TimetableData = g.S.Scan.table c.args.self.now.scan.now in
+    let T : TimetableData = (g.S.Scan.net c.args.self.now.scan.now).table in
     let same : segment_of c.args.desk.now.segments c.args.n ≡ c.in-Some.segment = get_or_from_slice_get c.args.desk.now.segments c.args.n c.in-Some.segment no_segment (sym c.in-Some.ensures) in
     let sound = subst (IsSoundSegment T) same (c.requires.queue.step.segments c.args.n no_segment c.requires.segment) in
     let event = sound_event T c.in-Some.segment.trip (c.loop-before.before + 1) c.shape-shape.ensures.sound sound.trip (omega (arith, sound.within, c.loop-before-test.true)) in
@@ -70,7 +70,7 @@ weigh-best-requires-clause-stop g c =
 
 pub weigh-best-requires-clause-arr : goal.weigh-best-requires-clause-arr
 weigh-best-requires-clause-arr g c =
-    let T : TimetableData = g.S.Scan.table c.args.self.now.scan.now in
+    let T : TimetableData = (g.S.Scan.net c.args.self.now.scan.now).table in
     let same : segment_of c.args.desk.now.segments c.args.n ≡ c.in-Some.segment = get_or_from_slice_get c.args.desk.now.segments c.args.n c.in-Some.segment no_segment (sym c.in-Some.ensures) in
     let sound = subst (IsSoundSegment T) same (c.requires.queue.step.segments c.args.n no_segment c.requires.segment) in
     let event = sound_event T c.in-Some.segment.trip (c.loop-before.before + 1) c.shape-shape.ensures.sound sound.trip (omega (arith, sound.within, c.loop-before-test.true)) in
@@ -78,9 +78,9 @@ weigh-best-requires-clause-arr g c =
 
 pub loop-before-preserved : goal.loop-before-preserved
 loop-before-preserved g c =
-    let T : TimetableData = g.S.Scan.table c.args.self.now.scan.now in
+    let T : TimetableData = (g.S.Scan.net c.args.self.now.scan.now).table in
     let Q : QueryData = c.args.self.now.query.now in
-    let hops = g.S.Scan.hops c.args.self.now.scan.now in
+    let hops = (g.S.Scan.net c.args.self.now.scan.now).hops in
     let D : DeskData = c.args.desk.now in
     let E : DeskData = c.loop-before.desk in
     let n : ℕ = c.args.n in
@@ -110,7 +110,7 @@ loop-before-preserved g c =
     let round : suc (round_of E.segments n) ≡ top = ap suc (extends-round D E top c.loop-before.invariant.extends n c.requires.segment ∙ c.requires.round) in
     let joined : Extends E F top = subst (λ r. Extends E F r) round c.follow.ensures.extends in
     record {
-      queue = subst (λ r. IsQueue T (g.S.Scan.lines c.args.self.now.scan.now) hops Q F r) round c.follow.ensures.queue;
+      queue = subst (λ r. IsQueue T (g.S.Scan.net c.args.self.now.scan.now).lines hops Q F r) round c.follow.ensures.queue;
       extends = extends_on T hops Q D E n at c.args.round c.args.so_far c.loop-before.best c.weigh-best.result looked F joined c.follow.ensures.followed;
       followed = followed_on T hops Q D E n at c.args.round c.args.so_far c.loop-before.best c.weigh-best.result looked F joined c.follow.ensures.followed;
       bounded = bounded_on T hops Q D E n at c.args.round c.args.so_far c.loop-before.best c.weigh-best.result looked F joined c.follow.ensures.followed;
@@ -120,9 +120,9 @@ loop-before-preserved g c =
 
 pub returns-then-is_late : goal.returns-then-is_late
 returns-then-is_late g c =
-    let T : TimetableData = g.S.Scan.table c.args.self.now.scan.now in
+    let T : TimetableData = (g.S.Scan.net c.args.self.now.scan.now).table in
     let Q : QueryData = c.args.self.now.query.now in
-    let hops = g.S.Scan.hops c.args.self.now.scan.now in
+    let hops = (g.S.Scan.net c.args.self.now.scan.now).hops in
     let D : DeskData = c.args.desk.now in
     let E : DeskData = c.loop-before.desk in
     let n : ℕ = c.args.n in
@@ -177,7 +177,7 @@ returns-clause-improved g c = c.loop-before.invariant.improved
 
 pub returns-clause-steps : goal.returns-clause-steps
 returns-clause-steps g c =
-    let T : TimetableData = g.S.Scan.table c.args.self.now.scan.now in
+    let T : TimetableData = (g.S.Scan.net c.args.self.now.scan.now).table in
     let same : segment_of c.args.desk.now.segments c.args.n ≡ c.in-Some.segment = get_or_from_slice_get c.args.desk.now.segments c.args.n c.in-Some.segment no_segment (sym c.in-Some.ensures) in
     let sound = subst (IsSoundSegment T) same (c.requires.queue.step.segments c.args.n no_segment c.requires.segment) in
     omega (arith, c.loop-before.invariant.steps, ap (λ (s : Segment). s.board) same, ap (λ (s : Segment). s.end) same, c.loop-before-test.false, sound.onward)

@@ -28,27 +28,27 @@ loop-before-init g c =
 pub visit-visit-requires-clause-trip : goal.visit-visit-requires-clause-trip
 visit-visit-requires-clause-trip g c =
     let same : segment_of c.args.desk.now.segments c.args.n ≡ c.in-Some.segment = get_or_from_slice_get c.args.desk.now.segments c.args.n c.in-Some.segment no_segment (sym c.in-Some.ensures) in
-    let sound = subst (IsSoundSegment (g.S.Scan.table c.args.self.now.scan.now)) same (c.requires.queue.sound c.args.n no_segment c.requires.segment) in
+    let sound = subst (IsSoundSegment (g.S.Scan.net c.args.self.now.scan.now).table) same (c.requires.queue.sound c.args.n no_segment c.requires.segment) in
     sound.trip
 
 pub visit-visit-requires-clause-at : goal.visit-visit-requires-clause-at
 visit-visit-requires-clause-at g c =
     let same : segment_of c.args.desk.now.segments c.args.n ≡ c.in-Some.segment = get_or_from_slice_get c.args.desk.now.segments c.args.n c.in-Some.segment no_segment (sym c.in-Some.ensures) in
-    let sound = subst (IsSoundSegment (g.S.Scan.table c.args.self.now.scan.now)) same (c.requires.queue.sound c.args.n no_segment c.requires.segment) in
+    let sound = subst (IsSoundSegment (g.S.Scan.net c.args.self.now.scan.now).table) same (c.requires.queue.sound c.args.n no_segment c.requires.segment) in
     omega (arith, sound.within, c.loop-before-test.true)
 
 pub weigh-best-requires-clause-stop : goal.weigh-best-requires-clause-stop
 weigh-best-requires-clause-stop g c =
     let same : segment_of c.args.desk.now.segments c.args.n ≡ c.in-Some.segment = get_or_from_slice_get c.args.desk.now.segments c.args.n c.in-Some.segment no_segment (sym c.in-Some.ensures) in
-    let sound = subst (IsSoundSegment (g.S.Scan.table c.args.self.now.scan.now)) same (c.requires.queue.sound c.args.n no_segment c.requires.segment) in
-    let event = sound_event (g.S.Scan.table c.args.self.now.scan.now) c.in-Some.segment.trip (c.loop-before.before + 1) c.shape-shape.ensures.sound sound.trip (omega (arith, sound.within, c.loop-before-test.true)) in
+    let sound = subst (IsSoundSegment (g.S.Scan.net c.args.self.now.scan.now).table) same (c.requires.queue.sound c.args.n no_segment c.requires.segment) in
+    let event = sound_event (g.S.Scan.net c.args.self.now.scan.now).table c.in-Some.segment.trip (c.loop-before.before + 1) c.shape-shape.ensures.sound sound.trip (omega (arith, sound.within, c.loop-before-test.true)) in
     omega (arith, c.visit-visit.ensures.stop, event.stop)
 
 pub weigh-best-requires-clause-arr : goal.weigh-best-requires-clause-arr
 weigh-best-requires-clause-arr g c =
     let same : segment_of c.args.desk.now.segments c.args.n ≡ c.in-Some.segment = get_or_from_slice_get c.args.desk.now.segments c.args.n c.in-Some.segment no_segment (sym c.in-Some.ensures) in
-    let sound = subst (IsSoundSegment (g.S.Scan.table c.args.self.now.scan.now)) same (c.requires.queue.sound c.args.n no_segment c.requires.segment) in
-    let event = sound_event (g.S.Scan.table c.args.self.now.scan.now) c.in-Some.segment.trip (c.loop-before.before + 1) c.shape-shape.ensures.sound sound.trip (omega (arith, sound.within, c.loop-before-test.true)) in
+    let sound = subst (IsSoundSegment (g.S.Scan.net c.args.self.now.scan.now).table) same (c.requires.queue.sound c.args.n no_segment c.requires.segment) in
+    let event = sound_event (g.S.Scan.net c.args.self.now.scan.now).table c.in-Some.segment.trip (c.loop-before.before + 1) c.shape-shape.ensures.sound sound.trip (omega (arith, sound.within, c.loop-before-test.true)) in
     omega (arith, ints, c.visit-visit.ensures.arr, event.waits, event.latest)
 
 pub follow_level-requires-clause-round : goal.follow_level-requires-clause-round
@@ -71,13 +71,13 @@ follow_level-requires-clause-hops g c =
     let same : segment_of c.loop-before.desk.segments c.args.n ≡ c.in-Some.segment
     = extends-segment c.args.desk.now c.loop-before.desk (suc c.args.round) c.loop-before.invariant.extends c.args.n c.requires.segment
     ∙ get_or_from_slice_get c.args.desk.now.segments c.args.n c.in-Some.segment no_segment (sym c.in-Some.ensures) in
-    c.visit-visit.ensures.out ∙ ap (λ (s : Segment). g.S.Scan.hops c.args.self.now.scan.now s.trip (c.loop-before.before + 1)) (sym same)
+    c.visit-visit.ensures.out ∙ ap (λ (s : Segment). (g.S.Scan.net c.args.self.now.scan.now).hops s.trip (c.loop-before.before + 1)) (sym same)
 
 pub loop-before-preserved : goal.loop-before-preserved
 loop-before-preserved g c =
-    let T : TimetableData = g.S.Scan.table c.args.self.now.scan.now in
+    let T : TimetableData = (g.S.Scan.net c.args.self.now.scan.now).table in
     let Q : QueryData = c.args.self.now.query.now in
-    let hops = g.S.Scan.hops c.args.self.now.scan.now in
+    let hops = (g.S.Scan.net c.args.self.now.scan.now).hops in
     let D : DeskData = c.args.desk.now in
     let E : DeskData = c.loop-before.desk in
     let n : ℕ = c.args.n in
@@ -115,9 +115,9 @@ loop-before-preserved g c =
 
 pub returns-then-is_late : goal.returns-then-is_late
 returns-then-is_late g c =
-    let T : TimetableData = g.S.Scan.table c.args.self.now.scan.now in
+    let T : TimetableData = (g.S.Scan.net c.args.self.now.scan.now).table in
     let Q : QueryData = c.args.self.now.query.now in
-    let hops = g.S.Scan.hops c.args.self.now.scan.now in
+    let hops = (g.S.Scan.net c.args.self.now.scan.now).hops in
     let D : DeskData = c.args.desk.now in
     let E : DeskData = c.loop-before.desk in
     let n : ℕ = c.args.n in

@@ -11,8 +11,8 @@ ride_level-requires-clause-round g c =
 
 pub loop-n-preserved : goal.loop-n-preserved
 loop-n-preserved g c =
-    let T = g.S.Scan.table c.args.self.now.scan.now in
-    let hops = g.S.Scan.hops c.args.self.now.scan.now in
+    let T = (g.S.Scan.net c.args.self.now.scan.now).table in
+    let hops = (g.S.Scan.net c.args.self.now.scan.now).hops in
     let Q = c.args.self.now.query.now in
     let D : DeskData = c.args.desk.now in
     let E : DeskData = c.loop-n.desk in

@@ -23,15 +23,15 @@ keep-requires g c =
       c.requires.ridden.few_rounds,
       c.requires.from,
       extends-long D E (suc c.args.round) c.ride_round-best.ensures.extends,
-      segments_le_events (g.S.Scan.table c.args.self.now.scan.now) (g.S.Scan.lines c.args.self.now.scan.now) E c.ride_round-best.ensures.queue.step,
+      segments_le_events (g.S.Scan.net c.args.self.now.scan.now).table (g.S.Scan.net c.args.self.now.scan.now).lines E c.ride_round-best.ensures.queue.step,
       c.ride_round-best.ensures.queue.step.fits.hits,
     )
 
 pub returns-clause-ridden : goal.returns-clause-ridden
 returns-clause-ridden g c =
-    let T : TimetableData = g.S.Scan.table c.args.self.now.scan.now in
-    let lines = g.S.Scan.lines c.args.self.now.scan.now in
-    let hops = g.S.Scan.hops c.args.self.now.scan.now in
+    let T : TimetableData = (g.S.Scan.net c.args.self.now.scan.now).table in
+    let lines = (g.S.Scan.net c.args.self.now.scan.now).lines in
+    let hops = (g.S.Scan.net c.args.self.now.scan.now).hops in
     let Q : QueryData = c.args.self.now.query.now in
     let D : DeskData = c.args.desk.now in
     let E : DeskData = c.ride_round-best.new.desk in

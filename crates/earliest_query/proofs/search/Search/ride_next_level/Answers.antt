@@ -8,23 +8,23 @@ use Rattle.earliest_query.proofs.search.Search.ride_next_level.Goals as goal
 
 pub have_level-requires-clause-levels : goal.have_level-requires-clause-levels
 have_level-requires-clause-levels g c =
-    level_there (g.S.Scan.table c.args.self.now.scan.now) (g.S.Scan.lines c.args.self.now.scan.now) (g.S.Scan.hops c.args.self.now.scan.now) c.args.self.now.query.now c.args.desk.now c.args.levels.now c.args.values.now c.args.from c.args.round
+    level_there (g.S.Scan.net c.args.self.now.scan.now).table (g.S.Scan.net c.args.self.now.scan.now).lines (g.S.Scan.net c.args.self.now.scan.now).hops c.args.self.now.query.now c.args.desk.now c.args.levels.now c.args.values.now c.args.from c.args.round
     c.requires.ridden c.requires.from
 
 pub ride_level_round-requires-clause-queue : goal.ride_level_round-requires-clause-queue
 ride_level_round-requires-clause-queue g c =
-    let T : TimetableData = g.S.Scan.table c.args.self.now.scan.now in
-    let lines = g.S.Scan.lines c.args.self.now.scan.now in
-    let hops = g.S.Scan.hops c.args.self.now.scan.now in
+    let T : TimetableData = (g.S.Scan.net c.args.self.now.scan.now).table in
+    let lines = (g.S.Scan.net c.args.self.now.scan.now).lines in
+    let hops = (g.S.Scan.net c.args.self.now.scan.now).hops in
     let Q : QueryData = c.args.self.now.query.now in
     let D : DeskData = c.args.desk.now in
     swept_queue-made T lines hops Q D c.args.levels.now c.have_level.new.levels c.requires.ridden.queue.some_level c.in_ok-have_level.ensures.made c.requires.ridden.queue
 
 pub returns-clause-ridden : goal.returns-clause-ridden
 returns-clause-ridden g c =
-    let T : TimetableData = g.S.Scan.table c.args.self.now.scan.now in
-    let lines = g.S.Scan.lines c.args.self.now.scan.now in
-    let hops = g.S.Scan.hops c.args.self.now.scan.now in
+    let T : TimetableData = (g.S.Scan.net c.args.self.now.scan.now).table in
+    let lines = (g.S.Scan.net c.args.self.now.scan.now).lines in
+    let hops = (g.S.Scan.net c.args.self.now.scan.now).hops in
     let Q : QueryData = c.args.self.now.query.now in
     let D : DeskData = c.args.desk.now in
     let E : DeskData = c.ride_level_round.new.desk in

@@ -13,7 +13,7 @@ ride-best-requires-clause-round g c =
 
 pub loop-n-preserved : goal.loop-n-preserved
 loop-n-preserved g c =
-    let T = g.S.Scan.table c.args.self.now.scan.now in
+    let T = (g.S.Scan.net c.args.self.now.scan.now).table in
     let Q = c.args.self.now.query.now in
     let D : DeskData = c.args.desk.now in
     let E : DeskData = c.loop-n.desk in
@@ -25,8 +25,8 @@ loop-n-preserved g c =
     record {
       queue = c.ride-best.ensures.queue;
       extends = extends-trans D E F top before.extends c.ride-best.ensures.extends;
-      followed = followed_one_more T (g.S.Scan.hops c.args.self.now.scan.now) Q D E F c.args.from c.loop-n.n c.args.round c.loop-n.best c.ride-best.result inside before.extends c.ride-best.ensures.extends c.ride-best.ensures.improved before.followed c.ride-best.ensures.followed;
-      bounded = bounded_one_more T (g.S.Scan.hops c.args.self.now.scan.now) Q D E F c.args.from c.loop-n.n c.args.round c.loop-n.best c.ride-best.result inside before.extends c.ride-best.ensures.extends c.ride-best.ensures.improved before.bounded c.ride-best.ensures.bounded;
+      followed = followed_one_more T (g.S.Scan.net c.args.self.now.scan.now).hops Q D E F c.args.from c.loop-n.n c.args.round c.loop-n.best c.ride-best.result inside before.extends c.ride-best.ensures.extends c.ride-best.ensures.improved before.followed c.ride-best.ensures.followed;
+      bounded = bounded_one_more T (g.S.Scan.net c.args.self.now.scan.now).hops Q D E F c.args.from c.loop-n.n c.args.round c.loop-n.best c.ride-best.result inside before.extends c.ride-best.ensures.extends c.ride-best.ensures.improved before.bounded c.ride-best.ensures.bounded;
       improved = improved-trans T Q E F top c.args.round c.args.so_far c.loop-n.best c.ride-best.result c.ride-best.ensures.extends before.improved c.ride-best.ensures.improved;
       steps = omega (arith, before.steps, c.ride-best.ensures.steps, ap covered_indices same, sum_by_more covered_indices D.segments c.loop-n.n no_segment inside);
     }

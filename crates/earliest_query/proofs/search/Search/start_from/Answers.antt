@@ -24,7 +24,7 @@ start_stop-requires-in-loop-path-clause-queue g c = c.loop-path.invariant.queue
 
 pub start_stop-requires-in-loop-path-clause-near : goal.start_stop-requires-in-loop-path-clause-near
 start_stop-requires-in-loop-path-clause-near g c =
-    let T : TimetableData = g.S.Scan.table c.args.self.now.scan.now in
+    let T : TimetableData = (g.S.Scan.net c.args.self.now.scan.now).table in
     let paths = c.walks-path-items.result.now in
     let f : Path = c.path-item.result in
     let k : ℕ = c.loop-path.path-index in
@@ -44,7 +44,7 @@ below_or_at k i h = grind arith
 
 pub loop-path-preserved : goal.loop-path-preserved
 loop-path-preserved g c =
-    let T : TimetableData = g.S.Scan.table c.args.self.now.scan.now in
+    let T : TimetableData = (g.S.Scan.net c.args.self.now.scan.now).table in
     let Q : QueryData = c.args.self.now.query.now in
     let E : DeskData = c.loop-path.desk in
     let F : DeskData = c.start_stop-in-loop-path.new.desk in
@@ -66,7 +66,7 @@ loop-path-preserved g c =
 
 pub returns-clause-boarded : goal.returns-clause-boarded
 returns-clause-boarded g c = λ stop secs walks.
-    let T : TimetableData = g.S.Scan.table c.args.self.now.scan.now in
+    let T : TimetableData = (g.S.Scan.net c.args.self.now.scan.now).table in
     let Q : QueryData = c.args.self.now.query.now in
     let D : DeskData = c.loop-path.desk in
     let paths = c.walks-path-items.result.now in

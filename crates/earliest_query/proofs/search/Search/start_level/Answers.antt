@@ -21,7 +21,7 @@ loop-origin-init g c = record {
 
 pub loop-origin-preserved : goal.loop-origin-preserved
 loop-origin-preserved g c =
-    let T : TimetableData = g.S.Scan.table c.args.self.now.scan.now in
+    let T : TimetableData = (g.S.Scan.net c.args.self.now.scan.now).table in
     let Q : QueryData = c.args.self.now.query.now in
     let E : DeskData = c.loop-origin.desk in
     let F : DeskData = c.start_from.new.desk in
@@ -39,7 +39,7 @@ loop-origin-preserved g c =
 
 pub returns-clause-starts : goal.returns-clause-starts
 returns-clause-starts g c = λ p t b secs from boards not_last walks in_time.
-    let T : TimetableData = g.S.Scan.table c.args.self.now.scan.now in
+    let T : TimetableData = (g.S.Scan.net c.args.self.now.scan.now).table in
     let items = c.origins-origin-items.result.now in
     let before : from.0 < c.loop-origin.origin-index = omega (arith, from.1, ap length c.origins-origin-items.ensures, c.loop-origin-test.false) in
     let is : get_or items from.0 p ≡ p = ap (λ xs. get_or xs from.0 p) c.origins-origin-items.ensures ∙ from.2 in

@@ -11,8 +11,8 @@ below_or_at k i h = grind arith
 
 pub loop-berth-preserved : goal.loop-berth-preserved
 loop-berth-preserved g c =
-    let T = g.S.Scan.table c.args.self.now.scan.now in
-    let indices = line_indices_at T (g.S.Scan.lines c.args.self.now.scan.now) c.args.stop in
+    let T = (g.S.Scan.net c.args.self.now.scan.now).table in
+    let indices = line_indices_at T (g.S.Scan.net c.args.self.now.scan.now).lines c.args.stop in
     let E = c.loop-berth.desk in
     let F = c.start_line.new.desk in
     let more = c.in_ok-start_line.ensures in
@@ -28,7 +28,7 @@ loop-berth-preserved g c =
 
 pub returns-clause-boarded : goal.returns-clause-boarded
 returns-clause-boarded g c = λ t b boards not_last here in_time.
-    let T = g.S.Scan.table c.args.self.now.scan.now in
-    let s = served T (g.S.Scan.lines c.args.self.now.scan.now) c.args.stop c.shape-shape.ensures.divided (c.args.self.now.query.now.leave +ℤ pos c.args.secs) t b boards not_last here in_time in
+    let T = (g.S.Scan.net c.args.self.now.scan.now).table in
+    let s = served T (g.S.Scan.net c.args.self.now.scan.now).lines c.args.stop c.shape-shape.ensures.divided (c.args.self.now.query.now.leave +ℤ pos c.args.secs) t b boards not_last here in_time in
     let D = c.loop-berth.desk in
     covered-by T (round_segments D.segments) (length D.segments) 1 s.hop t b (c.loop-berth.invariant.reached s.index s.hop (omega (arith, s.inside, c.loop-berth-test.false, c.berths-berth-end.ensures)) s.is) s.trip s.at

@@ -13,9 +13,9 @@ use Rattle.earliest_query.proofs.sweep.Sweep.ask.Goals as goal
 
 pub start_level-requires-clause-queue : goal.start_level-requires-clause-queue
 start_level-requires-clause-queue g c =
-    let T : TimetableData = g.S.Scan.table c.args.scan.now in
-    let lines = g.S.Scan.lines c.args.scan.now in
-    let hops = g.S.Scan.hops c.args.scan.now in
+    let T : TimetableData = (g.S.Scan.net c.args.scan.now).table in
+    let lines = (g.S.Scan.net c.args.scan.now).lines in
+    let hops = (g.S.Scan.net c.args.scan.now).hops in
     let Q : QueryData = c.args.query.now in
     let D : DeskData = c.args.desk.now in
     let later : ℤ = c.requires.later.0 in
@@ -25,9 +25,9 @@ start_level-requires-clause-queue g c =
 
 pub ride_levels-requires-clause-ridden : goal.ride_levels-requires-clause-ridden
 ride_levels-requires-clause-ridden g c =
-    let T : TimetableData = g.S.Scan.table c.args.scan.now in
-    let lines = g.S.Scan.lines c.args.scan.now in
-    let hops = g.S.Scan.hops c.args.scan.now in
+    let T : TimetableData = (g.S.Scan.net c.args.scan.now).table in
+    let lines = (g.S.Scan.net c.args.scan.now).lines in
+    let hops = (g.S.Scan.net c.args.scan.now).hops in
     let Q : QueryData = c.args.query.now in
     let D : DeskData = c.args.desk.now in
     let C : DeskData = c.keep.new.desk in
@@ -53,7 +53,7 @@ returns-clause-swept g c =
     let new : List Value = c.take_hits.new.values.items in
     let values : values_with c.hits.result.now c.drop_walks.new.values.items ≡ values_with F.hits vs
     = ap (λ hs. values_with hs c.drop_walks.new.values.items) c.hits.ensures ∙ ap (λ (xs : List Value). values_with F.hits xs) (sym c.as_slice.ensures.value) in
-    swept_taken (g.S.Scan.table c.args.scan.now) (g.S.Scan.lines c.args.scan.now) (g.S.Scan.hops c.args.scan.now) c.args.query.now F c.ride_levels.new.levels vs ridden.0 ridden.1 new
+    swept_taken (g.S.Scan.net c.args.scan.now).table (g.S.Scan.net c.args.scan.now).lines (g.S.Scan.net c.args.scan.now).hops c.args.query.now F c.ride_levels.new.levels vs ridden.0 ridden.1 new
     (subst (λ (xs : List Value). All (Contains xs) new) values taken.from) (subst (λ (xs : List Value). AreCoveredBy xs new) values taken.covers)
 
 pub returns-clause-found : goal.returns-clause-found
@@ -63,4 +63,4 @@ returns-clause-found g c = λ w has.
     let values : List Value = c.args.self.now.values in
     let are : c.as_slice.result.now ≡ rode values = c.as_slice.ensures.value ∙ c.drop_walks.ensures ∙ ap (λ (s : SweepData). rode s.values) c.self.view_is in
     late_among F.hits values w.arrive w.rides (subst (λ (vs : List Value). IsLate (values_with F.hits vs) w.arrive w.rides) are
-    (round_found (g.S.Scan.table c.args.scan.now) (g.S.Scan.lines c.args.scan.now) (g.S.Scan.hops c.args.scan.now) c.args.query.now F c.ride_levels.new.levels c.as_slice.result.now ridden.0 ridden.1 c.shape-shape.ensures.sound c.requires.sufficient w has))
+    (round_found (g.S.Scan.net c.args.scan.now).table (g.S.Scan.net c.args.scan.now).lines (g.S.Scan.net c.args.scan.now).hops c.args.query.now F c.ride_levels.new.levels c.as_slice.result.now ridden.0 ridden.1 c.shape-shape.ensures.sound c.requires.sufficient w has))

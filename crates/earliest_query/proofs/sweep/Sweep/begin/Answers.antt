@@ -7,9 +7,9 @@ use Rattle.earliest_query.proofs.sweep.Sweep.begin.Goals as goal
 
 pub returns-clause-begun : goal.returns-clause-begun
 returns-clause-begun g c =
-    let T = g.S.Scan.table c.args.scan.now in
-    let lines = g.S.Scan.lines c.args.scan.now in
-    let hops = g.S.Scan.hops c.args.scan.now in
+    let T = (g.S.Scan.net c.args.scan.now).table in
+    let lines = (g.S.Scan.net c.args.scan.now).lines in
+    let hops = (g.S.Scan.net c.args.scan.now).hops in
     let D : DeskData = c.begin.new.self in
     let none : Option ℕ = None in
     let levels : ◌≡◌ {A = List (List (Option ℕ))} c.begin-2.new.self _ = c.in_ok-begin.ensures ∙ ap (λ n. replicate n none ∷ []) c.shape-shape.ensures.trips in

@@ -7,7 +7,7 @@ use Rattle.segment_queue.proofs.desk.Desk.begin.Goals as goal
 
 pub returns-clause-step : goal.returns-clause-step
 returns-clause-step g c =
-    let T : TimetableData = g.S.Scan.table c.args.scan.now in
+    let T : TimetableData = (g.S.Scan.net c.args.scan.now).table in
     let fits : Fits T (the_view c.self.inside) = subst (Fits T) (sym c.self.view_is) c.requires in
-    in_step-emptied T (g.S.Scan.lines c.args.scan.now) (the_view c.self.inside) (the_view (record { marks = c.begin.new.self; segments = c.clear.new.self; hits = c.clear-2.new.self })) (length c.self.inside.marks)
+    in_step-emptied T (g.S.Scan.net c.args.scan.now).lines (the_view c.self.inside) (the_view (record { marks = c.begin.new.self; segments = c.clear.new.self; hits = c.clear-2.new.self })) (length c.self.inside.marks)
     c.shape-shape.ensures.sound c.shape-shape.ensures.divided fits c.begin.ensures refl c.clear.ensures.items c.clear.ensures.capacity c.clear-2.ensures.capacity

@@ -8,23 +8,23 @@ use Rattle.segment_queue.proofs.desk.Desk.reach.Goals as goal
 
 pub push_within-requires : goal.push_within-requires
 push_within-requires g c =
-    let T : TimetableData = g.S.Scan.table c.args.scan.now in
-    let lines = g.S.Scan.lines c.args.scan.now in
+    let T : TimetableData = (g.S.Scan.net c.args.scan.now).table in
+    let lines = (g.S.Scan.net c.args.scan.now).lines in
     let step : IsInStep T lines (the_view c.self.inside) = subst (IsInStep T lines) (sym c.self.view_is) c.requires.step in
     let all = segments_and_mark T lines (the_view c.self.inside) step c.args.trip c.requires.trip in
     omega (arith, all, step.fits.segments, c.self.inside.segments.ok.0, c.mark_on-end.ensures, c.if-end-at.false)
 
 pub lower_marks-requires-clause-falling : goal.lower_marks-requires-clause-falling
 lower_marks-requires-clause-falling g c =
-    let T : TimetableData = g.S.Scan.table c.args.scan.now in
-    let lines = g.S.Scan.lines c.args.scan.now in
+    let T : TimetableData = (g.S.Scan.net c.args.scan.now).table in
+    let lines = (g.S.Scan.net c.args.scan.now).lines in
     let step : IsInStep T lines (the_view c.self.inside) = subst (IsInStep T lines) (sym c.self.view_is) c.requires.step in
     pairs_of (λ t u. mark_of T c.self.inside.marks u ≤ mark_of T c.self.inside.marks t) c.args.trip lines step.falling
 
 pub returns-clause-step : goal.returns-clause-step
 returns-clause-step g c =
-    let T : TimetableData = g.S.Scan.table c.args.scan.now in
-    let lines = g.S.Scan.lines c.args.scan.now in
+    let T : TimetableData = (g.S.Scan.net c.args.scan.now).table in
+    let lines = (g.S.Scan.net c.args.scan.now).lines in
     let step : IsInStep T lines (the_view c.self.inside) = subst (IsInStep T lines) (sym c.self.view_is) c.requires.step in
     in_step-entered T lines (the_view c.self.inside) (the_view (record { marks = c.lower_marks.new.marks; segments = c.push_within.new.items; hits = c.self.inside.hits })) c.args.trip c.args.at c.args.parent c.shape-shape.ensures.divided step c.requires.trip
     (omega (arith, c.mark_on-end.ensures, c.if-end-at.false))
