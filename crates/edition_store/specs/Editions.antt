@@ -1,21 +1,29 @@
 -- The network of a day, with the number of its kept transfers.
-use Rattle.std.specs.Prelude.{◌≡◌, ℕ}
+use Rattle.std.specs.Prelude.{◌≡◌, ℕ, List}
 use Rattle.tb_base.specs.Lines.{AreLines}
 use Rattle.tb_base.specs.Network.{NetData}
 use Rattle.tb_base.specs.Soundness.{IsSound}
 use Rattle.tb_base.specs.Sufficiency.{AreSufficient}
+use Rattle.tb_base.specs.TimetableData.{TimetableData}
 use Rattle.tb_base.specs.Transfers.{kept_hops}
 use Rattle.reduce_workers.specs.Reductions.{ReducedData, reduced}
+use Rattle.transfer_pack.specs.Packed.{PackedHops, packed}
 
--- a network, and how many hops it has in all
+-- a timetable, lines, a set of hops, and how many hops there are in all
 pub record EditionData : Type 0 where
-  pub net : NetData
+  pub table : TimetableData
+  pub lines : List (List ℕ)
+  pub set : PackedHops
   pub kept : ℕ
 
+-- its network
+abbrev pub net_of : EditionData → NetData
+net_of e = record { table = e.table; lines = e.lines; hops = packed e.set }
+
 -- The timetable is sound, the lines are its lines, and the hops are its kept transfers, which are enough to find all best values.
-pub record IsEdition (E : EditionData) : Type 0 where
-  pub sound : IsSound E.net.table
-  pub lines : AreLines E.net.table E.net.lines
-  pub hops : (t i : ℕ) → E.net.hops t i ≡ kept_hops E.net.table E.net.lines t i
-  pub kept : E.kept ≡ ReducedData.kept (reduced E.net.table E.net.lines)
-  pub sufficient : AreSufficient E.net.table E.net.hops
+pub record IsEdition (e : EditionData) : Type 0 where
+  pub sound : IsSound e.table
+  pub lines : AreLines e.table e.lines
+  pub hops : (t i : ℕ) → packed e.set t i ≡ kept_hops e.table e.lines t i
+  pub kept : e.kept ≡ ReducedData.kept (reduced e.table e.lines)
+  pub sufficient : AreSufficient e.table (packed e.set)

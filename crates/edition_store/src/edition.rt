@@ -1,8 +1,7 @@
 ghost use Rattle.std.specs.Prelude.{◌≡◌, ◌<◌, ◌≤◌, IfOk};
 ghost use Rattle.line_split.specs.LinesOf.{AreLinesOf};
 ghost use Rattle.reduce_workers.specs.Reductions.{reduced};
-ghost use Rattle.transfer_pack.specs.Packed.{packed};
-ghost use Rattle.edition_store.specs.Editions.{EditionData, IsEdition};
+ghost use Rattle.edition_store.specs.Editions.{EditionData, IsEdition, net_of};
 
 use line_split::{Lines, split};
 use reduce_workers::{Reduced, reduce_all};
@@ -26,20 +25,14 @@ pub struct Edition {
 impl Model for Edition {
     ghost use Rattle.std.specs.Prelude.{◌≡◌};
     ghost use Rattle.line_split.specs.LinesOf.{AreLinesOf};
-    ghost use Rattle.transfer_pack.specs.Packed.{packed};
     ghost use Rattle.edition_store.specs.Editions.{EditionData, IsEdition};
 
     ghost Value = { EditionData };
 
-    ghost view = { λ e. record {
-      net = record { table = e.table; lines = e.lines.lines; hops = packed e.set };
-      kept = e.kept;
-    } };
+    ghost view = { λ e. record { table = e.table; lines = e.lines.lines; set = e.set; kept = e.kept } };
 
-    ghost invariant = { λ e. AreLinesOf e.table e.lines × (e.set.table ≡ e.table) × IsEdition (record {
-      net = record { table = e.table; lines = e.lines.lines; hops = packed e.set };
-      kept = e.kept;
-    }) };
+    ghost invariant = { λ e. AreLinesOf e.table e.lines × (e.set.table ≡ e.table)
+        × IsEdition (record { table = e.table; lines = e.lines.lines; set = e.set; kept = e.kept }) };
 }
 
 impl Edition {
@@ -54,7 +47,7 @@ impl Edition {
     ) -> Result<Edition, Memory>
         requires some { 0 < workers }
         requires most { workers ≤ 64 }
-        ensures { IfOk result (λ e. (EditionData.net e).table ≡ table) }
+        ensures { IfOk result (λ e. EditionData.table e ≡ table) }
     {
         let lines = split(alloc, &table)?;
         let transfers = reduce_all(rt, alloc, &table, &lines, workers, gate)?;
@@ -71,7 +64,7 @@ impl Edition {
     ) -> Result<Edition, Memory>
         requires lines { AreLinesOf table lines }
         requires transfers { transfers ≡ reduced table lines.lines }
-        ensures { IfOk result (λ e. (EditionData.net e).table ≡ table) }
+        ensures { IfOk result (λ e. EditionData.table e ≡ table) }
     {
         line_split::laws::lines_divide();
         reduce_workers::laws::kept_rows();
@@ -95,23 +88,23 @@ impl Edition {
 
     /// Its timetable.
     pub fn table(&self) -> &Timetable
-        ensures { result.now ≡ self.now.net.table }
+        ensures { result.now ≡ self.now.table }
     {
         &self.table
     }
 
     /// The lines of its timetable.
     pub fn lines(&self) -> &Lines
-        ensures lines { result.now.lines ≡ self.now.net.lines }
-        ensures table { AreLinesOf self.now.net.table result.now }
+        ensures lines { result.now.lines ≡ self.now.lines }
+        ensures table { AreLinesOf self.now.table result.now }
     {
         &self.lines
     }
 
     /// The set of its kept transfers.
     pub fn set(&self) -> &Set
-        ensures table { result.now.table ≡ self.now.net.table }
-        ensures hops { packed result.now ≡ self.now.net.hops }
+        ensures set { result.now ≡ self.now.set }
+        ensures table { result.now.table ≡ self.now.table }
     {
         &self.set
     }
@@ -125,16 +118,16 @@ impl Edition {
 
     // Its parts, as a search looks at them.
     fn view(&self) -> View<'_, Set>
-        ensures table { result.0 ≡ self.now.net.table }
-        ensures lines { result.1.lines ≡ self.now.net.lines }
-        ensures hops { packed result.2 ≡ self.now.net.hops }
+        ensures table { result.0 ≡ self.now.table }
+        ensures lines { result.1.lines ≡ self.now.lines }
+        ensures set { result.2 ≡ self.now.set }
     {
         View::new(&self.table, &self.lines, &self.set)
     }
 }
 
 impl Scan for Edition {
-    ghost net = { λ e. e.net };
+    ghost net = { net_of };
 
     fn shape(&self) -> Shape {
         self.view().shape()

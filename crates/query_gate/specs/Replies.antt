@@ -1,5 +1,5 @@
 -- Which replies are right.
-use Rattle.std.specs.Prelude.{◌≡◌, ◌<◌, ⊤, ⊥, ℕ, List, Ok, Err, All, map}
+use Rattle.std.specs.Prelude.{◌≡◌, ◌<◌, ⊤, ℕ, List, Ok, Err, All, map}
 use Rattle.tb_base.specs.BestValues.{AreBestValues, ChoiceData, QueryData}
 use Rattle.tb_base.specs.JourneyRules.{SpellSlot}
 use Rattle.tb_base.specs.Network.{NetData}

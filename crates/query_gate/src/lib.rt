@@ -6,14 +6,14 @@
 //! whose hops suffice. To the layer above the crate promises that each reply is exactly the one of the definitions.
 #![tactic(auto)]
 
-mod ask;
+mod asking;
 mod between;
 mod choices;
-mod profile;
+mod profiling;
 mod reply;
 
-pub use ask::{AskText, ask};
+pub use asking::{AskText, ask};
 pub use between::{Between, stops_between};
 pub use choices::best_choices;
-pub use profile::{ProfileText, profile};
+pub use profiling::{ProfileText, profile};
 pub use reply::Reply;

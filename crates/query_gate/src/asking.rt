@@ -1,6 +1,6 @@
 //! The best values between two named places.
 ghost use Rattle.std.specs.Prelude.{◌≡◌, ◌≤ℤ◌, IfOk, pos};
-ghost use Rattle.query_gate.specs.Questions.{ends_between, query_at};
+ghost use Rattle.edition_store.specs.Editions.{net_of};
 ghost use Rattle.query_gate.specs.Replies.{IsAskReply};
 
 use crate::between::{Between, stops_between};
@@ -39,7 +39,7 @@ pub fn ask(
     text: &AskText,
 ) -> Result<Reply, Memory>
     requires { text.now.leave ≤ℤ pos 359999 }
-    ensures { IfOk result (IsAskReply edition.now.net text.now) }
+    ensures { IfOk result (IsAskReply (net_of edition.now) text.now) }
 {
     edition.soundness();
     let table = edition.table();

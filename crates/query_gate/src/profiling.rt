@@ -1,5 +1,6 @@
 //! The best departures between two named places within a window.
 ghost use Rattle.std.specs.Prelude.{◌≡◌, ◌≤ℤ◌, IfOk, pos};
+ghost use Rattle.edition_store.specs.Editions.{net_of};
 ghost use Rattle.query_gate.specs.Replies.{IsProfileReply};
 
 use crate::between::{Between, stops_between};
@@ -37,7 +38,7 @@ pub fn profile(
     text: &ProfileText,
 ) -> Result<Reply, Memory>
     requires { text.now.last ≤ℤ pos 359999 }
-    ensures { IfOk result (IsProfileReply edition.now.net text.now) }
+    ensures { IfOk result (IsProfileReply (net_of edition.now) text.now) }
 {
     edition.soundness();
     let table = edition.table();
