@@ -2,6 +2,7 @@
 use Rattle.std.specs.Prelude.{◌≡◌, ℕ, ◌-◌, ◌<◌, ◌≤◌, ◌==◌, ◌⊎◌, List, [], ◌∷◌, Option, None, Some, length, filter, sum_by, slice_index, slice_get, nat_le, if◌then◌else◌, Bool, IsTrue, IfSome, IsSomeAnd, is_some, Contains, ℤ, pos, ◌+ℤ◌, ◌≤ℤ◌, ◌<ℤ◌, int_lt}
 use Rattle.std.specs.List.{list_any}
 use Rattle.std.specs.Option.{option_map}
+use Rattle.tb_base.specs.Network.{NetData}
 use Rattle.tb_base.specs.declared.table.Path.{Path}
 use Rattle.tb_base.specs.TimetableData.{TimetableData}
 use Rattle.tb_base.specs.Transfers.{numbers_below}
@@ -38,8 +39,8 @@ abbrev pub stops_near : TimetableData → List ℕ → List ℕ
 stops_near T origins = filter (λ p. list_any (λ o. is_some (walk T o p)) origins) (numbers_below (length T.stops))
 
 -- how many line indices are at the stops with a walk from an origin, each stop counted once
-abbrev pub lines_near : TimetableData → List (List ℕ) → List ℕ → ℕ
-lines_near T lines origins = sum_by (λ p. length (line_indices_at T lines p)) (stops_near T origins)
+abbrev pub lines_near : NetData → List ℕ → ℕ
+lines_near N origins = sum_by (λ p. length (line_indices_at N.table N.lines p)) (stops_near N.table origins)
 
 -- when the best hit so far arrives
 abbrev pub arrival_of : Option Hit → Option ℤ

@@ -87,7 +87,7 @@ impl<S: Scan> Search<'_, S> {
 
     // How many segments there are.
     fn count(&self, desk: &Desk) -> u32
-        requires { IsInStep (S.net self.now.scan.now).table (S.net self.now.scan.now).lines desk.now }
+        requires { IsInStep (S.net self.now.scan.now) desk.now }
         ensures result { result ≡ length desk.now.segments }
         ensures most { result ≤ 10000000 }
     {
@@ -104,10 +104,10 @@ impl<S: Scan> Search<'_, S> {
         round: u32,
         steps: &mut Steps<L>,
     ) -> u32
-        requires ridden { IsRidden (S.net self.now.scan.now).table (S.net self.now.scan.now).lines (S.net self.now.scan.now).hops self.now.query.now desk.old from round }
+        requires ridden { IsRidden (S.net self.now.scan.now) self.now.query.now desk.old from round }
         requires from { from < length desk.old.segments }
         requires sufficient { AreSufficient (S.net self.now.scan.now).table (S.net self.now.scan.now).hops }
-        ensures ridden { IsRidden (S.net self.now.scan.now).table (S.net self.now.scan.now).lines (S.net self.now.scan.now).hops self.now.query.now desk.new result (round + 1) }
+        ensures ridden { IsRidden (S.net self.now.scan.now) self.now.query.now desk.new result (round + 1) }
         ensures further { from < result }
         ensures most { result ≤ 10000000 }
         ensures steps { steps.new + covered_before desk.old.segments from ≤ steps.old + covered_before desk.new.segments result }
@@ -121,9 +121,9 @@ impl<S: Scan> Search<'_, S> {
 
     // Rides all segments, round by round.
     pub(crate) fn ride_all<L: Ledger>(&self, desk: &mut Desk, steps: &mut Steps<L>)
-        requires ridden { IsRidden (S.net self.now.scan.now).table (S.net self.now.scan.now).lines (S.net self.now.scan.now).hops self.now.query.now desk.old 0 1 }
+        requires ridden { IsRidden (S.net self.now.scan.now) self.now.query.now desk.old 0 1 }
         requires sufficient { AreSufficient (S.net self.now.scan.now).table (S.net self.now.scan.now).hops }
-        ensures ridden { (rounds : ℕ) × IsRidden (S.net self.now.scan.now).table (S.net self.now.scan.now).lines (S.net self.now.scan.now).hops self.now.query.now desk.new (length desk.new.segments) rounds }
+        ensures ridden { (rounds : ℕ) × IsRidden (S.net self.now.scan.now) self.now.query.now desk.new (length desk.new.segments) rounds }
         ensures steps { steps.new ≤ steps.old + covered_before desk.new.segments (length desk.new.segments) }
     {
         let mut from = 0;

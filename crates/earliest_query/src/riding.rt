@@ -99,13 +99,13 @@ impl<S: Scan> Search<'_, S> {
         so_far: Option<Hit>,
         steps: &mut Steps<L>,
     ) -> Option<Hit>
-        requires queue { IsQueue (S.net self.now.scan.now).table (S.net self.now.scan.now).lines (S.net self.now.scan.now).hops self.now.query.now desk.old (suc round) }
+        requires queue { IsQueue (S.net self.now.scan.now) self.now.query.now desk.old (suc round) }
         requires segment { n < length desk.old.segments }
         requires round { round_of desk.old.segments n ≡ round }
         requires sufficient { AreSufficient (S.net self.now.scan.now).table (S.net self.now.scan.now).hops }
-        ensures queue { IsQueue (S.net self.now.scan.now).table (S.net self.now.scan.now).lines (S.net self.now.scan.now).hops self.now.query.now desk.new (suc round) }
+        ensures queue { IsQueue (S.net self.now.scan.now) self.now.query.now desk.new (suc round) }
         ensures extends { Extends desk.old desk.new (suc round) }
-        ensures followed { (i : ℕ) → Covers desk.old n i → IsDone (S.net self.now.scan.now).table (S.net self.now.scan.now).hops desk.new result n i }
+        ensures followed { (i : ℕ) → Covers desk.old n i → IsDone (S.net self.now.scan.now) desk.new result n i }
         ensures bounded { (i : ℕ) → Covers desk.old n i → IsBounded (S.net self.now.scan.now).table self.now.query.now desk.old result n i }
         ensures improved { IsImproved (S.net self.now.scan.now).table self.now.query.now desk.new round so_far result }
         ensures steps { steps.new ≤ steps.old + covered_indices (segment_of desk.old.segments n) }
@@ -138,14 +138,14 @@ impl<S: Scan> Search<'_, S> {
         so_far: Option<Hit>,
         steps: &mut Steps<L>,
     ) -> Option<Hit>
-        requires queue { IsQueue (S.net self.now.scan.now).table (S.net self.now.scan.now).lines (S.net self.now.scan.now).hops self.now.query.now desk.old (suc round) }
+        requires queue { IsQueue (S.net self.now.scan.now) self.now.query.now desk.old (suc round) }
         requires from { from ≤ to }
         requires to { to ≤ length desk.old.segments }
         requires rounds { (n : ℕ) → from ≤ n → n < to → round_of desk.old.segments n ≡ round }
         requires sufficient { AreSufficient (S.net self.now.scan.now).table (S.net self.now.scan.now).hops }
-        ensures queue { IsQueue (S.net self.now.scan.now).table (S.net self.now.scan.now).lines (S.net self.now.scan.now).hops self.now.query.now desk.new (suc round) }
+        ensures queue { IsQueue (S.net self.now.scan.now) self.now.query.now desk.new (suc round) }
         ensures extends { Extends desk.old desk.new (suc round) }
-        ensures followed { (n i : ℕ) → from ≤ n → n < to → Covers desk.old n i → IsDone (S.net self.now.scan.now).table (S.net self.now.scan.now).hops desk.new result n i }
+        ensures followed { (n i : ℕ) → from ≤ n → n < to → Covers desk.old n i → IsDone (S.net self.now.scan.now) desk.new result n i }
         ensures bounded { (n i : ℕ) → from ≤ n → n < to → Covers desk.old n i → IsBounded (S.net self.now.scan.now).table self.now.query.now desk.old result n i }
         ensures improved { IsImproved (S.net self.now.scan.now).table self.now.query.now desk.new round so_far result }
         ensures steps { steps.new + covered_before desk.old.segments from ≤ steps.old + covered_before desk.old.segments to }

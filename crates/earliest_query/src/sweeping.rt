@@ -20,8 +20,7 @@ impl<S: Scan> Search<'_, S> {
         hop: Hop,
         parent: Option<(u32, u32)>,
     ) -> Result<(), Memory>
-        requires queue { IsSweptQueue (S.net self.now.scan.now).table (S.net self.now.scan.now).lines
-            (S.net self.now.scan.now).hops self.now.query.now desk.old levels.old }
+        requires queue { IsSweptQueue (S.net self.now.scan.now) self.now.query.now desk.old levels.old }
         requires level { level < length levels.old }
         requires round { round_after (round_segments desk.old.segments) parent ≡ suc level }
         requires trip { hop.trip < length (S.net self.now.scan.now).table.trips }
@@ -30,8 +29,7 @@ impl<S: Scan> Search<'_, S> {
             (length desk.old.segments) parent hop.trip hop.at }
         requires in_set { (p : ℕ × ℕ) → parent ≡ Some p →
             Contains ((S.net self.now.scan.now).hops (segment_of desk.old.segments p.0).trip p.1) hop }
-        ensures queue { OnOk result (IsSweptQueue (S.net self.now.scan.now).table
-            (S.net self.now.scan.now).lines (S.net self.now.scan.now).hops self.now.query.now desk.new
+        ensures queue { OnOk result (IsSweptQueue (S.net self.now.scan.now) self.now.query.now desk.new
             levels.new) }
         ensures levels { OnOk result (length levels.new ≡ length levels.old) }
         ensures reached { OnOk result (IsReachedBy (S.net self.now.scan.now).table desk.new
@@ -66,8 +64,7 @@ impl<S: Scan> Search<'_, S> {
         segment: u32,
         at: u32,
     ) -> Result<(), Memory>
-        requires queue { IsSweptQueue (S.net self.now.scan.now).table (S.net self.now.scan.now).lines
-            (S.net self.now.scan.now).hops self.now.query.now desk.old levels.old }
+        requires queue { IsSweptQueue (S.net self.now.scan.now) self.now.query.now desk.old levels.old }
         requires level { level < length levels.old }
         requires segment { segment < length desk.old.segments }
         requires round { round_of desk.old.segments segment ≡ level }
@@ -75,13 +72,11 @@ impl<S: Scan> Search<'_, S> {
         requires hops { hops.now
             ≡ (S.net self.now.scan.now).hops (segment_of desk.old.segments segment).trip at }
         requires sufficient { AreSufficient (S.net self.now.scan.now).table (S.net self.now.scan.now).hops }
-        ensures queue { OnOk result (IsSweptQueue (S.net self.now.scan.now).table
-            (S.net self.now.scan.now).lines (S.net self.now.scan.now).hops self.now.query.now desk.new
+        ensures queue { OnOk result (IsSweptQueue (S.net self.now.scan.now) self.now.query.now desk.new
             levels.new) }
         ensures levels { OnOk result (length levels.new ≡ length levels.old) }
         ensures extends { OnOk result (Extends desk.old desk.new (suc level)) }
-        ensures followed { OnOk result (IsFollowed (S.net self.now.scan.now).table
-            (S.net self.now.scan.now).hops desk.new segment at) }
+        ensures followed { OnOk result (IsFollowed (S.net self.now.scan.now) desk.new segment at) }
         ensures still { Fits (S.net self.now.scan.now).table desk.old →
             Fits (S.net self.now.scan.now).table desk.new }
     {

@@ -57,7 +57,7 @@ fn search_on<S: Scan, L: Ledger>(scan: &S, query: &Query, desk: &mut Desk, blank
     requires leave { query.now.leave ≤ℤ pos 359999 }
     requires sufficient { AreSufficient (S.net scan.now).table (S.net scan.now).hops }
     ensures fits { Fits (S.net scan.now).table desk.new }
-    ensures answered { IsAnswered (S.net scan.now).table (S.net scan.now).hops query.now desk.new }
+    ensures answered { IsAnswered (S.net scan.now) query.now desk.new }
 {
     let mut steps = Steps::<L>::new(blank);
     earliest(scan, query, desk, &mut steps);
@@ -90,7 +90,9 @@ pub fn ask<O: OutSet>(
     ensures hops { IfOk result (λ cs.
         All (λ c. LegsFollow (O.hops set.now) (ChoiceData.legs c)) cs.items) }
     ensures fits { Fits table.now desk.new }
-    ensures answered { IsAnswered table.now (O.hops set.now) query.now desk.new }
+    ensures answered { IsAnswered
+        (record { table = table.now; lines = lines.now.lines; hops = O.hops set.now })
+        query.now desk.new }
 {
     let view = View::new(table, lines, set);
     search_on::<View<'_, O>, Brand>(&view, query, desk, Blank::new(1));

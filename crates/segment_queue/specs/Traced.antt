@@ -1,5 +1,6 @@
 -- What the segments and hits of a desk say of journeys.
 use Rattle.std.specs.Prelude.{◌≡◌, ℕ, suc, ◌<◌, ◌≤◌, List, [], ◌∷◌, ◌++◌, Option, None, Some, length, map, filter_map, fold, slice_index_or, ℤ, pos, ◌+ℤ◌, ◌≤ℤ◌, ⊤, All, Contains}
+use Rattle.tb_base.specs.Network.{NetData}
 use Rattle.tb_base.specs.declared.query.Leg.{Leg}
 use Rattle.tb_base.specs.declared.query.Leg.TheVariants.{Walk as WalkLeg, Ride as RideLeg}
 use Rattle.tb_base.specs.declared.transfer.Hop.{Hop}
@@ -99,10 +100,10 @@ UsesHops hops segments = (n : ℕ) (parent : ℕ × ℕ) → n < length segments
     Contains (hops (segment_of segments parent.0).trip parent.1) (record { trip = (segment_of segments n).trip; at = (segment_of segments n).board })
 
 -- the desk holds the answer to the query: its hits have the best values, and its segments go by hops of the set
-pub record IsAnswered (T : TimetableData) (hops : ℕ → ℕ → List Hop) (Q : QueryData) (D : DeskData) : Type 0 where
-  pub traced : IsTraced T Q D
-  pub by_hops : UsesHops hops D.segments
-  pub best : AreBestValues T Q (map (λ (h : Hit). h.value) D.hits)
+pub record IsAnswered (N : NetData) (Q : QueryData) (D : DeskData) : Type 0 where
+  pub traced : IsTraced N.table Q D
+  pub by_hops : UsesHops N.hops D.segments
+  pub best : AreBestValues N.table Q (map (λ (h : Hit). h.value) D.hits)
 
 -- from each ride to the next there is a hop of the set
 abbrev pub RidesFollow : (ℕ → ℕ → List Hop) → List Ride → Type 0
