@@ -20,11 +20,20 @@ pub record IsRidden (N : NetData) (Q : QueryData) (D : DeskData) (from round : �
   pub boarded : (place : ℕ) → place < length Q.from → AreBoarded N.table Q D place
   -- each hop of theirs has been followed, or some hit is no worse than to get there
   pub followed : (n i : ℕ) → n < from → Covers D n i →
-      IsFollowed N D n i ⊎ IsHit D.hits (record { arrive = arrival_at N.table (segment_of D.segments n).trip i; rides = round_of D.segments n })
+      IsFollowed N D n i
+      ⊎ IsHit D.hits (record {
+        arrive = arrival_at N.table (segment_of D.segments n).trip i;
+        rides = round_of D.segments n;
+      })
   -- some hit is no worse than each walk, and than to alight where the segments cover
-  pub walks : (p q secs : ℕ) → Contains Q.from p → Contains Q.to q → walk N.table p q ≡ Some secs → IsHit D.hits (record { arrive = Q.leave +ℤ pos secs; rides = 0 })
+  pub walks : (p q secs : ℕ) → Contains Q.from p → Contains Q.to q → walk N.table p q ≡ Some secs →
+      IsHit D.hits (record { arrive = Q.leave +ℤ pos secs; rides = 0 })
   pub values : (n i q secs : ℕ) → n < from → Covers D n i → IsOffered N.table Q D n i q secs →
-      IsHit D.hits (record { arrive = arrival_at N.table (segment_of D.segments n).trip i +ℤ pos secs; rides = round_of D.segments n })
+      IsHit D.hits
+      (record {
+        arrive = arrival_at N.table (segment_of D.segments n).trip i +ℤ pos secs;
+        rides = round_of D.segments n;
+      })
   pub traced : All (IsTracedHit N.table Q D.segments) D.hits
   pub stairs : AllPairs (λ (h k : Hit). IsStep h.value k.value) D.hits
   pub fewer : All (λ (h : Hit). h.value.rides < round) D.hits

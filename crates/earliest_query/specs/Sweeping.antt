@@ -29,7 +29,8 @@ pub record IsSweptQueue (N : NetData)
   -- the end of a segment is its trip's last index, or at it a segment before it has reached the
   -- trip with no more rides
   pub ends : (n : ℕ) → n < length D.segments →
-      (length (events_of N.table (segment_of D.segments n).trip) ≤ suc (segment_of D.segments n).end)
+      (length (events_of N.table (segment_of D.segments n).trip)
+      ≤ suc (segment_of D.segments n).end)
       ⊎ IsReachedBy N.table D n (round_of D.segments n) (segment_of D.segments n).trip
       (segment_of D.segments n).end
   pub kept : AreKept N.table levels (round_segments D.segments)

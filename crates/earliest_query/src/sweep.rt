@@ -88,16 +88,17 @@ impl Sweep {
         steps: &mut Steps<L>,
     ) -> Result<(), Memory>
         requires later { (later : ℤ) × (query.now.leave ≤ℤ later)
-            × IsSweptSoFar (S.net scan.now)
-            (record query.now { leave = later }) desk.old self.old }
+            × IsSweptSoFar (S.net scan.now) (record query.now { leave = later }) desk.old self.old }
         requires fits { Fits (S.net scan.now).table desk.old }
         requires origins { All (λ p. p < length (S.net scan.now).table.stops) query.now.from }
         requires leave { query.now.leave ≤ℤ pos 359999 }
         requires sufficient { AreSufficient (S.net scan.now).table (S.net scan.now).hops }
-        ensures swept { OnOk result (IsSweptTo (S.net scan.now) query.now desk.new self.new.levels self.new.values) }
+        ensures swept { OnOk result
+            (IsSweptTo (S.net scan.now) query.now desk.new self.new.levels self.new.values) }
         ensures traced { OnOk result (IsTraced (S.net scan.now).table query.now desk.new) }
         ensures stairs { OnOk result (AllPairs (λ h k. IsStep h.value k.value) desk.new.hits) }
-        ensures found { OnOk result ((w : ValueData) → IsAttained (S.net scan.now).table query.now w →
+        ensures found { OnOk result ((w : ValueData) →
+            IsAttained (S.net scan.now).table query.now w →
             IsLate (values_with desk.new.hits self.old.values) w.arrive w.rides) }
         ensures fits { Fits (S.net scan.now).table desk.new }
     {

@@ -31,8 +31,9 @@ pub fn choices(
     requires traced { IsTraced table.now query.now desk.now }
     ensures values { IfOk result (λ cs.
         map ChoiceData.value cs.items ≡ map (λ h. h.value) desk.now.hits) }
-    ensures walks { IfOk result (λ cs.
-        All (λ c. SpellShortest table.now query.now (ChoiceData.legs c) (ChoiceData.value c)) cs.items) }
+    ensures walks { IfOk result
+        (λ cs. All (λ c. SpellShortest table.now query.now (ChoiceData.legs c) (ChoiceData.value c))
+        cs.items) }
     ensures hops { IfOk result (λ cs. (hops : ℕ → ℕ → List Hop) → UsesHops hops desk.now.segments →
         All (λ c. LegsFollow hops (ChoiceData.legs c)) cs.items) }
 {
@@ -83,10 +84,12 @@ pub fn ask<O: OutSet>(
     requires time { query.now.leave ≤ℤ pos 359999 }
     ensures values { IfOk result (λ cs.
         AreBestValues table.now query.now (map ChoiceData.value cs.items)) }
-    ensures journeys { IfOk result (λ cs.
-        All (λ c. SpellValue table.now query.now (ChoiceData.legs c) (ChoiceData.value c)) cs.items) }
-    ensures walks { IfOk result (λ cs.
-        All (λ c. SpellShortest table.now query.now (ChoiceData.legs c) (ChoiceData.value c)) cs.items) }
+    ensures journeys { IfOk result
+        (λ cs. All (λ c. SpellValue table.now query.now (ChoiceData.legs c) (ChoiceData.value c))
+        cs.items) }
+    ensures walks { IfOk result
+        (λ cs. All (λ c. SpellShortest table.now query.now (ChoiceData.legs c) (ChoiceData.value c))
+        cs.items) }
     ensures hops { IfOk result (λ cs.
         All (λ c. LegsFollow (O.hops set.now) (ChoiceData.legs c)) cs.items) }
     ensures fits { Fits table.now desk.new }

@@ -17,10 +17,13 @@ pub record DepartsAt (T : TimetableData) (stop : ℕ) (time : ℤ) : Type 0 wher
   pub here : stop_at T trip board ≡ stop
   pub departs : departure_at T trip board ≡ time
 
--- when the hop departs by which the line index with this number is boarded at the stop, from the time on
+-- when the hop departs by which the line index with this number is boarded at the stop, from the
+-- time on
 abbrev pub line_departure : NetData → ℕ → ℤ → ℕ → Option ℤ
 line_departure N stop time berth =
-    option_map (λ (h : Hop). departure_at N.table h.trip h.at) (boarding_hop N.table (slice_index_or (line_indices_at N.table N.lines stop) berth no_line_index) time)
+    option_map (λ (h : Hop). departure_at N.table h.trip h.at)
+    (boarding_hop N.table
+    (slice_index_or (line_indices_at N.table N.lines stop) berth no_line_index) time)
 
 -- who leaves the origin at the time comes on foot to a stop just when a trip departs
 pub record LeavesFor (T : TimetableData) (origin : ℕ) (time : ℤ) : Type 0 where
@@ -55,7 +58,8 @@ pub record IsLeavingBefore (T : TimetableData) (W : WindowData) (end time : ℤ)
   pub before : time <ℤ end
 
 -- the leaving times within the window that are before the end, all of them, in order
-pub record AreLeavingTimes (T : TimetableData) (W : WindowData) (end : ℤ) (times : List ℤ) : Type 0 where
+pub record AreLeavingTimes (T : TimetableData) (W : WindowData) (end : ℤ)
+    (times : List ℤ) : Type 0 where
   pub all : All (IsLeavingBefore T W end) times
   pub complete : (time : ℤ) → IsLeavingBefore T W end time → Contains times time
   pub ordered : AllPairs (λ m n. m <ℤ n) times

@@ -63,8 +63,7 @@ pub(crate) fn search<S: Scan, L: Ledger>(
         × IsSweptSoFar (S.net scan.now) (record query.now { leave = later }) desk.old sweep.old }
     requires sufficient { AreSufficient table.now (S.net scan.now).hops }
     ensures fits { Fits table.now desk.new }
-    ensures swept { OnOk result
-        (IsSweptSoFar (S.net scan.now) query.now desk.new sweep.new) }
+    ensures swept { OnOk result (IsSweptSoFar (S.net scan.now) query.now desk.new sweep.new) }
     ensures found { OnOk result
         (AreFound table.now query.now sweep.old.values (map (λ h. h.value) desk.new.hits)) }
     ensures later { OnOk result (AreLater table.now query.now sweep.new.values) }
@@ -92,8 +91,7 @@ pub(crate) fn begin<S: Scan, L: Ledger>(
     requires origins { All (λ p. p < length table.now.stops) query.now.from }
     requires sufficient { AreSufficient table.now (S.net scan.now).hops }
     ensures fits { Fits table.now desk.new }
-    ensures swept { OnOk result
-        (IsSweptSoFar (S.net scan.now) query.now desk.new sweep.new) }
+    ensures swept { OnOk result (IsSweptSoFar (S.net scan.now) query.now desk.new sweep.new) }
     ensures later { OnOk result (AreLater table.now query.now sweep.new.values) }
 {
     table.soundness();

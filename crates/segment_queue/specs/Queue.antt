@@ -8,7 +8,8 @@ use Rattle.segment_queue.specs.declared.desk.Segment.{Segment}
 use Rattle.segment_queue.specs.declared.desk.Hit.{Hit}
 use Rattle.segment_queue.specs.Scans.{trips_from}
 
--- a desk: an index for each trip that has been reached, the segments and the hits in order, and room for how many of them
+-- a desk: an index for each trip that has been reached, the segments and the hits in order, and
+-- room for how many of them
 pub record DeskData : Type 0 where
   pub marks : List (Option ℕ)
   pub segments : List Segment
@@ -53,7 +54,8 @@ IsFalling T marks trips = AllPairs (λ t u. mark_of T marks u ≤ mark_of T mark
 -- The desk is in step with a timetable and its lines.
 pub record IsInStep (N : NetData) (D : DeskData) : Type 0 where
   pub fits : Fits N.table D
-  pub marks : (t : ℕ) → t < length N.table.trips → mark_of N.table D.marks t < length (events_of N.table t)
+  pub marks : (t : ℕ) → t < length N.table.trips →
+      mark_of N.table D.marks t < length (events_of N.table t)
   pub segments : All (IsSoundSegment N.table) D.segments
   -- what a trip's segments cover is above its mark
   pub above : All (λ s. mark_of N.table D.marks s.trip ≤ s.board) D.segments
@@ -68,10 +70,20 @@ pub record IsInStep (N : NetData) (D : DeskData) : Type 0 where
 abbrev pub lowered : List ℕ → ℕ → ℕ → ℕ → ℕ
 lowered trips at u mark = if list_any (λ x. x == u) trips then min mark at else mark
 
--- the trip is entered at the index: it is covered from there up to its mark, and its mark and those of later trips of its line fall
-pub record EntersSegment (N : NetData) (trip at : ℕ) (parent : Option (ℕ × ℕ)) (D D' : DeskData) : Type 0 where
-  pub segments : D'.segments ≡ D.segments ++ record { trip = trip; board = at; end = mark_of N.table D.marks trip; parent = parent } ∷ []
-  pub marks : (u : ℕ) → u < length N.table.trips → mark_of N.table D'.marks u ≡ lowered (trips_from N.lines trip) at u (mark_of N.table D.marks u)
+-- the trip is entered at the index: it is covered from there up to its mark, and its mark and those
+-- of later trips of its line fall
+pub record EntersSegment (N : NetData) (trip at : ℕ) (parent : Option (ℕ × ℕ))
+    (D D' : DeskData) : Type 0 where
+  pub segments : D'.segments ≡ D.segments
+      ++ record {
+        trip = trip;
+        board = at;
+        end = mark_of N.table D.marks trip;
+        parent = parent;
+      } ∷ []
+  pub marks : (u : ℕ) → u < length N.table.trips →
+      mark_of N.table D'.marks u
+      ≡ lowered (trips_from N.lines trip) at u (mark_of N.table D.marks u)
   pub trips : length D'.marks ≡ length D.marks
   pub hits : D'.hits ≡ D.hits
   pub segment_room : D'.segment_room ≡ D.segment_room

@@ -98,10 +98,13 @@ pub(crate) fn lower_marks<S: Scan>(marks: &mut Marks, scan: &S, trip: TripNo, at
     requires trip { trip < length (S.net scan.now).table.trips }
     requires room { length (S.net scan.now).table.trips ≤ length marks.old }
     requires divided { AreDividedInto (S.net scan.now).table (S.net scan.now).lines }
-    requires falling { IsFalling (S.net scan.now).table marks.old (trips_from (S.net scan.now).lines trip) }
+    requires falling { IsFalling (S.net scan.now).table marks.old
+        (trips_from (S.net scan.now).lines trip) }
     ensures trips { length marks.new ≡ length marks.old }
-    ensures marks { (u : ℕ) → u < length (S.net scan.now).table.trips → mark_of (S.net scan.now).table marks.new u
-        ≡ lowered (trips_from (S.net scan.now).lines trip) at u (mark_of (S.net scan.now).table marks.old u) }
+    ensures marks { (u : ℕ) → u < length (S.net scan.now).table.trips →
+        mark_of (S.net scan.now).table marks.new u
+        ≡ lowered (trips_from (S.net scan.now).lines trip) at u
+        (mark_of (S.net scan.now).table marks.old u) }
 {
     let mut next = Some(trip);
     while let Some(later) = next {
@@ -116,7 +119,8 @@ pub(crate) fn lower_marks<S: Scan>(marks: &mut Marks, scan: &S, trip: TripNo, at
 impl Desk {
     /// A desk without room.
     pub fn new(alloc: Global) -> Desk
-        ensures { result ≡ record { marks = []; segments = []; hits = []; segment_room = 0; hit_room = 0 } }
+        ensures { result
+            ≡ record { marks = []; segments = []; hits = []; segment_room = 0; hit_room = 0 } }
     {
         Desk {
             marks: Marks::new(alloc),

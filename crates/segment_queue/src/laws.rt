@@ -6,5 +6,6 @@ ghost use Rattle.segment_queue.specs.Queue.{DeskData, IsInStep};
 
 /// A desk in step has at most as many segments as there are events.
 pub fn segments_within_events()
-    ensures { (N : NetData) (D : DeskData) → IsInStep N D → length D.segments ≤ event_total N.table }
+    ensures { (N : NetData) (D : DeskData) → IsInStep N D →
+        length D.segments ≤ event_total N.table }
 {}

@@ -66,7 +66,8 @@ impl Levels {
     pub fn mark<S: Scan>(&self, scan: &S, level: usize, trip: TripNo) -> u32
         requires level { level < length self.now }
         requires trip { trip < length (S.net scan.now).table.trips }
-        requires room { length (S.net scan.now).table.trips ≤ length (slice_index_or self.now level []) }
+        requires room { length (S.net scan.now).table.trips
+            ≤ length (slice_index_or self.now level []) }
         ensures { result ≡ level_mark (S.net scan.now).table self.now level trip }
     {
         mark_on(&self.levels[level], scan, trip)
@@ -78,10 +79,12 @@ impl Levels {
         requires trip { trip < length (S.net scan.now).table.trips }
         requires room { All (λ marks. length (S.net scan.now).table.trips ≤ length marks) self.old }
         requires divided { AreDividedInto (S.net scan.now).table (S.net scan.now).lines }
-        requires falling { All (λ marks. All (IsFalling (S.net scan.now).table marks) (S.net scan.now).lines) self.old }
+        requires falling { All (λ marks. All (IsFalling (S.net scan.now).table marks)
+            (S.net scan.now).lines) self.old }
         ensures lowered { EntersLevel (S.net scan.now) level trip at self.old self.new }
         ensures room { All (λ marks. length (S.net scan.now).table.trips ≤ length marks) self.new }
-        ensures falling { All (λ marks. All (IsFalling (S.net scan.now).table marks) (S.net scan.now).lines) self.new }
+        ensures falling { All (λ marks. All (IsFalling (S.net scan.now).table marks)
+            (S.net scan.now).lines) self.new }
     {
         for k in level..self.levels.len() {
             lower_marks(&mut self.levels[k], scan, trip, at);
