@@ -4,7 +4,7 @@ use Rattle.std.specs.Prelude.{All, AllPairs, Contains, IfSome, IsSome, slice_ind
 use Rattle.std.proofs.lemmas.Int.{ints}
 use Rattle.std.proofs.lemmas.List.{take_all}
 use Rattle.std.proofs.lemmas.List.Elements.{All-map, All-weaker, All-contains, All-nil, All-cons}
-use Rattle.tb_base.specs.declared.transfer.Hop.{Hop}
+use Rattle.tb_base.specs.Network.{NetData}
 use Rattle.tb_base.specs.declared.query.Value.{Value}
 use Rattle.tb_base.specs.TimetableData.{TimetableData, arrival_at, departure_at, event_total, events_of, stop_at, MayAlight}
 use Rattle.tb_base.specs.Walking.{walk}
@@ -29,7 +29,7 @@ use Rattle.segment_queue.proofs.Totals.{last_le_events}
 use Rattle.earliest_query.specs.Choices.{ArrivesBy, hits_of}
 use Rattle.earliest_query.specs.UnderWay.{AreBoarded, Extends, IsHit, IsQueue, covered_before}
 use Rattle.earliest_query.specs.Ridden.{IsRidden}
-use Rattle.earliest_query.proofs.Rounds.{board_of, end_of, length-round_segments, trip_of}
+use Rattle.segment_queue.proofs.Rounds.{board_of, end_of, length-round_segments, trip_of}
 use Rattle.earliest_query.proofs.Reaching.{hit_attained, reached_all, same_values}
 use Rattle.earliest_query.proofs.Following.{get_or-inside}
 use Rattle.earliest_query.proofs.BestSoFar.{IsWalkHit}
@@ -111,7 +111,7 @@ module _ (T : TimetableData) (origins : List ℕ) (stop : ℕ) where
         | inr best ↦ (best, best.nearest from.0 secs from.1 here)
       ]
 
-module _ (T : TimetableData) (lines : List (List ℕ)) (hops : ℕ → ℕ → List Hop) (Q : QueryData) (D : DeskData) (round : ℕ) (ridden : IsRidden T lines hops Q D (length D.segments) round) where
+module _ (N : NetData) (Q : QueryData) (D : DeskData) (round : ℕ) (ridden : IsRidden N Q D (length D.segments) round) where
   abbrev rounds : List RoundSegment
   rounds = round_segments D.segments
 
@@ -126,50 +126,50 @@ module _ (T : TimetableData) (lines : List (List ℕ)) (hops : ℕ → ℕ → L
   late_by time rides hit = (hit.by.value, Contains-from_Member hit.by.value values (value_member hit.by D.hits (Member-from_Contains hit.by D.hits hit.one)), hit.no_worse)
 
   -- the value of each hit is attained
-  all_attained : All (IsAttained T Q) values
-  all_attained = All-map (IsAttained T Q) (λ (h : Hit). h.value) D.hits (All-weaker (IsTracedHit T Q D.segments) (λ (h : Hit). IsAttained T Q h.value) (λ h t. hit_attained T Q D.segments ridden.queue.entered h t) D.hits ridden.traced)
+  all_attained : All (IsAttained N.table Q) values
+  all_attained = All-map (IsAttained N.table Q) (λ (h : Hit). h.value) D.hits (All-weaker (IsTracedHit N.table Q D.segments) (λ (h : Hit). IsAttained N.table Q h.value) (λ h t. hit_attained N.table Q D.segments ridden.queue.entered h t) D.hits ridden.traced)
 
-  pub searched : IsPrunedSearch T hops Q.from Q.leave values rounds
+  pub searched : IsPrunedSearch N.table N.hops Q.from Q.leave values rounds
   searched = record {
     reached = λ n h. let inside : n < length D.segments = omega (arith, h, long) in
-        subst (λ t. IsReached T Q.from Q.leave (round_of D.segments n) t (segment_at rounds n).board) (sym (trip_of D.segments n inside))
-        (subst (λ b. IsReached T Q.from Q.leave (round_of D.segments n) (segment_of D.segments n).trip b) (sym (board_of D.segments n inside)) (reached_all T Q D.segments ridden.queue.entered n inside));
+        subst (λ t. IsReached N.table Q.from Q.leave (round_of D.segments n) t (segment_at rounds n).board) (sym (trip_of D.segments n inside))
+        (subst (λ b. IsReached N.table Q.from Q.leave (round_of D.segments n) (segment_of D.segments n).trip b) (sym (board_of D.segments n inside)) (reached_all N.table Q D.segments ridden.queue.entered n inside));
     starts = λ p t b secs from boards not_last walks in_time.
-        let choice = first_choice T Q.from (stop_at T t b) p secs from walks in
-        subst (λ m. IsCovered T rounds m 1 t b) (sym long)
-        (ridden.boarded choice.0.place choice.0.below (stop_at T t b) choice.0.secs choice.0.walks (record { nearest = choice.0.nearest; first = choice.0.first }) t b boards not_last refl (sooner choice.0.secs secs (departure_at T t b) choice.1 in_time));
+        let choice = first_choice N.table Q.from (stop_at N.table t b) p secs from walks in
+        subst (λ m. IsCovered N.table rounds m 1 t b) (sym long)
+        (ridden.boarded choice.0.place choice.0.below (stop_at N.table t b) choice.0.secs choice.0.walks (record { nearest = choice.0.nearest; first = choice.0.first }) t b boards not_last refl (sooner choice.0.secs secs (departure_at N.table t b) choice.1 in_time));
     goes_on = λ n i h inside onward within in_set.
         let below : n < length D.segments = omega (arith, inside, long) in
         elim (ridden.followed n i below (record { onward = omega (arith, onward, board_of D.segments n below); within = omega (arith, within, end_of D.segments n below) })) [
-          | inl followed ↦ inl (subst (λ m. IsCovered T rounds m (suc (segment_at rounds n).round) h.trip h.at) (sym long) (followed h (subst (λ t. Contains (hops t i) h) (trip_of D.segments n below) in_set)))
-          | inr hit ↦ inr (subst (λ t. IsLate values (arrival_at T t i) (segment_at rounds n).round) (sym (trip_of D.segments n below)) (late_by (arrival_at T (segment_of D.segments n).trip i) (round_of D.segments n) hit))
+          | inl followed ↦ inl (subst (λ m. IsCovered N.table rounds m (suc (segment_at rounds n).round) h.trip h.at) (sym long) (followed h (subst (λ t. Contains (N.hops t i) h) (trip_of D.segments n below) in_set)))
+          | inr hit ↦ inr (subst (λ t. IsLate values (arrival_at N.table t i) (segment_at rounds n).round) (sym (trip_of D.segments n below)) (late_by (arrival_at N.table (segment_of D.segments n).trip i) (round_of D.segments n) hit))
         ];
     ends = λ n inside.
         let below : n < length D.segments = omega (arith, inside, long) in
-        subst (λ t. (length (events_of T t) ≤ suc (segment_at rounds n).end) ⊎ IsCovered T rounds n (segment_at rounds n).round t (segment_at rounds n).end) (sym (trip_of D.segments n below))
-        (subst (λ e. (length (events_of T (segment_of D.segments n).trip) ≤ suc e) ⊎ IsCovered T rounds n (segment_at rounds n).round (segment_of D.segments n).trip e) (sym (end_of D.segments n below)) (ridden.queue.ends n below));
+        subst (λ t. (length (events_of N.table t) ≤ suc (segment_at rounds n).end) ⊎ IsCovered N.table rounds n (segment_at rounds n).round t (segment_at rounds n).end) (sym (trip_of D.segments n below))
+        (subst (λ e. (length (events_of N.table (segment_of D.segments n).trip) ≤ suc e) ⊎ IsCovered N.table rounds n (segment_at rounds n).round (segment_of D.segments n).trip e) (sym (end_of D.segments n below)) (ridden.queue.ends n below));
   }
     where
       sooner : (a b : ℕ) (d : ℤ) → a ≤ b → (Q.leave +ℤ pos b) ≤ℤ d → (Q.leave +ℤ pos a) ≤ℤ d
       sooner a b d h k = omega (arith, ints, h, k)
 
   -- a best value that some hit is no worse than is the value of the hit
-  best_hit : (v : Value) → IsBest T Q v → IsHit D.hits v → Contains values v
+  best_hit : (v : Value) → IsBest N.table Q v → IsHit D.hits v → Contains values v
   best_hit v best hit =
-      let same : hit.by.value ≡ v = best.undominated hit.by.value (hit_attained T Q D.segments ridden.queue.entered hit.by (All-contains (IsTracedHit T Q D.segments) D.hits hit.by ridden.traced hit.one)) hit.no_worse in
+      let same : hit.by.value ≡ v = best.undominated hit.by.value (hit_attained N.table Q D.segments ridden.queue.entered hit.by (All-contains (IsTracedHit N.table Q D.segments) D.hits hit.by ridden.traced hit.one)) hit.no_worse in
       Contains-from_Member v values (subst (λ w. Member w values) same (value_member hit.by D.hits (Member-from_Contains hit.by D.hits hit.one)))
 
-  module _ (sound : IsSound T) (sufficient : AreSufficient T hops) where
-    complete : (v : Value) → IsBest T Q v → Contains values v
+  module _ (sound : IsSound N.table) (sufficient : AreSufficient N.table N.hops) where
+    complete : (v : Value) → IsBest N.table Q v → Contains values v
     complete v best = by_rides v.rides refl
       where
         value_is : (w : Value) (a : ℤ) (n : ℕ) → a ≡ w.arrive → n ≡ w.rides → record { arrive = a; rides = n } ≡ w
         value_is w a n e f = same_values a w.arrive n w.rides e f
 
-        from_walk : (o : ℕ) (rides : List Ride) (q : ℕ) → Contains Q.from o → Contains Q.to q → Leads T o rides q → v ≡ value_of T Q.leave (record { origin = o; rides = rides; target = q }) → v.rides ≡ 0 → IsHit D.hits v
+        from_walk : (o : ℕ) (rides : List Ride) (q : ℕ) → Contains Q.from o → Contains Q.to q → Leads N.table o rides q → v ≡ value_of N.table Q.leave (record { origin = o; rides = rides; target = q }) → v.rides ≡ 0 → IsHit D.hits v
         from_walk o [] q from to leads is none =
-            let w = some (walk T o q) leads in
-            subst (IsHit D.hits) (value_is v _ _ (ap (λ z. Q.leave +ℤ z) (sym (walk_secs-is T o q w.0 w.1)) ∙ sym (ap (λ (x : Value). x.arrive) is)) (sym none)) (ridden.walks o q w.0 from to w.1)
+            let w = some (walk N.table o q) leads in
+            subst (IsHit D.hits) (value_is v _ _ (ap (λ z. Q.leave +ℤ z) (sym (walk_secs-is N.table o q w.0 w.1)) ∙ sym (ap (λ (x : Value). x.arrive) is)) (sym none)) (ridden.walks o q w.0 from to w.1)
         from_walk o (r ∷ rest) q from to leads is none = absurd (let e : v.rides ≡ suc (length rest) = ap (λ (x : Value). x.rides) is in omega (arith, e, none))
 
         by_rides : (k : ℕ) → k ≡ v.rides → Contains values v
@@ -177,18 +177,18 @@ module _ (T : TimetableData) (lines : List (List ℕ)) (hops : ℕ → ℕ → L
             let j = best.attained.0 in
             best_hit v best (from_walk j.origin j.rides j.target best.attained.1.journey.origin best.attained.1.journey.target best.attained.1.journey.leads best.attained.1.value (sym e))
         by_rides (suc k) e =
-            let found : IsFound T Q.to rounds v = pruned_value_found T hops Q values rounds sound searched all_attained sufficient v best (omega (arith, e)) in
+            let found : IsFound N.table Q.to rounds v = pruned_value_found N.table N.hops Q values rounds sound searched all_attained sufficient v best (omega (arith, e)) in
             let n : ℕ = found.segment in
             let below : n < length D.segments = omega (arith, found.inside, long) in
             let trip : (segment_at rounds n).trip ≡ (segment_of D.segments n).trip = trip_of D.segments n below in
-            let walks : IsSome (walk T (stop_at T (segment_of D.segments n).trip found.at) found.target) = subst (λ t. IsSome (walk T (stop_at T t found.at) found.target)) trip found.walks in
-            let w = some (walk T (stop_at T (segment_of D.segments n).trip found.at) found.target) walks in
+            let walks : IsSome (walk N.table (stop_at N.table (segment_of D.segments n).trip found.at) found.target) = subst (λ t. IsSome (walk N.table (stop_at N.table t found.at) found.target)) trip found.walks in
+            let w = some (walk N.table (stop_at N.table (segment_of D.segments n).trip found.at) found.target) walks in
             let hit = ridden.values n found.at found.target w.0 below
             (record { onward = omega (arith, found.onward, board_of D.segments n below); within = omega (arith, found.within, end_of D.segments n below) })
-            (record { alights = subst (λ t. MayAlight T t found.at) trip found.alights; target = found.to; walks = w.1 }) in
+            (record { alights = subst (λ t. MayAlight N.table t found.at) trip found.alights; target = found.to; walks = w.1 }) in
             best_hit v best (subst (IsHit D.hits) (value_is v _ _
-            (ap (λ z. arrival_at T (segment_of D.segments n).trip found.at +ℤ z) (sym (walk_secs-is T (stop_at T (segment_of D.segments n).trip found.at) found.target w.0 w.1))
-            ∙ subst (λ t. (arrival_at T t found.at +ℤ walk_secs T (stop_at T t found.at) found.target) ≡ v.arrive) trip found.arrives)
+            (ap (λ z. arrival_at N.table (segment_of D.segments n).trip found.at +ℤ z) (sym (walk_secs-is N.table (stop_at N.table (segment_of D.segments n).trip found.at) found.target w.0 w.1))
+            ∙ subst (λ t. (arrival_at N.table t found.at +ℤ walk_secs N.table (stop_at N.table t found.at) found.target) ≡ v.arrive) trip found.arrives)
             found.round) hit)
 
     map_pairs : (hs : List Hit) → AllPairs (λ (h k : Hit). IsStep h.value k.value) hs → AllPairs IsStep (map (λ (h : Hit). h.value) hs)
@@ -198,11 +198,11 @@ module _ (T : TimetableData) (lines : List (List ℕ)) (hops : ℕ → ℕ → L
         (λ v m. (let r : (h : Hit) × Member h xs × (h.value ≡ v) = member_map_back (λ (h : Hit). h.value) v xs m in subst (λ w. IsStep x.value w) r.2 (before_member (λ (h k : Hit). IsStep h.value k.value) x xs r.0 pairs r.1)))
         (map_pairs xs (AllPairs-tail (λ (h k : Hit). IsStep h.value k.value) x xs pairs))
 
-    pub answered : IsAnswered T hops Q D
+    pub answered : IsAnswered N Q D
     answered = record {
       traced = record { sound = ridden.queue.step.segments; entered = ridden.queue.entered; hits = ridden.traced };
       by_hops = ridden.queue.by_hops;
-      best = best_values_from_staircase T Q values sound all_attained complete (map_pairs D.hits ridden.stairs);
+      best = best_values_from_staircase N.table Q values sound all_attained complete (map_pairs D.hits ridden.stairs);
     }
 
 -- the hits when only the walks have been looked at
@@ -224,13 +224,13 @@ walk_hits T Q segments (Some h) w =
     })
 
 -- the desk when the first rides have been boarded
-pub first_ridden : (T : TimetableData) (lines : List (List ℕ)) (hops : ℕ → ℕ → List Hop) (Q : QueryData) (C D E : DeskData) (walked : Option Hit) → C.segments ≡ [] → C.hits ≡ [] → D ≡ record C { hits = C.hits ++ hits_of 0 walked } →
-    IsQueue T lines hops Q E 1 → Extends D E 1 → ((place : ℕ) → place < length Q.from → AreBoarded T Q E place) → IfSome walked (IsWalkHit T Q) →
-    ((p q secs : ℕ) → Contains Q.from p → Contains Q.to q → walk T p q ≡ Some secs → ArrivesBy walked (Q.leave +ℤ pos secs)) → IsRidden T lines hops Q E 0 1
-first_ridden T lines hops Q C D E walked no_segment no_hit is queue extends boarded traced bounded =
+pub first_ridden : (N : NetData) (Q : QueryData) (C D E : DeskData) (walked : Option Hit) → C.segments ≡ [] → C.hits ≡ [] → D ≡ record C { hits = C.hits ++ hits_of 0 walked } →
+    IsQueue N Q E 1 → Extends D E 1 → ((place : ℕ) → place < length Q.from → AreBoarded N.table Q E place) → IfSome walked (IsWalkHit N.table Q) →
+    ((p q secs : ℕ) → Contains Q.from p → Contains Q.to q → walk N.table p q ≡ Some secs → ArrivesBy walked (Q.leave +ℤ pos secs)) → IsRidden N Q E 0 1
+first_ridden N Q C D E walked no_segment no_hit is queue extends boarded traced bounded =
     let hits : E.hits ≡ hits_of 0 walked = extends.hits ∙ ap (λ (d : DeskData). d.hits) is ∙ ap (λ hs. hs ++ hits_of 0 walked) no_hit in
     let none : length D.segments ≡ 0 = ap (λ (d : DeskData). length d.segments) is ∙ ap length no_segment in
-    let first = walk_hits T Q E.segments walked traced in
+    let first = walk_hits N.table Q E.segments walked traced in
     record {
       queue = queue;
       some_round = omega arith;
@@ -241,12 +241,12 @@ first_ridden T lines hops Q C D E walked no_segment no_hit is queue extends boar
       followed = λ n i h. absurd (omega (arith, h));
       walks = λ p q secs a b w. subst (λ hs. IsHit hs (record { arrive = Q.leave +ℤ pos secs; rides = 0 })) (sym hits) (first.by (Q.leave +ℤ pos secs) (bounded p q secs a b w));
       values = λ n i q secs h. absurd (omega (arith, h));
-      traced = subst (All (IsTracedHit T Q E.segments)) (sym hits) first.traced;
+      traced = subst (All (IsTracedHit N.table Q E.segments)) (sym hits) first.traced;
       stairs = subst (AllPairs (λ (h k : Hit). IsStep h.value k.value)) (sym hits) (λ i j d a b. absurd (omega (arith, a, b, first.one)));
       fewer = subst (All (λ (h : Hit). h.value.rides < 1)) (sym hits) first.fewer;
       few_hits = omega (arith, ap length hits, first.one);
     }
 
 -- what all segments cover is at most all events
-pub covered_all : (T : TimetableData) (lines : List (List ℕ)) (D : DeskData) → IsInStep T lines D → covered_before D.segments (length D.segments) ≤ event_total T
-covered_all T lines D step = omega (arith, ap (λ xs. sum_by covered_indices xs) (take_all (length D.segments) D.segments (omega arith)), step.counted, last_le_events T)
+pub covered_all : (N : NetData) (D : DeskData) → IsInStep N D → covered_before D.segments (length D.segments) ≤ event_total N.table
+covered_all N D step = omega (arith, ap (λ xs. sum_by covered_indices xs) (take_all (length D.segments) D.segments (omega arith)), step.counted, last_le_events N.table)

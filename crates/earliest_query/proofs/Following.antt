@@ -1,6 +1,7 @@
 -- A hop of the set is followed.
 use Rattle.std.proofs.Common.{◌≡◌, ℕ, zero, suc, ◌+◌, ◌<◌, List, [], ◌∷◌, length, get_or, refl, sym, ap, subst, arith, Option, Some}
 use Rattle.std.specs.Prelude.{Contains}
+use Rattle.tb_base.specs.Network.{NetData}
 use Rattle.tb_base.specs.declared.transfer.Hop.{Hop}
 use Rattle.tb_base.specs.TimetableData.{TimetableData, event_at, events_of, no_event}
 use Rattle.tb_base.specs.Soundness.{IsSound, IsSoundEvent, IsSoundTrip}
@@ -51,12 +52,12 @@ module _ (T : TimetableData) (hops : ℕ → ℕ → List Hop) (D D' : DeskData)
       subst (λ (r : ℕ × ℕ). Contains (hops (segment_of D'.segments r.0).trip r.1) h) q
       (subst (λ (s : Segment). Contains (hops s.trip i) h) (sym same) in_set)
 
-pub followed-kept : (T : TimetableData) (hops : ℕ → ℕ → List Hop) (D D' : DeskData) (joined n i : ℕ) → Extends D D' joined → n < length D.segments → IsFollowed T hops D n i → IsFollowed T hops D' n i
-followed-kept T hops D D' joined n i extends inside followed = λ h in_set.
+pub followed-kept : (N : NetData) (D D' : DeskData) (joined n i : ℕ) → Extends D D' joined → n < length D.segments → IsFollowed N D n i → IsFollowed N D' n i
+followed-kept N D D' joined n i extends inside followed = λ h in_set.
     let same : segment_of D'.segments n ≡ segment_of D.segments n = extends-segment D D' joined extends n inside in
     let round : round_of D'.segments n ≡ round_of D.segments n = extends-round D D' joined extends n inside in
-    extends-reached T D D' joined (length D.segments) (length D'.segments) (suc (round_of D.segments n)) (suc (round_of D'.segments n)) h.trip h.at extends
-    (followed h (subst (λ (s : Segment). Contains (hops s.trip i) h) same in_set)) (omega arith) (extends-long D D' joined extends) (omega (arith, round))
+    extends-reached N.table D D' joined (length D.segments) (length D'.segments) (suc (round_of D.segments n)) (suc (round_of D'.segments n)) h.trip h.at extends
+    (followed h (subst (λ (s : Segment). Contains (N.hops s.trip i) h) same in_set)) (omega arith) (extends-long D D' joined extends) (omega (arith, round))
 
 -- an event of a sound timetable
 pub sound_event : (T : TimetableData) (t i : ℕ) → IsSound T → t < length T.trips → i < length (events_of T t) → IsSoundEvent (length T.stops) (event_at T t i)

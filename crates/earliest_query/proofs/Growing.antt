@@ -1,7 +1,7 @@
 -- What stays true of a queue that grows.
 use Rattle.std.proofs.Common.{◌≡◌, ◌∙◌, ℕ, ◌<◌, ◌≤◌, ◌⊎◌, inl, inr, List, [], ◌++◌, length, refl, sym, ap, subst, arith, Option, None, Some, length-append}
 use Rattle.std.proofs.lemmas.List.{append_assoc, append-nil}
-use Rattle.tb_base.specs.declared.transfer.Hop.{Hop}
+use Rattle.tb_base.specs.Network.{NetData}
 use Rattle.tb_base.specs.TimetableData.{TimetableData}
 use Rattle.tb_base.specs.BestValues.{QueryData}
 use Rattle.tb_base.specs.Lines.{IsTripNoLater}
@@ -11,7 +11,7 @@ use Rattle.segment_queue.specs.declared.desk.Segment.{Segment}
 use Rattle.segment_queue.specs.Queue.{DeskData, mark_of}
 use Rattle.segment_queue.specs.Traced.{IsEntered, round_of, round_segments, segment_of}
 use Rattle.earliest_query.specs.UnderWay.{Extends, IsQueue, IsReachedBy}
-use Rattle.earliest_query.proofs.Rounds.{segment_at-kept, segment_of-kept, round_of-kept}
+use Rattle.segment_queue.proofs.Rounds.{segment_at-kept, segment_of-kept, round_of-kept}
 
 pub covered-kept : (T : TimetableData) (segments more : List Segment) (n m round top t b : ℕ) → IsCovered T (round_segments segments) n round t b → n ≤ length segments → n ≤ m → round ≤ top
     → IsCovered T (round_segments (segments ++ more)) m top t b
@@ -72,12 +72,12 @@ entered-kept T Q segments more n (Some p) trip board inside h =
     }
 
 -- the rounds may have come further
-pub queue-later : (T : TimetableData) (lines : List (List ℕ)) (hops : ℕ → ℕ → List Hop) (Q : QueryData) (D : DeskData) (round top : ℕ) → round ≤ top → IsQueue T lines hops Q D round → IsQueue T lines hops Q D top
-queue-later T lines hops Q D round top later q = record {
+pub queue-later : (N : NetData) (Q : QueryData) (D : DeskData) (round top : ℕ) → round ≤ top → IsQueue N Q D round → IsQueue N Q D top
+queue-later N Q D round top later q = record {
   step = q.step;
   entered = q.entered;
   by_hops = q.by_hops;
   rounds = λ n h. omega (arith, q.rounds n h, later);
-  marked = λ t h. elim (q.marked t h) [ inl e ↦ inl e | inr c ↦ inr (covered-later T D.segments (length D.segments) (length D.segments) round top t (mark_of T D.marks t) c (omega arith) later) ];
+  marked = λ t h. elim (q.marked t h) [ inl e ↦ inl e | inr c ↦ inr (covered-later N.table D.segments (length D.segments) (length D.segments) round top t (mark_of N.table D.marks t) c (omega arith) later) ];
   ends = q.ends;
 }

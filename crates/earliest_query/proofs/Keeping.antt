@@ -5,7 +5,7 @@ use Rattle.std.proofs.lemmas.Bool.Decides.{nat_tests}
 use Rattle.std.proofs.lemmas.Int.{ints}
 use Rattle.std.proofs.lemmas.List.Elements.{All-append, All-nil, All-cons, All-weaker}
 use Rattle.std.proofs.lemmas.Option.{get_or_from_slice_get, slice_get_within}
-use Rattle.tb_base.specs.declared.transfer.Hop.{Hop}
+use Rattle.tb_base.specs.Network.{NetData}
 use Rattle.tb_base.specs.TimetableData.{TimetableData, arrival_at, stop_at, MayAlight}
 use Rattle.tb_base.specs.Walking.{walk}
 use Rattle.tb_base.specs.BestValues.{IsStep, QueryData}
@@ -25,8 +25,8 @@ use Rattle.earliest_query.proofs.BestSoFar.{covers-kept, traced-kept}
 use Rattle.earliest_query.proofs.StopSums.{pairs_append}
 
 -- hits do not matter to the queue
-pub in_step-hits : (T : TimetableData) (lines : List (List ℕ)) (D : DeskData) (hs : List Hit) → IsInStep T lines D → IsInStep T lines (record D { hits = hs })
-in_step-hits T lines D hs s = record {
+pub in_step-hits : (N : NetData) (D : DeskData) (hs : List Hit) → IsInStep N D → IsInStep N (record D { hits = hs })
+in_step-hits N D hs s = record {
   fits = record { trips = s.fits.trips; segments = s.fits.segments; hits = s.fits.hits };
   marks = s.marks;
   segments = s.segments;
@@ -36,9 +36,9 @@ in_step-hits T lines D hs s = record {
   counted = s.counted;
 }
 
-pub queue-hits : (T : TimetableData) (lines : List (List ℕ)) (hops : ℕ → ℕ → List Hop) (Q : QueryData) (D : DeskData) (hs : List Hit) (round : ℕ) → IsQueue T lines hops Q D round → IsQueue T lines hops Q (record D { hits = hs }) round
-queue-hits T lines hops Q D hs round q = record {
-  step = in_step-hits T lines D hs q.step;
+pub queue-hits : (N : NetData) (Q : QueryData) (D : DeskData) (hs : List Hit) (round : ℕ) → IsQueue N Q D round → IsQueue N Q (record D { hits = hs }) round
+queue-hits N Q D hs round q = record {
+  step = in_step-hits N D hs q.step;
   entered = q.entered;
   by_hops = q.by_hops;
   rounds = q.rounds;
@@ -186,8 +186,8 @@ module _ (T : TimetableData) (Q : QueryData) (D E : DeskData) (joined round : �
   fewer_next fewer = All-append (λ (h : Hit). h.value.rides < round + 1) D.hits added (All-weaker (λ (h : Hit). h.value.rides < round) (λ (h : Hit). h.value.rides < round + 1) (λ h l. omega (arith, l)) D.hits fewer) adds.fewer
 
 -- what has been done after a round, where one was late by an old measure before it, and is by a new one behind it
-module _ (T : TimetableData) (hops : ℕ → ℕ → List Hop) (Q : QueryData) (D E : DeskData) (best : Option Hit) (from to round : ℕ) (to_is : to ≡ length D.segments) (this_round : (n : ℕ) → from ≤ n → n < length D.segments → round_of D.segments n ≡ round) (extends : Extends D E (suc round))
-    (followed : (n i : ℕ) → from ≤ n → n < to → Covers D n i → IsDone T hops E best n i) (bounded : (n i : ℕ) → from ≤ n → n < to → Covers D n i → IsBounded T Q D best n i)
+module _ (N : NetData) (Q : QueryData) (D E : DeskData) (best : Option Hit) (from to round : ℕ) (to_is : to ≡ length D.segments) (this_round : (n : ℕ) → from ≤ n → n < length D.segments → round_of D.segments n ≡ round) (extends : Extends D E (suc round))
+    (followed : (n i : ℕ) → from ≤ n → n < to → Covers D n i → IsDone N E best n i) (bounded : (n i : ℕ) → from ≤ n → n < to → Covers D n i → IsBounded N.table Q D best n i)
     (Old Late : ℤ → ℕ → Type 0) (still : (time : ℤ) (rides : ℕ) → Old time rides → Late time rides) (by_best : (time : ℤ) → ArrivesBy best time → Late time round) where
   ridden_or_now : (n : ℕ) → (n < from) ⊎ (from ≤ n)
   ridden_or_now n = grind arith
@@ -207,47 +207,47 @@ module _ (T : TimetableData) (hops : ℕ → ℕ → List Hop) (Q : QueryData) (
       subst (λ (s : Segment). Late (time s) (round_of E.segments n)) (sym (same n h))
       (subst (λ r. Late (time (segment_of D.segments n)) r) (sym (same_round n h)) late)
 
-  done_before : (n i : ℕ) → n < to → IsFollowed T hops D n i ⊎ Old (arrival_at T (segment_of D.segments n).trip i) (round_of D.segments n) → IsFollowed T hops E n i ⊎ Late (arrival_at T (segment_of E.segments n).trip i) (round_of E.segments n)
-  done_before n i h (inl followed) = inl (followed-kept T hops D E (suc round) n i extends (omega (arith, h, to_is)) followed)
-  done_before n i h (inr late) = inr (late_grown n (λ (s : Segment). arrival_at T s.trip i) h (still (arrival_at T (segment_of D.segments n).trip i) (round_of D.segments n) late))
+  done_before : (n i : ℕ) → n < to → IsFollowed N D n i ⊎ Old (arrival_at N.table (segment_of D.segments n).trip i) (round_of D.segments n) → IsFollowed N E n i ⊎ Late (arrival_at N.table (segment_of E.segments n).trip i) (round_of E.segments n)
+  done_before n i h (inl followed) = inl (followed-kept N D E (suc round) n i extends (omega (arith, h, to_is)) followed)
+  done_before n i h (inr late) = inr (late_grown n (λ (s : Segment). arrival_at N.table s.trip i) h (still (arrival_at N.table (segment_of D.segments n).trip i) (round_of D.segments n) late))
 
-  done_now : (n i : ℕ) → n < to → from ≤ n → IsDone T hops E best n i → IsFollowed T hops E n i ⊎ Late (arrival_at T (segment_of E.segments n).trip i) (round_of E.segments n)
+  done_now : (n i : ℕ) → n < to → from ≤ n → IsDone N E best n i → IsFollowed N E n i ⊎ Late (arrival_at N.table (segment_of E.segments n).trip i) (round_of E.segments n)
   done_now n i h now (inl followed) = inl followed
   done_now n i h now (inr late) =
-      inr (subst (λ r. Late (arrival_at T (segment_of E.segments n).trip i) r) (sym (same_round n h ∙ now_round n h now))
-      (by_best (arrival_at T (segment_of E.segments n).trip i) late))
+      inr (subst (λ r. Late (arrival_at N.table (segment_of E.segments n).trip i) r) (sym (same_round n h ∙ now_round n h now))
+      (by_best (arrival_at N.table (segment_of E.segments n).trip i) late))
 
-  pub done_next : ((n i : ℕ) → n < from → Covers D n i → IsFollowed T hops D n i ⊎ Old (arrival_at T (segment_of D.segments n).trip i) (round_of D.segments n)) →
-      (n i : ℕ) → n < to → Covers E n i → IsFollowed T hops E n i ⊎ Late (arrival_at T (segment_of E.segments n).trip i) (round_of E.segments n)
+  pub done_next : ((n i : ℕ) → n < from → Covers D n i → IsFollowed N D n i ⊎ Old (arrival_at N.table (segment_of D.segments n).trip i) (round_of D.segments n)) →
+      (n i : ℕ) → n < to → Covers E n i → IsFollowed N E n i ⊎ Late (arrival_at N.table (segment_of E.segments n).trip i) (round_of E.segments n)
   done_next before n i h covers = elim (ridden_or_now n) [
     | inl old ↦ done_before n i h (before n i old (covers-kept E D n i (same n h) covers))
     | inr now ↦ done_now n i h now (followed n i now h (covers-kept E D n i (same n h) covers))
   ]
 
-  offered : (n i q secs : ℕ) → n < to → IsOffered T Q E n i q secs → IsOffered T Q D n i q secs
+  offered : (n i q secs : ℕ) → n < to → IsOffered N.table Q E n i q secs → IsOffered N.table Q D n i q secs
   offered n i q secs h offer = record {
-    alights = subst (λ (s : Segment). MayAlight T s.trip i) (same n h) offer.alights;
+    alights = subst (λ (s : Segment). MayAlight N.table s.trip i) (same n h) offer.alights;
     target = offer.target;
-    walks = subst (λ (s : Segment). walk T (stop_at T s.trip i) q ≡ Some secs) (same n h) offer.walks;
+    walks = subst (λ (s : Segment). walk N.table (stop_at N.table s.trip i) q ≡ Some secs) (same n h) offer.walks;
   }
 
-  pub offers_next : ((n i q secs : ℕ) → n < from → Covers D n i → IsOffered T Q D n i q secs → Old (arrival_at T (segment_of D.segments n).trip i +ℤ pos secs) (round_of D.segments n)) →
-      (n i q secs : ℕ) → n < to → Covers E n i → IsOffered T Q E n i q secs → Late (arrival_at T (segment_of E.segments n).trip i +ℤ pos secs) (round_of E.segments n)
+  pub offers_next : ((n i q secs : ℕ) → n < from → Covers D n i → IsOffered N.table Q D n i q secs → Old (arrival_at N.table (segment_of D.segments n).trip i +ℤ pos secs) (round_of D.segments n)) →
+      (n i q secs : ℕ) → n < to → Covers E n i → IsOffered N.table Q E n i q secs → Late (arrival_at N.table (segment_of E.segments n).trip i +ℤ pos secs) (round_of E.segments n)
   offers_next before n i q secs h covers offer =
-      late_grown n (λ (s : Segment). arrival_at T s.trip i +ℤ pos secs) h (elim (ridden_or_now n) [
-        | inl old ↦ still (arrival_at T (segment_of D.segments n).trip i +ℤ pos secs) (round_of D.segments n) (before n i q secs old (covers-kept E D n i (same n h) covers) (offered n i q secs h offer))
-        | inr now ↦ subst (λ r. Late (arrival_at T (segment_of D.segments n).trip i +ℤ pos secs) r) (sym (now_round n h now))
-            (by_best (arrival_at T (segment_of D.segments n).trip i +ℤ pos secs) (bounded n i now h (covers-kept E D n i (same n h) covers) q secs (offered n i q secs h offer)))
+      late_grown n (λ (s : Segment). arrival_at N.table s.trip i +ℤ pos secs) h (elim (ridden_or_now n) [
+        | inl old ↦ still (arrival_at N.table (segment_of D.segments n).trip i +ℤ pos secs) (round_of D.segments n) (before n i q secs old (covers-kept E D n i (same n h) covers) (offered n i q secs h offer))
+        | inr now ↦ subst (λ r. Late (arrival_at N.table (segment_of D.segments n).trip i +ℤ pos secs) r) (sym (now_round n h now))
+            (by_best (arrival_at N.table (segment_of D.segments n).trip i +ℤ pos secs) (bounded n i now h (covers-kept E D n i (same n h) covers) q secs (offered n i q secs h offer)))
       ])
 
-module _ (T : TimetableData) (lines : List (List ℕ)) (hops : ℕ → ℕ → List Hop) (Q : QueryData) (D E : DeskData) (best : Option Hit) (from to round : ℕ) (ridden : IsRidden T lines hops Q D from round) (to_is : to ≡ length D.segments) (below : from < length D.segments)
-    (queue : IsQueue T lines hops Q E (suc round)) (extends : Extends D E (suc round)) (followed : (n i : ℕ) → from ≤ n → n < to → Covers D n i → IsDone T hops E best n i) (bounded : (n i : ℕ) → from ≤ n → n < to → Covers D n i → IsBounded T Q D best n i)
-    (improved : IsImproved T Q E round (last_of D.hits) best) where
+module _ (N : NetData) (Q : QueryData) (D E : DeskData) (best : Option Hit) (from to round : ℕ) (ridden : IsRidden N Q D from round) (to_is : to ≡ length D.segments) (below : from < length D.segments)
+    (queue : IsQueue N Q E (suc round)) (extends : Extends D E (suc round)) (followed : (n i : ℕ) → from ≤ n → n < to → Covers D n i → IsDone N E best n i) (bounded : (n i : ℕ) → from ≤ n → n < to → Covers D n i → IsBounded N.table Q D best n i)
+    (improved : IsImproved N.table Q E round (last_of D.hits) best) where
   abbrev added : List Hit
   added = hits_of round best
 
-  adds : Adds T Q E D.hits round (last_of D.hits) best added
-  adds = adds_best T Q E D.hits round (last_of D.hits) ridden.stairs ridden.fewer (last_earlier D.hits round ridden.fewer) (λ time by. by) best improved
+  adds : Adds N.table Q E D.hits round (last_of D.hits) best added
+  adds = adds_best N.table Q E D.hits round (last_of D.hits) ridden.stairs ridden.fewer (last_earlier D.hits round ridden.fewer) (λ time by. by) best improved
 
   abbrev Old : ℤ → ℕ → Type 0
   Old time rides = IsHit D.hits (record { arrive = time; rides = rides })
@@ -264,21 +264,21 @@ module _ (T : TimetableData) (lines : List (List ℕ)) (hops : ℕ → ℕ → L
   next : suc round ≡ round + 1
   next = omega arith
 
-  pub ridden_next : IsRidden T lines hops Q (record E { hits = D.hits ++ added }) to (round + 1)
+  pub ridden_next : IsRidden N Q (record E { hits = D.hits ++ added }) to (round + 1)
   ridden_next = record {
-    queue = subst (IsQueue T lines hops Q (record E { hits = D.hits ++ added })) next (queue-hits T lines hops Q E (D.hits ++ added) (suc round) queue);
+    queue = subst (IsQueue N Q (record E { hits = D.hits ++ added })) next (queue-hits N Q E (D.hits ++ added) (suc round) queue);
     some_round = omega arith;
     few_rounds = omega (arith, ridden.few_rounds, to_is, below);
     within = omega (arith, to_is, extends-long D E (suc round) extends);
     this_round = λ n h inside. extends.rounds n (omega (arith, h, to_is)) inside ∙ next;
     boarded = λ place h. λ stop secs walks first. λ t b boards not_last here in_time.
-        extends-reached T D E (suc round) (length D.segments) (length E.segments) 1 1 t b extends (ridden.boarded place h stop secs walks first t b boards not_last here in_time) (omega arith) (extends-long D E (suc round) extends) (omega arith);
-    followed = λ n i h covers. done_next T hops Q D E best from to round to_is ridden.this_round extends followed bounded Old Late still by_best ridden.followed n i h (record { onward = covers.onward; within = covers.within });
+        extends-reached N.table D E (suc round) (length D.segments) (length E.segments) 1 1 t b extends (ridden.boarded place h stop secs walks first t b boards not_last here in_time) (omega arith) (extends-long D E (suc round) extends) (omega arith);
+    followed = λ n i h covers. done_next N Q D E best from to round to_is ridden.this_round extends followed bounded Old Late still by_best ridden.followed n i h (record { onward = covers.onward; within = covers.within });
     walks = λ p q secs a b w. hit-more D.hits added (Q.leave +ℤ pos secs) 0 (ridden.walks p q secs a b w);
-    values = λ n i q secs h covers offer. offers_next T hops Q D E best from to round to_is ridden.this_round extends followed bounded Old Late still by_best ridden.values n i q secs h
+    values = λ n i q secs h covers offer. offers_next N Q D E best from to round to_is ridden.this_round extends followed bounded Old Late still by_best ridden.values n i q secs h
         (record { onward = covers.onward; within = covers.within }) (record { alights = offer.alights; target = offer.target; walks = offer.walks });
-    traced = traced_next T Q D E (suc round) round (last_of D.hits) best added extends adds ridden.traced;
-    stairs = stairs_next T Q D E (suc round) round (last_of D.hits) best added extends adds ridden.stairs;
-    fewer = fewer_next T Q D E (suc round) round (last_of D.hits) best added extends adds ridden.fewer;
+    traced = traced_next N.table Q D E (suc round) round (last_of D.hits) best added extends adds ridden.traced;
+    stairs = stairs_next N.table Q D E (suc round) round (last_of D.hits) best added extends adds ridden.stairs;
+    fewer = fewer_next N.table Q D E (suc round) round (last_of D.hits) best added extends adds ridden.fewer;
     few_hits = omega (arith, length-append D.hits added, adds.one, ridden.few_hits);
   }

@@ -1,7 +1,7 @@
 -- Where one arrives too late to go on.
-use Rattle.std.proofs.Common.{◌≡◌, ℕ, ◌<◌, ◌≤◌, ◌⊎◌, inl, inr, List, length, sym, ap, subst, arith, Option, None, Some, ℤ, pos, ◌+ℤ◌, ◌≤ℤ◌}
+use Rattle.std.proofs.Common.{◌≡◌, ℕ, ◌<◌, ◌≤◌, ◌⊎◌, inl, inr, length, sym, ap, subst, arith, Option, None, Some, ℤ, pos, ◌+ℤ◌, ◌≤ℤ◌}
 use Rattle.std.proofs.lemmas.Int.{ints}
-use Rattle.tb_base.specs.declared.transfer.Hop.{Hop}
+use Rattle.tb_base.specs.Network.{NetData}
 use Rattle.tb_base.specs.TimetableData.{TimetableData, arrival_at, events_of}
 use Rattle.tb_base.specs.Soundness.{IsSound}
 use Rattle.tb_base.specs.BestValues.{QueryData}
@@ -35,10 +35,10 @@ arrives_on T t i k sound trip le inside = elim (same_or_less i k le) [ inl e ↦
     chained a b c g h = omega (arith, ints, g, h)
 
 -- what has been done with an index stays done, with a better hit too
-pub done-kept : (T : TimetableData) (hops : ℕ → ℕ → List Hop) (Q : QueryData) (D D' : DeskData) (joined round n i : ℕ) (a b : Option Hit) → Extends D D' joined → n < length D.segments → IsImproved T Q D' round a b → IsDone T hops D a n i → IsDone T hops D' b n i
-done-kept T hops Q D D' joined round n i a b extends inside improved (inl followed) = inl (followed-kept T hops D D' joined n i extends inside followed)
-done-kept T hops Q D D' joined round n i a b extends inside improved (inr late) =
-    inr (subst (λ (s : Segment). ArrivesBy b (arrival_at T s.trip i)) (sym (extends-segment D D' joined extends n inside)) (arrives_by-improved T Q D' round a b (arrival_at T (segment_of D.segments n).trip i) improved late))
+pub done-kept : (N : NetData) (Q : QueryData) (D D' : DeskData) (joined round n i : ℕ) (a b : Option Hit) → Extends D D' joined → n < length D.segments → IsImproved N.table Q D' round a b → IsDone N D a n i → IsDone N D' b n i
+done-kept N Q D D' joined round n i a b extends inside improved (inl followed) = inl (followed-kept N D D' joined n i extends inside followed)
+done-kept N Q D D' joined round n i a b extends inside improved (inr late) =
+    inr (subst (λ (s : Segment). ArrivesBy b (arrival_at N.table s.trip i)) (sym (extends-segment D D' joined extends n inside)) (arrives_by-improved N.table Q D' round a b (arrival_at N.table (segment_of D.segments n).trip i) improved late))
 
 -- who arrives late is bounded, with a walk too
 pub late-bounded : (T : TimetableData) (Q : QueryData) (D : DeskData) (best : Option Hit) (n i : ℕ) → ArrivesBy best (arrival_at T (segment_of D.segments n).trip i) → IsBounded T Q D best n i
@@ -48,22 +48,22 @@ late-bounded T Q D best n i late = λ q secs offer. arrives_by-later best _ _ (w
     walked a n = omega (arith, ints)
 
 -- what has been ridden when the segment is left
-module _ (T : TimetableData) (hops : ℕ → ℕ → List Hop) (Q : QueryData) (D E : DeskData) (n at top round : ℕ) (best result : Option Hit) (sound : IsSound T) (inside : n < length D.segments) (whole : IsSoundSegment T (segment_of D.segments n)) (extends : Extends D E top) (improved : IsImproved T Q E round best result)
-    (late : ArrivesBy result (arrival_at T (segment_of D.segments n).trip at)) where
+module _ (N : NetData) (Q : QueryData) (D E : DeskData) (n at top round : ℕ) (best result : Option Hit) (sound : IsSound N.table) (inside : n < length D.segments) (whole : IsSoundSegment N.table (segment_of D.segments n)) (extends : Extends D E top) (improved : IsImproved N.table Q E round best result)
+    (late : ArrivesBy result (arrival_at N.table (segment_of D.segments n).trip at)) where
   before_or_from : (i : ℕ) → (i < at) ⊎ (at ≤ i)
   before_or_from i = grind arith
 
-  late_from : (i : ℕ) → Covers D n i → at ≤ i → ArrivesBy result (arrival_at T (segment_of D.segments n).trip i)
-  late_from i covers from = arrives_by-later result _ _ (arrives_on T (segment_of D.segments n).trip at i sound whole.trip from (omega (arith, covers.within, whole.within))) late
+  late_from : (i : ℕ) → Covers D n i → at ≤ i → ArrivesBy result (arrival_at N.table (segment_of D.segments n).trip i)
+  late_from i covers from = arrives_by-later result _ _ (arrives_on N.table (segment_of D.segments n).trip at i sound whole.trip from (omega (arith, covers.within, whole.within))) late
 
-  pub left_done : ((i : ℕ) → (segment_of D.segments n).board < i → i < at → IsDone T hops E best n i) → (i : ℕ) → Covers D n i → IsDone T hops E result n i
+  pub left_done : ((i : ℕ) → (segment_of D.segments n).board < i → i < at → IsDone N E best n i) → (i : ℕ) → Covers D n i → IsDone N E result n i
   left_done done i covers = elim (before_or_from i) [
-    | inl before ↦ done-kept T hops Q E E top round n i best result (extends-refl E top) (omega (arith, inside, extends-long D E top extends)) improved (done i covers.onward before)
-    | inr from ↦ inr (subst (λ (s : Segment). ArrivesBy result (arrival_at T s.trip i)) (sym (extends-segment D E top extends n inside)) (late_from i covers from))
+    | inl before ↦ done-kept N Q E E top round n i best result (extends-refl E top) (omega (arith, inside, extends-long D E top extends)) improved (done i covers.onward before)
+    | inr from ↦ inr (subst (λ (s : Segment). ArrivesBy result (arrival_at N.table s.trip i)) (sym (extends-segment D E top extends n inside)) (late_from i covers from))
   ]
 
-  pub left_bounded : ((i : ℕ) → (segment_of D.segments n).board < i → i < at → IsBounded T Q D best n i) → (i : ℕ) → Covers D n i → IsBounded T Q D result n i
+  pub left_bounded : ((i : ℕ) → (segment_of D.segments n).board < i → i < at → IsBounded N.table Q D best n i) → (i : ℕ) → Covers D n i → IsBounded N.table Q D result n i
   left_bounded bounded i covers = elim (before_or_from i) [
-    | inl before ↦ bounded-improved T Q D E round best result n i improved (bounded i covers.onward before)
-    | inr from ↦ late-bounded T Q D result n i (late_from i covers from)
+    | inl before ↦ bounded-improved N.table Q D E round best result n i improved (bounded i covers.onward before)
+    | inr from ↦ late-bounded N.table Q D result n i (late_from i covers from)
   ]

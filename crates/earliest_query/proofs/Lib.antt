@@ -1,4 +1,3 @@
-pub mod Rounds
 pub mod Growing
 pub mod OneMore
 pub mod Nearest

@@ -1,48 +1,18 @@
 -- Each segment of a queue leads back to an origin, and so does each hit.
-use Rattle.std.proofs.Common.{◌≡◌, ◌∙◌, ℕ, zero, suc, ◌+◌, ◌<◌, List, [], ◌∷◌, ◌++◌, length, take, drop, refl, sym, ap, subst, arith, Option, Some, None, ℤ, ◌+ℤ◌, length-append}
-use Rattle.std.specs.Prelude.{IfSome, IsSome}
-use Rattle.std.proofs.lemmas.List.{append_assoc, take-append-drop, take_more}
+use Rattle.std.proofs.Common.{◌≡◌, ◌∙◌, ℕ, zero, suc, ◌<◌, List, [], length, refl, sym, ap, subst, arith, Option, Some, None, ℤ, ◌+ℤ◌}
+use Rattle.std.specs.Prelude.{IsSome}
 use Rattle.tb_base.specs.declared.query.Value.{Value}
 use Rattle.tb_base.specs.TimetableData.{TimetableData, arrival_at, stop_at}
 use Rattle.tb_base.specs.BestValues.{IsAttained, QueryData}
-use Rattle.tb_base.specs.Search.{IsReached, RoundSegment, segment_at}
+use Rattle.tb_base.specs.Search.{IsReached}
 use Rattle.tb_laws.proofs.ReachedLaws.{reached_by_hop, reached_first, reached_value}
 use Rattle.tb_laws.proofs.Triangles.{walk_secs-is}
 use Rattle.segment_queue.specs.declared.desk.Segment.{Segment}
 use Rattle.segment_queue.specs.declared.desk.Hit.{Hit}
 use Rattle.segment_queue.specs.declared.desk.LastLeg.{LastLeg}
 use Rattle.segment_queue.specs.declared.desk.LastLeg.TheVariants.{OnFoot, Aboard}
-use Rattle.segment_queue.specs.Traced.{IsEntered, IsTracedBy, IsTracedHit, no_segment, round_after, round_of, round_segments, segment_of}
-use Rattle.earliest_query.proofs.Rounds.{round_of-kept, segment_at-kept, segment_at-last}
-
--- the round of a segment is that behind its parent
-pub round_behind : (segments : List Segment) (n : ℕ) → n < length segments → (parent : Option (ℕ × ℕ)) → (segment_of segments n).parent ≡ parent → IfSome parent (λ p. p.0 < n) → round_of segments n ≡ round_after (round_segments segments) parent
-round_behind segments n inside parent is earlier =
-    let before : List Segment = take n segments in
-    let s : Segment = segment_of segments n in
-    let after : List Segment = drop (n + 1) segments in
-    let whole : segments ≡ (before ++ s ∷ []) ++ after = split segments n inside in
-    let long : length before ≡ n = taken segments n inside in
-    let longer : length (before ++ s ∷ []) ≡ n + 1 = omega (arith, length-append before (s ∷ []), long) in
-    ap (λ xs. round_of xs n) whole
-    ∙ round_of-kept (before ++ s ∷ []) after n (omega (arith, longer))
-    ∙ ap (round_of (before ++ s ∷ [])) (sym long)
-    ∙ ap (λ (r : RoundSegment). r.round) (segment_at-last before s)
-    ∙ ap (round_after (round_segments before)) is
-    ∙ by_parent parent earlier before after s whole long
-  where
-    taken : (xs : List Segment) (n : ℕ) → n < length xs → length (take n xs) ≡ n
-    taken [] n h = absurd (omega (arith, h))
-    taken (x ∷ xs) zero h = refl
-    taken (x ∷ xs) (suc n) h = omega (arith, taken xs n (omega (arith, h)))
-
-    split : (xs : List Segment) (n : ℕ) → n < length xs → xs ≡ (take n xs ++ segment_of xs n ∷ []) ++ drop (n + 1) xs
-    split xs n h = sym (take-append-drop (n + 1) xs) ∙ ap (λ ys. ys ++ drop (n + 1) xs) (take_more xs n no_segment h)
-
-    by_parent : (o : Option (ℕ × ℕ)) → IfSome o (λ p. p.0 < n) → (before after : List Segment) (s : Segment) → segments ≡ (before ++ s ∷ []) ++ after → length before ≡ n → round_after (round_segments before) o ≡ round_after (round_segments segments) o
-    by_parent None h before after s whole long = refl
-    by_parent (Some p) h before after s whole long =
-        ap suc (ap (λ (r : RoundSegment). r.round) (sym (ap (λ xs. segment_at (round_segments xs) p.0) (whole ∙ append_assoc before (s ∷ []) after) ∙ segment_at-kept before (s ∷ [] ++ after) p.0 (omega (arith, h, long)))))
+use Rattle.segment_queue.specs.Traced.{IsEntered, IsTracedBy, IsTracedHit, round_of, segment_of}
+use Rattle.segment_queue.proofs.Rounds.{round_behind}
 
 pub same_values : (a b : ℤ) (m n : ℕ) → a ≡ b → m ≡ n → ◌≡◌ {A = Value} (record { arrive = a; rides = m }) (record { arrive = b; rides = n })
 same_values a b m n e f = cc

@@ -1,7 +1,6 @@
 -- The segments of a round are ridden one by one.
-use Rattle.std.proofs.Common.{◌≡◌, ℕ, suc, ◌+◌, ◌<◌, ◌≤◌, ◌⊎◌, inl, inr, List, length, sym, subst, arith, Option}
-use Rattle.tb_base.specs.declared.transfer.Hop.{Hop}
-use Rattle.tb_base.specs.TimetableData.{TimetableData}
+use Rattle.std.proofs.Common.{◌≡◌, ℕ, suc, ◌+◌, ◌<◌, ◌≤◌, ◌⊎◌, inl, inr, length, sym, subst, arith, Option}
+use Rattle.tb_base.specs.Network.{NetData}
 use Rattle.tb_base.specs.BestValues.{QueryData}
 use Rattle.segment_queue.specs.declared.desk.Hit.{Hit}
 use Rattle.segment_queue.specs.Queue.{DeskData}
@@ -12,7 +11,7 @@ use Rattle.earliest_query.proofs.Lateness.{done-kept}
 use Rattle.earliest_query.proofs.BestSoFar.{bounded-improved, bounded-same, covers-kept}
 
 -- segment k is ridden, which is one of a desk D that has grown to E before, and to F by that
-module _ (T : TimetableData) (hops : ℕ → ℕ → List Hop) (Q : QueryData) (D E F : DeskData) (from k round : ℕ) (best result : Option Hit) (inside : k < length D.segments) (extends : Extends D E (suc round)) (joined : Extends E F (suc round)) (improved : IsImproved T Q F round best result) where
+module _ (N : NetData) (Q : QueryData) (D E F : DeskData) (from k round : ℕ) (best result : Option Hit) (inside : k < length D.segments) (extends : Extends D E (suc round)) (joined : Extends E F (suc round)) (improved : IsImproved N.table Q F round best result) where
   before_or_this : (n : ℕ) → n < k + 1 → (n < k) ⊎ (k ≡ n)
   before_or_this n h = grind arith
 
@@ -22,14 +21,14 @@ module _ (T : TimetableData) (hops : ℕ → ℕ → List Hop) (Q : QueryData) (
   covers_this : (n i : ℕ) → k ≡ n → Covers D n i → Covers E k i
   covers_this n i e covers = covers-kept D E k i (sym same) (subst (λ m. Covers D m i) (sym e) covers)
 
-  pub followed_one_more : ((n i : ℕ) → from ≤ n → n < k → Covers D n i → IsDone T hops E best n i) → ((i : ℕ) → Covers E k i → IsDone T hops F result k i) → (n i : ℕ) → from ≤ n → n < k + 1 → Covers D n i → IsDone T hops F result n i
+  pub followed_one_more : ((n i : ℕ) → from ≤ n → n < k → Covers D n i → IsDone N E best n i) → ((i : ℕ) → Covers E k i → IsDone N F result k i) → (n i : ℕ) → from ≤ n → n < k + 1 → Covers D n i → IsDone N F result n i
   followed_one_more before this n i above below covers = elim (before_or_this n below) [
-    | inl earlier ↦ done-kept T hops Q E F (suc round) round n i best result joined (omega (arith, earlier, inside, extends-long D E (suc round) extends)) improved (before n i above earlier covers)
-    | inr e ↦ subst (λ m. IsDone T hops F result m i) e (this i (covers_this n i e covers))
+    | inl earlier ↦ done-kept N Q E F (suc round) round n i best result joined (omega (arith, earlier, inside, extends-long D E (suc round) extends)) improved (before n i above earlier covers)
+    | inr e ↦ subst (λ m. IsDone N F result m i) e (this i (covers_this n i e covers))
   ]
 
-  pub bounded_one_more : ((n i : ℕ) → from ≤ n → n < k → Covers D n i → IsBounded T Q D best n i) → ((i : ℕ) → Covers E k i → IsBounded T Q E result k i) → (n i : ℕ) → from ≤ n → n < k + 1 → Covers D n i → IsBounded T Q D result n i
+  pub bounded_one_more : ((n i : ℕ) → from ≤ n → n < k → Covers D n i → IsBounded N.table Q D best n i) → ((i : ℕ) → Covers E k i → IsBounded N.table Q E result k i) → (n i : ℕ) → from ≤ n → n < k + 1 → Covers D n i → IsBounded N.table Q D result n i
   bounded_one_more before this n i above below covers = elim (before_or_this n below) [
-    | inl earlier ↦ bounded-improved T Q D F round best result n i improved (before n i above earlier covers)
-    | inr e ↦ subst (λ m. IsBounded T Q D result m i) e (bounded-same T Q E D result k i same (this i (covers_this n i e covers)))
+    | inl earlier ↦ bounded-improved N.table Q D F round best result n i improved (before n i above earlier covers)
+    | inr e ↦ subst (λ m. IsBounded N.table Q D result m i) e (bounded-same N.table Q E D result k i same (this i (covers_this n i e covers)))
   ]

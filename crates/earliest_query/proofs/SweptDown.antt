@@ -4,9 +4,9 @@ use Rattle.std.specs.Prelude.{All, AllPairs, Contains, IfSome, filter, nat_lt}
 use Rattle.std.proofs.lemmas.Bool.Decides.{nat_tests}
 use Rattle.std.proofs.lemmas.Int.{ints}
 use Rattle.std.proofs.lemmas.List.Elements.{All-append, All-contains, All-map, All-weaker}
+use Rattle.tb_base.specs.Network.{NetData}
 use Rattle.tb_base.specs.declared.query.Value.{Value}
-use Rattle.tb_base.specs.declared.transfer.Hop.{Hop}
-use Rattle.tb_base.specs.TimetableData.{TimetableData, arrival_at, departure_at, stop_at, MayAlight}
+use Rattle.tb_base.specs.TimetableData.{arrival_at, departure_at, stop_at, MayAlight}
 use Rattle.tb_base.specs.Walking.{walk}
 use Rattle.tb_base.specs.Journeys.{Ride, IsJourney, LeavesNoEarlier, leaving_time}
 use Rattle.tb_base.specs.BestValues.{IsAttained, IsStep, QueryData, value_of}
@@ -56,19 +56,19 @@ late_among hits values time rides late = (
   late.2,
 )
 
-module _ (T : TimetableData) (lines : List (List ℕ)) (hops : ℕ → ℕ → List Hop) (Q : QueryData) (later : ℤ) (le : Q.leave ≤ℤ later) where
+module _ (N : NetData) (Q : QueryData) (later : ℤ) (le : Q.leave ≤ℤ later) where
   abbrev Later : QueryData
   Later = record Q { leave = later }
 
-  entered_earlier : (segments : List Segment) (n : ℕ) (parent : Option (ℕ × ℕ)) (t b : ℕ) → IsEntered T Later segments n parent t b → IsEntered T Q segments n parent t b
+  entered_earlier : (segments : List Segment) (n : ℕ) (parent : Option (ℕ × ℕ)) (t b : ℕ) → IsEntered N.table Later segments n parent t b → IsEntered N.table Q segments n parent t b
   entered_earlier segments n (Some p) t b e = e
-  entered_earlier segments n None t b e = record { boards = e.boards; origin = e.origin; from = e.from; secs = e.secs; walks = e.walks; in_time = sooner Q.leave later e.secs (departure_at T t b) le e.in_time }
+  entered_earlier segments n None t b e = record { boards = e.boards; origin = e.origin; from = e.from; secs = e.secs; walks = e.walks; in_time = sooner Q.leave later e.secs (departure_at N.table t b) le e.in_time }
     where
       sooner : (a l : ℤ) (n : ℕ) (d : ℤ) → a ≤ℤ l → (l +ℤ pos n) ≤ℤ d → (a +ℤ pos n) ≤ℤ d
       sooner a l n d g h = omega (arith, ints, g, h)
 
   -- segments entered later are entered no earlier than asked
-  pub queue_earlier : (D : DeskData) (levels : List (List (Option ℕ))) → IsSweptQueue T lines hops Later D levels → IsSweptQueue T lines hops Q D levels
+  pub queue_earlier : (D : DeskData) (levels : List (List (Option ℕ))) → IsSweptQueue N Later D levels → IsSweptQueue N Q D levels
   queue_earlier D levels q = record {
     sound = q.sound;
     entered = λ n inside. entered_earlier D.segments n (segment_of D.segments n).parent (segment_of D.segments n).trip (segment_of D.segments n).board (q.entered n inside);
@@ -84,40 +84,40 @@ module _ (T : TimetableData) (lines : List (List ℕ)) (hops : ℕ → ℕ → L
   }
 
   -- a value with rides is attained earlier too
-  attained_earlier : (v : Value) → 0 < v.rides → IsAttained T Later v → IsAttained T Q v
+  attained_earlier : (v : Value) → 0 < v.rides → IsAttained N.table Later v → IsAttained N.table Q v
   attained_earlier v some_ride (j, has) = by_rides j.origin j.rides j.target has.journey has.leaves has.value
     where
       through : (a b c : ℤ) → a ≤ℤ b → b ≤ℤ c → a ≤ℤ c
       through a b c g h = omega (arith, ints, g, h)
 
-      by_rides : (o : ℕ) (rides : List Ride) (q : ℕ) → IsJourney T Q.from Q.to (record { origin = o; rides = rides; target = q }) → LeavesNoEarlier T later o rides → v ≡ value_of T later (record { origin = o; rides = rides; target = q }) → IsAttained T Q v
+      by_rides : (o : ℕ) (rides : List Ride) (q : ℕ) → IsJourney N.table Q.from Q.to (record { origin = o; rides = rides; target = q }) → LeavesNoEarlier N.table later o rides → v ≡ value_of N.table later (record { origin = o; rides = rides; target = q }) → IsAttained N.table Q v
       by_rides o [] q journey leaves value = absurd (let e : v.rides ≡ 0 = ap (λ (w : Value). w.rides) value in omega (arith, e, some_ride))
-      by_rides o (r ∷ rest) q journey leaves value = (record { origin = o; rides = r ∷ rest; target = q }, record { journey = journey; leaves = through Q.leave later (leaving_time T o r) le leaves; value = value })
+      by_rides o (r ∷ rest) q journey leaves value = (record { origin = o; rides = r ∷ rest; target = q }, record { journey = journey; leaves = through Q.leave later (leaving_time N.table o r) le leaves; value = value })
 
   -- a value without rides is that of a walk
-  walked_later : (v : Value) → v.rides ≡ 0 → IsAttained T Later v → (p q secs : ℕ) × Contains Q.from p × Contains Q.to q × (walk T p q ≡ Some secs) × (v.arrive ≡ later +ℤ pos secs)
+  walked_later : (v : Value) → v.rides ≡ 0 → IsAttained N.table Later v → (p q secs : ℕ) × Contains Q.from p × Contains Q.to q × (walk N.table p q ≡ Some secs) × (v.arrive ≡ later +ℤ pos secs)
   walked_later v no_ride (j, has) = by_rides j.origin j.rides j.target has.journey has.value
     where
-      by_rides : (o : ℕ) (rides : List Ride) (q : ℕ) → IsJourney T Q.from Q.to (record { origin = o; rides = rides; target = q }) → v ≡ value_of T later (record { origin = o; rides = rides; target = q }) →
-          (p q secs : ℕ) × Contains Q.from p × Contains Q.to q × (walk T p q ≡ Some secs) × (v.arrive ≡ later +ℤ pos secs)
+      by_rides : (o : ℕ) (rides : List Ride) (q : ℕ) → IsJourney N.table Q.from Q.to (record { origin = o; rides = rides; target = q }) → v ≡ value_of N.table later (record { origin = o; rides = rides; target = q }) →
+          (p q secs : ℕ) × Contains Q.from p × Contains Q.to q × (walk N.table p q ≡ Some secs) × (v.arrive ≡ later +ℤ pos secs)
       by_rides o [] q journey value =
-          let w = some (walk T o q) journey.leads in
-          (o, q, w.0, journey.origin, journey.target, w.1, ap (λ (x : Value). x.arrive) value ∙ ap (λ z. later +ℤ z) (walk_secs-is T o q w.0 w.1))
+          let w = some (walk N.table o q) journey.leads in
+          (o, q, w.0, journey.origin, journey.target, w.1, ap (λ (x : Value). x.arrive) value ∙ ap (λ z. later +ℤ z) (walk_secs-is N.table o q w.0 w.1))
       by_rides o (r ∷ rest) q journey value = absurd (let e : v.rides ≡ suc (length rest) = ap (λ (w : Value). w.rides) value in omega (arith, e, no_ride))
 
   -- the first round of the time: on a desk with the segments of before and the best walk, each first ride has been boarded
-  module _ (C E : DeskData) (levels : List (List (Option ℕ))) (values : List Value) (walked : Option Hit) (gone_on : IsGoneOn T hops Later C values (length C.segments)) (hits : C.hits ≡ hits_of 0 walked) (walk_traced : IfSome walked (IsWalkHit T Q))
-      (bounded : (p q secs : ℕ) → Contains Q.from p → Contains Q.to q → walk T p q ≡ Some secs → ArrivesBy walked (Q.leave +ℤ pos secs)) (queue : IsSweptQueue T lines hops Q E levels) (extends : Extends C E 1) (starts : AreStarted T Q E) where
+  module _ (C E : DeskData) (levels : List (List (Option ℕ))) (values : List Value) (walked : Option Hit) (gone_on : IsGoneOn N Later C values (length C.segments)) (hits : C.hits ≡ hits_of 0 walked) (walk_traced : IfSome walked (IsWalkHit N.table Q))
+      (bounded : (p q secs : ℕ) → Contains Q.from p → Contains Q.to q → walk N.table p q ≡ Some secs → ArrivesBy walked (Q.leave +ℤ pos secs)) (queue : IsSweptQueue N Q E levels) (extends : Extends C E 1) (starts : AreStarted N.table Q E) where
     hits_are : E.hits ≡ hits_of 0 walked
     hits_are = extends.hits ∙ hits
 
-    first : AreWalkHits T Q E.segments walked (hits_of 0 walked)
-    first = walk_hits T Q E.segments walked walk_traced
+    first : AreWalkHits N.table Q E.segments walked (hits_of 0 walked)
+    first = walk_hits N.table Q E.segments walked walk_traced
 
-    traced : All (IsTracedHit T Q E.segments) E.hits
-    traced = subst (All (IsTracedHit T Q E.segments)) (sym hits_are) first.traced
+    traced : All (IsTracedHit N.table Q E.segments) E.hits
+    traced = subst (All (IsTracedHit N.table Q E.segments)) (sym hits_are) first.traced
 
-    walk_late : (p q secs : ℕ) → Contains Q.from p → Contains Q.to q → walk T p q ≡ Some secs → IsLate (values_with E.hits (rode values)) (Q.leave +ℤ pos secs) 0
+    walk_late : (p q secs : ℕ) → Contains Q.from p → Contains Q.to q → walk N.table p q ≡ Some secs → IsLate (values_with E.hits (rode values)) (Q.leave +ℤ pos secs) 0
     walk_late p q secs a b w = hit_late E.hits (rode values) (Q.leave +ℤ pos secs) 0 (subst (λ hs. IsHit hs (record { arrive = Q.leave +ℤ pos secs; rides = 0 })) (sym hits_are) (first.by (Q.leave +ℤ pos secs) (bounded p q secs a b w)))
 
     -- what was late is late still: for a walk of before there is one that leaves now
@@ -130,14 +130,14 @@ module _ (T : TimetableData) (lines : List (List ℕ)) (hops : ℕ → ℕ → L
         by_rides : (v.rides ≡ 0) ⊎ (nat_lt 0 v.rides ≡ true) → IsLate (values_with E.hits (rode values)) time rides
         by_rides (inr some_ride) = (v, contains_right (map (λ (h : Hit). h.value) E.hits) (rode values) v (Contains-from_Member v (rode values) (Member-filter (λ (w : Value). nat_lt 0 w.rides) v values (Member-from_Contains v values one) some_ride)), le_v)
         by_rides (inl no_ride) =
-            let w = walked_later v no_ride (All-contains (IsAttained T Later) values v gone_on.attained one) in
+            let w = walked_later v no_ride (All-contains (IsAttained N.table Later) values v gone_on.attained one) in
             let now = walk_late w.0 w.1 w.2 w.3 w.4 w.5 in
             (now.0, now.1, (through Q.leave later now.0.arrive time w.2 now.2.0 le w.6 le_v.0, omega (arith, now.2.1)))
 
-    rode_attained : All (IsAttained T Q) (rode values)
-    rode_attained = all_by_member (IsAttained T Q) (rode values) (λ v m.
+    rode_attained : All (IsAttained N.table Q) (rode values)
+    rode_attained = all_by_member (IsAttained N.table Q) (rode values) (λ v m.
         let f = Member-filter_back (λ (w : Value). nat_lt 0 w.rides) v values m in
-        attained_earlier v (positive v.rides f.1) (All-contains (IsAttained T Later) values v gone_on.attained (Contains-from_Member v values f.0)))
+        attained_earlier v (positive v.rides f.1) (All-contains (IsAttained N.table Later) values v gone_on.attained (Contains-from_Member v values f.0)))
 
     same : (n : ℕ) → n < length C.segments → segment_of E.segments n ≡ segment_of C.segments n
     same n inside = extends-segment C E 1 extends n inside
@@ -150,22 +150,22 @@ module _ (T : TimetableData) (lines : List (List ℕ)) (hops : ℕ → ℕ → L
         subst (λ (s : Segment). IsLate (values_with E.hits (rode values)) (time s) (round_of E.segments n)) (sym (same n inside))
         (subst (λ r. IsLate (values_with E.hits (rode values)) (time (segment_of C.segments n)) r) (sym (extends-round C E 1 extends n inside)) (late_on (time (segment_of C.segments n)) (round_of C.segments n) late))
 
-    pub first_round : IsSweptRound T lines hops Q E levels (rode values) (length C.segments) 1
+    pub first_round : IsSweptRound N Q E levels (rode values) (length C.segments) 1
     first_round = record {
       queue = queue;
       gone_on = record {
         done = λ n i inside covers. elim (gone_on.done n i inside (covers_before n i inside covers)) [
-          | inl followed ↦ inl (followed-kept T hops C E 1 n i extends inside followed)
-          | inr late ↦ inr (late_there (λ s. arrival_at T s.trip i) n inside late)
+          | inl followed ↦ inl (followed-kept N C E 1 n i extends inside followed)
+          | inr late ↦ inr (late_there (λ s. arrival_at N.table s.trip i) n inside late)
         ];
         offers = λ n i q secs inside covers offer.
-            late_there (λ s. arrival_at T s.trip i +ℤ pos secs) n inside (gone_on.offers n i q secs inside (covers_before n i inside covers) (record {
-              alights = subst (λ (s : Segment). MayAlight T s.trip i) (same n inside) offer.alights;
+            late_there (λ s. arrival_at N.table s.trip i +ℤ pos secs) n inside (gone_on.offers n i q secs inside (covers_before n i inside covers) (record {
+              alights = subst (λ (s : Segment). MayAlight N.table s.trip i) (same n inside) offer.alights;
               target = offer.target;
-              walks = subst (λ (s : Segment). walk T (stop_at T s.trip i) q ≡ Some secs) (same n inside) offer.walks;
+              walks = subst (λ (s : Segment). walk N.table (stop_at N.table s.trip i) q ≡ Some secs) (same n inside) offer.walks;
             }));
-        attained = All-append (IsAttained T Q) (map (λ (h : Hit). h.value) E.hits) (rode values)
-            (All-map (IsAttained T Q) (λ (h : Hit). h.value) E.hits (All-weaker (IsTracedHit T Q E.segments) (λ (h : Hit). IsAttained T Q h.value) (λ h t. hit_attained T Q E.segments queue.entered h t) E.hits traced)) rode_attained;
+        attained = All-append (IsAttained N.table Q) (map (λ (h : Hit). h.value) E.hits) (rode values)
+            (All-map (IsAttained N.table Q) (λ (h : Hit). h.value) E.hits (All-weaker (IsTracedHit N.table Q E.segments) (λ (h : Hit). IsAttained N.table Q h.value) (λ h t. hit_attained N.table Q E.segments queue.entered h t) E.hits traced)) rode_attained;
       };
       starts = starts;
       walks = walk_late;
@@ -179,33 +179,33 @@ module _ (T : TimetableData) (lines : List (List ℕ)) (hops : ℕ → ℕ → L
     }
 
 -- a desk with the same segments has gone on as far
-pub gone_on-same : (T : TimetableData) (hops : ℕ → ℕ → List Hop) (Q : QueryData) (D C : DeskData) (values : List Value) → C.segments ≡ D.segments → IsGoneOn T hops Q D values (length D.segments) → IsGoneOn T hops Q C values (length C.segments)
-gone_on-same T hops Q D C values same g = subst (λ xs. IsGoneOn T hops Q (record C { segments = xs }) values (length xs)) (sym same) (record {
+pub gone_on-same : (N : NetData) (Q : QueryData) (D C : DeskData) (values : List Value) → C.segments ≡ D.segments → IsGoneOn N Q D values (length D.segments) → IsGoneOn N Q C values (length C.segments)
+gone_on-same N Q D C values same g = subst (λ xs. IsGoneOn N Q (record C { segments = xs }) values (length xs)) (sym same) (record {
   done = λ n i inside covers. g.done n i inside (record { onward = covers.onward; within = covers.within });
   offers = λ n i q secs inside covers offer. g.offers n i q secs inside (record { onward = covers.onward; within = covers.within }) (record { alights = offer.alights; target = offer.target; walks = offer.walks });
   attained = g.attained;
 })
 
 -- all segments have been ridden
-module _ (T : TimetableData) (lines : List (List ℕ)) (hops : ℕ → ℕ → List Hop) (Q : QueryData) (D : DeskData) (levels : List (List (Option ℕ))) (values : List Value) (rounds : ℕ) (swept : IsSweptRound T lines hops Q D levels values (length D.segments) rounds) where
+module _ (N : NetData) (Q : QueryData) (D : DeskData) (levels : List (List (Option ℕ))) (values : List Value) (rounds : ℕ) (swept : IsSweptRound N Q D levels values (length D.segments) rounds) where
   -- the values of the hits and those of before hold each journey
-  all_swept : IsSweptTo T lines hops Q D levels (values_with D.hits values)
+  all_swept : IsSweptTo N Q D levels (values_with D.hits values)
   all_swept = record { queue = swept.queue; gone_on = swept.gone_on; starts = swept.starts; walks = swept.walks }
 
-  pub round_found : IsSound T → AreSufficient T hops → (w : Value) → IsAttained T Q w → IsLate (values_with D.hits values) w.arrive w.rides
-  round_found sound sufficient w has = swept_cover T lines hops Q D levels (values_with D.hits values) all_swept sound sufficient w has
+  pub round_found : IsSound N.table → AreSufficient N.table N.hops → (w : Value) → IsAttained N.table Q w → IsLate (values_with D.hits values) w.arrive w.rides
+  round_found sound sufficient w has = swept_cover N Q D levels (values_with D.hits values) all_swept sound sufficient w has
 
-  pub round_traced : IsTraced T Q D
+  pub round_traced : IsTraced N.table Q D
   round_traced = record { sound = swept.queue.sound; entered = swept.queue.entered; hits = swept.traced }
 
   -- and so do others, where each has one among them that is no worse
-  pub swept_taken : (new : List Value) → All (Contains (values_with D.hits values)) new → AreCoveredBy (values_with D.hits values) new → IsSweptTo T lines hops Q D levels new
+  pub swept_taken : (new : List Value) → All (Contains (values_with D.hits values)) new → AreCoveredBy (values_with D.hits values) new → IsSweptTo N Q D levels new
   swept_taken new from covers = record {
     queue = swept.queue;
     gone_on = record {
       done = λ n i inside c. elim (swept.gone_on.done n i inside c) [ inl followed ↦ inl followed | inr late ↦ inr (late_still (values_with D.hits values) new _ _ covers late) ];
       offers = λ n i q secs inside c offer. late_still (values_with D.hits values) new _ _ covers (swept.gone_on.offers n i q secs inside c offer);
-      attained = All-weaker (Contains (values_with D.hits values)) (IsAttained T Q) (λ v c. All-contains (IsAttained T Q) (values_with D.hits values) v swept.gone_on.attained c) new from;
+      attained = All-weaker (Contains (values_with D.hits values)) (IsAttained N.table Q) (λ v c. All-contains (IsAttained N.table Q) (values_with D.hits values) v swept.gone_on.attained c) new from;
     };
     starts = swept.starts;
     walks = λ p q secs a b w. late_still (values_with D.hits values) new _ _ covers (swept.walks p q secs a b w);

@@ -3,8 +3,8 @@ use Rattle.std.proofs.Common.{◌≡◌, ◌∙◌, ℕ, suc, ◌+◌, ◌<◌, 
 use Rattle.std.specs.Prelude.{All, Contains}
 use Rattle.std.proofs.lemmas.List.Elements.{All-push}
 use Rattle.std.proofs.lemmas.List.Sums.{fold-append}
-use Rattle.tb_base.specs.declared.transfer.Hop.{Hop}
-use Rattle.tb_base.specs.TimetableData.{TimetableData, events_of}
+use Rattle.tb_base.specs.Network.{NetData}
+use Rattle.tb_base.specs.TimetableData.{events_of}
 use Rattle.tb_base.specs.BestValues.{QueryData}
 use Rattle.tb_base.specs.Lines.{AreDividedInto}
 use Rattle.tb_base.specs.Search.{RoundSegment, IsCovered}
@@ -15,36 +15,36 @@ use Rattle.segment_queue.specs.Traced.{IsEntered, UsesHops, round_after, round_o
 use Rattle.segment_queue.proofs.KeptLevels.{level_descending, level_entered, level_falls_on, level_reached, level_refused}
 use Rattle.earliest_query.specs.Sweeping.{IsSweptQueue}
 use Rattle.earliest_query.specs.UnderWay.{Extends, IsReachedBy}
-use Rattle.earliest_query.proofs.Rounds.{length-round_segments, round_of-kept, segment_at-last, segment_of-kept, segment_of-last}
+use Rattle.segment_queue.proofs.Rounds.{length-round_segments, round_of-kept, segment_at-last, segment_of-kept, segment_of-last}
 use Rattle.earliest_query.proofs.Growing.{covered-kept, entered-kept}
 
 below_or_last : (n k : ℕ) → n < k + 1 → (n < k) ⊎ (k ≡ n)
 below_or_last n k h = grind arith
 
-module _ (T : TimetableData) (lines : List (List ℕ)) (hops : ℕ → ℕ → List Hop) (Q : QueryData) (D : DeskData) (levels : List (List (Option ℕ))) (k trip at : ℕ) (parent : Option (ℕ × ℕ)) (divided : AreDividedInto T lines) (inside : trip < length T.trips) (level : k < length levels)
-    (queue : IsSweptQueue T lines hops Q D levels) where
+module _ (N : NetData) (Q : QueryData) (D : DeskData) (levels : List (List (Option ℕ))) (k trip at : ℕ) (parent : Option (ℕ × ℕ)) (divided : AreDividedInto N.table N.lines) (inside : trip < length N.table.trips) (level : k < length levels)
+    (queue : IsSweptQueue N Q D levels) where
   long : length (round_segments D.segments) ≡ length D.segments
   long = length-round_segments D.segments
 
   -- the index isn't below the trip's mark at the level: a segment has reached the trip there
-  pub swept_before : level_mark T levels k trip ≤ at → at + 1 < length (events_of T trip) → IsReachedBy T D (length D.segments) (suc k) trip at
-  swept_before refused not_last = subst (λ n. IsCovered T (round_segments D.segments) n (suc k) trip at) long (level_refused T levels (round_segments D.segments) queue.kept k trip at inside level refused not_last)
+  pub swept_before : level_mark N.table levels k trip ≤ at → at + 1 < length (events_of N.table trip) → IsReachedBy N.table D (length D.segments) (suc k) trip at
+  swept_before refused not_last = subst (λ n. IsCovered N.table (round_segments D.segments) n (suc k) trip at) long (level_refused N.table levels (round_segments D.segments) queue.kept k trip at inside level refused not_last)
 
-  module _ (D' : DeskData) (levels' : List (List (Option ℕ))) (enters : EntersLevel T lines k trip at levels levels') (below : at < level_mark T levels k trip) (same_round : round_after (round_segments D.segments) parent ≡ suc k)
-      (boards : IsEntered T Q D.segments (length D.segments) parent trip at) (in_set : (p : ℕ × ℕ) → parent ≡ Some p → Contains (hops (segment_of D.segments p.0).trip p.1) (record { trip = trip; at = at }))
-      (room : All (λ marks. length T.trips ≤ length marks) levels') (falling : All (λ marks. All (IsFalling T marks) lines) levels')
-      (is : D'.segments ≡ D.segments ++ record { trip = trip; board = at; end = level_mark T levels k trip; parent = parent } ∷ []) (hits : D'.hits ≡ D.hits) where
+  module _ (D' : DeskData) (levels' : List (List (Option ℕ))) (enters : EntersLevel N k trip at levels levels') (below : at < level_mark N.table levels k trip) (same_round : round_after (round_segments D.segments) parent ≡ suc k)
+      (boards : IsEntered N.table Q D.segments (length D.segments) parent trip at) (in_set : (p : ℕ × ℕ) → parent ≡ Some p → Contains (N.hops (segment_of D.segments p.0).trip p.1) (record { trip = trip; at = at }))
+      (room : All (λ marks. length N.table.trips ≤ length marks) levels') (falling : All (λ marks. All (IsFalling N.table marks) N.lines) levels')
+      (is : D'.segments ≡ D.segments ++ record { trip = trip; board = at; end = level_mark N.table levels k trip; parent = parent } ∷ []) (hits : D'.hits ≡ D.hits) where
     abbrev new : Segment
-    new = record { trip = trip; board = at; end = level_mark T levels k trip; parent = parent }
+    new = record { trip = trip; board = at; end = level_mark N.table levels k trip; parent = parent }
 
     abbrev all : List Segment
     all = D.segments ++ new ∷ []
 
     abbrev Ends : ℕ → ℕ → Segment → Type 0
-    Ends m r s = (length (events_of T s.trip) ≤ suc s.end) ⊎ IsCovered T (round_segments all) m r s.trip s.end
+    Ends m r s = (length (events_of N.table s.trip) ≤ suc s.end) ⊎ IsCovered N.table (round_segments all) m r s.trip s.end
 
     abbrev By : ℕ → Segment → Segment → Type 0
-    By i s before = Contains (hops before.trip i) (record { trip = s.trip; at = s.board })
+    By i s before = Contains (N.hops before.trip i) (record { trip = s.trip; at = s.board })
 
     longer : length all ≡ length D.segments + 1
     longer = omega (arith, length-append D.segments (new ∷ []))
@@ -55,19 +55,19 @@ module _ (T : TimetableData) (lines : List (List ℕ)) (hops : ℕ → ℕ → L
     new_round : round_of all (length D.segments) ≡ suc k
     new_round = ap (λ (r : RoundSegment). r.round) (segment_at-last D.segments new) ∙ same_round
 
-    rounds_are : round_segments all ≡ round_segments D.segments ++ level_segment T levels k trip at ∷ []
-    rounds_are = fold-append with_round [] D.segments (new ∷ []) ∙ ap (λ r. round_segments D.segments ++ record { trip = trip; board = at; end = level_mark T levels k trip; round = r } ∷ []) same_round
+    rounds_are : round_segments all ≡ round_segments D.segments ++ level_segment N.table levels k trip at ∷ []
+    rounds_are = fold-append with_round [] D.segments (new ∷ []) ∙ ap (λ r. round_segments D.segments ++ record { trip = trip; board = at; end = level_mark N.table levels k trip; round = r } ∷ []) same_round
 
     long_all : length (round_segments all) ≡ length all
     long_all = length-round_segments all
 
-    entered_all : (n : ℕ) → n < length all → IsEntered T Q all n (segment_of all n).parent (segment_of all n).trip (segment_of all n).board
+    entered_all : (n : ℕ) → n < length all → IsEntered N.table Q all n (segment_of all n).parent (segment_of all n).trip (segment_of all n).board
     entered_all n h =
         elim (below_or_last n (length D.segments) (omega (arith, h, longer))) [
-          | inl m ↦ subst (λ (s : Segment). IsEntered T Q all n s.parent s.trip s.board) (sym (segment_of-kept D.segments (new ∷ []) n m))
-              (entered-kept T Q D.segments (new ∷ []) n (segment_of D.segments n).parent (segment_of D.segments n).trip (segment_of D.segments n).board (omega (arith, m)) (queue.entered n m))
-          | inr e ↦ subst (λ m. IsEntered T Q all m (segment_of all m).parent (segment_of all m).trip (segment_of all m).board) e
-              (subst (λ (s : Segment). IsEntered T Q all (length D.segments) s.parent s.trip s.board) (sym new_of) (entered-kept T Q D.segments (new ∷ []) (length D.segments) parent trip at (omega arith) boards))
+          | inl m ↦ subst (λ (s : Segment). IsEntered N.table Q all n s.parent s.trip s.board) (sym (segment_of-kept D.segments (new ∷ []) n m))
+              (entered-kept N.table Q D.segments (new ∷ []) n (segment_of D.segments n).parent (segment_of D.segments n).trip (segment_of D.segments n).board (omega (arith, m)) (queue.entered n m))
+          | inr e ↦ subst (λ m. IsEntered N.table Q all m (segment_of all m).parent (segment_of all m).trip (segment_of all m).board) e
+              (subst (λ (s : Segment). IsEntered N.table Q all (length D.segments) s.parent s.trip s.board) (sym new_of) (entered-kept N.table Q D.segments (new ∷ []) (length D.segments) parent trip at (omega arith) boards))
         ]
 
     rounds_all : (n : ℕ) → n < length all → round_of all n ≤ length levels'
@@ -84,7 +84,7 @@ module _ (T : TimetableData) (lines : List (List ℕ)) (hops : ℕ → ℕ → L
         new_ends =
             elim (queue.kept k trip level inside) [
               | inl last ↦ inl last
-              | inr c ↦ inr (covered-kept T D.segments (new ∷ []) (length (round_segments D.segments)) (length D.segments) (suc k) (suc k) trip (level_mark T levels k trip) c (omega (arith, long)) (omega (arith, long)) (omega arith))
+              | inr c ↦ inr (covered-kept N.table D.segments (new ∷ []) (length (round_segments D.segments)) (length D.segments) (suc k) (suc k) trip (level_mark N.table levels k trip) c (omega (arith, long)) (omega (arith, long)) (omega arith))
             ]
 
         by_place : (n < length D.segments) ⊎ (length D.segments ≡ n) → Ends n (round_of all n) (segment_of all n)
@@ -93,18 +93,18 @@ module _ (T : TimetableData) (lines : List (List ℕ)) (hops : ℕ → ℕ → L
             (subst (λ r. Ends n r (segment_of D.segments n)) (sym (round_of-kept D.segments (new ∷ []) n m))
             (elim (queue.ends n m) [
               | inl last ↦ inl last
-              | inr c ↦ inr (covered-kept T D.segments (new ∷ []) n n (round_of D.segments n) (round_of D.segments n) (segment_of D.segments n).trip (segment_of D.segments n).end c (omega (arith, m)) (omega arith) (omega arith))
+              | inr c ↦ inr (covered-kept N.table D.segments (new ∷ []) n n (round_of D.segments n) (round_of D.segments n) (segment_of D.segments n).trip (segment_of D.segments n).end c (omega (arith, m)) (omega arith) (omega arith))
             ]))
         by_place (inr e) =
             subst (λ m. Ends m (round_of all m) (segment_of all m)) e
             (subst (λ (s : Segment). Ends (length D.segments) (round_of all (length D.segments)) s) (sym new_of)
             (subst (λ r. Ends (length D.segments) r new) (sym new_round) new_ends))
 
-    by_hops_all : UsesHops hops all
+    by_hops_all : UsesHops N.hops all
     by_hops_all n p h from = by_place (below_or_last n (length D.segments) (omega (arith, h, longer)))
       where
-        earlier_of : (o : Option (ℕ × ℕ)) (m t b : ℕ) (xs : List Segment) → o ≡ Some p → IsEntered T Q xs m o t b → p.0 < m
-        earlier_of o m t b xs e entered = (subst (λ x. IsEntered T Q xs m x t b) e entered).earlier
+        earlier_of : (o : Option (ℕ × ℕ)) (m t b : ℕ) (xs : List Segment) → o ≡ Some p → IsEntered N.table Q xs m o t b → p.0 < m
+        earlier_of o m t b xs e entered = (subst (λ x. IsEntered N.table Q xs m x t b) e entered).earlier
 
         by_place : (n < length D.segments) ⊎ (length D.segments ≡ n) → By p.1 (segment_of all n) (segment_of all p.0)
         by_place (inl m) =
@@ -120,25 +120,25 @@ module _ (T : TimetableData) (lines : List (List ℕ)) (hops : ℕ → ℕ → L
             subst (λ (s : Segment). By p.1 s (segment_of all p.0)) (sym here)
             (subst (λ (s : Segment). By p.1 new s) (sym (segment_of-kept D.segments (new ∷ []) p.0 below_n)) (in_set p is_new))
 
-    pub swept-entered : IsSweptQueue T lines hops Q D' levels'
+    pub swept-entered : IsSweptQueue N Q D' levels'
     swept-entered = record {
-      sound = subst (All (IsSoundSegment T)) (sym is) (All-push (IsSoundSegment T) D.segments new queue.sound (record { trip = inside; onward = below; within = queue.within k trip level inside }));
-      entered = subst (λ xs. (n : ℕ) → n < length xs → IsEntered T Q xs n (segment_of xs n).parent (segment_of xs n).trip (segment_of xs n).board) (sym is) entered_all;
-      by_hops = subst (λ xs. UsesHops hops xs) (sym is) by_hops_all;
+      sound = subst (All (IsSoundSegment N.table)) (sym is) (All-push (IsSoundSegment N.table) D.segments new queue.sound (record { trip = inside; onward = below; within = queue.within k trip level inside }));
+      entered = subst (λ xs. (n : ℕ) → n < length xs → IsEntered N.table Q xs n (segment_of xs n).parent (segment_of xs n).trip (segment_of xs n).board) (sym is) entered_all;
+      by_hops = subst (λ xs. UsesHops N.hops xs) (sym is) by_hops_all;
       rounds = subst (λ xs. (n : ℕ) → n < length xs → round_of xs n ≤ length levels') (sym is) rounds_all;
       some_level = omega (arith, level, enters.long);
-      ends = subst (λ xs. (n : ℕ) → n < length xs → (length (events_of T (segment_of xs n).trip) ≤ suc (segment_of xs n).end) ⊎ IsCovered T (round_segments xs) n (round_of xs n) (segment_of xs n).trip (segment_of xs n).end) (sym is) ends_all;
-      kept = subst (λ xs. AreKept T levels' (round_segments xs)) (sym is) (subst (AreKept T levels') (sym rounds_are) (level_entered T lines divided levels (round_segments D.segments) queue.kept k trip at inside level levels' enters));
-      descending = level_descending T lines divided levels (round_segments D.segments) queue.kept k trip at inside level levels' enters queue.descending;
+      ends = subst (λ xs. (n : ℕ) → n < length xs → (length (events_of N.table (segment_of xs n).trip) ≤ suc (segment_of xs n).end) ⊎ IsCovered N.table (round_segments xs) n (round_of xs n) (segment_of xs n).trip (segment_of xs n).end) (sym is) ends_all;
+      kept = subst (λ xs. AreKept N.table levels' (round_segments xs)) (sym is) (subst (AreKept N.table levels') (sym rounds_are) (level_entered N divided levels (round_segments D.segments) queue.kept k trip at inside level levels' enters));
+      descending = level_descending N divided levels (round_segments D.segments) queue.kept k trip at inside level levels' enters queue.descending;
       room = room;
       falling = falling;
-      within = λ m t there trip_inside. (let old = queue.within m t (omega (arith, there, enters.long)) trip_inside in omega (arith, old, level_falls_on T lines k trip at levels levels' enters m t (omega (arith, there, enters.long)) trip_inside));
+      within = λ m t there trip_inside. (let old = queue.within m t (omega (arith, there, enters.long)) trip_inside in omega (arith, old, level_falls_on N k trip at levels levels' enters m t (omega (arith, there, enters.long)) trip_inside));
     }
 
-    pub swept-reached : IsReachedBy T D' (length D'.segments) (suc k) trip at
-    swept-reached = subst (λ xs. IsCovered T (round_segments xs) (length xs) (suc k) trip at) (sym is)
-        (subst (λ n. IsCovered T (round_segments all) n (suc k) trip at) long_all
-        (subst (λ rs. IsCovered T rs (length rs) (suc k) trip at) (sym rounds_are) (level_reached T lines divided levels (round_segments D.segments) queue.kept k trip at inside level levels' enters)))
+    pub swept-reached : IsReachedBy N.table D' (length D'.segments) (suc k) trip at
+    swept-reached = subst (λ xs. IsCovered N.table (round_segments xs) (length xs) (suc k) trip at) (sym is)
+        (subst (λ n. IsCovered N.table (round_segments all) n (suc k) trip at) long_all
+        (subst (λ rs. IsCovered N.table rs (length rs) (suc k) trip at) (sym rounds_are) (level_reached N divided levels (round_segments D.segments) queue.kept k trip at inside level levels' enters)))
 
     pub swept-extends : Extends D D' (suc k)
     swept-extends = record {

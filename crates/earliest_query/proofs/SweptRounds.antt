@@ -4,9 +4,8 @@ use Rattle.std.specs.Prelude.{All, Contains, IfSome}
 use Rattle.std.proofs.lemmas.Bool.Decides.{nat_tests}
 use Rattle.std.proofs.lemmas.List.{map-append}
 use Rattle.std.proofs.lemmas.List.Elements.{All-append, All-map, All-weaker}
-use Rattle.tb_base.specs.declared.transfer.Hop.{Hop}
+use Rattle.tb_base.specs.Network.{NetData}
 use Rattle.tb_base.specs.declared.query.Value.{Value}
-use Rattle.tb_base.specs.TimetableData.{TimetableData}
 use Rattle.tb_base.specs.BestValues.{IsAttained, QueryData}
 use Rattle.tb_base.proofs.Ordered.{Member, Member-from_Contains, Contains-from_Member}
 use Rattle.tb_base.proofs.Members.{Member-append, Member-left, Member-right}
@@ -79,8 +78,8 @@ best_more hits values round best v some one old = by_test (nat_le v.rides round)
         }
 
 -- a queue is swept whatever else its desk holds
-pub swept_queue-on : (T : TimetableData) (lines : List (List ℕ)) (hops : ℕ → ℕ → List Hop) (Q : QueryData) (D F : DeskData) (levels : List (List (Option ℕ))) → F.segments ≡ D.segments → IsSweptQueue T lines hops Q D levels → IsSweptQueue T lines hops Q F levels
-swept_queue-on T lines hops Q D F levels same q = subst (λ xs. IsSweptQueue T lines hops Q (record F { segments = xs }) levels) (sym same) (record {
+pub swept_queue-on : (N : NetData) (Q : QueryData) (D F : DeskData) (levels : List (List (Option ℕ))) → F.segments ≡ D.segments → IsSweptQueue N Q D levels → IsSweptQueue N Q F levels
+swept_queue-on N Q D F levels same q = subst (λ xs. IsSweptQueue N Q (record F { segments = xs }) levels) (sym same) (record {
   sound = q.sound;
   entered = q.entered;
   by_hops = q.by_hops;
@@ -95,34 +94,34 @@ swept_queue-on T lines hops Q D F levels same q = subst (λ xs. IsSweptQueue T l
 })
 
 -- a level more may have been made
-pub swept_queue-made : (T : TimetableData) (lines : List (List ℕ)) (hops : ℕ → ℕ → List Hop) (Q : QueryData) (D : DeskData) (levels made : List (List (Option ℕ))) → 0 < length levels → (made ≡ levels) ⊎ (made ≡ with_level levels) → IsSweptQueue T lines hops Q D levels → IsSweptQueue T lines hops Q D made
-swept_queue-made T lines hops Q D levels made some (inl same) q = subst (IsSweptQueue T lines hops Q D) (sym same) q
-swept_queue-made T lines hops Q D levels made some (inr more) q = subst (IsSweptQueue T lines hops Q D) (sym more) (record {
+pub swept_queue-made : (N : NetData) (Q : QueryData) (D : DeskData) (levels made : List (List (Option ℕ))) → 0 < length levels → (made ≡ levels) ⊎ (made ≡ with_level levels) → IsSweptQueue N Q D levels → IsSweptQueue N Q D made
+swept_queue-made N Q D levels made some (inl same) q = subst (IsSweptQueue N Q D) (sym same) q
+swept_queue-made N Q D levels made some (inr more) q = subst (IsSweptQueue N Q D) (sym more) (record {
   sound = q.sound;
   entered = q.entered;
   by_hops = q.by_hops;
   rounds = λ n h. omega (arith, q.rounds n h, length-append levels (get_or levels (length levels - 1) [] ∷ []));
   some_level = omega (arith, some, length-append levels (get_or levels (length levels - 1) [] ∷ []));
   ends = q.ends;
-  kept = level_made T levels some (round_segments D.segments) q.kept;
-  descending = made_descending T levels some q.descending;
-  room = made_all (λ marks. length T.trips ≤ length marks) levels some q.room;
-  falling = made_all (λ marks. All (IsFalling T marks) lines) levels some q.falling;
-  within = made_within T levels some q.within;
+  kept = level_made N.table levels some (round_segments D.segments) q.kept;
+  descending = made_descending N.table levels some q.descending;
+  room = made_all (λ marks. length N.table.trips ≤ length marks) levels some q.room;
+  falling = made_all (λ marks. All (IsFalling N.table marks) N.lines) levels some q.falling;
+  within = made_within N.table levels some q.within;
 })
 
 -- there is a level for the rides of a round that has a segment
-pub level_there : (T : TimetableData) (lines : List (List ℕ)) (hops : ℕ → ℕ → List Hop) (Q : QueryData) (D : DeskData) (levels : List (List (Option ℕ))) (values : List Value) (from round : ℕ) → IsSweptRound T lines hops Q D levels values from round → from < length D.segments → round ≤ length levels
-level_there T lines hops Q D levels values from round swept inside = omega (arith, swept.queue.rounds from inside, swept.this_round from (omega arith) inside)
+pub level_there : (N : NetData) (Q : QueryData) (D : DeskData) (levels : List (List (Option ℕ))) (values : List Value) (from round : ℕ) → IsSweptRound N Q D levels values from round → from < length D.segments → round ≤ length levels
+level_there N Q D levels values from round swept inside = omega (arith, swept.queue.rounds from inside, swept.this_round from (omega arith) inside)
 
-module _ (T : TimetableData) (lines : List (List ℕ)) (hops : ℕ → ℕ → List Hop) (Q : QueryData) (D E F : DeskData) (levels levels' : List (List (Option ℕ))) (values : List Value) (start best : Option Hit) (from to round : ℕ) (swept : IsSweptRound T lines hops Q D levels values from round) (to_is : to ≡ length D.segments)
-    (queue : IsSweptQueue T lines hops Q E levels') (extends : Extends D E (suc round)) (followed : (n i : ℕ) → from ≤ n → n < to → Covers D n i → IsDone T hops E best n i) (bounded : (n i : ℕ) → from ≤ n → n < to → Covers D n i → IsBounded T Q D best n i)
-    (begins : IsBestBefore D.hits values round start) (improved : IsImproved T Q E round start best) (segments_are : F.segments ≡ E.segments) (hits_are : F.hits ≡ D.hits ++ hits_of round best) where
+module _ (N : NetData) (Q : QueryData) (D E F : DeskData) (levels levels' : List (List (Option ℕ))) (values : List Value) (start best : Option Hit) (from to round : ℕ) (swept : IsSweptRound N Q D levels values from round) (to_is : to ≡ length D.segments)
+    (queue : IsSweptQueue N Q E levels') (extends : Extends D E (suc round)) (followed : (n i : ℕ) → from ≤ n → n < to → Covers D n i → IsDone N E best n i) (bounded : (n i : ℕ) → from ≤ n → n < to → Covers D n i → IsBounded N.table Q D best n i)
+    (begins : IsBestBefore D.hits values round start) (improved : IsImproved N.table Q E round start best) (segments_are : F.segments ≡ E.segments) (hits_are : F.hits ≡ D.hits ++ hits_of round best) where
   abbrev added : List Hit
   added = hits_of round best
 
-  adds : Adds T Q E D.hits round start best added
-  adds = adds_best T Q E D.hits round start swept.stairs swept.fewer begins.earlier begins.last best improved
+  adds : Adds N.table Q E D.hits round start best added
+  adds = adds_best N.table Q E D.hits round start swept.stairs swept.fewer begins.earlier begins.last best improved
 
   abbrev Old : ℤ → ℕ → Type 0
   Old time rides = IsLate (values_with D.hits values) time rides
@@ -136,40 +135,40 @@ module _ (T : TimetableData) (lines : List (List ℕ)) (hops : ℕ → ℕ → L
   by_best : (time : ℤ) → ArrivesBy best time → Late time round
   by_best time by = elim (adds.by time by) [ inl first ↦ still time round (begins.late time first) | inr new ↦ hit_late (D.hits ++ added) values time round (hit-added D.hits added time round new) ]
 
-  traced : All (IsTracedHit T Q E.segments) (D.hits ++ added)
-  traced = traced_next T Q D E (suc round) round start best added extends adds swept.traced
+  traced : All (IsTracedHit N.table Q E.segments) (D.hits ++ added)
+  traced = traced_next N.table Q D E (suc round) round start best added extends adds swept.traced
 
-  attained : All (IsAttained T Q) (values_with (D.hits ++ added) values)
-  attained = All-append (IsAttained T Q) (hit_values (D.hits ++ added)) values
-      (All-map (IsAttained T Q) (λ (h : Hit). h.value) (D.hits ++ added) (All-weaker (IsTracedHit T Q E.segments) (λ (h : Hit). IsAttained T Q h.value) (λ h t. hit_attained T Q E.segments queue.entered h t) (D.hits ++ added) traced))
+  attained : All (IsAttained N.table Q) (values_with (D.hits ++ added) values)
+  attained = All-append (IsAttained N.table Q) (hit_values (D.hits ++ added)) values
+      (All-map (IsAttained N.table Q) (λ (h : Hit). h.value) (D.hits ++ added) (All-weaker (IsTracedHit N.table Q E.segments) (λ (h : Hit). IsAttained N.table Q h.value) (λ h t. hit_attained N.table Q E.segments queue.entered h t) (D.hits ++ added) traced))
       swept.attained
 
   next : suc round ≡ round + 1
   next = omega arith
 
   -- the round after, on the desk that keeps the best hit of this one
-  swept_on_kept : IsSweptRound T lines hops Q (record F { segments = E.segments; hits = D.hits ++ added }) levels' values to (round + 1)
+  swept_on_kept : IsSweptRound N Q (record F { segments = E.segments; hits = D.hits ++ added }) levels' values to (round + 1)
   swept_on_kept = record {
-    queue = swept_queue-on T lines hops Q E (record F { segments = E.segments; hits = D.hits ++ added }) levels' refl queue;
+    queue = swept_queue-on N Q E (record F { segments = E.segments; hits = D.hits ++ added }) levels' refl queue;
     gone_on = record {
-      done = λ n i h covers. done_next T hops Q D E best from to round to_is swept.this_round extends followed bounded Old Late still by_best swept.gone_on.done n i h (record { onward = covers.onward; within = covers.within });
-      offers = λ n i q secs h covers offer. offers_next T hops Q D E best from to round to_is swept.this_round extends followed bounded Old Late still by_best swept.gone_on.offers n i q secs h
+      done = λ n i h covers. done_next N Q D E best from to round to_is swept.this_round extends followed bounded Old Late still by_best swept.gone_on.done n i h (record { onward = covers.onward; within = covers.within });
+      offers = λ n i q secs h covers offer. offers_next N Q D E best from to round to_is swept.this_round extends followed bounded Old Late still by_best swept.gone_on.offers n i q secs h
           (record { onward = covers.onward; within = covers.within }) (record { alights = offer.alights; target = offer.target; walks = offer.walks });
       attained = attained;
     };
     starts = λ p t b secs from boards not_last walks in_time.
-        extends-reached T D E (suc round) (length D.segments) (length E.segments) 1 1 t b extends (swept.starts p t b secs from boards not_last walks in_time) (omega arith) (extends-long D E (suc round) extends) (omega arith);
+        extends-reached N.table D E (suc round) (length D.segments) (length E.segments) 1 1 t b extends (swept.starts p t b secs from boards not_last walks in_time) (omega arith) (extends-long D E (suc round) extends) (omega arith);
     walks = λ p q secs a b w. still (Q.leave +ℤ pos secs) 0 (swept.walks p q secs a b w);
     some_round = omega arith;
     within = omega (arith, to_is, extends-long D E (suc round) extends);
     this_round = λ n h inside. extends.rounds n (omega (arith, h, to_is)) inside ∙ next;
     traced = traced;
-    stairs = stairs_next T Q D E (suc round) round start best added extends adds swept.stairs;
-    fewer = fewer_next T Q D E (suc round) round start best added extends adds swept.fewer;
+    stairs = stairs_next N.table Q D E (suc round) round start best added extends adds swept.stairs;
+    fewer = fewer_next N.table Q D E (suc round) round start best added extends adds swept.fewer;
     attained = swept.attained;
   }
 
-  pub swept_next : IsSweptRound T lines hops Q F levels' values to (round + 1)
+  pub swept_next : IsSweptRound N Q F levels' values to (round + 1)
   swept_next =
-      subst (λ xs. IsSweptRound T lines hops Q (record F { segments = xs }) levels' values to (round + 1)) (sym segments_are)
-      (subst (λ hs. IsSweptRound T lines hops Q (record F { segments = E.segments; hits = hs }) levels' values to (round + 1)) (sym hits_are) swept_on_kept)
+      subst (λ xs. IsSweptRound N Q (record F { segments = xs }) levels' values to (round + 1)) (sym segments_are)
+      (subst (λ hs. IsSweptRound N Q (record F { segments = E.segments; hits = hs }) levels' values to (round + 1)) (sym hits_are) swept_on_kept)

@@ -1,4 +1,5 @@
--- What bounds a round of a sweep when it begins: its hits so far, and the values of later departures.
+-- What bounds a round of a sweep when it begins: its hits so far, and the values of later
+-- departures.
 use Rattle.std.specs.Prelude.{ℕ, ◌<◌, List, Option, nat_le, if◌then◌else◌, IfSome, ℤ}
 use Rattle.tb_base.specs.declared.query.Value.{Value}
 use Rattle.tb_laws.specs.Pruning.{IsLate}
@@ -16,8 +17,8 @@ abbrev pub earlier_value : ℕ → Option Hit → Value → Option Hit
 earlier_value round best v =
     if nat_le v.rides round then earlier_hit best (bounding_hit v.arrive) else best
 
--- The best so far when a round begins: it is no hit of this round, it arrives no later than the last hit,
--- and whoever arrives no earlier than it, with the rides of this round, is late.
+-- The best so far when a round begins: it is no hit of this round, it arrives no later than the
+-- last hit, and whoever arrives no earlier than it, with the rides of this round, is late.
 pub record IsBestBefore (hits : List Hit) (values : List Value) (round : ℕ) (best : Option Hit)
     : Type 0 where
   pub earlier : IfSome best (λ h. h.value.rides < round)

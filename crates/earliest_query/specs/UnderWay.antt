@@ -1,5 +1,6 @@
 -- A search under way: what its desk keeps while the queue grows.
 use Rattle.std.specs.Prelude.{◌≡◌, ◌≢◌, ℕ, suc, ◌+◌, ◌<◌, ◌≤◌, ◌⊎◌, List, ◌++◌, length, take, sum_by, Option, Some, All, AllPairs, slice_index, slice_index_or, Contains, IfSome, IsSomeAnd, pos, ◌+ℤ◌, ◌≤ℤ◌, ◌<ℤ◌}
+use Rattle.tb_base.specs.Network.{NetData}
 use Rattle.tb_base.specs.declared.query.Value.{Value}
 use Rattle.tb_base.specs.declared.table.Path.{Path}
 use Rattle.tb_base.specs.declared.transfer.Hop.{Hop}
@@ -18,24 +19,34 @@ use Rattle.earliest_query.specs.Choices.{ArrivesBy, IsFirstChoice}
 pub record Extends (D D' : DeskData) (round : ℕ) : Type 0 where
   pub more : List Segment
   pub segments : D'.segments ≡ D.segments ++ more
-  pub rounds : (n : ℕ) → length D.segments ≤ n → n < length D'.segments → round_of D'.segments n ≡ round
+  pub rounds : (n : ℕ) → length D.segments ≤ n → n < length D'.segments →
+      round_of D'.segments n ≡ round
   pub hits : D'.hits ≡ D.hits
 
--- one of the first n segments, in this round or an earlier one, is of a trip that is no later than t, and boarded at b or before
+-- one of the first n segments, in this round or an earlier one, is of a trip that is no later than
+-- t, and boarded at b or before
 abbrev pub IsReachedBy : TimetableData → DeskData → ℕ → ℕ → ℕ → ℕ → Type 0
 IsReachedBy T D n round t b = IsCovered T (round_segments D.segments) n round t b
 
 -- The queue of a search whose rounds have come up to this one.
-pub record IsQueue (T : TimetableData) (lines : List (List ℕ)) (hops : ℕ → ℕ → List Hop) (Q : QueryData) (D : DeskData) (round : ℕ) : Type 0 where
-  pub step : IsInStep T lines D
-  pub entered : (n : ℕ) → n < length D.segments → IsEntered T Q D.segments n (segment_of D.segments n).parent (segment_of D.segments n).trip (segment_of D.segments n).board
-  pub by_hops : UsesHops hops D.segments
+pub record IsQueue (N : NetData) (Q : QueryData) (D : DeskData) (round : ℕ) : Type 0 where
+  pub step : IsInStep N D
+  pub entered : (n : ℕ) → n < length D.segments →
+      IsEntered N.table Q D.segments n (segment_of D.segments n).parent
+      (segment_of D.segments n).trip (segment_of D.segments n).board
+  pub by_hops : UsesHops N.hops D.segments
   pub rounds : (n : ℕ) → n < length D.segments → round_of D.segments n ≤ round
   -- a trip's mark is its last index, or at it a segment has reached the trip
-  pub marked : (t : ℕ) → t < length T.trips → (length (events_of T t) ≤ suc (mark_of T D.marks t)) ⊎ IsReachedBy T D (length D.segments) round t (mark_of T D.marks t)
-  -- the end of a segment is its trip's last index, or at it a segment before it has reached the trip
-  pub ends : (n : ℕ) → n < length D.segments → (length (events_of T (segment_of D.segments n).trip) ≤ suc (segment_of D.segments n).end)
-      ⊎ IsReachedBy T D n (round_of D.segments n) (segment_of D.segments n).trip (segment_of D.segments n).end
+  pub marked : (t : ℕ) → t < length N.table.trips →
+      (length (events_of N.table t) ≤ suc (mark_of N.table D.marks t))
+      ⊎ IsReachedBy N.table D (length D.segments) round t (mark_of N.table D.marks t)
+  -- the end of a segment is its trip's last index, or at it a segment before it has reached the
+  -- trip
+  pub ends : (n : ℕ) → n < length D.segments →
+      (length (events_of N.table (segment_of D.segments n).trip)
+      ≤ suc (segment_of D.segments n).end)
+      ⊎ IsReachedBy N.table D n (round_of D.segments n) (segment_of D.segments n).trip
+      (segment_of D.segments n).end
 
 -- segment n covers index i of its trip
 pub record Covers (D : DeskData) (n i : ℕ) : Type 0 where
@@ -43,25 +54,31 @@ pub record Covers (D : DeskData) (n i : ℕ) : Type 0 where
   pub within : i ≤ (segment_of D.segments n).end
 
 -- each hop from index i of segment n has been followed
-abbrev pub IsFollowed : TimetableData → (ℕ → ℕ → List Hop) → DeskData → ℕ → ℕ → Type 0
-IsFollowed T hops D n i = (h : Hop) → Contains (hops (segment_of D.segments n).trip i) h → IsReachedBy T D (length D.segments) (suc (round_of D.segments n)) h.trip h.at
+abbrev pub IsFollowed : NetData → DeskData → ℕ → ℕ → Type 0
+IsFollowed N D n i = (h : Hop) → Contains (N.hops (segment_of D.segments n).trip i) h →
+    IsReachedBy N.table D (length D.segments) (suc (round_of D.segments n)) h.trip h.at
 
--- each hop from index i of segment n has been followed, or one gets there no earlier than the best hit so far arrives
-abbrev pub IsDone : TimetableData → (ℕ → ℕ → List Hop) → DeskData → Option Hit → ℕ → ℕ → Type 0
-IsDone T hops D best n i = IsFollowed T hops D n i ⊎ ArrivesBy best (arrival_at T (segment_of D.segments n).trip i)
+-- each hop from index i of segment n has been followed, or one gets there no earlier than the best
+-- hit so far arrives
+abbrev pub IsDone : NetData → DeskData → Option Hit → ℕ → ℕ → Type 0
+IsDone N D best n i =
+    IsFollowed N D n i ⊎ ArrivesBy best (arrival_at N.table (segment_of D.segments n).trip i)
 
 -- to alight from segment n at index i, and walk to a target
-pub record IsOffered (T : TimetableData) (Q : QueryData) (D : DeskData) (n i q secs : ℕ) : Type 0 where
+pub record IsOffered (T : TimetableData) (Q : QueryData) (D : DeskData)
+    (n i q secs : ℕ) : Type 0 where
   pub alights : MayAlight T (segment_of D.segments n).trip i
   pub target : Contains Q.to q
   pub walks : walk T (stop_at T (segment_of D.segments n).trip i) q ≡ Some secs
 
 -- the best hit so far arrives no later than by alighting from segment n at index i
 abbrev pub IsBounded : TimetableData → QueryData → DeskData → Option Hit → ℕ → ℕ → Type 0
-IsBounded T Q D best n i = (q secs : ℕ) → IsOffered T Q D n i q secs → ArrivesBy best (arrival_at T (segment_of D.segments n).trip i +ℤ pos secs)
+IsBounded T Q D best n i = (q secs : ℕ) → IsOffered T Q D n i q secs →
+    ArrivesBy best (arrival_at T (segment_of D.segments n).trip i +ℤ pos secs)
 
 -- a hit of this round that arrives before the best so far
-pub record IsNewHit (T : TimetableData) (Q : QueryData) (D : DeskData) (round : ℕ) (best : Option Hit) (h : Hit) : Type 0 where
+pub record IsNewHit (T : TimetableData) (Q : QueryData) (D : DeskData) (round : ℕ)
+    (best : Option Hit) (h : Hit) : Type 0 where
   pub traced : IsTracedHit T Q D.segments h
   pub rides : h.value.rides ≡ round
   pub sooner : IfSome best (λ b. h.value.arrive <ℤ b.value.arrive)
@@ -82,15 +99,20 @@ pub record IsHit (hits : List Hit) (v : Value) : Type 0 where
 
 -- whoever boards at the stop after a walk of so many seconds has been reached
 abbrev pub IsBoarded : TimetableData → QueryData → DeskData → ℕ → ℕ → Type 0
-IsBoarded T Q D stop secs = (t b : ℕ) → MayBoard T t b → b + 1 < length (events_of T t) → stop_at T t b ≡ stop → (Q.leave +ℤ pos secs) ≤ℤ departure_at T t b → IsReachedBy T D (length D.segments) 1 t b
+IsBoarded T Q D stop secs = (t b : ℕ) → MayBoard T t b → b + 1 < length (events_of T t) →
+    stop_at T t b ≡ stop → (Q.leave +ℤ pos secs) ≤ℤ departure_at T t b →
+    IsReachedBy T D (length D.segments) 1 t b
 
 -- all stops that are boarded from the origin at this place have been boarded
 abbrev pub AreBoarded : TimetableData → QueryData → DeskData → ℕ → Type 0
-AreBoarded T Q D place = (stop secs : ℕ) → walk T (slice_index Q.from place) stop ≡ Some secs → IsFirstChoice T Q.from place stop secs → IsBoarded T Q D stop secs
+AreBoarded T Q D place = (stop secs : ℕ) → walk T (slice_index Q.from place) stop ≡ Some secs →
+    IsFirstChoice T Q.from place stop secs → IsBoarded T Q D stop secs
 
 -- so many steps for a stop that is boarded, and none for one that isn't
-abbrev pub BoardsOnce : TimetableData → List (List ℕ) → List ℕ → ℕ → ℕ → ℕ → ℕ → ℕ → Type 0
-BoardsOnce T lines origins place stop secs before after = (after ≡ before) ⊎ (IsFirstChoice T origins place stop secs × (after ≡ before + length (line_indices_at T lines stop)))
+abbrev pub BoardsOnce : NetData → List ℕ → ℕ → ℕ → ℕ → ℕ → ℕ → Type 0
+BoardsOnce N origins place stop secs before after =
+    (after ≡ before) ⊎ (IsFirstChoice N.table origins place stop secs
+    × (after ≡ before + length (line_indices_at N.table N.lines stop)))
 
 -- a stop that is boarded from an origin at a place from this one up to another
 pub record IsChosen (T : TimetableData) (origins : List ℕ) (low high stop : ℕ) : Type 0 where
@@ -103,17 +125,20 @@ pub record IsChosen (T : TimetableData) (origins : List ℕ) (low high stop : �
   pub walks : walk T (slice_index origins place) stop ≡ Some secs
   pub first : IsFirstChoice T origins place stop secs
 
--- the steps are the line indices at some stops that differ, each boarded from an origin at one of these places
-pub record BoardsStops (T : TimetableData) (lines : List (List ℕ)) (origins : List ℕ) (low high before after : ℕ) : Type 0 where
+-- the steps are the line indices at some stops that differ, each boarded from an origin at one of
+-- these places
+pub record BoardsStops (N : NetData) (origins : List ℕ) (low high before after : ℕ) : Type 0 where
   pub stops : List ℕ
   pub distinct : AllPairs (λ p q. p ≢ q) stops
-  pub chosen : All (IsChosen T origins low high) stops
-  pub steps : after ≡ before + sum_by (λ p. length (line_indices_at T lines p)) stops
+  pub chosen : All (IsChosen N.table origins low high) stops
+  pub steps : after ≡ before + sum_by (λ p. length (line_indices_at N.table N.lines p)) stops
 
 -- the same, where each of the stops is the origin or one that the first paths lead to
-pub record BoardsAmong (T : TimetableData) (lines : List (List ℕ)) (origins : List ℕ) (place origin : ℕ) (paths : List Path) (count before after : ℕ) : Type 0 where
+pub record BoardsAmong (N : NetData) (origins : List ℕ) (place origin : ℕ) (paths : List Path)
+    (count before after : ℕ) : Type 0 where
   pub stops : List ℕ
   pub distinct : AllPairs (λ p q. p ≢ q) stops
-  pub chosen : All (IsChosen T origins place (place + 1)) stops
-  pub steps : after ≡ before + sum_by (λ p. length (line_indices_at T lines p)) stops
-  pub among : (q : ℕ) → Contains stops q → (q ≡ origin) ⊎ ((k : ℕ) × (k < count) × ((d : Path) → (slice_index_or paths k d).to ≡ q))
+  pub chosen : All (IsChosen N.table origins place (place + 1)) stops
+  pub steps : after ≡ before + sum_by (λ p. length (line_indices_at N.table N.lines p)) stops
+  pub among : (q : ℕ) → Contains stops q →
+      (q ≡ origin) ⊎ ((k : ℕ) × (k < count) × ((d : Path) → (slice_index_or paths k d).to ≡ q))

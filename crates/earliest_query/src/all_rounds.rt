@@ -72,10 +72,16 @@ impl<S: Scan> Search<'_, S> {
 
     // The best walk from an origin to a target.
     pub(crate) fn walk_hit(&self) -> Option<Hit>
-        requires origins { All (λ p. p < length (S.net self.now.scan.now).table.stops) self.now.query.now.from }
+        requires origins { All (λ p. p < length (S.net self.now.scan.now).table.stops)
+            self.now.query.now.from }
         requires leave { self.now.query.now.leave ≤ℤ pos 359999 }
-        ensures traced { IfSome result (λ h. ((segments : List Segment) → IsTracedHit (S.net self.now.scan.now).table self.now.query.now segments h) × (h.value.rides ≡ 0)) }
-        ensures bounded { (p q secs : ℕ) → Contains self.now.query.now.from p → Contains self.now.query.now.to q → walk (S.net self.now.scan.now).table p q ≡ Some secs →
+        ensures traced { IfSome result
+            (λ h. ((segments : List Segment) →
+            IsTracedHit (S.net self.now.scan.now).table self.now.query.now segments h)
+            × (h.value.rides ≡ 0)) }
+        ensures bounded { (p q secs : ℕ) → Contains self.now.query.now.from p →
+            Contains self.now.query.now.to q →
+            walk (S.net self.now.scan.now).table p q ≡ Some secs →
             ArrivesBy result (self.now.query.now.leave +ℤ pos secs) }
     {
         let mut best = None;
@@ -87,7 +93,7 @@ impl<S: Scan> Search<'_, S> {
 
     // How many segments there are.
     fn count(&self, desk: &Desk) -> u32
-        requires { IsInStep (S.net self.now.scan.now).table (S.net self.now.scan.now).lines desk.now }
+        requires { IsInStep (S.net self.now.scan.now) desk.now }
         ensures result { result ≡ length desk.now.segments }
         ensures most { result ≤ 10000000 }
     {
@@ -104,13 +110,17 @@ impl<S: Scan> Search<'_, S> {
         round: u32,
         steps: &mut Steps<L>,
     ) -> u32
-        requires ridden { IsRidden (S.net self.now.scan.now).table (S.net self.now.scan.now).lines (S.net self.now.scan.now).hops self.now.query.now desk.old from round }
+        requires ridden { IsRidden (S.net self.now.scan.now) self.now.query.now
+            desk.old from round }
         requires from { from < length desk.old.segments }
-        requires sufficient { AreSufficient (S.net self.now.scan.now).table (S.net self.now.scan.now).hops }
-        ensures ridden { IsRidden (S.net self.now.scan.now).table (S.net self.now.scan.now).lines (S.net self.now.scan.now).hops self.now.query.now desk.new result (round + 1) }
+        requires sufficient { AreSufficient (S.net self.now.scan.now).table
+            (S.net self.now.scan.now).hops }
+        ensures ridden { IsRidden (S.net self.now.scan.now) self.now.query.now desk.new
+            result (round + 1) }
         ensures further { from < result }
         ensures most { result ≤ 10000000 }
-        ensures steps { steps.new + covered_before desk.old.segments from ≤ steps.old + covered_before desk.new.segments result }
+        ensures steps { steps.new + covered_before desk.old.segments from
+            ≤ steps.old + covered_before desk.new.segments result }
     {
         let to = self.count(desk);
         let last = last_hit(desk);
@@ -121,10 +131,13 @@ impl<S: Scan> Search<'_, S> {
 
     // Rides all segments, round by round.
     pub(crate) fn ride_all<L: Ledger>(&self, desk: &mut Desk, steps: &mut Steps<L>)
-        requires ridden { IsRidden (S.net self.now.scan.now).table (S.net self.now.scan.now).lines (S.net self.now.scan.now).hops self.now.query.now desk.old 0 1 }
-        requires sufficient { AreSufficient (S.net self.now.scan.now).table (S.net self.now.scan.now).hops }
-        ensures ridden { (rounds : ℕ) × IsRidden (S.net self.now.scan.now).table (S.net self.now.scan.now).lines (S.net self.now.scan.now).hops self.now.query.now desk.new (length desk.new.segments) rounds }
-        ensures steps { steps.new ≤ steps.old + covered_before desk.new.segments (length desk.new.segments) }
+        requires ridden { IsRidden (S.net self.now.scan.now) self.now.query.now desk.old 0 1 }
+        requires sufficient { AreSufficient (S.net self.now.scan.now).table
+            (S.net self.now.scan.now).hops }
+        ensures ridden { (rounds : ℕ) × IsRidden (S.net self.now.scan.now) self.now.query.now
+            desk.new (length desk.new.segments) rounds }
+        ensures steps { steps.new ≤ steps.old + covered_before desk.new.segments
+            (length desk.new.segments) }
     {
         let mut from = 0;
         let mut round = 1;

@@ -21,18 +21,23 @@ impl<S: Scan> Search<'_, S> {
         secs: u32,
         steps: &mut Steps<L>,
     )
-        requires queue { IsQueue (S.net self.now.scan.now).table (S.net self.now.scan.now).lines (S.net self.now.scan.now).hops self.now.query.now desk.old 1 }
+        requires queue { IsQueue (S.net self.now.scan.now) self.now.query.now desk.old 1 }
         requires stop { stop < length (S.net self.now.scan.now).table.stops }
-        requires berth { berth < length (line_indices_at (S.net self.now.scan.now).table (S.net self.now.scan.now).lines stop) }
+        requires berth { berth
+            < length (line_indices_at (S.net self.now.scan.now).table
+            (S.net self.now.scan.now).lines stop) }
         requires near { IsNear (S.net self.now.scan.now).table self.now.query.now.from stop secs }
         requires secs { secs ≤ 86400 }
         requires leave { self.now.query.now.leave ≤ℤ pos 359999 }
-        ensures queue { IsQueue (S.net self.now.scan.now).table (S.net self.now.scan.now).lines (S.net self.now.scan.now).hops self.now.query.now desk.new 1 }
+        ensures queue { IsQueue (S.net self.now.scan.now) self.now.query.now desk.new 1 }
         ensures extends { Extends desk.old desk.new 1 }
         ensures reached { (h : Hop) →
-            boarding_hop (S.net self.now.scan.now).table (slice_index_or (line_indices_at (S.net self.now.scan.now).table (S.net self.now.scan.now).lines stop) berth no_line_index)
+            boarding_hop (S.net self.now.scan.now).table
+            (slice_index_or (line_indices_at (S.net self.now.scan.now).table
+            (S.net self.now.scan.now).lines stop) berth no_line_index)
             (self.now.query.now.leave +ℤ pos secs) ≡ Some h →
-            IsReachedBy (S.net self.now.scan.now).table desk.new (length desk.new.segments) 1 h.trip h.at }
+            IsReachedBy (S.net self.now.scan.now).table desk.new (length desk.new.segments)
+            1 h.trip h.at }
         ensures step { steps.new ≡ steps.old + 1 }
     {
         let scan = self.scan;
@@ -45,15 +50,18 @@ impl<S: Scan> Search<'_, S> {
 
     // Boards each line at a stop, after a walk of so many seconds from an origin.
     fn board_stop<L: Ledger>(&self, desk: &mut Desk, stop: StopNo, secs: u32, steps: &mut Steps<L>)
-        requires queue { IsQueue (S.net self.now.scan.now).table (S.net self.now.scan.now).lines (S.net self.now.scan.now).hops self.now.query.now desk.old 1 }
+        requires queue { IsQueue (S.net self.now.scan.now) self.now.query.now desk.old 1 }
         requires stop { stop < length (S.net self.now.scan.now).table.stops }
         requires near { IsNear (S.net self.now.scan.now).table self.now.query.now.from stop secs }
         requires secs { secs ≤ 86400 }
         requires leave { self.now.query.now.leave ≤ℤ pos 359999 }
-        ensures queue { IsQueue (S.net self.now.scan.now).table (S.net self.now.scan.now).lines (S.net self.now.scan.now).hops self.now.query.now desk.new 1 }
+        ensures queue { IsQueue (S.net self.now.scan.now) self.now.query.now desk.new 1 }
         ensures extends { Extends desk.old desk.new 1 }
-        ensures boarded { IsBoarded (S.net self.now.scan.now).table self.now.query.now desk.new stop secs }
-        ensures steps { steps.new ≡ steps.old + length (line_indices_at (S.net self.now.scan.now).table (S.net self.now.scan.now).lines stop) }
+        ensures boarded { IsBoarded (S.net self.now.scan.now).table self.now.query.now
+            desk.new stop secs }
+        ensures steps { steps.new
+            ≡ steps.old + length (line_indices_at (S.net self.now.scan.now).table
+            (S.net self.now.scan.now).lines stop) }
     {
         let scan = self.scan;
         let _shape = scan.shape();
@@ -71,18 +79,22 @@ impl<S: Scan> Search<'_, S> {
         secs: u32,
         steps: &mut Steps<L>,
     )
-        requires queue { IsQueue (S.net self.now.scan.now).table (S.net self.now.scan.now).lines (S.net self.now.scan.now).hops self.now.query.now desk.old 1 }
-        requires origins { All (λ p. p < length (S.net self.now.scan.now).table.stops) self.now.query.now.from }
+        requires queue { IsQueue (S.net self.now.scan.now) self.now.query.now desk.old 1 }
+        requires origins { All (λ p. p < length (S.net self.now.scan.now).table.stops)
+            self.now.query.now.from }
         requires place { place < length self.now.query.now.from }
         requires stop { stop < length (S.net self.now.scan.now).table.stops }
-        requires walks { walk (S.net self.now.scan.now).table (slice_index self.now.query.now.from place) stop ≡ Some secs }
+        requires walks { walk (S.net self.now.scan.now).table
+            (slice_index self.now.query.now.from place) stop ≡ Some secs }
         requires secs { secs ≤ 86400 }
         requires leave { self.now.query.now.leave ≤ℤ pos 359999 }
-        ensures queue { IsQueue (S.net self.now.scan.now).table (S.net self.now.scan.now).lines (S.net self.now.scan.now).hops self.now.query.now desk.new 1 }
+        ensures queue { IsQueue (S.net self.now.scan.now) self.now.query.now desk.new 1 }
         ensures extends { Extends desk.old desk.new 1 }
-        ensures boarded { IsFirstChoice (S.net self.now.scan.now).table self.now.query.now.from place stop secs →
+        ensures boarded { IsFirstChoice (S.net self.now.scan.now).table self.now.query.now.from
+            place stop secs →
             IsBoarded (S.net self.now.scan.now).table self.now.query.now desk.new stop secs }
-        ensures steps { BoardsOnce (S.net self.now.scan.now).table (S.net self.now.scan.now).lines self.now.query.now.from place stop secs steps.old steps.new }
+        ensures steps { BoardsOnce (S.net self.now.scan.now) self.now.query.now.from place stop secs
+            steps.old steps.new }
     {
         if is_first_choice(self.scan, origins(self.query), place, stop, secs) {
             self.board_stop(desk, stop, secs, steps);
@@ -91,14 +103,17 @@ impl<S: Scan> Search<'_, S> {
 
     // Boards at the stops that are boarded from the origin at this place.
     fn board_from<L: Ledger>(&self, desk: &mut Desk, place: usize, steps: &mut Steps<L>)
-        requires queue { IsQueue (S.net self.now.scan.now).table (S.net self.now.scan.now).lines (S.net self.now.scan.now).hops self.now.query.now desk.old 1 }
-        requires origins { All (λ p. p < length (S.net self.now.scan.now).table.stops) self.now.query.now.from }
+        requires queue { IsQueue (S.net self.now.scan.now) self.now.query.now desk.old 1 }
+        requires origins { All (λ p. p < length (S.net self.now.scan.now).table.stops)
+            self.now.query.now.from }
         requires place { place < length self.now.query.now.from }
         requires leave { self.now.query.now.leave ≤ℤ pos 359999 }
-        ensures queue { IsQueue (S.net self.now.scan.now).table (S.net self.now.scan.now).lines (S.net self.now.scan.now).hops self.now.query.now desk.new 1 }
+        ensures queue { IsQueue (S.net self.now.scan.now) self.now.query.now desk.new 1 }
         ensures extends { Extends desk.old desk.new 1 }
-        ensures boarded { AreBoarded (S.net self.now.scan.now).table self.now.query.now desk.new place }
-        ensures steps { BoardsStops (S.net self.now.scan.now).table (S.net self.now.scan.now).lines self.now.query.now.from place (place + 1) steps.old steps.new }
+        ensures boarded { AreBoarded (S.net self.now.scan.now).table self.now.query.now
+            desk.new place }
+        ensures steps { BoardsStops (S.net self.now.scan.now) self.now.query.now.from place
+            (place + 1) steps.old steps.new }
     {
         let scan = self.scan;
         let _shape = scan.shape();
@@ -111,13 +126,16 @@ impl<S: Scan> Search<'_, S> {
 
     // Boards at each stop with a walk from an origin, once.
     pub(crate) fn board_all<L: Ledger>(&self, desk: &mut Desk, steps: &mut Steps<L>)
-        requires queue { IsQueue (S.net self.now.scan.now).table (S.net self.now.scan.now).lines (S.net self.now.scan.now).hops self.now.query.now desk.old 1 }
-        requires origins { All (λ p. p < length (S.net self.now.scan.now).table.stops) self.now.query.now.from }
+        requires queue { IsQueue (S.net self.now.scan.now) self.now.query.now desk.old 1 }
+        requires origins { All (λ p. p < length (S.net self.now.scan.now).table.stops)
+            self.now.query.now.from }
         requires leave { self.now.query.now.leave ≤ℤ pos 359999 }
-        ensures queue { IsQueue (S.net self.now.scan.now).table (S.net self.now.scan.now).lines (S.net self.now.scan.now).hops self.now.query.now desk.new 1 }
+        ensures queue { IsQueue (S.net self.now.scan.now) self.now.query.now desk.new 1 }
         ensures extends { Extends desk.old desk.new 1 }
-        ensures boarded { (place : ℕ) → place < length self.now.query.now.from → AreBoarded (S.net self.now.scan.now).table self.now.query.now desk.new place }
-        ensures steps { steps.new ≤ steps.old + lines_near (S.net self.now.scan.now).table (S.net self.now.scan.now).lines self.now.query.now.from }
+        ensures boarded { (place : ℕ) → place < length self.now.query.now.from →
+            AreBoarded (S.net self.now.scan.now).table self.now.query.now desk.new place }
+        ensures steps { steps.new ≤ steps.old + lines_near (S.net self.now.scan.now)
+            self.now.query.now.from }
     {
         for place in 0..origins(self.query).len() {
             self.board_from(desk, place, steps);

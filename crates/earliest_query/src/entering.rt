@@ -12,17 +12,23 @@ use tb_base::Hop;
 impl<S: Scan> Search<'_, S> {
     // Enters the trip of a hop where it is boarded, in the round behind its parent.
     pub(crate) fn enter(&self, desk: &mut Desk, hop: Hop, parent: Option<(u32, u32)>)
-        requires queue { IsQueue (S.net self.now.scan.now).table (S.net self.now.scan.now).lines (S.net self.now.scan.now).hops self.now.query.now
-            desk.old (round_after (round_segments desk.old.segments) parent) }
+        requires queue { IsQueue (S.net self.now.scan.now) self.now.query.now desk.old
+            (round_after (round_segments desk.old.segments) parent) }
         requires trip { hop.trip < length (S.net self.now.scan.now).table.trips }
-        requires not_last { hop.at + 1 < length (events_of (S.net self.now.scan.now).table hop.trip) }
-        requires boards { IsEntered (S.net self.now.scan.now).table self.now.query.now desk.old.segments (length desk.old.segments) parent hop.trip hop.at }
-        requires in_set { (p : ℕ × ℕ) → parent ≡ Some p → Contains ((S.net self.now.scan.now).hops (segment_of desk.old.segments p.0).trip p.1) hop }
-        ensures queue { IsQueue (S.net self.now.scan.now).table (S.net self.now.scan.now).lines (S.net self.now.scan.now).hops self.now.query.now
-            desk.new (round_after (round_segments desk.old.segments) parent) }
-        ensures reached { IsReachedBy (S.net self.now.scan.now).table desk.new (length desk.new.segments)
-            (round_after (round_segments desk.old.segments) parent) hop.trip hop.at }
-        ensures extends { Extends desk.old desk.new (round_after (round_segments desk.old.segments) parent) }
+        requires not_last { hop.at + 1
+            < length (events_of (S.net self.now.scan.now).table hop.trip) }
+        requires boards { IsEntered (S.net self.now.scan.now).table self.now.query.now
+            desk.old.segments (length desk.old.segments) parent hop.trip hop.at }
+        requires in_set { (p : ℕ × ℕ) → parent ≡ Some p →
+            Contains ((S.net self.now.scan.now).hops (segment_of desk.old.segments p.0).trip p.1)
+            hop }
+        ensures queue { IsQueue (S.net self.now.scan.now) self.now.query.now desk.new
+            (round_after (round_segments desk.old.segments) parent) }
+        ensures reached { IsReachedBy (S.net self.now.scan.now).table desk.new
+            (length desk.new.segments) (round_after (round_segments desk.old.segments) parent)
+            hop.trip hop.at }
+        ensures extends { Extends desk.old desk.new
+            (round_after (round_segments desk.old.segments) parent) }
     {
         let scan = self.scan;
         let _shape = scan.shape();
@@ -31,16 +37,18 @@ impl<S: Scan> Search<'_, S> {
 
     // Follows the hops from an index that a segment covers.
     pub(crate) fn follow(&self, desk: &mut Desk, hops: &[Hop], segment: u32, at: u32)
-        requires queue { IsQueue (S.net self.now.scan.now).table (S.net self.now.scan.now).lines (S.net self.now.scan.now).hops self.now.query.now
-            desk.old (suc (round_of desk.old.segments segment)) }
+        requires queue { IsQueue (S.net self.now.scan.now) self.now.query.now desk.old
+            (suc (round_of desk.old.segments segment)) }
         requires segment { segment < length desk.old.segments }
         requires covers { Covers desk.old segment at }
-        requires hops { hops.now ≡ (S.net self.now.scan.now).hops (segment_of desk.old.segments segment).trip at }
-        requires sufficient { AreSufficient (S.net self.now.scan.now).table (S.net self.now.scan.now).hops }
-        ensures queue { IsQueue (S.net self.now.scan.now).table (S.net self.now.scan.now).lines (S.net self.now.scan.now).hops self.now.query.now
-            desk.new (suc (round_of desk.old.segments segment)) }
+        requires hops { hops.now
+            ≡ (S.net self.now.scan.now).hops (segment_of desk.old.segments segment).trip at }
+        requires sufficient { AreSufficient (S.net self.now.scan.now).table
+            (S.net self.now.scan.now).hops }
+        ensures queue { IsQueue (S.net self.now.scan.now) self.now.query.now desk.new
+            (suc (round_of desk.old.segments segment)) }
         ensures extends { Extends desk.old desk.new (suc (round_of desk.old.segments segment)) }
-        ensures followed { IsFollowed (S.net self.now.scan.now).table (S.net self.now.scan.now).hops desk.new segment at }
+        ensures followed { IsFollowed (S.net self.now.scan.now) desk.new segment at }
     {
         for hop in hops {
             self.enter(desk, *hop, Some((segment, at)));

@@ -21,10 +21,12 @@ pub fn earliest<S: Scan, L: Ledger>(scan: &S, query: &Query, desk: &mut Desk, st
     requires origins { All (λ p. p < length (S.net scan.now).table.stops) query.now.from }
     requires leave { query.now.leave ≤ℤ pos 359999 }
     requires sufficient { AreSufficient (S.net scan.now).table (S.net scan.now).hops }
-    ensures step { IsInStep (S.net scan.now).table (S.net scan.now).lines desk.new }
-    ensures answered { IsAnswered (S.net scan.now).table (S.net scan.now).hops query.now desk.new }
-    ensures searched { IsPrunedSearch (S.net scan.now).table (S.net scan.now).hops query.now.from query.now.leave (map (λ h. h.value) desk.new.hits) (round_segments desk.new.segments) }
-    ensures steps { steps.new ≤ steps.old + (event_total (S.net scan.now).table + lines_near (S.net scan.now).table (S.net scan.now).lines query.now.from) }
+    ensures step { IsInStep (S.net scan.now) desk.new }
+    ensures answered { IsAnswered (S.net scan.now) query.now desk.new }
+    ensures searched { IsPrunedSearch (S.net scan.now).table (S.net scan.now).hops query.now.from
+        query.now.leave (map (λ h. h.value) desk.new.hits) (round_segments desk.new.segments) }
+    ensures steps { steps.new ≤ steps.old
+        + (event_total (S.net scan.now).table + lines_near (S.net scan.now) query.now.from) }
 {
     let _shape = scan.shape();
     let search = Search { scan, query };

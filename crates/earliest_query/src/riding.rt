@@ -13,7 +13,8 @@ use tb_base::{Path, Value};
 
 // Whether one may alight at an event, and it is reached before the best hit so far arrives.
 fn may_improve(best: &Option<Hit>, visit: &Visit<'_>) -> bool
-    ensures { MatchBool result (IsTrue visit.now.alight) (IsTrue visit.now.alight → ArrivesBy best.now visit.now.arr) }
+    ensures { MatchBool result (IsTrue visit.now.alight) (IsTrue visit.now.alight →
+        ArrivesBy best.now visit.now.arr) }
 {
     match best {
         Some(hit) => visit.alight && visit.arr < hit.value.arrive,
@@ -78,7 +79,8 @@ impl<S: Scan> Search<'_, S> {
     ) -> Option<Hit>
         requires stop { visit.now.stop < length (S.net self.now.scan.now).table.stops }
         requires arr { visit.now.arr ≤ℤ pos 359999 }
-        ensures { IsWeighed (S.net self.now.scan.now).table self.now.query.now visit.now.stop visit.now.arr visit.now.alight entry at round best result }
+        ensures { IsWeighed (S.net self.now.scan.now).table self.now.query.now visit.now.stop
+            visit.now.arr visit.now.alight entry at round best result }
     {
         if !may_improve(&best, visit) {
             return best;
@@ -99,15 +101,19 @@ impl<S: Scan> Search<'_, S> {
         so_far: Option<Hit>,
         steps: &mut Steps<L>,
     ) -> Option<Hit>
-        requires queue { IsQueue (S.net self.now.scan.now).table (S.net self.now.scan.now).lines (S.net self.now.scan.now).hops self.now.query.now desk.old (suc round) }
+        requires queue { IsQueue (S.net self.now.scan.now) self.now.query.now desk.old (suc round) }
         requires segment { n < length desk.old.segments }
         requires round { round_of desk.old.segments n ≡ round }
-        requires sufficient { AreSufficient (S.net self.now.scan.now).table (S.net self.now.scan.now).hops }
-        ensures queue { IsQueue (S.net self.now.scan.now).table (S.net self.now.scan.now).lines (S.net self.now.scan.now).hops self.now.query.now desk.new (suc round) }
+        requires sufficient { AreSufficient (S.net self.now.scan.now).table
+            (S.net self.now.scan.now).hops }
+        ensures queue { IsQueue (S.net self.now.scan.now) self.now.query.now desk.new (suc round) }
         ensures extends { Extends desk.old desk.new (suc round) }
-        ensures followed { (i : ℕ) → Covers desk.old n i → IsDone (S.net self.now.scan.now).table (S.net self.now.scan.now).hops desk.new result n i }
-        ensures bounded { (i : ℕ) → Covers desk.old n i → IsBounded (S.net self.now.scan.now).table self.now.query.now desk.old result n i }
-        ensures improved { IsImproved (S.net self.now.scan.now).table self.now.query.now desk.new round so_far result }
+        ensures followed { (i : ℕ) → Covers desk.old n i →
+            IsDone (S.net self.now.scan.now) desk.new result n i }
+        ensures bounded { (i : ℕ) → Covers desk.old n i →
+            IsBounded (S.net self.now.scan.now).table self.now.query.now desk.old result n i }
+        ensures improved { IsImproved (S.net self.now.scan.now).table self.now.query.now desk.new
+            round so_far result }
         ensures steps { steps.new ≤ steps.old + covered_indices (segment_of desk.old.segments n) }
     {
         let scan = self.scan;
@@ -138,17 +144,22 @@ impl<S: Scan> Search<'_, S> {
         so_far: Option<Hit>,
         steps: &mut Steps<L>,
     ) -> Option<Hit>
-        requires queue { IsQueue (S.net self.now.scan.now).table (S.net self.now.scan.now).lines (S.net self.now.scan.now).hops self.now.query.now desk.old (suc round) }
+        requires queue { IsQueue (S.net self.now.scan.now) self.now.query.now desk.old (suc round) }
         requires from { from ≤ to }
         requires to { to ≤ length desk.old.segments }
         requires rounds { (n : ℕ) → from ≤ n → n < to → round_of desk.old.segments n ≡ round }
-        requires sufficient { AreSufficient (S.net self.now.scan.now).table (S.net self.now.scan.now).hops }
-        ensures queue { IsQueue (S.net self.now.scan.now).table (S.net self.now.scan.now).lines (S.net self.now.scan.now).hops self.now.query.now desk.new (suc round) }
+        requires sufficient { AreSufficient (S.net self.now.scan.now).table
+            (S.net self.now.scan.now).hops }
+        ensures queue { IsQueue (S.net self.now.scan.now) self.now.query.now desk.new (suc round) }
         ensures extends { Extends desk.old desk.new (suc round) }
-        ensures followed { (n i : ℕ) → from ≤ n → n < to → Covers desk.old n i → IsDone (S.net self.now.scan.now).table (S.net self.now.scan.now).hops desk.new result n i }
-        ensures bounded { (n i : ℕ) → from ≤ n → n < to → Covers desk.old n i → IsBounded (S.net self.now.scan.now).table self.now.query.now desk.old result n i }
-        ensures improved { IsImproved (S.net self.now.scan.now).table self.now.query.now desk.new round so_far result }
-        ensures steps { steps.new + covered_before desk.old.segments from ≤ steps.old + covered_before desk.old.segments to }
+        ensures followed { (n i : ℕ) → from ≤ n → n < to → Covers desk.old n i →
+            IsDone (S.net self.now.scan.now) desk.new result n i }
+        ensures bounded { (n i : ℕ) → from ≤ n → n < to → Covers desk.old n i →
+            IsBounded (S.net self.now.scan.now).table self.now.query.now desk.old result n i }
+        ensures improved { IsImproved (S.net self.now.scan.now).table self.now.query.now desk.new
+            round so_far result }
+        ensures steps { steps.new + covered_before desk.old.segments from
+            ≤ steps.old + covered_before desk.old.segments to }
     {
         let mut best = so_far;
         for n in from..to {

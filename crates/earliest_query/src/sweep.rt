@@ -53,7 +53,7 @@ impl Sweep {
     }
 
     /// Begins a sweep from the time of the query down: it empties the desk and the sweep. It needs
-    /// memory for a mark for each trip; at a refusal the desk still fits.
+    /// memory for a mark for each trip; at a refusal the desk is empty too, and still fits.
     pub fn begin<S: Scan>(
         &mut self,
         alloc: Global,
@@ -62,9 +62,10 @@ impl Sweep {
         desk: &mut Desk,
     ) -> Result<(), Memory>
         requires fits { Fits (S.net scan.now).table desk.old }
-        ensures begun { OnOk result (IsSweptSoFar (S.net scan.now).table (S.net scan.now).lines
-            (S.net scan.now).hops query.now desk.new self.new) }
+        ensures begun { OnOk result (IsSweptSoFar (S.net scan.now) query.now desk.new self.new) }
         ensures no_values { OnOk result (self.new.values ≡ []) }
+        ensures no_segments { desk.new.segments ≡ [] }
+        ensures no_hits { desk.new.hits ≡ [] }
         ensures fits { Fits (S.net scan.now).table desk.new }
     {
         let shape = scan.shape();
@@ -87,17 +88,17 @@ impl Sweep {
         steps: &mut Steps<L>,
     ) -> Result<(), Memory>
         requires later { (later : ℤ) × (query.now.leave ≤ℤ later)
-            × IsSweptSoFar (S.net scan.now).table (S.net scan.now).lines (S.net scan.now).hops
-            (record query.now { leave = later }) desk.old self.old }
+            × IsSweptSoFar (S.net scan.now) (record query.now { leave = later }) desk.old self.old }
         requires fits { Fits (S.net scan.now).table desk.old }
         requires origins { All (λ p. p < length (S.net scan.now).table.stops) query.now.from }
         requires leave { query.now.leave ≤ℤ pos 359999 }
         requires sufficient { AreSufficient (S.net scan.now).table (S.net scan.now).hops }
-        ensures swept { OnOk result (IsSweptTo (S.net scan.now).table (S.net scan.now).lines
-            (S.net scan.now).hops query.now desk.new self.new.levels self.new.values) }
+        ensures swept { OnOk result
+            (IsSweptTo (S.net scan.now) query.now desk.new self.new.levels self.new.values) }
         ensures traced { OnOk result (IsTraced (S.net scan.now).table query.now desk.new) }
         ensures stairs { OnOk result (AllPairs (λ h k. IsStep h.value k.value) desk.new.hits) }
-        ensures found { OnOk result ((w : ValueData) → IsAttained (S.net scan.now).table query.now w →
+        ensures found { OnOk result ((w : ValueData) →
+            IsAttained (S.net scan.now).table query.now w →
             IsLate (values_with desk.new.hits self.old.values) w.arrive w.rides) }
         ensures fits { Fits (S.net scan.now).table desk.new }
     {

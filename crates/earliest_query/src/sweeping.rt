@@ -20,22 +20,24 @@ impl<S: Scan> Search<'_, S> {
         hop: Hop,
         parent: Option<(u32, u32)>,
     ) -> Result<(), Memory>
-        requires queue { IsSweptQueue (S.net self.now.scan.now).table (S.net self.now.scan.now).lines
-            (S.net self.now.scan.now).hops self.now.query.now desk.old levels.old }
+        requires queue { IsSweptQueue (S.net self.now.scan.now) self.now.query.now
+            desk.old levels.old }
         requires level { level < length levels.old }
         requires round { round_after (round_segments desk.old.segments) parent ≡ suc level }
         requires trip { hop.trip < length (S.net self.now.scan.now).table.trips }
-        requires not_last { hop.at + 1 < length (events_of (S.net self.now.scan.now).table hop.trip) }
-        requires boards { IsEntered (S.net self.now.scan.now).table self.now.query.now desk.old.segments
-            (length desk.old.segments) parent hop.trip hop.at }
+        requires not_last { hop.at + 1
+            < length (events_of (S.net self.now.scan.now).table hop.trip) }
+        requires boards { IsEntered (S.net self.now.scan.now).table self.now.query.now
+            desk.old.segments (length desk.old.segments) parent hop.trip hop.at }
         requires in_set { (p : ℕ × ℕ) → parent ≡ Some p →
-            Contains ((S.net self.now.scan.now).hops (segment_of desk.old.segments p.0).trip p.1) hop }
-        ensures queue { OnOk result (IsSweptQueue (S.net self.now.scan.now).table
-            (S.net self.now.scan.now).lines (S.net self.now.scan.now).hops self.now.query.now desk.new
-            levels.new) }
+            Contains ((S.net self.now.scan.now).hops (segment_of desk.old.segments p.0).trip p.1)
+            hop }
+        ensures queue { OnOk result
+            (IsSweptQueue (S.net self.now.scan.now) self.now.query.now desk.new levels.new) }
         ensures levels { OnOk result (length levels.new ≡ length levels.old) }
-        ensures reached { OnOk result (IsReachedBy (S.net self.now.scan.now).table desk.new
-            (length desk.new.segments) (suc level) hop.trip hop.at) }
+        ensures reached { OnOk result
+            (IsReachedBy (S.net self.now.scan.now).table desk.new (length desk.new.segments)
+            (suc level) hop.trip hop.at) }
         ensures extends { OnOk result (Extends desk.old desk.new (suc level)) }
         ensures still { Fits (S.net self.now.scan.now).table desk.old →
             Fits (S.net self.now.scan.now).table desk.new }
@@ -66,22 +68,21 @@ impl<S: Scan> Search<'_, S> {
         segment: u32,
         at: u32,
     ) -> Result<(), Memory>
-        requires queue { IsSweptQueue (S.net self.now.scan.now).table (S.net self.now.scan.now).lines
-            (S.net self.now.scan.now).hops self.now.query.now desk.old levels.old }
+        requires queue { IsSweptQueue (S.net self.now.scan.now) self.now.query.now
+            desk.old levels.old }
         requires level { level < length levels.old }
         requires segment { segment < length desk.old.segments }
         requires round { round_of desk.old.segments segment ≡ level }
         requires covers { Covers desk.old segment at }
         requires hops { hops.now
             ≡ (S.net self.now.scan.now).hops (segment_of desk.old.segments segment).trip at }
-        requires sufficient { AreSufficient (S.net self.now.scan.now).table (S.net self.now.scan.now).hops }
-        ensures queue { OnOk result (IsSweptQueue (S.net self.now.scan.now).table
-            (S.net self.now.scan.now).lines (S.net self.now.scan.now).hops self.now.query.now desk.new
-            levels.new) }
+        requires sufficient { AreSufficient (S.net self.now.scan.now).table
+            (S.net self.now.scan.now).hops }
+        ensures queue { OnOk result
+            (IsSweptQueue (S.net self.now.scan.now) self.now.query.now desk.new levels.new) }
         ensures levels { OnOk result (length levels.new ≡ length levels.old) }
         ensures extends { OnOk result (Extends desk.old desk.new (suc level)) }
-        ensures followed { OnOk result (IsFollowed (S.net self.now.scan.now).table
-            (S.net self.now.scan.now).hops desk.new segment at) }
+        ensures followed { OnOk result (IsFollowed (S.net self.now.scan.now) desk.new segment at) }
         ensures still { Fits (S.net self.now.scan.now).table desk.old →
             Fits (S.net self.now.scan.now).table desk.new }
     {

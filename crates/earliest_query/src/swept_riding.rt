@@ -109,23 +109,24 @@ impl<S: Scan> Search<'_, S> {
         so_far: Option<Hit>,
         steps: &mut Steps<L>,
     ) -> Result<Option<Hit>, Memory>
-        requires queue { IsSweptQueue (S.net self.now.scan.now).table (S.net self.now.scan.now).lines
-            (S.net self.now.scan.now).hops self.now.query.now desk.old levels.old }
+        requires queue { IsSweptQueue (S.net self.now.scan.now) self.now.query.now
+            desk.old levels.old }
         requires level { round < length levels.old }
         requires segment { n < length desk.old.segments }
         requires round { round_of desk.old.segments n ≡ round }
-        requires sufficient { AreSufficient (S.net self.now.scan.now).table (S.net self.now.scan.now).hops }
-        ensures queue { OnOk result (IsSweptQueue (S.net self.now.scan.now).table
-            (S.net self.now.scan.now).lines (S.net self.now.scan.now).hops self.now.query.now desk.new
-            levels.new) }
+        requires sufficient { AreSufficient (S.net self.now.scan.now).table
+            (S.net self.now.scan.now).hops }
+        ensures queue { OnOk result
+            (IsSweptQueue (S.net self.now.scan.now) self.now.query.now desk.new levels.new) }
         ensures levels { OnOk result (length levels.new ≡ length levels.old) }
         ensures extends { OnOk result (Extends desk.old desk.new (suc round)) }
         ensures followed { IfOk result (λ best. (i : ℕ) → Covers desk.old n i →
-            IsDone (S.net self.now.scan.now).table (S.net self.now.scan.now).hops desk.new best n i) }
+            IsDone (S.net self.now.scan.now) desk.new best n i) }
         ensures bounded { IfOk result (λ best. (i : ℕ) → Covers desk.old n i →
             IsBounded (S.net self.now.scan.now).table self.now.query.now desk.old best n i) }
-        ensures improved { IfOk result (λ best. IsImproved (S.net self.now.scan.now).table
-            self.now.query.now desk.new round so_far best) }
+        ensures improved { IfOk result
+            (λ best. IsImproved (S.net self.now.scan.now).table self.now.query.now desk.new round
+            so_far best) }
         ensures still { Fits (S.net self.now.scan.now).table desk.old →
             Fits (S.net self.now.scan.now).table desk.new }
     {
@@ -158,23 +159,24 @@ impl<S: Scan> Search<'_, S> {
         so_far: Option<Hit>,
         steps: &mut Steps<L>,
     ) -> Result<Option<Hit>, Memory>
-        requires queue { IsSweptQueue (S.net self.now.scan.now).table (S.net self.now.scan.now).lines
-            (S.net self.now.scan.now).hops self.now.query.now desk.old levels.old }
+        requires queue { IsSweptQueue (S.net self.now.scan.now) self.now.query.now
+            desk.old levels.old }
         requires level { round < length levels.old }
         requires from { from ≤ to }
         requires to { to ≤ length desk.old.segments }
         requires rounds { (n : ℕ) → from ≤ n → n < to → round_of desk.old.segments n ≡ round }
-        requires sufficient { AreSufficient (S.net self.now.scan.now).table (S.net self.now.scan.now).hops }
-        ensures queue { OnOk result (IsSweptQueue (S.net self.now.scan.now).table
-            (S.net self.now.scan.now).lines (S.net self.now.scan.now).hops self.now.query.now desk.new
-            levels.new) }
+        requires sufficient { AreSufficient (S.net self.now.scan.now).table
+            (S.net self.now.scan.now).hops }
+        ensures queue { OnOk result
+            (IsSweptQueue (S.net self.now.scan.now) self.now.query.now desk.new levels.new) }
         ensures extends { OnOk result (Extends desk.old desk.new (suc round)) }
-        ensures followed { IfOk result (λ best. (n i : ℕ) → from ≤ n → n < to → Covers desk.old n i →
-            IsDone (S.net self.now.scan.now).table (S.net self.now.scan.now).hops desk.new best n i) }
+        ensures followed { IfOk result (λ best. (n i : ℕ) → from ≤ n → n < to →
+            Covers desk.old n i → IsDone (S.net self.now.scan.now) desk.new best n i) }
         ensures bounded { IfOk result (λ best. (n i : ℕ) → from ≤ n → n < to → Covers desk.old n i →
             IsBounded (S.net self.now.scan.now).table self.now.query.now desk.old best n i) }
-        ensures improved { IfOk result (λ best. IsImproved (S.net self.now.scan.now).table
-            self.now.query.now desk.new round so_far best) }
+        ensures improved { IfOk result
+            (λ best. IsImproved (S.net self.now.scan.now).table self.now.query.now desk.new round
+            so_far best) }
         ensures still { Fits (S.net self.now.scan.now).table desk.old →
             Fits (S.net self.now.scan.now).table desk.new }
     {
@@ -196,13 +198,14 @@ impl<S: Scan> Search<'_, S> {
         round: u32,
         steps: &mut Steps<L>,
     ) -> Result<u32, Memory>
-        requires ridden { IsSweptRound (S.net self.now.scan.now).table (S.net self.now.scan.now).lines
-            (S.net self.now.scan.now).hops self.now.query.now desk.old levels.old values.now from round }
+        requires ridden { IsSweptRound (S.net self.now.scan.now) self.now.query.now desk.old
+            levels.old values.now from round }
         requires from { from < length desk.old.segments }
-        requires sufficient { AreSufficient (S.net self.now.scan.now).table (S.net self.now.scan.now).hops }
-        ensures ridden { IfOk result (λ to. IsSweptRound (S.net self.now.scan.now).table
-            (S.net self.now.scan.now).lines (S.net self.now.scan.now).hops self.now.query.now desk.new
-            levels.new values.now to (round + 1)) }
+        requires sufficient { AreSufficient (S.net self.now.scan.now).table
+            (S.net self.now.scan.now).hops }
+        ensures ridden { IfOk result
+            (λ to. IsSweptRound (S.net self.now.scan.now) self.now.query.now desk.new levels.new
+            values.now to (round + 1)) }
         ensures further { IfOk result (λ to. from < to) }
         ensures most { IfOk result (λ to. to < 4294967295) }
         ensures still { Fits (S.net self.now.scan.now).table desk.old →
@@ -227,12 +230,13 @@ impl<S: Scan> Search<'_, S> {
         from: u32,
         steps: &mut Steps<L>,
     ) -> Result<(), Memory>
-        requires ridden { IsSweptRound (S.net self.now.scan.now).table (S.net self.now.scan.now).lines
-            (S.net self.now.scan.now).hops self.now.query.now desk.old levels.old values.now from 1 }
-        requires sufficient { AreSufficient (S.net self.now.scan.now).table (S.net self.now.scan.now).hops }
-        ensures ridden { OnOk result ((rounds : ℕ) × IsSweptRound (S.net self.now.scan.now).table
-            (S.net self.now.scan.now).lines (S.net self.now.scan.now).hops self.now.query.now
-            desk.new levels.new values.now (length desk.new.segments) rounds) }
+        requires ridden { IsSweptRound (S.net self.now.scan.now) self.now.query.now desk.old
+            levels.old values.now from 1 }
+        requires sufficient { AreSufficient (S.net self.now.scan.now).table
+            (S.net self.now.scan.now).hops }
+        ensures ridden { OnOk result
+            ((rounds : ℕ) × IsSweptRound (S.net self.now.scan.now) self.now.query.now desk.new
+            levels.new values.now (length desk.new.segments) rounds) }
         ensures still { Fits (S.net self.now.scan.now).table desk.old →
             Fits (S.net self.now.scan.now).table desk.new }
     {

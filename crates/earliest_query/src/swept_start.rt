@@ -23,19 +23,20 @@ impl<S: Scan> Search<'_, S> {
         secs: u32,
         steps: &mut Steps<L>,
     ) -> Result<(), Memory>
-        requires queue { IsSweptQueue (S.net self.now.scan.now).table (S.net self.now.scan.now).lines
-            (S.net self.now.scan.now).hops self.now.query.now desk.old levels.old }
+        requires queue { IsSweptQueue (S.net self.now.scan.now) self.now.query.now
+            desk.old levels.old }
         requires stop { stop < length (S.net self.now.scan.now).table.stops }
-        requires berth { berth < length (line_indices_at (S.net self.now.scan.now).table
+        requires berth { berth
+            < length (line_indices_at (S.net self.now.scan.now).table
             (S.net self.now.scan.now).lines stop) }
         requires near { IsNear (S.net self.now.scan.now).table self.now.query.now.from stop secs }
         requires secs { secs ≤ 86400 }
         requires leave { self.now.query.now.leave ≤ℤ pos 359999 }
-        ensures queue { OnOk result (IsSweptQueue (S.net self.now.scan.now).table
-            (S.net self.now.scan.now).lines (S.net self.now.scan.now).hops self.now.query.now desk.new
-            levels.new) }
+        ensures queue { OnOk result
+            (IsSweptQueue (S.net self.now.scan.now) self.now.query.now desk.new levels.new) }
         ensures extends { OnOk result (Extends desk.old desk.new 1) }
-        ensures reached { OnOk result ((h : Hop) → boarding_hop (S.net self.now.scan.now).table
+        ensures reached { OnOk result ((h : Hop) →
+            boarding_hop (S.net self.now.scan.now).table
             (slice_index_or (line_indices_at (S.net self.now.scan.now).table
             (S.net self.now.scan.now).lines stop) berth no_line_index)
             (self.now.query.now.leave +ℤ pos secs) ≡ Some h →
@@ -62,18 +63,17 @@ impl<S: Scan> Search<'_, S> {
         secs: u32,
         steps: &mut Steps<L>,
     ) -> Result<(), Memory>
-        requires queue { IsSweptQueue (S.net self.now.scan.now).table (S.net self.now.scan.now).lines
-            (S.net self.now.scan.now).hops self.now.query.now desk.old levels.old }
+        requires queue { IsSweptQueue (S.net self.now.scan.now) self.now.query.now
+            desk.old levels.old }
         requires stop { stop < length (S.net self.now.scan.now).table.stops }
         requires near { IsNear (S.net self.now.scan.now).table self.now.query.now.from stop secs }
         requires secs { secs ≤ 86400 }
         requires leave { self.now.query.now.leave ≤ℤ pos 359999 }
-        ensures queue { OnOk result (IsSweptQueue (S.net self.now.scan.now).table
-            (S.net self.now.scan.now).lines (S.net self.now.scan.now).hops self.now.query.now desk.new
-            levels.new) }
+        ensures queue { OnOk result
+            (IsSweptQueue (S.net self.now.scan.now) self.now.query.now desk.new levels.new) }
         ensures extends { OnOk result (Extends desk.old desk.new 1) }
-        ensures boarded { OnOk result (IsBoarded (S.net self.now.scan.now).table self.now.query.now
-            desk.new stop secs) }
+        ensures boarded { OnOk result
+            (IsBoarded (S.net self.now.scan.now).table self.now.query.now desk.new stop secs) }
         ensures still { Fits (S.net self.now.scan.now).table desk.old →
             Fits (S.net self.now.scan.now).table desk.new }
     {
@@ -93,17 +93,16 @@ impl<S: Scan> Search<'_, S> {
         origin: StopNo,
         steps: &mut Steps<L>,
     ) -> Result<(), Memory>
-        requires queue { IsSweptQueue (S.net self.now.scan.now).table (S.net self.now.scan.now).lines
-            (S.net self.now.scan.now).hops self.now.query.now desk.old levels.old }
+        requires queue { IsSweptQueue (S.net self.now.scan.now) self.now.query.now
+            desk.old levels.old }
         requires origin { origin < length (S.net self.now.scan.now).table.stops }
         requires from { Contains self.now.query.now.from origin }
         requires leave { self.now.query.now.leave ≤ℤ pos 359999 }
-        ensures queue { OnOk result (IsSweptQueue (S.net self.now.scan.now).table
-            (S.net self.now.scan.now).lines (S.net self.now.scan.now).hops self.now.query.now desk.new
-            levels.new) }
+        ensures queue { OnOk result
+            (IsSweptQueue (S.net self.now.scan.now) self.now.query.now desk.new levels.new) }
         ensures extends { OnOk result (Extends desk.old desk.new 1) }
-        ensures boarded { OnOk result (IsWalkedFrom (S.net self.now.scan.now).table self.now.query.now
-            desk.new origin) }
+        ensures boarded { OnOk result
+            (IsWalkedFrom (S.net self.now.scan.now).table self.now.query.now desk.new origin) }
         ensures still { Fits (S.net self.now.scan.now).table desk.old →
             Fits (S.net self.now.scan.now).table desk.new }
     {
@@ -123,17 +122,16 @@ impl<S: Scan> Search<'_, S> {
         levels: &mut Levels,
         steps: &mut Steps<L>,
     ) -> Result<(), Memory>
-        requires queue { IsSweptQueue (S.net self.now.scan.now).table (S.net self.now.scan.now).lines
-            (S.net self.now.scan.now).hops self.now.query.now desk.old levels.old }
+        requires queue { IsSweptQueue (S.net self.now.scan.now) self.now.query.now
+            desk.old levels.old }
         requires origins { All (λ p. p < length (S.net self.now.scan.now).table.stops)
             self.now.query.now.from }
         requires leave { self.now.query.now.leave ≤ℤ pos 359999 }
-        ensures queue { OnOk result (IsSweptQueue (S.net self.now.scan.now).table
-            (S.net self.now.scan.now).lines (S.net self.now.scan.now).hops self.now.query.now desk.new
-            levels.new) }
+        ensures queue { OnOk result
+            (IsSweptQueue (S.net self.now.scan.now) self.now.query.now desk.new levels.new) }
         ensures extends { OnOk result (Extends desk.old desk.new 1) }
-        ensures starts { OnOk result (AreStarted (S.net self.now.scan.now).table self.now.query.now
-            desk.new) }
+        ensures starts { OnOk result
+            (AreStarted (S.net self.now.scan.now).table self.now.query.now desk.new) }
         ensures still { Fits (S.net self.now.scan.now).table desk.old →
             Fits (S.net self.now.scan.now).table desk.new }
     {

@@ -18,7 +18,7 @@ use Rattle.segment_queue.specs.Queue.{DeskData}
 use Rattle.segment_queue.specs.Traced.{IsBoardedFirst, IsEntered, IsHoppedOnto, IsRideHit, IsTraced, IsWalkHit, LegsFollow, RidesFollow, UsesHops, ride_of, round_of, segment_of}
 use Rattle.plain_rounds.specs.Shown.{IsNearest, last_ride}
 use Rattle.tb_laws.proofs.UTurnLaws.{some}
-use Rattle.earliest_query.proofs.Reaching.{round_behind}
+use Rattle.segment_queue.proofs.Rounds.{round_behind}
 use Rattle.journey_unfold.specs.Unfolded.{IsChain, SpellEnding, ride_in}
 use Rattle.journey_unfold.proofs.Spelling.{reverse-ridden, reverse-walked, rides-of}
 

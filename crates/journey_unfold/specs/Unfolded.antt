@@ -15,14 +15,21 @@ use Rattle.plain_rounds.specs.Shown.{HasShortestWalks}
 
 -- the ride in segment n that alights at index i
 abbrev pub ride_in : List Segment → ℕ → ℕ → Ride
-ride_in segments n i = record { trip = (segment_of segments n).trip; board = (segment_of segments n).board; alight = i }
+ride_in segments n i =
+    record {
+      trip = (segment_of segments n).trip;
+      board = (segment_of segments n).board;
+      alight = i;
+    }
 
--- The rides of a chain of parents, the last one first: each is the ride in its segment up to the index from which the ride behind it was hopped onto.
+-- The rides of a chain of parents, the last one first: each is the ride in its segment up to the
+-- index from which the ride behind it was hopped onto.
 abbrev pub IsChain : List Segment → Option (ℕ × ℕ) → List Ride → Type 0
 IsChain segments None [] = ⊤
 IsChain segments None (r ∷ back) = ⊥
 IsChain segments (Some end) [] = ⊥
-IsChain segments (Some end) (r ∷ back) = (r ≡ ride_in segments end.0 end.1) × IsChain segments (segment_of segments end.0).parent back
+IsChain segments (Some end) (r ∷ back) =
+    (r ≡ ride_in segments end.0 end.1) × IsChain segments (segment_of segments end.0).parent back
 
 -- the journey ends so: it is that walk, or its rides are those of the chain up to where one alights
 abbrev pub EndsWith : List Segment → LastLeg → Journey → Type 0
@@ -30,7 +37,8 @@ EndsWith segments (OnFoot from to) j = j ≡ record { origin = from; rides = [];
 EndsWith segments (Aboard n i to) j = IsChain segments (Some (n, i)) (reverse j.rides)
 
 -- the legs spell a journey that ends so and has the value, with the shortest walks at both ends
-pub record SpellEnding (T : TimetableData) (Q : QueryData) (segments : List Segment) (last : LastLeg) (v : Value) (legs : List Leg) : Type 0 where
+pub record SpellEnding (T : TimetableData) (Q : QueryData) (segments : List Segment)
+    (last : LastLeg) (v : Value) (legs : List Leg) : Type 0 where
   pub by : Journey
   pub has : HasValue T Q by v
   pub spelt : legs ≡ legs_of T by.origin by.rides by.target

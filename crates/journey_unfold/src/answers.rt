@@ -31,8 +31,9 @@ pub fn choices(
     requires traced { IsTraced table.now query.now desk.now }
     ensures values { IfOk result (λ cs.
         map ChoiceData.value cs.items ≡ map (λ h. h.value) desk.now.hits) }
-    ensures walks { IfOk result (λ cs.
-        All (λ c. SpellShortest table.now query.now (ChoiceData.legs c) (ChoiceData.value c)) cs.items) }
+    ensures walks { IfOk result
+        (λ cs. All (λ c. SpellShortest table.now query.now (ChoiceData.legs c) (ChoiceData.value c))
+        cs.items) }
     ensures hops { IfOk result (λ cs. (hops : ℕ → ℕ → List Hop) → UsesHops hops desk.now.segments →
         All (λ c. LegsFollow hops (ChoiceData.legs c)) cs.items) }
 {
@@ -57,7 +58,7 @@ fn search_on<S: Scan, L: Ledger>(scan: &S, query: &Query, desk: &mut Desk, blank
     requires leave { query.now.leave ≤ℤ pos 359999 }
     requires sufficient { AreSufficient (S.net scan.now).table (S.net scan.now).hops }
     ensures fits { Fits (S.net scan.now).table desk.new }
-    ensures answered { IsAnswered (S.net scan.now).table (S.net scan.now).hops query.now desk.new }
+    ensures answered { IsAnswered (S.net scan.now) query.now desk.new }
 {
     let mut steps = Steps::<L>::new(blank);
     earliest(scan, query, desk, &mut steps);
@@ -83,14 +84,18 @@ pub fn ask<O: OutSet>(
     requires time { query.now.leave ≤ℤ pos 359999 }
     ensures values { IfOk result (λ cs.
         AreBestValues table.now query.now (map ChoiceData.value cs.items)) }
-    ensures journeys { IfOk result (λ cs.
-        All (λ c. SpellValue table.now query.now (ChoiceData.legs c) (ChoiceData.value c)) cs.items) }
-    ensures walks { IfOk result (λ cs.
-        All (λ c. SpellShortest table.now query.now (ChoiceData.legs c) (ChoiceData.value c)) cs.items) }
+    ensures journeys { IfOk result
+        (λ cs. All (λ c. SpellValue table.now query.now (ChoiceData.legs c) (ChoiceData.value c))
+        cs.items) }
+    ensures walks { IfOk result
+        (λ cs. All (λ c. SpellShortest table.now query.now (ChoiceData.legs c) (ChoiceData.value c))
+        cs.items) }
     ensures hops { IfOk result (λ cs.
         All (λ c. LegsFollow (O.hops set.now) (ChoiceData.legs c)) cs.items) }
     ensures fits { Fits table.now desk.new }
-    ensures answered { IsAnswered table.now (O.hops set.now) query.now desk.new }
+    ensures answered { IsAnswered
+        (record { table = table.now; lines = lines.now.lines; hops = O.hops set.now })
+        query.now desk.new }
 {
     let view = View::new(table, lines, set);
     search_on::<View<'_, O>, Brand>(&view, query, desk, Blank::new(1));

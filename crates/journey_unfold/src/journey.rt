@@ -40,7 +40,8 @@ fn stop_at(table: &Timetable, trip: TripNo, at: u32) -> StopNo
 fn nearest_of(table: &Timetable, walks: &Walks, stops: &[StopNo]) -> StopNo
     requires stop { stop_of walks.now < length table.now.stops }
     requires stops { All (λ p. p < length table.now.stops) stops.now }
-    requires some { (q secs : ℕ) × Contains stops.now q × (secs_by table.now walks.now q ≡ Some secs) }
+    requires some { (q secs : ℕ) × Contains stops.now q
+        × (secs_by table.now walks.now q ≡ Some secs) }
     ensures nearest { IsNearest (secs_by table.now walks.now) stops.now result }
     ensures inside { result < length table.now.stops }
 {
@@ -52,7 +53,8 @@ fn nearest_of(table: &Timetable, walks: &Walks, stops: &[StopNo]) -> StopNo
 
 // Adds the leg of the ride in a segment up to an index.
 fn push_ride(legs: &mut Vec<Leg>, segment: &Segment, at: u32) -> Result<(), Memory>
-    ensures { OnOk result (legs.new.items ≡ legs.old.items ++ RideLeg segment.now.trip segment.now.board at ∷ []) }
+    ensures { OnOk result
+        (legs.new.items ≡ legs.old.items ++ RideLeg segment.now.trip segment.now.board at ∷ []) }
 {
     legs.push(Leg::Ride {
         trip: segment.trip,
@@ -90,8 +92,8 @@ fn ride_legs(
     ensures journey { IfOk result (λ legs. (to : ℕ) (v : ValueData) →
         IsRideHit table.now query.now desk.now.segments entry at to v.arrive v.rides →
         SpellEnding table.now query.now desk.now.segments (Aboard entry at to) v legs.items) }
-    ensures hops { IfOk result (λ legs. (hops : ℕ → ℕ → List Hop) → UsesHops hops desk.now.segments →
-        LegsFollow hops legs.items) }
+    ensures hops { IfOk result (λ legs. (hops : ℕ → ℕ → List Hop) →
+        UsesHops hops desk.now.segments → LegsFollow hops legs.items) }
 {
     let mut segment = segment_of(desk, entry);
     let mut legs = Vec::new(alloc);
@@ -132,8 +134,8 @@ pub fn unfold(
     requires hit { Contains desk.now.hits hit.now }
     ensures journey { IfOk result (λ legs.
         SpellHit table.now query.now desk.now.segments hit.now legs.items) }
-    ensures hops { IfOk result (λ legs. (hops : ℕ → ℕ → List Hop) → UsesHops hops desk.now.segments →
-        LegsFollow hops legs.items) }
+    ensures hops { IfOk result (λ legs. (hops : ℕ → ℕ → List Hop) →
+        UsesHops hops desk.now.segments → LegsFollow hops legs.items) }
 {
     match hit.last {
         LastLeg::OnFoot { from, to } => walk_legs(alloc, table, from, to),

@@ -4,6 +4,7 @@ use Rattle.std.specs.Prelude.{All, AllPairs, Contains, slice_get, ◌↔◌}
 use Rattle.std.proofs.lemmas.Int.{ints}
 use Rattle.std.proofs.lemmas.List.{get_or_append_left, get_or_push, length_push}
 use Rattle.std.proofs.lemmas.List.Elements.{All-contains, All-contains_itself, All-weaker, Contains-push, Contains-push_cases}
+use Rattle.tb_base.specs.Network.{NetData}
 use Rattle.tb_base.specs.declared.table.Path.{Path}
 use Rattle.tb_base.specs.TimetableData.{TimetableData}
 use Rattle.tb_base.specs.Lines.{AreDividedInto}
@@ -34,23 +35,23 @@ before_or_from : (a b : ℤ) → (a <ℤ b) ⊎ (b ≤ℤ a)
 before_or_from a b = grind (arith, ints)
 
 -- one leaves within the window who takes the path, and departs by the line index with this number
-abbrev pub LeavesByLine : TimetableData → List (List ℕ) → WindowData → Path → ℕ → ℤ → Type 0
-LeavesByLine T lines W path berth n = IsWithin W n × IsLineDeparture T lines path.to berth (n +ℤ pos path.secs)
+abbrev pub LeavesByLine : NetData → WindowData → Path → ℕ → ℤ → Type 0
+LeavesByLine N W path berth n = IsWithin W n × IsLineDeparture N path.to berth (n +ℤ pos path.secs)
 
 -- the leaving times with a departure before some time have joined, and the next departure from it on is known
-pub record AreGathered (T : TimetableData) (lines : List (List ℕ)) (W : WindowData) (path : Path) (berth : ℕ) (old times : List ℤ) (next : Option ℤ) : Type 0 where
+pub record AreGathered (N : NetData) (W : WindowData) (path : Path) (berth : ℕ) (old times : List ℤ) (next : Option ℤ) : Type 0 where
   pub since : ℤ
   pub from : (W.first +ℤ pos path.secs) ≤ℤ since
-  pub following : line_departure T lines path.to since berth ≡ next
-  pub so_far : HaveJoined (λ n. LeavesByLine T lines W path berth n × ((n +ℤ pos path.secs) <ℤ since)) old times
+  pub following : line_departure N path.to since berth ≡ next
+  pub so_far : HaveJoined (λ n. LeavesByLine N W path berth n × ((n +ℤ pos path.secs) <ℤ since)) old times
 
-module _ (T : TimetableData) (lines : List (List ℕ)) (W : WindowData) (path : Path) (berth : ℕ) (divided : AreDividedInto T lines) (inside : berth < length (line_indices_at T lines path.to)) where
-  pub gather_begun : (times : List ℤ) (since : ℤ) (next : Option ℤ) → since ≡ (W.first +ℤ pos path.secs) → next ≡ line_departure T lines path.to since berth → AreGathered T lines W path berth times times next
+module _ (N : NetData) (W : WindowData) (path : Path) (berth : ℕ) (divided : AreDividedInto N.table N.lines) (inside : berth < length (line_indices_at N.table N.lines path.to)) where
+  pub gather_begun : (times : List ℤ) (since : ℤ) (next : Option ℤ) → since ≡ (W.first +ℤ pos path.secs) → next ≡ line_departure N path.to since berth → AreGathered N W path berth times times next
   gather_begun times since next e is = record {
     since = since;
     from = at_most e;
     following = sym is;
-    so_far = joined_none (λ n. LeavesByLine T lines W path berth n × ((n +ℤ pos path.secs) <ℤ since)) times (λ n p. clash W.first n since path.secs e p.0.0.0 p.1);
+    so_far = joined_none (λ n. LeavesByLine N W path berth n × ((n +ℤ pos path.secs) <ℤ since)) times (λ n p. clash W.first n since path.secs e p.0.0.0 p.1);
   }
     where
       at_most : {a b : ℤ} → a ≡ b → b ≤ℤ a
@@ -59,53 +60,53 @@ module _ (T : TimetableData) (lines : List (List ℕ)) (W : WindowData) (path : 
       clash : (a n b : ℤ) (s : ℕ) → b ≡ (a +ℤ pos s) → a ≤ℤ n → (n +ℤ pos s) <ℤ b → ⊥
       clash a n b s e h k = omega (arith, ints, e, h, k)
 
-  module _ (old times : List ℤ) (next : Option ℤ) (g : AreGathered T lines W path berth old times next) where
+  module _ (old times : List ℤ) (next : Option ℤ) (g : AreGathered N W path berth old times next) where
     -- no departure is between
-    none_before : (m n : ℤ) → next ≡ Some m → LeavesByLine T lines W path berth n → g.since ≤ℤ (n +ℤ pos path.secs) → m ≤ℤ (n +ℤ pos path.secs)
+    none_before : (m n : ℤ) → next ≡ Some m → LeavesByLine N W path berth n → g.since ≤ℤ (n +ℤ pos path.secs) → m ≤ℤ (n +ℤ pos path.secs)
     none_before m n e p late =
-        let s : (x : ℤ) × (line_departure T lines path.to g.since berth ≡ Some x) × (x ≤ℤ (n +ℤ pos path.secs)) = departs_sooner T lines path.to divided (n +ℤ pos path.secs) g.since berth (n +ℤ pos path.secs) inside p.1 late in
+        let s : (x : ℤ) × (line_departure N path.to g.since berth ≡ Some x) × (x ≤ℤ (n +ℤ pos path.secs)) = departs_sooner N path.to divided (n +ℤ pos path.secs) g.since berth (n +ℤ pos path.secs) inside p.1 late in
         let same : s.0 ≡ m = (let k : ◌≡◌ {A = Option ℤ} (Some s.0) (Some m) = sym s.1 ∙ g.following ∙ e in cc) in
         subst (λ x. x ≤ℤ (n +ℤ pos path.secs)) same s.2
 
     -- the times are complete where what may follow is not within the window
-    complete_before : ((n : ℤ) → LeavesByLine T lines W path berth n → g.since ≤ℤ (n +ℤ pos path.secs) → ⊥) → HaveJoined (LeavesByLine T lines W path berth) old times
+    complete_before : ((n : ℤ) → LeavesByLine N W path berth n → g.since ≤ℤ (n +ℤ pos path.secs) → ⊥) → HaveJoined (LeavesByLine N W path berth) old times
     complete_before none =
-        joined_same (λ n. LeavesByLine T lines W path berth n × ((n +ℤ pos path.secs) <ℤ g.since)) (LeavesByLine T lines W path berth) old times (λ n p. p.0) (λ n p. by_time n p (before_or_from (n +ℤ pos path.secs) g.since)) g.so_far
+        joined_same (λ n. LeavesByLine N W path berth n × ((n +ℤ pos path.secs) <ℤ g.since)) (LeavesByLine N W path berth) old times (λ n p. p.0) (λ n p. by_time n p (before_or_from (n +ℤ pos path.secs) g.since)) g.so_far
       where
-        by_time : (n : ℤ) → LeavesByLine T lines W path berth n → ((n +ℤ pos path.secs) <ℤ g.since) ⊎ (g.since ≤ℤ (n +ℤ pos path.secs)) → LeavesByLine T lines W path berth n × ((n +ℤ pos path.secs) <ℤ g.since)
+        by_time : (n : ℤ) → LeavesByLine N W path berth n → ((n +ℤ pos path.secs) <ℤ g.since) ⊎ (g.since ≤ℤ (n +ℤ pos path.secs)) → LeavesByLine N W path berth n × ((n +ℤ pos path.secs) <ℤ g.since)
         by_time n p (inl h) = (p, h)
         by_time n p (inr h) = absurd (none n p h)
 
     -- nothing departs any more
-    pub gather_ended : next ≡ None → HaveJoined (LeavesByLine T lines W path berth) old times
+    pub gather_ended : next ≡ None → HaveJoined (LeavesByLine N W path berth) old times
     gather_ended e = complete_before (λ n p late.
-        let s : (x : ℤ) × (line_departure T lines path.to g.since berth ≡ Some x) × (x ≤ℤ (n +ℤ pos path.secs)) = departs_sooner T lines path.to divided (n +ℤ pos path.secs) g.since berth (n +ℤ pos path.secs) inside p.1 late in
+        let s : (x : ℤ) × (line_departure N path.to g.since berth ≡ Some x) × (x ≤ℤ (n +ℤ pos path.secs)) = departs_sooner N path.to divided (n +ℤ pos path.secs) g.since berth (n +ℤ pos path.secs) inside p.1 late in
         let k : ◌≡◌ {A = Option ℤ} (Some s.0) None = sym s.1 ∙ g.following ∙ e in
         cc)
 
-    pub next_departs : (d : ℤ) → next ≡ Some d → DepartsAt T path.to d
-    next_departs d e = (line_departs T lines path.to divided g.since berth d inside (g.following ∙ e)).1
+    pub next_departs : (d : ℤ) → next ≡ Some d → DepartsAt N.table path.to d
+    next_departs d e = (line_departs N path.to divided g.since berth d inside (g.following ∙ e)).1
 
     module _ (d : ℤ) (e : next ≡ Some d) where
-      is_next : (g.since ≤ℤ d) × IsLineDeparture T lines path.to berth d
-      is_next = ((line_departs T lines path.to divided g.since berth d inside (g.following ∙ e)).0, departs_then T lines path.to divided g.since berth d inside (g.following ∙ e))
+      is_next : (g.since ≤ℤ d) × IsLineDeparture N path.to berth d
+      is_next = ((line_departs N path.to divided g.since berth d inside (g.following ∙ e)).0, departs_then N path.to divided g.since berth d inside (g.following ∙ e))
 
       -- the next one leaves after the window
-      pub gather_past : (time : ℤ) → time ≡ (d -ℤ pos path.secs) → W.last <ℤ time → HaveJoined (LeavesByLine T lines W path berth) old times
+      pub gather_past : (time : ℤ) → time ≡ (d -ℤ pos path.secs) → W.last <ℤ time → HaveJoined (LeavesByLine N W path berth) old times
       gather_past time is past = complete_before (λ n p late. clash d n W.last time path.secs is past p.0.1 (none_before d n e p late))
         where
           clash : (d n last time : ℤ) (s : ℕ) → time ≡ (d -ℤ pos s) → last <ℤ time → n ≤ℤ last → d ≤ℤ (n +ℤ pos s) → ⊥
           clash d n last time s is past h k = omega (arith, ints, is, past, h, k)
 
       -- the next one has joined
-      pub gather_more : (time since : ℤ) (then : Option ℤ) → time ≡ (d -ℤ pos path.secs) → time ≤ℤ W.last → since ≡ (d +ℤ pos 1) → then ≡ line_departure T lines path.to since berth → AreGathered T lines W path berth old (times ++ time ∷ []) then
+      pub gather_more : (time since : ℤ) (then : Option ℤ) → time ≡ (d -ℤ pos path.secs) → time ≤ℤ W.last → since ≡ (d +ℤ pos 1) → then ≡ line_departure N path.to since berth → AreGathered N W path berth old (times ++ time ∷ []) then
       gather_more time since then is within next_is then_is = record {
         since = since;
         from = on W.first g.since d since path.secs g.from is_next.0 next_is;
         following = sym then_is;
-        so_far = joined_same (λ n. (LeavesByLine T lines W path berth n × ((n +ℤ pos path.secs) <ℤ g.since)) ⊎ (time ≡ n)) (λ n. LeavesByLine T lines W path berth n × ((n +ℤ pos path.secs) <ℤ since)) old (times ++ time ∷ [])
+        so_far = joined_same (λ n. (LeavesByLine N W path berth n × ((n +ℤ pos path.secs) <ℤ g.since)) ⊎ (time ≡ n)) (λ n. LeavesByLine N W path berth n × ((n +ℤ pos path.secs) <ℤ since)) old (times ++ time ∷ [])
             (λ n p. is_one n p) (λ n p. by_time n p (before_or_from (n +ℤ pos path.secs) g.since))
-            (joined_push (λ n. LeavesByLine T lines W path berth n × ((n +ℤ pos path.secs) <ℤ g.since)) old times time g.so_far);
+            (joined_push (λ n. LeavesByLine N W path berth n × ((n +ℤ pos path.secs) <ℤ g.since)) old times time g.so_far);
       }
         where
           on : (a b d c : ℤ) (s : ℕ) → (a +ℤ pos s) ≤ℤ b → b ≤ℤ d → c ≡ (d +ℤ pos 1) → (a +ℤ pos s) ≤ℤ c
@@ -126,22 +127,22 @@ module _ (T : TimetableData) (lines : List (List ℕ)) (W : WindowData) (path : 
           same : (n d c t : ℤ) (s : ℕ) → (n +ℤ pos s) <ℤ c → c ≡ (d +ℤ pos 1) → d ≤ℤ (n +ℤ pos s) → t ≡ (d -ℤ pos s) → t ≡ n
           same n d c t s g e h f = omega (arith, ints, g, e, h, f)
 
-          here : LeavesByLine T lines W path berth time × ((time +ℤ pos path.secs) <ℤ since)
+          here : LeavesByLine N W path berth time × ((time +ℤ pos path.secs) <ℤ since)
           here = (
-            ((first_in W.first g.since d time path.secs g.from is_next.0 is, within), subst (IsLineDeparture T lines path.to berth) (sym (back d time path.secs is)) is_next.1),
+            ((first_in W.first g.since d time path.secs g.from is_next.0 is, within), subst (IsLineDeparture N path.to berth) (sym (back d time path.secs is)) is_next.1),
             below (back d time path.secs is) next_is,
           )
 
-          is_one : (n : ℤ) → (LeavesByLine T lines W path berth n × ((n +ℤ pos path.secs) <ℤ g.since)) ⊎ (time ≡ n) → LeavesByLine T lines W path berth n × ((n +ℤ pos path.secs) <ℤ since)
+          is_one : (n : ℤ) → (LeavesByLine N W path berth n × ((n +ℤ pos path.secs) <ℤ g.since)) ⊎ (time ≡ n) → LeavesByLine N W path berth n × ((n +ℤ pos path.secs) <ℤ since)
           is_one n (inl p) = (p.0, before n g.since d since path.secs p.1 is_next.0 next_is)
-          is_one n (inr e) = subst (λ x. LeavesByLine T lines W path berth x × ((x +ℤ pos path.secs) <ℤ since)) e here
+          is_one n (inr e) = subst (λ x. LeavesByLine N W path berth x × ((x +ℤ pos path.secs) <ℤ since)) e here
 
-          by_time : (n : ℤ) → LeavesByLine T lines W path berth n × ((n +ℤ pos path.secs) <ℤ since) → ((n +ℤ pos path.secs) <ℤ g.since) ⊎ (g.since ≤ℤ (n +ℤ pos path.secs)) → (LeavesByLine T lines W path berth n × ((n +ℤ pos path.secs) <ℤ g.since)) ⊎ (time ≡ n)
+          by_time : (n : ℤ) → LeavesByLine N W path berth n × ((n +ℤ pos path.secs) <ℤ since) → ((n +ℤ pos path.secs) <ℤ g.since) ⊎ (g.since ≤ℤ (n +ℤ pos path.secs)) → (LeavesByLine N W path berth n × ((n +ℤ pos path.secs) <ℤ g.since)) ⊎ (time ≡ n)
           by_time n p (inl h) = inl (p.0, h)
           by_time n p (inr h) = inr (same n d since time path.secs p.1 next_is (none_before d n e p.0 h) is)
 
       -- with it fewer seconds are left
-      pub gather_less : (time since end : ℤ) (then : Option ℤ) → time ≡ (d -ℤ pos path.secs) → time ≤ℤ W.last → since ≡ (d +ℤ pos 1) → end ≡ (W.last +ℤ pos path.secs) → then ≡ line_departure T lines path.to since berth → left_until end then < left_until end next
+      pub gather_less : (time since end : ℤ) (then : Option ℤ) → time ≡ (d -ℤ pos path.secs) → time ≤ℤ W.last → since ≡ (d +ℤ pos 1) → end ≡ (W.last +ℤ pos path.secs) → then ≡ line_departure N path.to since berth → left_until end then < left_until end next
       gather_less time since end then is within next_is end_is then_is = subst (λ o. left_until end then < left_until end o) (sym e) (by_next then (sym then_is))
         where
           there : (d t l x : ℤ) (s : ℕ) → t ≡ (d -ℤ pos s) → t ≤ℤ l → x ≡ (l +ℤ pos s) → pos 0 ≤ℤ (x -ℤ d)
@@ -154,17 +155,17 @@ module _ (T : TimetableData) (lines : List (List ℕ)) (W : WindowData) (path : 
           some (pos n) h = omega arith
           some (negsuc n) h = absurd (omega (arith, ints, h))
 
-          by_next : (o : Option ℤ) → line_departure T lines path.to since berth ≡ o → left_until end o < left_until end (Some d)
+          by_next : (o : Option ℤ) → line_departure N path.to since berth ≡ o → left_until end o < left_until end (Some d)
           by_next None f = some (end -ℤ d) (there d time W.last end path.secs is within end_is)
-          by_next (Some m) f = fewer (end -ℤ m) (end -ℤ d) (there d time W.last end path.secs is within end_is) (less d since m end next_is (line_departs T lines path.to divided since berth m inside f).0)
+          by_next (Some m) f = fewer (end -ℤ m) (end -ℤ d) (there d time W.last end path.secs is within end_is) (less d since m end next_is (line_departs N path.to divided since berth m inside f).0)
 
 -- those of all line indices at the end of a path are those of the departures there
-pub lines_gathered : (T : TimetableData) (lines : List (List ℕ)) (W : WindowData) (path : Path) → AreDividedInto T lines → (count : ℕ) (old times : List ℤ) → count ≡ length (line_indices_at T lines path.to) →
-    HaveJoined (λ n. (k : ℕ) × (k < count) × LeavesByLine T lines W path k n) old times → HaveJoined (λ n. IsWithin W n × DepartsAt T path.to (n +ℤ pos path.secs)) old times
-lines_gathered T lines W path divided count old times all joined =
-    joined_same (λ n. (k : ℕ) × (k < count) × LeavesByLine T lines W path k n) (λ n. IsWithin W n × DepartsAt T path.to (n +ℤ pos path.secs)) old times
-    (λ n p. (p.2.0, (line_departs T lines path.to divided (n +ℤ pos path.secs) p.0 (n +ℤ pos path.secs) (subst (λ m. p.0 < m) all p.1) p.2.1).1))
-    (λ n q. (let d : (k : ℕ) × (k < length (line_indices_at T lines path.to)) × IsLineDeparture T lines path.to k (n +ℤ pos path.secs) = departs_by_line T lines path.to divided (n +ℤ pos path.secs) q.1 in
+pub lines_gathered : (N : NetData) (W : WindowData) (path : Path) → AreDividedInto N.table N.lines → (count : ℕ) (old times : List ℤ) → count ≡ length (line_indices_at N.table N.lines path.to) →
+    HaveJoined (λ n. (k : ℕ) × (k < count) × LeavesByLine N W path k n) old times → HaveJoined (λ n. IsWithin W n × DepartsAt N.table path.to (n +ℤ pos path.secs)) old times
+lines_gathered N W path divided count old times all joined =
+    joined_same (λ n. (k : ℕ) × (k < count) × LeavesByLine N W path k n) (λ n. IsWithin W n × DepartsAt N.table path.to (n +ℤ pos path.secs)) old times
+    (λ n p. (p.2.0, (line_departs N path.to divided (n +ℤ pos path.secs) p.0 (n +ℤ pos path.secs) (subst (λ m. p.0 < m) all p.1) p.2.1).1))
+    (λ n q. (let d : (k : ℕ) × (k < length (line_indices_at N.table N.lines path.to)) × IsLineDeparture N path.to k (n +ℤ pos path.secs) = departs_by_line N path.to divided (n +ℤ pos path.secs) q.1 in
     (d.0, subst (λ m. d.0 < m) (sym all) d.1, (q.0, d.2))))
     joined
 

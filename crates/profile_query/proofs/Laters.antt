@@ -3,8 +3,8 @@ use Rattle.std.proofs.Common.{◌≡◌, ℕ, ◌<◌, List, [], ◌∷◌, leng
 use Rattle.std.specs.Prelude.{AllPairs}
 use Rattle.std.proofs.lemmas.Int.{ints}
 use Rattle.std.proofs.lemmas.List.Elements.{All-map, All-nil, All-weaker}
+use Rattle.tb_base.specs.Network.{NetData}
 use Rattle.tb_base.specs.declared.query.Value.{Value}
-use Rattle.tb_base.specs.declared.transfer.Hop.{Hop}
 use Rattle.tb_base.specs.TimetableData.{TimetableData, events_of, no_event, MayBoard}
 use Rattle.tb_base.specs.Journeys.{Ride, Leads, LeavesNoEarlier, boarding_time}
 use Rattle.tb_base.specs.BestValues.{QueryData, IsAttained, IsStep, value_of}
@@ -23,8 +23,8 @@ use Rattle.profile_query.specs.Slots.{AreFound, AreLater}
 use Rattle.profile_query.proofs.Rest.{pairs-map}
 
 -- at a time, a sweep has come down to it
-pub swept_so_far : (T : TimetableData) (lines : List (List ℕ)) (hops : ℕ → ℕ → List Hop) (Q : QueryData) (D : DeskData) (S : SweepData) → IsSweptTo T lines hops Q D S.levels S.values → IsSweptSoFar T lines hops Q D S
-swept_so_far T lines hops Q D S swept = record { queue = swept.queue; gone_on = swept.gone_on }
+pub swept_so_far : (N : NetData) (Q : QueryData) (D : DeskData) (S : SweepData) → IsSweptTo N Q D S.levels S.values → IsSweptSoFar N Q D S
+swept_so_far N Q D S swept = record { queue = swept.queue; gone_on = swept.gone_on }
 
 -- the values of the hits of a sweep at a time
 pub hits_found : (T : TimetableData) (Q : QueryData) (D : DeskData) (later : List Value) → IsTraced T Q D → AllPairs (λ (h k : Hit). IsStep h.value k.value) D.hits →
@@ -33,6 +33,13 @@ hits_found T Q D later traced stairs cover = record {
   attained = All-map (IsAttained T Q) (λ (h : Hit). h.value) D.hits (All-weaker (IsTracedHit T Q D.segments) (λ (h : Hit). IsAttained T Q h.value) (hit_attained T Q D.segments traced.entered) D.hits traced.hits);
   stairs = pairs-map (λ (h k : Hit). IsStep h.value k.value) IsStep (λ (h : Hit). h.value) (λ h k step. step) D.hits stairs;
   cover = cover;
+}
+
+-- the values of a sweep stand for all
+pub later_from_swept : (N : NetData) → IsSound N.table → (Q : QueryData) (D : DeskData) (levels : List (List (Option ℕ))) (values : List Value) → AreSufficient N.table N.hops → IsSweptTo N Q D levels values → AreLater N.table Q values
+later_from_swept N sound Q D levels values sufficient swept = record {
+  attained = swept.gone_on.attained;
+  cover = λ w attained some_ride. swept_cover N Q D levels values swept sound sufficient w attained;
 }
 
 module _ (T : TimetableData) (sound : IsSound T) where
@@ -51,13 +58,6 @@ module _ (T : TimetableData) (sound : IsSound T) where
     where
       later : (a b c : ℤ) → a ≤ℤ b → b ≤ℤ c → a ≤ℤ c
       later a b c g h = omega (arith, ints, g, h)
-
-  -- the values of a sweep stand for all
-  pub later_from_swept : (lines : List (List ℕ)) (hops : ℕ → ℕ → List Hop) (Q : QueryData) (D : DeskData) (levels : List (List (Option ℕ))) (values : List Value) → AreSufficient T hops → IsSweptTo T lines hops Q D levels values → AreLater T Q values
-  later_from_swept lines hops Q D levels values sufficient swept = record {
-    attained = swept.gone_on.attained;
-    cover = λ w attained some_ride. swept_cover T lines hops Q D levels values swept sound sufficient w attained;
-  }
 
   -- nothing departs after the last second
   pub none_later : (Q : QueryData) → pos 359999 <ℤ Q.leave → AreLater T Q []

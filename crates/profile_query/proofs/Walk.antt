@@ -1,5 +1,6 @@
 -- The walk over a window, from its end to its beginning.
 use Rattle.std.proofs.Common.{◌≡◌, ◌∙◌, ℕ, List, [], ◌∷◌, ◌++◌, map, refl, sym, ap, subst, arith, ℤ, pos, ◌+ℤ◌, ◌≤ℤ◌, ◌<ℤ◌}
+use Rattle.tb_base.specs.Network.{NetData}
 use Rattle.std.specs.Prelude.{All}
 use Rattle.std.proofs.lemmas.Int.{ints}
 use Rattle.std.proofs.lemmas.List.Elements.{All-nil, All-weaker}
@@ -58,11 +59,11 @@ module _ (T : TimetableData) (sound : IsSound T) (W : WindowData) (hops : ℕ �
     asked_within = subst (λ q. q.leave ≤ℤ W.last) (sym asked) taken.one.not_after
 
     -- a sweep that has come down to the query can come down to it again
-    pub asked_sooner : (lines : List (List ℕ)) (D : DeskData) (S : SweepData) → IsSweptSoFar T lines hops Q D S → (l : ℤ) × (new.leave ≤ℤ l) × IsSweptSoFar T lines hops (record { from = new.from; to = new.to; leave = l }) D S
-    asked_sooner lines D S swept = (
+    pub asked_sooner : (N : NetData) (D : DeskData) (S : SweepData) → IsSweptSoFar N Q D S → (l : ℤ) × (new.leave ≤ℤ l) × IsSweptSoFar N (record { from = new.from; to = new.to; leave = l }) D S
+    asked_sooner N D S swept = (
       Q.leave,
       subst (λ q. q.leave ≤ℤ Q.leave) (sym asked) (at_most time Q.leave taken.one.before),
-      subst (λ q. IsSweptSoFar T lines hops (record { from = q.from; to = q.to; leave = Q.leave }) D S) (sym asked) (subst (λ q. IsSweptSoFar T lines hops q D S) walked.query swept),
+      subst (λ q. IsSweptSoFar N (record { from = q.from; to = q.to; leave = Q.leave }) D S) (sym asked) (subst (λ q. IsSweptSoFar N q D S) walked.query swept),
     )
       where
         at_most : (a b : ℤ) → a <ℤ b → a ≤ℤ b

@@ -11,13 +11,15 @@ use Rattle.tb_base.specs.Profiles.{OfferData}
 use Rattle.tb_laws.specs.Pruning.{IsLate}
 use Rattle.segment_queue.specs.Traced.{LegsFollow}
 
--- values of journeys that leave no earlier than asked: for each such journey with a ride one that is no worse
+-- values of journeys that leave no earlier than asked: for each such journey with a ride one that
+-- is no worse
 pub record AreLater (T : TimetableData) (Q : QueryData) (values : List Value) : Type 0 where
   pub attained : All (IsAttained T Q) values
-  pub cover : (w : Value) → IsAttained T Q w → 0 < w.rides → (v : Value) × Contains values v × IsNoWorse v w
+  pub cover : (w : Value) → IsAttained T Q w → 0 < w.rides →
+      (v : Value) × Contains values v × IsNoWorse v w
 
--- values that are attained at the time of the query, each with more rides and an earlier arrival than
--- the one before it
+-- values that are attained at the time of the query, each with more rides and an earlier arrival
+-- than the one before it
 pub record AreFound (T : TimetableData) (Q : QueryData) (later values : List Value) : Type 0 where
   pub attained : All (IsAttained T Q) values
   pub stairs : AllPairs IsStep values
@@ -40,7 +42,10 @@ slot_at time v = record { leave = time; arrive = v.arrive; rides = v.rides }
 abbrev pub slots_at : ℤ → List Value → List Value → List Slot
 slots_at time later values = map (slot_at time) (filter (is_kept later) values)
 
--- the legs of an offer spell a journey that leaves no earlier than its slot and has its value, by hops of the set
-pub record IsShown (T : TimetableData) (from to : List ℕ) (hops : ℕ → ℕ → List Hop) (o : OfferData) : Type 0 where
-  pub spelt : SpellValue T (record { from = from; to = to; leave = o.slot.leave }) o.legs (record { arrive = o.slot.arrive; rides = o.slot.rides })
+-- the legs of an offer spell a journey that leaves no earlier than its slot and has its value, by
+-- hops of the set
+pub record IsShown (T : TimetableData) (from to : List ℕ) (hops : ℕ → ℕ → List Hop)
+    (o : OfferData) : Type 0 where
+  pub spelt : SpellValue T (record { from = from; to = to; leave = o.slot.leave }) o.legs
+      (record { arrive = o.slot.arrive; rides = o.slot.rides })
   pub follows : LegsFollow hops o.legs

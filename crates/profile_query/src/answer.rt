@@ -36,10 +36,11 @@ fn offers_of<S: Scan, L: Ledger>(
     requires sufficient { AreSufficient table.now (S.net scan.now).hops }
     ensures slots { IfOk result (λ offers.
         IsProfile table.now window.now (map OfferData.slot offers.items)) }
-    ensures journeys { IfOk result (λ offers.
-        All (λ o. SpellSlot table.now window.now (OfferData.legs o) (OfferData.slot o)) offers.items) }
-    ensures hops { IfOk result (λ offers.
-        All (λ o. LegsFollow (S.net scan.now).hops (OfferData.legs o)) offers.items) }
+    ensures journeys { IfOk result
+        (λ offers. All (λ o. SpellSlot table.now window.now (OfferData.legs o) (OfferData.slot o))
+        offers.items) }
+    ensures hops { IfOk result
+        (λ offers. All (λ o. LegsFollow (S.net scan.now).hops (OfferData.legs o)) offers.items) }
     ensures fits { Fits table.now desk.new }
 {
     table.soundness();
@@ -95,10 +96,11 @@ pub fn profile<S: Scan>(
     requires sufficient { AreSufficient table.now (S.net scan.now).hops }
     ensures slots { IfOk result (λ offers.
         IsProfile table.now window.now (map OfferData.slot offers.items)) }
-    ensures journeys { IfOk result (λ offers.
-        All (λ o. SpellSlot table.now window.now (OfferData.legs o) (OfferData.slot o)) offers.items) }
-    ensures hops { IfOk result (λ offers.
-        All (λ o. LegsFollow (S.net scan.now).hops (OfferData.legs o)) offers.items) }
+    ensures journeys { IfOk result
+        (λ offers. All (λ o. SpellSlot table.now window.now (OfferData.legs o) (OfferData.slot o))
+        offers.items) }
+    ensures hops { IfOk result
+        (λ offers. All (λ o. LegsFollow (S.net scan.now).hops (OfferData.legs o)) offers.items) }
     ensures fits { Fits table.now desk.new }
     ensures emptied { OnErr result (desk.new.segments ≡ []) }
 {

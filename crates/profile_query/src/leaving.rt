@@ -33,8 +33,9 @@ fn line_departure<S: Scan, L: Ledger>(
 ) -> Option<Sec>
     requires table { (S.net scan.now).table ≡ table.now }
     requires stop { stop < length (S.net scan.now).table.stops }
-    requires berth { berth < length (line_indices_at (S.net scan.now).table (S.net scan.now).lines stop) }
-    ensures { result ≡ line_departure (S.net scan.now).table (S.net scan.now).lines stop time berth }
+    requires berth { berth
+        < length (line_indices_at (S.net scan.now).table (S.net scan.now).lines stop) }
+    ensures { result ≡ line_departure (S.net scan.now) stop time berth }
 {
     let _shape = scan.shape();
     match scan.boarding(stop, berth, time, steps) {
@@ -61,8 +62,8 @@ fn gather_line<S: Scan, L: Ledger>(
         < length (line_indices_at (S.net scan.now).table (S.net scan.now).lines path.now.to) }
     requires first { window.now.first ≤ℤ pos 359999 }
     requires last { window.now.last ≤ℤ pos 359999 }
-    ensures { OnOk result (HaveJoined (λ n. IsWithin window.now n
-        × IsLineDeparture (S.net scan.now).table (S.net scan.now).lines path.now.to berth
+    ensures { OnOk result
+        (HaveJoined (λ n. IsWithin window.now n × IsLineDeparture (S.net scan.now) path.now.to berth
         (n +ℤ pos path.now.secs)) times.old.items times.new.items) }
 {
     let _shape = scan.shape();

@@ -60,12 +60,10 @@ pub(crate) fn search<S: Scan, L: Ledger>(
     requires origins { All (λ p. p < length table.now.stops) query.now.from }
     requires leave { query.now.leave ≤ℤ pos 359999 }
     requires later { (later : ℤ) × (query.now.leave ≤ℤ later)
-        × IsSweptSoFar table.now (S.net scan.now).lines (S.net scan.now).hops
-        (record query.now { leave = later }) desk.old sweep.old }
+        × IsSweptSoFar (S.net scan.now) (record query.now { leave = later }) desk.old sweep.old }
     requires sufficient { AreSufficient table.now (S.net scan.now).hops }
     ensures fits { Fits table.now desk.new }
-    ensures swept { OnOk result
-        (IsSweptSoFar table.now (S.net scan.now).lines (S.net scan.now).hops query.now desk.new sweep.new) }
+    ensures swept { OnOk result (IsSweptSoFar (S.net scan.now) query.now desk.new sweep.new) }
     ensures found { OnOk result
         (AreFound table.now query.now sweep.old.values (map (λ h. h.value) desk.new.hits)) }
     ensures later { OnOk result (AreLater table.now query.now sweep.new.values) }
@@ -93,8 +91,7 @@ pub(crate) fn begin<S: Scan, L: Ledger>(
     requires origins { All (λ p. p < length table.now.stops) query.now.from }
     requires sufficient { AreSufficient table.now (S.net scan.now).hops }
     ensures fits { Fits table.now desk.new }
-    ensures swept { OnOk result
-        (IsSweptSoFar table.now (S.net scan.now).lines (S.net scan.now).hops query.now desk.new sweep.new) }
+    ensures swept { OnOk result (IsSweptSoFar (S.net scan.now) query.now desk.new sweep.new) }
     ensures later { OnOk result (AreLater table.now query.now sweep.new.values) }
 {
     table.soundness();

@@ -46,8 +46,9 @@ fn add_offer(
     requires targets { All (λ p. p < length table.now.stops) query.now.to }
     requires traced { IsTraced table.now query.now desk.now }
     requires hit { Contains desk.now.hits hit.now }
-    ensures slots { OnOk result (map OfferData.slot offers.new.items
-        ≡ map OfferData.slot offers.old.items ++ slots_at query.now.leave later.now (hit.now.value ∷ [])) }
+    ensures slots { OnOk result
+        (map OfferData.slot offers.new.items ≡ map OfferData.slot offers.old.items
+        ++ slots_at query.now.leave later.now (hit.now.value ∷ [])) }
     ensures shown { OnOk result ((hops : ℕ → ℕ → List Hop) → UsesHops hops desk.now.segments →
         All (IsShown table.now query.now.from query.now.to hops) offers.old.items →
         All (IsShown table.now query.now.from query.now.to hops) offers.new.items) }
@@ -77,8 +78,9 @@ pub(crate) fn add_offers(
     requires origins { All (λ p. p < length table.now.stops) query.now.from }
     requires targets { All (λ p. p < length table.now.stops) query.now.to }
     requires traced { IsTraced table.now query.now desk.now }
-    ensures slots { OnOk result (map OfferData.slot offers.new.items
-        ≡ map OfferData.slot offers.old.items ++ slots_at query.now.leave later.now (map (λ h. h.value) desk.now.hits)) }
+    ensures slots { OnOk result
+        (map OfferData.slot offers.new.items ≡ map OfferData.slot offers.old.items
+        ++ slots_at query.now.leave later.now (map (λ h. h.value) desk.now.hits)) }
     ensures shown { OnOk result ((hops : ℕ → ℕ → List Hop) → UsesHops hops desk.now.segments →
         All (IsShown table.now query.now.from query.now.to hops) offers.old.items →
         All (IsShown table.now query.now.from query.now.to hops) offers.new.items) }

@@ -3,6 +3,7 @@ use Rattle.std.proofs.Common.{◌≡◌, ◌≢◌, ◌∙◌, ℕ, zero, suc, �
 use Rattle.std.specs.Prelude.{All, min}
 use Rattle.std.specs.List.{concat}
 use Rattle.std.proofs.lemmas.List.{get_or-set_other, get_or-set_same}
+use Rattle.tb_base.specs.Network.{NetData}
 use Rattle.tb_base.proofs.Ordered.{Member}
 use Rattle.std.proofs.lemmas.List.{get_or_append_left}
 use Rattle.std.proofs.lemmas.List.Elements.{All-push}
@@ -41,92 +42,92 @@ level_refused T levels segments kept k trip at inside level refused not_last =
       | inr c ↦ record { by = c.by; within = c.within; by_then = c.by_then; trip = c.trip; board = omega (arith, c.board, refused) }
     ]
 
-module _ (T : TimetableData) (lines : List (List ℕ)) (divided : AreDividedInto T lines) (levels : List (List (Option ℕ))) (segments : List RoundSegment) (kept : AreKept T levels segments) (k trip at : ℕ) (inside : trip < length T.trips) (level : k < length levels) where
+module _ (N : NetData) (divided : AreDividedInto N.table N.lines) (levels : List (List (Option ℕ))) (segments : List RoundSegment) (kept : AreKept N.table levels segments) (k trip at : ℕ) (inside : trip < length N.table.trips) (level : k < length levels) where
   -- what lies past the end of a segment that is entered has been reached before it, with no more rides
-  pub level_ends : (length (events_of T trip) ≤ suc (level_mark T levels k trip)) ⊎ IsCovered T segments (length segments) (suc k) trip (level_mark T levels k trip)
+  pub level_ends : (length (events_of N.table trip) ≤ suc (level_mark N.table levels k trip)) ⊎ IsCovered N.table segments (length segments) (suc k) trip (level_mark N.table levels k trip)
   level_ends = kept k trip level inside
 
-  module _ (new : List (List (Option ℕ))) (enters : EntersLevel T lines k trip at levels new) where
+  module _ (new : List (List (Option ℕ))) (enters : EntersLevel N k trip at levels new) where
     abbrev all : List RoundSegment
-    all = segments ++ level_segment T levels k trip at ∷ []
+    all = segments ++ level_segment N.table levels k trip at ∷ []
 
-    new_at : segment_at all (length segments) ≡ level_segment T levels k trip at
-    new_at = get_or-append_seam segments (level_segment T levels k trip at) [] _
+    new_at : segment_at all (length segments) ≡ level_segment N.table levels k trip at
+    new_at = get_or-append_seam segments (level_segment N.table levels k trip at) [] _
 
-    by_new : (m u b : ℕ) → k ≤ m → IsTripNoLater T trip u → at ≤ b → IsCovered T all (length all) (suc m) u b
+    by_new : (m u b : ℕ) → k ≤ m → IsTripNoLater N.table trip u → at ≤ b → IsCovered N.table all (length all) (suc m) u b
     by_new m u b up no_later behind = record {
       by = length segments;
-      within = omega (arith, length-append segments (level_segment T levels k trip at ∷ []));
+      within = omega (arith, length-append segments (level_segment N.table levels k trip at ∷ []));
       by_then = omega (arith, ap (λ (r : RoundSegment). r.round) new_at, up);
-      trip = subst (λ (r : RoundSegment). IsTripNoLater T r.trip u) (sym new_at) no_later;
+      trip = subst (λ (r : RoundSegment). IsTripNoLater N.table r.trip u) (sym new_at) no_later;
       board = omega (arith, ap (λ (r : RoundSegment). r.board) new_at, behind);
     }
 
     -- the trip has been reached there
-    pub level_reached : IsCovered T all (length all) (suc k) trip at
-    level_reached = by_new k trip at (omega arith) (no_later T trip trip (inl refl)) (omega arith)
+    pub level_reached : IsCovered N.table all (length all) (suc k) trip at
+    level_reached = by_new k trip at (omega arith) (no_later N.table trip trip (inl refl)) (omega arith)
 
     -- all levels stay marks by the number of rides
-    pub level_entered : AreKept T new all
+    pub level_entered : AreKept N.table new all
     level_entered m u there trip_inside = elim (low_or_high m k) [
       | inl low ↦ old (enters.below m u low trip_inside)
-      | inr high ↦ elim (member_or_not u (trips_from lines trip)) [
-        | inl e ↦ by_mark high (low_or_high at (level_mark T levels m u)) (enters.from m u high there' trip_inside ∙ lowered-in (trips_from lines trip) at u (level_mark T levels m u) e.1) (trips_no_later T lines trip u divided e.0)
-        | inr e ↦ old (enters.from m u high there' trip_inside ∙ lowered-out (trips_from lines trip) at u (level_mark T levels m u) e.1)
+      | inr high ↦ elim (member_or_not u (trips_from N.lines trip)) [
+        | inl e ↦ by_mark high (low_or_high at (level_mark N.table levels m u)) (enters.from m u high there' trip_inside ∙ lowered-in (trips_from N.lines trip) at u (level_mark N.table levels m u) e.1) (trips_no_later N.table N.lines trip u divided e.0)
+        | inr e ↦ old (enters.from m u high there' trip_inside ∙ lowered-out (trips_from N.lines trip) at u (level_mark N.table levels m u) e.1)
       ]
     ]
       where
         there' : m < length levels
         there' = omega (arith, there, enters.long)
 
-        old : level_mark T new m u ≡ level_mark T levels m u → (length (events_of T u) ≤ suc (level_mark T new m u)) ⊎ IsCovered T all (length all) (suc m) u (level_mark T new m u)
+        old : level_mark N.table new m u ≡ level_mark N.table levels m u → (length (events_of N.table u) ≤ suc (level_mark N.table new m u)) ⊎ IsCovered N.table all (length all) (suc m) u (level_mark N.table new m u)
         old e = elim (kept m u there' trip_inside) [
           | inl last ↦ inl (omega (arith, last, e))
-          | inr c ↦ inr (subst (λ b. IsCovered T all (length all) (suc m) u b) (sym e) (covered_more T segments (level_segment T levels k trip at) (length segments) (suc m) u (level_mark T levels m u) (omega arith) c))
+          | inr c ↦ inr (subst (λ b. IsCovered N.table all (length all) (suc m) u b) (sym e) (covered_more N.table segments (level_segment N.table levels k trip at) (length segments) (suc m) u (level_mark N.table levels m u) (omega arith) c))
         ]
 
-        by_mark : k ≤ m → (at < level_mark T levels m u) ⊎ (level_mark T levels m u ≤ at) → level_mark T new m u ≡ min (level_mark T levels m u) at → IsTripNoLater T trip u →
-            (length (events_of T u) ≤ suc (level_mark T new m u)) ⊎ IsCovered T all (length all) (suc m) u (level_mark T new m u)
-        by_mark high (inl above) e follows = inr (by_new m u (level_mark T new m u) high follows (omega (arith, e, above)))
+        by_mark : k ≤ m → (at < level_mark N.table levels m u) ⊎ (level_mark N.table levels m u ≤ at) → level_mark N.table new m u ≡ min (level_mark N.table levels m u) at → IsTripNoLater N.table trip u →
+            (length (events_of N.table u) ≤ suc (level_mark N.table new m u)) ⊎ IsCovered N.table all (length all) (suc m) u (level_mark N.table new m u)
+        by_mark high (inl above) e follows = inr (by_new m u (level_mark N.table new m u) high follows (omega (arith, e, above)))
         by_mark high (inr low) e follows = old (omega (arith, e, low))
 
     -- and never rise with it
-    pub level_descending : AreDescending T levels → AreDescending T new
+    pub level_descending : AreDescending N.table levels → AreDescending N.table new
     level_descending descends i m u le there trip_inside = by_place (low_or_high i k) (low_or_high m k)
       where
         there' : m < length levels
         there' = omega (arith, there, enters.long)
 
-        before : level_mark T levels m u ≤ level_mark T levels i u
+        before : level_mark N.table levels m u ≤ level_mark N.table levels i u
         before = descends i m u le there' trip_inside
 
-        lower : level_mark T new m u ≤ level_mark T levels m u
+        lower : level_mark N.table new m u ≤ level_mark N.table levels m u
         lower = elim (low_or_high m k) [
           | inl low ↦ omega (arith, enters.below m u low trip_inside)
-          | inr high ↦ elim (member_or_not u (trips_from lines trip)) [
-            | inl e ↦ omega (arith, enters.from m u high there' trip_inside, lowered-in (trips_from lines trip) at u (level_mark T levels m u) e.1)
-            | inr e ↦ omega (arith, enters.from m u high there' trip_inside, lowered-out (trips_from lines trip) at u (level_mark T levels m u) e.1)
+          | inr high ↦ elim (member_or_not u (trips_from N.lines trip)) [
+            | inl e ↦ omega (arith, enters.from m u high there' trip_inside, lowered-in (trips_from N.lines trip) at u (level_mark N.table levels m u) e.1)
+            | inr e ↦ omega (arith, enters.from m u high there' trip_inside, lowered-out (trips_from N.lines trip) at u (level_mark N.table levels m u) e.1)
           ]
         ]
 
-        by_place : (i < k) ⊎ (k ≤ i) → (m < k) ⊎ (k ≤ m) → level_mark T new m u ≤ level_mark T new i u
+        by_place : (i < k) ⊎ (k ≤ i) → (m < k) ⊎ (k ≤ m) → level_mark N.table new m u ≤ level_mark N.table new i u
         by_place (inl low) _ = omega (arith, enters.below i u low trip_inside, before, lower)
         by_place (inr high) (inl low) = absurd (omega (arith, high, low, le))
-        by_place (inr high) (inr high') = elim (member_or_not u (trips_from lines trip)) [
+        by_place (inr high) (inr high') = elim (member_or_not u (trips_from N.lines trip)) [
           | inl e ↦ omega (
             arith,
             enters.from m u high' there' trip_inside,
-            lowered-in (trips_from lines trip) at u (level_mark T levels m u) e.1,
+            lowered-in (trips_from N.lines trip) at u (level_mark N.table levels m u) e.1,
             enters.from i u high (omega (arith, le, there')) trip_inside,
-            lowered-in (trips_from lines trip) at u (level_mark T levels i u) e.1,
+            lowered-in (trips_from N.lines trip) at u (level_mark N.table levels i u) e.1,
             before,
           )
           | inr e ↦ omega (
             arith,
             enters.from m u high' there' trip_inside,
-            lowered-out (trips_from lines trip) at u (level_mark T levels m u) e.1,
+            lowered-out (trips_from N.lines trip) at u (level_mark N.table levels m u) e.1,
             enters.from i u high (omega (arith, le, there')) trip_inside,
-            lowered-out (trips_from lines trip) at u (level_mark T levels i u) e.1,
+            lowered-out (trips_from N.lines trip) at u (level_mark N.table levels i u) e.1,
             before,
           )
         ]
@@ -205,28 +206,28 @@ falling_on T lines old new t at divided is falling = all_by_member (IsFalling T 
             ]
 
 -- the levels below k from the first on have been lowered, and the others have not
-pub record AreLowered (T : TimetableData) (lines : List (List ℕ)) (first k trip at : ℕ) (old now : List (List (Option ℕ))) : Type 0 where
+pub record AreLowered (N : NetData) (first k trip at : ℕ) (old now : List (List (Option ℕ))) : Type 0 where
   pub long : length now ≡ length old
   pub untouched : (m : ℕ) → m < first → get_or now m [] ≡ get_or old m []
   pub left : (m : ℕ) → k ≤ m → get_or now m [] ≡ get_or old m []
-  pub done : (m u : ℕ) → first ≤ m → m < k → m < length old → u < length T.trips → level_mark T now m u ≡ lowered (trips_from lines trip) at u (level_mark T old m u)
-  pub room : All (λ marks. length T.trips ≤ length marks) now
-  pub falling : All (λ marks. All (IsFalling T marks) lines) now
+  pub done : (m u : ℕ) → first ≤ m → m < k → m < length old → u < length N.table.trips → level_mark N.table now m u ≡ lowered (trips_from N.lines trip) at u (level_mark N.table old m u)
+  pub room : All (λ marks. length N.table.trips ≤ length marks) now
+  pub falling : All (λ marks. All (IsFalling N.table marks) N.lines) now
 
-pub one_lowered : (T : TimetableData) (lines : List (List ℕ)) (first k trip at : ℕ) (old now : List (List (Option ℕ))) (marks new : List (Option ℕ)) → AreDividedInto T lines → AreLowered T lines first k trip at old now → first ≤ k → k < length now → marks ≡ get_or now k marks →
-    length new ≡ length marks → ((u : ℕ) → u < length T.trips → mark_of T new u ≡ lowered (trips_from lines trip) at u (mark_of T marks u)) → AreLowered T lines first (k + 1) trip at old (set now k new)
-one_lowered T lines first k trip at old now marks new divided so_far from inside is long lowers = record {
+pub one_lowered : (N : NetData) (first k trip at : ℕ) (old now : List (List (Option ℕ))) (marks new : List (Option ℕ)) → AreDividedInto N.table N.lines → AreLowered N first k trip at old now → first ≤ k → k < length now → marks ≡ get_or now k marks →
+    length new ≡ length marks → ((u : ℕ) → u < length N.table.trips → mark_of N.table new u ≡ lowered (trips_from N.lines trip) at u (mark_of N.table marks u)) → AreLowered N first (k + 1) trip at old (set now k new)
+one_lowered N first k trip at old now marks new divided so_far from inside is long lowers = record {
   long = length-set now k new ∙ so_far.long;
   untouched = λ m h. get_or-set_other now k m new [] (λ e. omega (arith, e, h, from)) ∙ so_far.untouched m h;
   left = λ m h. get_or-set_other now k m new [] (λ e. omega (arith, e, h)) ∙ so_far.left m (omega (arith, h));
   done = λ m u a b there trip_inside. elim (low_or_high m k) [
-    | inl low ↦ ap (λ ms. mark_of T ms u) (get_or-set_other now k m new [] (λ e. omega (arith, e, low))) ∙ so_far.done m u a low there trip_inside
+    | inl low ↦ ap (λ ms. mark_of N.table ms u) (get_or-set_other now k m new [] (λ e. omega (arith, e, low))) ∙ so_far.done m u a low there trip_inside
     | inr high ↦ (let e : m ≡ k = omega (arith, high, b) in
-        subst (λ i. level_mark T (set now k new) i u ≡ lowered (trips_from lines trip) at u (level_mark T old i u)) (sym e)
-        (ap (λ ms. mark_of T ms u) (get_or-set_same now k new [] inside) ∙ lowers u trip_inside ∙ ap (λ ms. lowered (trips_from lines trip) at u (mark_of T ms u)) (marks_are ∙ so_far.left k (omega arith))))
+        subst (λ i. level_mark N.table (set now k new) i u ≡ lowered (trips_from N.lines trip) at u (level_mark N.table old i u)) (sym e)
+        (ap (λ ms. mark_of N.table ms u) (get_or-set_same now k new [] inside) ∙ lowers u trip_inside ∙ ap (λ ms. lowered (trips_from N.lines trip) at u (mark_of N.table ms u)) (marks_are ∙ so_far.left k (omega arith))))
   ];
-  room = all_set (λ ms. length T.trips ≤ length ms) now k new so_far.room inside (omega (arith, long, subst (λ ms. length T.trips ≤ length ms) (sym is) (so_far.room k marks inside)));
-  falling = all_set (λ ms. All (IsFalling T ms) lines) now k new so_far.falling inside (falling_on T lines marks new trip at divided lowers (subst (λ ms. All (IsFalling T ms) lines) (sym is) (so_far.falling k marks inside)));
+  room = all_set (λ ms. length N.table.trips ≤ length ms) now k new so_far.room inside (omega (arith, long, subst (λ ms. length N.table.trips ≤ length ms) (sym is) (so_far.room k marks inside)));
+  falling = all_set (λ ms. All (IsFalling N.table ms) N.lines) now k new so_far.falling inside (falling_on N.table N.lines marks new trip at divided lowers (subst (λ ms. All (IsFalling N.table ms) N.lines) (sym is) (so_far.falling k marks inside)));
 }
   where
     default : {X : Type 0} (xs : List X) (n : ℕ) (a b : X) → n < length xs → get_or xs n a ≡ get_or xs n b
@@ -250,9 +251,9 @@ pub level_falls : (T : TimetableData) (lines : List (List ℕ)) (now : List (Lis
 level_falls T lines now k marks t falling inside is = pairs_of (λ t u. mark_of T marks u ≤ mark_of T marks t) t lines (subst (λ ms. All (IsFalling T ms) lines) (sym is) (falling k marks inside))
 
 -- no mark rises when a trip is entered
-pub level_falls_on : (T : TimetableData) (lines : List (List ℕ)) (k trip at : ℕ) (old new : List (List (Option ℕ))) → EntersLevel T lines k trip at old new → (m u : ℕ) → m < length old → u < length T.trips → level_mark T new m u ≤ level_mark T old m u
-level_falls_on T lines k trip at old new enters m u there inside =
+pub level_falls_on : (N : NetData) (k trip at : ℕ) (old new : List (List (Option ℕ))) → EntersLevel N k trip at old new → (m u : ℕ) → m < length old → u < length N.table.trips → level_mark N.table new m u ≤ level_mark N.table old m u
+level_falls_on N k trip at old new enters m u there inside =
     elim (low_or_high m k) [
       | inl low ↦ omega (arith, enters.below m u low inside)
-      | inr high ↦ omega (arith, enters.from m u high there inside, lowered-le (trips_from lines trip) at u (level_mark T old m u))
+      | inr high ↦ omega (arith, enters.from m u high there inside, lowered-le (trips_from N.lines trip) at u (level_mark N.table old m u))
     ]

@@ -6,3 +6,4 @@ pub mod LoweredMarks
 pub mod InStep
 pub mod LineViews
 pub mod KeptLevels
+pub mod Rounds

@@ -1,13 +1,15 @@
 -- The queue of a search: the segments that it has entered, a mark for each trip, and the hits.
 use Rattle.std.specs.Prelude.{◌≡◌, ℕ, ◌+◌, ◌-◌, ◌==◌, ◌<◌, ◌≤◌, List, [], ◌∷◌, ◌++◌, Option, None, length, min, sum_by, unwrap_or, slice_index_or, if◌then◌else◌, All, AllPairs}
 use Rattle.std.specs.List.{list_any}
+use Rattle.tb_base.specs.Network.{NetData}
 use Rattle.tb_base.specs.TimetableData.{TimetableData, events_of, event_total}
 use Rattle.tb_base.specs.Transfers.{numbers_below}
 use Rattle.segment_queue.specs.declared.desk.Segment.{Segment}
 use Rattle.segment_queue.specs.declared.desk.Hit.{Hit}
 use Rattle.segment_queue.specs.Scans.{trips_from}
 
--- a desk: an index for each trip that has been reached, the segments and the hits in order, and room for how many of them
+-- a desk: an index for each trip that has been reached, the segments and the hits in order, and
+-- room for how many of them
 pub record DeskData : Type 0 where
   pub marks : List (Option ℕ)
   pub segments : List Segment
@@ -50,27 +52,38 @@ abbrev pub IsFalling : TimetableData → List (Option ℕ) → List ℕ → Type
 IsFalling T marks trips = AllPairs (λ t u. mark_of T marks u ≤ mark_of T marks t) trips
 
 -- The desk is in step with a timetable and its lines.
-pub record IsInStep (T : TimetableData) (lines : List (List ℕ)) (D : DeskData) : Type 0 where
-  pub fits : Fits T D
-  pub marks : (t : ℕ) → t < length T.trips → mark_of T D.marks t < length (events_of T t)
-  pub segments : All (IsSoundSegment T) D.segments
+pub record IsInStep (N : NetData) (D : DeskData) : Type 0 where
+  pub fits : Fits N.table D
+  pub marks : (t : ℕ) → t < length N.table.trips →
+      mark_of N.table D.marks t < length (events_of N.table t)
+  pub segments : All (IsSoundSegment N.table) D.segments
   -- what a trip's segments cover is above its mark
-  pub above : All (λ s. mark_of T D.marks s.trip ≤ s.board) D.segments
+  pub above : All (λ s. mark_of N.table D.marks s.trip ≤ s.board) D.segments
   -- no two segments of one trip cover the same index
   pub apart : AllPairs (λ (s r : Segment). s.trip ≡ r.trip → r.end ≤ s.board) D.segments
   -- along a line the marks never rise
-  pub falling : All (IsFalling T D.marks) lines
+  pub falling : All (IsFalling N.table D.marks) N.lines
   -- the indices that are covered, and those at or below the marks, are at most all indices
-  pub counted : sum_by covered_indices D.segments + mark_total T D.marks ≤ last_total T
+  pub counted : sum_by covered_indices D.segments + mark_total N.table D.marks ≤ last_total N.table
 
 -- the mark of trip u after these trips were entered at this index
 abbrev pub lowered : List ℕ → ℕ → ℕ → ℕ → ℕ
 lowered trips at u mark = if list_any (λ x. x == u) trips then min mark at else mark
 
--- the trip is entered at the index: it is covered from there up to its mark, and its mark and those of later trips of its line fall
-pub record EntersSegment (T : TimetableData) (lines : List (List ℕ)) (trip at : ℕ) (parent : Option (ℕ × ℕ)) (D D' : DeskData) : Type 0 where
-  pub segments : D'.segments ≡ D.segments ++ record { trip = trip; board = at; end = mark_of T D.marks trip; parent = parent } ∷ []
-  pub marks : (u : ℕ) → u < length T.trips → mark_of T D'.marks u ≡ lowered (trips_from lines trip) at u (mark_of T D.marks u)
+-- the trip is entered at the index: it is covered from there up to its mark, and its mark and those
+-- of later trips of its line fall
+pub record EntersSegment (N : NetData) (trip at : ℕ) (parent : Option (ℕ × ℕ))
+    (D D' : DeskData) : Type 0 where
+  pub segments : D'.segments ≡ D.segments
+      ++ record {
+        trip = trip;
+        board = at;
+        end = mark_of N.table D.marks trip;
+        parent = parent;
+      } ∷ []
+  pub marks : (u : ℕ) → u < length N.table.trips →
+      mark_of N.table D'.marks u
+      ≡ lowered (trips_from N.lines trip) at u (mark_of N.table D.marks u)
   pub trips : length D'.marks ≡ length D.marks
   pub hits : D'.hits ≡ D.hits
   pub segment_room : D'.segment_room ≡ D.segment_room

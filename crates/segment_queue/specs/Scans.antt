@@ -1,4 +1,5 @@
--- What a search sees of lines: the trips from one on, the line indices at a stop, and who boards there.
+-- What a search sees of lines: the trips from one on, the line indices at a stop, and who boards
+-- there.
 use Rattle.std.specs.Prelude.{ℕ, ◌==◌, List, [], ◌∷◌, Option, None, length, map, filter, flat_map, slice_index_or, if◌then◌else◌, ℤ}
 use Rattle.std.specs.List.{list_any}
 use Rattle.std.specs.Option.{option_map}
@@ -9,7 +10,8 @@ use Rattle.tb_base.specs.Transfers.{line_from, earliest_trip, may_be_boarded, nu
 -- the part of its line from trip t on
 abbrev pub trips_from : List (List ℕ) → ℕ → List ℕ
 trips_from [] t = []
-trips_from (line ∷ lines) t = if list_any (λ x. x == t) line then line_from t line else trips_from lines t
+trips_from (line ∷ lines) t = if list_any (λ x. x == t) line then line_from t line
+    else trips_from lines t
 
 -- a line, and an index of its trips
 pub record LineIndex : Type 0 where
@@ -25,13 +27,19 @@ first_trip line = slice_index_or line 0 0
 
 -- the indices at which a line is at the stop
 abbrev pub indices_at : TimetableData → ℕ → List ℕ → List LineIndex
-indices_at T p line = map (λ j. record { line = line; at = j }) (filter (λ j. stop_at T (first_trip line) j == p) (numbers_below (length (events_of T (first_trip line)))))
+indices_at T p line =
+    map (λ j. record { line = line; at = j })
+    (filter (λ j. stop_at T (first_trip line) j == p)
+    (numbers_below (length (events_of T (first_trip line)))))
 
 -- all line indices at the stop, by line, then index
 abbrev pub line_indices_at : TimetableData → List (List ℕ) → ℕ → List LineIndex
 line_indices_at T lines p = flat_map (indices_at T p) lines
 
--- who boards there no earlier than the time: the line's first trip in time, where boarding is allowed and it isn't the last index
+-- who boards there no earlier than the time: the line's first trip in time, where boarding is
+-- allowed and it isn't the last index
 abbrev pub boarding_hop : TimetableData → LineIndex → ℤ → Option Hop
 boarding_hop T b time =
-    if may_be_boarded T (first_trip b.line) b.at then option_map (λ u. record { trip = u; at = b.at }) (earliest_trip T b.line b.at time) else None
+    if may_be_boarded T (first_trip b.line) b.at
+    then option_map (λ u. record { trip = u; at = b.at }) (earliest_trip T b.line b.at time)
+    else None

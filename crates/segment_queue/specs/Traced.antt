@@ -1,5 +1,6 @@
 -- What the segments and hits of a desk say of journeys.
 use Rattle.std.specs.Prelude.{◌≡◌, ℕ, suc, ◌<◌, ◌≤◌, List, [], ◌∷◌, ◌++◌, Option, None, Some, length, map, filter_map, fold, slice_index_or, ℤ, pos, ◌+ℤ◌, ◌≤ℤ◌, ⊤, All, Contains}
+use Rattle.tb_base.specs.Network.{NetData}
 use Rattle.tb_base.specs.declared.query.Leg.{Leg}
 use Rattle.tb_base.specs.declared.query.Leg.TheVariants.{Walk as WalkLeg, Ride as RideLeg}
 use Rattle.tb_base.specs.declared.transfer.Hop.{Hop}
@@ -28,9 +29,16 @@ round_after before None = 1
 round_after before (Some p) = suc (segment_at before p.0).round
 
 abbrev pub with_round : List RoundSegment → Segment → List RoundSegment
-with_round before s = before ++ record { trip = s.trip; board = s.board; end = s.end; round = round_after before s.parent } ∷ []
+with_round before s =
+    before ++ record {
+      trip = s.trip;
+      board = s.board;
+      end = s.end;
+      round = round_after before s.parent;
+    } ∷ []
 
--- the segments with their rounds: how many segments there are from each back to one without a parent
+-- the segments with their rounds: how many segments there are from each back to one without a
+-- parent
 abbrev pub round_segments : List Segment → List RoundSegment
 round_segments segments = fold with_round [] segments
 
@@ -46,20 +54,25 @@ pub record IsBoardedFirst (T : TimetableData) (Q : QueryData) (trip board : ℕ)
   pub walks : walk T origin (stop_at T trip board) ≡ Some secs
   pub in_time : (Q.leave +ℤ pos secs) ≤ℤ departure_at T trip board
 
--- a later ride: segment n is hopped onto from an index that its parent, which stands before it, covers
-pub record IsHoppedOnto (T : TimetableData) (segments : List Segment) (n : ℕ) (parent : ℕ × ℕ) (trip board : ℕ) : Type 0 where
+-- a later ride: segment n is hopped onto from an index that its parent, which stands before it,
+-- covers
+pub record IsHoppedOnto (T : TimetableData) (segments : List Segment) (n : ℕ) (parent : ℕ × ℕ)
+    (trip board : ℕ) : Type 0 where
   pub earlier : parent.0 < n
   pub onward : (segment_of segments parent.0).board < parent.1
   pub within : parent.1 ≤ (segment_of segments parent.0).end
-  pub possible : IsPossibleHop T (segment_of segments parent.0).trip parent.1 (record { trip = trip; at = board })
+  pub possible : IsPossibleHop T (segment_of segments parent.0).trip parent.1
+      (record { trip = trip; at = board })
 
 -- segment n with this parent is boarded so
-abbrev pub IsEntered : TimetableData → QueryData → List Segment → ℕ → Option (ℕ × ℕ) → ℕ → ℕ → Type 0
+abbrev pub IsEntered : TimetableData → QueryData → List Segment → ℕ → Option (ℕ × ℕ) →
+    ℕ → ℕ → Type 0
 IsEntered T Q segments n None trip board = IsBoardedFirst T Q trip board
 IsEntered T Q segments n (Some parent) trip board = IsHoppedOnto T segments n parent trip board
 
 -- a walk from an origin to a target
-pub record IsWalkHit (T : TimetableData) (Q : QueryData) (from to : ℕ) (arrive : ℤ) (rides : ℕ) : Type 0 where
+pub record IsWalkHit (T : TimetableData) (Q : QueryData) (from to : ℕ) (arrive : ℤ)
+    (rides : ℕ) : Type 0 where
   pub origin : Contains Q.from from
   pub target : Contains Q.to to
   pub secs : ℕ
@@ -68,7 +81,8 @@ pub record IsWalkHit (T : TimetableData) (Q : QueryData) (from to : ℕ) (arrive
   pub no_ride : rides ≡ 0
 
 -- one alights from segment n at index i and walks to a target, than which none is nearer
-pub record IsRideHit (T : TimetableData) (Q : QueryData) (segments : List Segment) (n i to : ℕ) (arrive : ℤ) (rides : ℕ) : Type 0 where
+pub record IsRideHit (T : TimetableData) (Q : QueryData) (segments : List Segment) (n i to : ℕ)
+    (arrive : ℤ) (rides : ℕ) : Type 0 where
   pub inside : n < length segments
   pub onward : (segment_of segments n).board < i
   pub within : i ≤ (segment_of segments n).end
@@ -76,7 +90,8 @@ pub record IsRideHit (T : TimetableData) (Q : QueryData) (segments : List Segmen
   pub target : Contains Q.to to
   pub secs : ℕ
   pub walks : walk T (stop_at T (segment_of segments n).trip i) to ≡ Some secs
-  pub nearest : (q s : ℕ) → Contains Q.to q → walk T (stop_at T (segment_of segments n).trip i) q ≡ Some s → secs ≤ s
+  pub nearest : (q s : ℕ) → Contains Q.to q →
+      walk T (stop_at T (segment_of segments n).trip i) q ≡ Some s → secs ≤ s
   pub arrives : arrive ≡ arrival_at T (segment_of segments n).trip i +ℤ pos secs
   pub rounds : rides ≡ round_of segments n
 
@@ -90,25 +105,32 @@ IsTracedHit T Q segments h = IsTracedBy T Q segments h.last h.value.arrive h.val
 -- each segment and each hit leads back to an origin
 pub record IsTraced (T : TimetableData) (Q : QueryData) (D : DeskData) : Type 0 where
   pub sound : All (IsSoundSegment T) D.segments
-  pub entered : (n : ℕ) → n < length D.segments → IsEntered T Q D.segments n (segment_of D.segments n).parent (segment_of D.segments n).trip (segment_of D.segments n).board
+  pub entered : (n : ℕ) → n < length D.segments →
+      IsEntered T Q D.segments n (segment_of D.segments n).parent (segment_of D.segments n).trip
+      (segment_of D.segments n).board
   pub hits : All (IsTracedHit T Q D.segments) D.hits
 
 -- each segment with a parent is hopped onto by a hop of the set
 abbrev pub UsesHops : (ℕ → ℕ → List Hop) → List Segment → Type 0
-UsesHops hops segments = (n : ℕ) (parent : ℕ × ℕ) → n < length segments → (segment_of segments n).parent ≡ Some parent →
-    Contains (hops (segment_of segments parent.0).trip parent.1) (record { trip = (segment_of segments n).trip; at = (segment_of segments n).board })
+UsesHops hops segments = (n : ℕ) (parent : ℕ × ℕ) → n < length segments →
+    (segment_of segments n).parent ≡ Some parent →
+    Contains (hops (segment_of segments parent.0).trip parent.1)
+    (record { trip = (segment_of segments n).trip; at = (segment_of segments n).board })
 
--- the desk holds the answer to the query: its hits have the best values, and its segments go by hops of the set
-pub record IsAnswered (T : TimetableData) (hops : ℕ → ℕ → List Hop) (Q : QueryData) (D : DeskData) : Type 0 where
-  pub traced : IsTraced T Q D
-  pub by_hops : UsesHops hops D.segments
-  pub best : AreBestValues T Q (map (λ (h : Hit). h.value) D.hits)
+-- the desk holds the answer to the query: its hits have the best values, and its segments go by
+-- hops of the set
+pub record IsAnswered (N : NetData) (Q : QueryData) (D : DeskData) : Type 0 where
+  pub traced : IsTraced N.table Q D
+  pub by_hops : UsesHops N.hops D.segments
+  pub best : AreBestValues N.table Q (map (λ (h : Hit). h.value) D.hits)
 
 -- from each ride to the next there is a hop of the set
 abbrev pub RidesFollow : (ℕ → ℕ → List Hop) → List Ride → Type 0
 RidesFollow hops [] = ⊤
 RidesFollow hops (r ∷ []) = ⊤
-RidesFollow hops (r ∷ s ∷ rest) = Contains (hops r.trip r.alight) (record { trip = s.trip; at = s.board }) × RidesFollow hops (s ∷ rest)
+RidesFollow hops (r ∷ s ∷ rest) =
+    Contains (hops r.trip r.alight) (record { trip = s.trip; at = s.board })
+    × RidesFollow hops (s ∷ rest)
 
 abbrev pub ride_of : Leg → Option Ride
 ride_of (WalkLeg p q secs) = None

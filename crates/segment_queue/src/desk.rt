@@ -1,5 +1,6 @@
 ghost use Rattle.std.specs.Prelude.{◌≡◌, ◌+◌, ◌<◌, ◌≤◌, ◌++◌, ◌∷◌, [], ℕ, List, None, Option, Some, IsTrue, ◌↔◌, MatchBool, OnErr, OnOk, length, replicate, slice_get, slice_index_or, unwrap_or, vec_capacity, vec_len};
 ghost use Rattle.tb_base.specs.Lines.{AreDividedInto};
+ghost use Rattle.tb_base.specs.Network.{NetData};
 ghost use Rattle.tb_base.specs.TimetableData.{TimetableData, event_total, events_of};
 ghost use Rattle.segment_queue.specs.Scans.{trips_from};
 ghost use Rattle.segment_queue.specs.Queue.{EntersSegment, Fits, IsFalling, IsInStep, lowered, mark_of};
@@ -97,10 +98,13 @@ pub(crate) fn lower_marks<S: Scan>(marks: &mut Marks, scan: &S, trip: TripNo, at
     requires trip { trip < length (S.net scan.now).table.trips }
     requires room { length (S.net scan.now).table.trips ≤ length marks.old }
     requires divided { AreDividedInto (S.net scan.now).table (S.net scan.now).lines }
-    requires falling { IsFalling (S.net scan.now).table marks.old (trips_from (S.net scan.now).lines trip) }
+    requires falling { IsFalling (S.net scan.now).table marks.old
+        (trips_from (S.net scan.now).lines trip) }
     ensures trips { length marks.new ≡ length marks.old }
-    ensures marks { (u : ℕ) → u < length (S.net scan.now).table.trips → mark_of (S.net scan.now).table marks.new u
-        ≡ lowered (trips_from (S.net scan.now).lines trip) at u (mark_of (S.net scan.now).table marks.old u) }
+    ensures marks { (u : ℕ) → u < length (S.net scan.now).table.trips →
+        mark_of (S.net scan.now).table marks.new u
+        ≡ lowered (trips_from (S.net scan.now).lines trip) at u
+        (mark_of (S.net scan.now).table marks.old u) }
 {
     let mut next = Some(trip);
     while let Some(later) = next {
@@ -115,7 +119,8 @@ pub(crate) fn lower_marks<S: Scan>(marks: &mut Marks, scan: &S, trip: TripNo, at
 impl Desk {
     /// A desk without room.
     pub fn new(alloc: Global) -> Desk
-        ensures { result ≡ record { marks = []; segments = []; hits = []; segment_room = 0; hit_room = 0 } }
+        ensures { result
+            ≡ record { marks = []; segments = []; hits = []; segment_room = 0; hit_room = 0 } }
     {
         Desk {
             marks: Marks::new(alloc),
@@ -124,10 +129,11 @@ impl Desk {
         }
     }
 
-    /// Room for the scan: the desk fits it. At a refusal it fits what it fitted.
+    /// Room for the scan: the desk fits it. At a refusal it fits what it fitted. What was in step stays so.
     pub fn make_room<S: Scan>(&mut self, scan: &S) -> Result<(), Memory>
         ensures fits { OnOk result (Fits (S.net scan.now).table self.new) }
         ensures still { (T : TimetableData) → Fits T self.old → Fits T self.new }
+        ensures step { (N : NetData) → IsInStep N self.old → IsInStep N self.new }
         ensures segments { self.new.segments ≡ self.old.segments }
         ensures hits { self.new.hits ≡ self.old.hits }
     {
@@ -151,7 +157,7 @@ impl Desk {
     /// Empties the queue, the marks and the hits.
     pub fn begin<S: Scan>(&mut self, scan: &S, _query: &Query)
         requires { Fits (S.net scan.now).table self.old }
-        ensures step { IsInStep (S.net scan.now).table (S.net scan.now).lines self.new }
+        ensures step { IsInStep (S.net scan.now) self.new }
         ensures emptied { self.new ≡ record self.old {
           marks = replicate (length self.old.marks) None;
           segments = [];
@@ -173,12 +179,12 @@ impl Desk {
         at: u32,
         parent: Option<(u32, u32)>,
     ) -> bool
-        requires step { IsInStep (S.net scan.now).table (S.net scan.now).lines self.old }
+        requires step { IsInStep (S.net scan.now) self.old }
         requires trip { trip < length (S.net scan.now).table.trips }
-        ensures step { IsInStep (S.net scan.now).table (S.net scan.now).lines self.new }
+        ensures step { IsInStep (S.net scan.now) self.new }
         ensures told { IsTrue result ↔ (at < mark_of (S.net scan.now).table self.old.marks trip) }
         ensures entered { MatchBool result
-            (EntersSegment (S.net scan.now).table (S.net scan.now).lines trip at parent self.old self.new)
+            (EntersSegment (S.net scan.now) trip at parent self.old self.new)
             (self.new ≡ self.old) }
     {
         let end = mark_on(&self.marks, scan, trip);

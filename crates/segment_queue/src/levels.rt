@@ -41,19 +41,21 @@ impl Levels {
         self.levels.len()
     }
 
-    /// A first level without marks, with room for so many trips.
+    /// A first level without marks, with room for so many trips. At a refusal there is none.
     pub fn begin(&mut self, alloc: Global, trips: u32) -> Result<(), Memory>
-        ensures { OnOk result (self.new ≡ replicate trips None ∷ []) }
+        ensures begun { OnOk result (self.new ≡ replicate trips None ∷ []) }
+        ensures refused { OnErr result (self.new ≡ []) }
     {
         self.levels.clear();
         self.levels.push(Marks::at_stamp(alloc, trips, 1)?)?;
         Ok(())
     }
 
-    /// A level more, with the marks of the last.
+    /// A level more, with the marks of the last. At a refusal the levels are as before.
     pub fn make(&mut self, alloc: Global) -> Result<(), Memory>
         requires { 0 < length self.old }
-        ensures { OnOk result (self.new ≡ with_level self.old) }
+        ensures made { OnOk result (self.new ≡ with_level self.old) }
+        ensures refused { OnErr result (self.new ≡ self.old) }
     {
         let last = self.levels[self.levels.len() - 1].copy(alloc)?;
         self.levels.push(last)?;
@@ -64,7 +66,8 @@ impl Levels {
     pub fn mark<S: Scan>(&self, scan: &S, level: usize, trip: TripNo) -> u32
         requires level { level < length self.now }
         requires trip { trip < length (S.net scan.now).table.trips }
-        requires room { length (S.net scan.now).table.trips ≤ length (slice_index_or self.now level []) }
+        requires room { length (S.net scan.now).table.trips
+            ≤ length (slice_index_or self.now level []) }
         ensures { result ≡ level_mark (S.net scan.now).table self.now level trip }
     {
         mark_on(&self.levels[level], scan, trip)
@@ -76,10 +79,12 @@ impl Levels {
         requires trip { trip < length (S.net scan.now).table.trips }
         requires room { All (λ marks. length (S.net scan.now).table.trips ≤ length marks) self.old }
         requires divided { AreDividedInto (S.net scan.now).table (S.net scan.now).lines }
-        requires falling { All (λ marks. All (IsFalling (S.net scan.now).table marks) (S.net scan.now).lines) self.old }
-        ensures lowered { EntersLevel (S.net scan.now).table (S.net scan.now).lines level trip at self.old self.new }
+        requires falling { All (λ marks. All (IsFalling (S.net scan.now).table marks)
+            (S.net scan.now).lines) self.old }
+        ensures lowered { EntersLevel (S.net scan.now) level trip at self.old self.new }
         ensures room { All (λ marks. length (S.net scan.now).table.trips ≤ length marks) self.new }
-        ensures falling { All (λ marks. All (IsFalling (S.net scan.now).table marks) (S.net scan.now).lines) self.new }
+        ensures falling { All (λ marks. All (IsFalling (S.net scan.now).table marks)
+            (S.net scan.now).lines) self.new }
     {
         for k in level..self.levels.len() {
             lower_marks(&mut self.levels[k], scan, trip, at);

@@ -16,7 +16,8 @@ const UNWRITTEN: Entry = Entry { stamp: 0, at: 0 };
 
 // As many entries that no search has written.
 fn unwrite(entries: &mut Vec<Entry>)
-    ensures { entries.new.items ≡ replicate (length entries.old.items) (record { stamp = 0; at = 0 }) }
+    ensures { entries.new.items
+        ≡ replicate (length entries.old.items) (record { stamp = 0; at = 0 }) }
 {
     let count = entries.len();
     entries.clear();
@@ -75,7 +76,8 @@ impl Marks {
 
     /// At least so many trips. The further ones have no index.
     pub fn make_room(&mut self, trips: u32) -> Result<(), Memory>
-        ensures room { OnOk result (self.new ≡ self.old ++ replicate (trips - length self.old) None) }
+        ensures room { OnOk result
+            (self.new ≡ self.old ++ replicate (trips - length self.old) None) }
         ensures memory { OnErr result (self.new ≡ self.old) }
     {
         if trips as usize <= self.entries.len() {

@@ -74,9 +74,11 @@ pub trait Scan {
         steps: &mut Steps<L>,
     ) -> Option<Hop>
         requires stop { p < length (net self.now).table.stops }
-        requires berth { berth < length (line_indices_at (net self.now).table (net self.now).lines p) }
+        requires berth { berth
+            < length (line_indices_at (net self.now).table (net self.now).lines p) }
         ensures hop { result ≡ boarding_hop (net self.now).table
-            (slice_index_or (line_indices_at (net self.now).table (net self.now).lines p) berth no_line_index) time }
+            (slice_index_or (line_indices_at (net self.now).table (net self.now).lines p) berth
+            no_line_index) time }
         ensures step { steps.new ≡ steps.old + 1 };
 
     /// Event `at` of a trip. It is a step.

@@ -29,7 +29,8 @@ impl<'a, O: OutSet> Model for View<'a, O> {
 
     ghost view = { λ v. (v.table.now, v.lines.now, v.set.now) };
 
-    ghost invariant = { λ v. AreLinesOf v.table.now v.lines.now × (O.table v.set.now ≡ v.table.now) };
+    ghost invariant = { λ v. AreLinesOf v.table.now v.lines.now
+        × (O.table v.set.now ≡ v.table.now) };
 }
 
 impl<'a, O: OutSet> View<'a, O> {

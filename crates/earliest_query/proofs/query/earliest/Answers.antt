@@ -5,17 +5,17 @@ use Rattle.earliest_query.proofs.query.earliest.Goals as goal
 
 pub ride_all-requires-clause-ridden : goal.ride_all-requires-clause-ridden
 ride_all-requires-clause-ridden g c =
-    first_ridden (g.S.Scan.net c.args.scan.now).table (g.S.Scan.net c.args.scan.now).lines (g.S.Scan.net c.args.scan.now).hops c.args.query.now c.begin.new.self c.keep.new.desk c.board_all.new.desk c.walk_hit-walk.result
+    first_ridden (g.S.Scan.net c.args.scan.now) c.args.query.now c.begin.new.self c.keep.new.desk c.board_all.new.desk c.walk_hit-walk.result
     (ap (λ (d : DeskData). d.segments) c.begin.ensures.emptied) (ap (λ (d : DeskData). d.hits) c.begin.ensures.emptied) c.keep.ensures c.board_all.ensures.queue c.board_all.ensures.extends c.board_all.ensures.boarded c.walk_hit-walk.ensures.traced c.walk_hit-walk.ensures.bounded
 
 pub returns-clause-answered : goal.returns-clause-answered
 returns-clause-answered g c =
-    answered (g.S.Scan.net c.args.scan.now).table (g.S.Scan.net c.args.scan.now).lines (g.S.Scan.net c.args.scan.now).hops c.args.query.now c.ride_all.new.desk c.ride_all.ensures.ridden.0 c.ride_all.ensures.ridden.1 c.shape-shape.ensures.sound c.requires.sufficient
+    answered (g.S.Scan.net c.args.scan.now) c.args.query.now c.ride_all.new.desk c.ride_all.ensures.ridden.0 c.ride_all.ensures.ridden.1 c.shape-shape.ensures.sound c.requires.sufficient
 
 pub returns-clause-steps : goal.returns-clause-steps
 returns-clause-steps g c =
-    omega (arith, c.ride_all.ensures.steps, c.board_all.ensures.steps, covered_all (g.S.Scan.net c.args.scan.now).table (g.S.Scan.net c.args.scan.now).lines c.ride_all.new.desk c.ride_all.ensures.ridden.1.queue.step)
+    omega (arith, c.ride_all.ensures.steps, c.board_all.ensures.steps, covered_all (g.S.Scan.net c.args.scan.now) c.ride_all.new.desk c.ride_all.ensures.ridden.1.queue.step)
 
 pub returns-clause-searched : goal.returns-clause-searched
 returns-clause-searched g c =
-    searched (g.S.Scan.net c.args.scan.now).table (g.S.Scan.net c.args.scan.now).lines (g.S.Scan.net c.args.scan.now).hops c.args.query.now c.ride_all.new.desk c.ride_all.ensures.ridden.0 c.ride_all.ensures.ridden.1
+    searched (g.S.Scan.net c.args.scan.now) c.args.query.now c.ride_all.new.desk c.ride_all.ensures.ridden.0 c.ride_all.ensures.ridden.1

@@ -1,4 +1,5 @@
 use Rattle.std.proofs.Common.{ℕ, List, sym, subst}
+use Rattle.line_split.specs.LinesData.{LinesData}
 use Rattle.std.specs.Prelude.{All}
 use Rattle.tb_base.specs.BestValues.{ChoiceData}
 use Rattle.tb_base.specs.Sufficiency.{AreSufficient}
@@ -17,8 +18,9 @@ pub returns-clause-answered : goal.returns-clause-answered
 returns-clause-answered g c =
     let view = c.new-view.result in
     let D = c.search_on.new.desk in
-    subst (λ s. IsAnswered c.args.table.now (g.O.OutSet.hops s) c.args.query.now D) c.new-view.ensures.set
-    (subst (λ T. IsAnswered T (g.O.OutSet.hops view.2) c.args.query.now D) c.new-view.ensures.table c.search_on.ensures.answered)
+    subst (λ s. IsAnswered (record { table = c.args.table.now; lines = c.args.lines.now.lines; hops = g.O.OutSet.hops s }) c.args.query.now D) c.new-view.ensures.set
+    (subst (λ (A : LinesData). IsAnswered (record { table = c.args.table.now; lines = A.lines; hops = g.O.OutSet.hops view.2 }) c.args.query.now D) c.new-view.ensures.lines
+    (subst (λ T. IsAnswered (record { table = T; lines = view.1.lines; hops = g.O.OutSet.hops view.2 }) c.args.query.now D) c.new-view.ensures.table c.search_on.ensures.answered))
 
 pub returns-clause-hops : goal.returns-clause-hops
 returns-clause-hops g c =

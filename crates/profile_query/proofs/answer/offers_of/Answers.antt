@@ -53,7 +53,7 @@ search-requires-clause-later g c =
     let walked = c.loop-time.invariant.walked in
     let asked : new ≡ query_at W time = query_on W Q new (to_z w32 (of_z w32 time)) time walked.query c.ask_at.ensures (to_z-of_z w32 time (search rules)) in
     asked_sooner c.args.table.now c.soundness.ensures W hops Q new c.loop-time.times.items c.pop.new.self.items time c.loop-time.sweep.values c.loop-time.offers.items walked c.in-Some.ensures.items asked
-    (g.S.Scan.net c.args.scan.now).lines c.loop-time.desk c.loop-time.sweep c.loop-time.invariant.swept
+    (g.S.Scan.net c.args.scan.now) c.loop-time.desk c.loop-time.sweep c.loop-time.invariant.swept
 
 pub loop-time-preserved : goal.loop-time-preserved
 loop-time-preserved g c =

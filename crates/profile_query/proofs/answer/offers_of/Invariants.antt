@@ -7,7 +7,7 @@ use Rattle.profile_query.proofs.answer.offers_of.Given as goal
 abbrev pub invariant-loop-time : goal.invariant-loop-time
 invariant-loop-time g l = record {
   fits : Fits l.table l.desk;
-  swept : IsSweptSoFar l.table (g.S.Scan.net l.scan).lines (g.S.Scan.net l.scan).hops l.query l.desk l.sweep;
+  swept : IsSweptSoFar (g.S.Scan.net l.scan) l.query l.desk l.sweep;
   walked : IsWalked l.table l.window (g.S.Scan.net l.scan).hops l.query l.times.items l.sweep.values l.offers.items;
 }
 

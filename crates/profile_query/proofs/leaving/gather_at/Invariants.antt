@@ -4,4 +4,4 @@ use Rattle.profile_query.proofs.Gathering.{LeavesByLine}
 use Rattle.profile_query.proofs.leaving.gather_at.Given as goal
 
 abbrev pub invariant-loop-berth : goal.invariant-loop-berth
-invariant-loop-berth g l = HaveJoined (λ n. (k : ℕ) × (k < l.berth) × LeavesByLine (g.S.Scan.net l.scan).table (g.S.Scan.net l.scan).lines l.window l.path k n) l.initial.times.items l.times.items
+invariant-loop-berth g l = HaveJoined (λ n. (k : ℕ) × (k < l.berth) × LeavesByLine (g.S.Scan.net l.scan) l.window l.path k n) l.initial.times.items l.times.items

@@ -1,9 +1,7 @@
-use Rattle.std.proofs.Common.{◌≡◌, ◌∙◌, ℕ, List, rules, sym, ap, subst, arith, to_z, of_z, w32, ℤ, pos, ◌≤ℤ◌, ◌<ℤ◌}
+use Rattle.std.proofs.Common.{◌≡◌, ◌∙◌, List, rules, sym, ap, subst, arith, to_z, of_z, w32, ℤ, pos, ◌≤ℤ◌, ◌<ℤ◌}
 use Rattle.std.proofs.lemmas.Int.{ints, to_z-of_z}
 use Rattle.tb_base.specs.BestValues.{QueryData}
 use Rattle.tb_base.specs.declared.query.Value.{Value}
-use Rattle.tb_base.specs.declared.transfer.Hop.{Hop}
-use Rattle.earliest_query.specs.Sweeping.{IsSweptSoFar}
 use Rattle.profile_query.specs.Slots.{AreLater}
 use Rattle.profile_query.proofs.Laters.{none_later}
 use Rattle.profile_query.proofs.searching.begin.Goals as goal
@@ -23,6 +21,4 @@ at_most a = omega (arith, ints)
 pub search-requires-clause-later : goal.search-requires-clause-later
 search-requires-clause-later g c =
     let Q : QueryData = c.args.query.now in
-    let lines : List (List ℕ) = (g.S.Scan.net c.args.scan.now).lines in
-    let hops : ℕ → ℕ → List Hop = (g.S.Scan.net c.args.scan.now).hops in
-    (Q.leave, at_most Q.leave, subst (λ T. IsSweptSoFar T lines hops Q c.begin.new.desk c.begin.new.self) c.requires.table c.in_ok-begin.ensures.begun)
+    (Q.leave, at_most Q.leave, c.in_ok-begin.ensures.begun)

@@ -4,6 +4,7 @@ use Rattle.earliest_query.proofs.Growing.{extends-refl, extends-trans}
 use Rattle.earliest_query.proofs.FromOrigins.{are_boarded-kept}
 use Rattle.earliest_query.proofs.StopSums.{boards_bounded, boards_join, boards_none}
 use Rattle.earliest_query.proofs.search.Search.board_all.Goals as goal
+use Rattle.tb_base.specs.Network.{NetData}
 
 below_or_at : (k i : ℕ) → k < i + 1 → (k < i) ⊎ (i ≡ k)
 below_or_at k i h = grind arith
@@ -13,12 +14,12 @@ loop-place-init g c = record {
   queue = c.requires.queue;
   extends = extends-refl c.args.desk.now 1;
   boarded = λ place below. absurd (omega (arith, below));
-  steps = boards_none (g.S.Scan.net c.args.self.now.scan.now).table (g.S.Scan.net c.args.self.now.scan.now).lines c.args.self.now.query.now.from 0 0 c.args.steps.now;
+  steps = boards_none (g.S.Scan.net c.args.self.now.scan.now) c.args.self.now.query.now.from 0 0 c.args.steps.now;
 }
 
 pub loop-place-preserved : goal.loop-place-preserved
 loop-place-preserved g c =
-    let T = (g.S.Scan.net c.args.self.now.scan.now).table in
+    let N : NetData = g.S.Scan.net c.args.self.now.scan.now in
     let Q = c.args.self.now.query.now in
     let E = c.loop-place.desk in
     let F = c.board_from.new.desk in
@@ -26,12 +27,12 @@ loop-place-preserved g c =
       queue = c.board_from.ensures.queue;
       extends = extends-trans c.args.desk.now E F 1 c.loop-place.invariant.extends c.board_from.ensures.extends;
       boarded = λ place below. elim (below_or_at place c.loop-place.place below) [
-        | inl before ↦ are_boarded-kept T Q E F place c.board_from.ensures.extends (c.loop-place.invariant.boarded place before)
-        | inr e ↦ subst (λ m. AreBoarded T Q F m) e c.board_from.ensures.boarded
+        | inl before ↦ are_boarded-kept N.table Q E F place c.board_from.ensures.extends (c.loop-place.invariant.boarded place before)
+        | inr e ↦ subst (λ m. AreBoarded N.table Q F m) e c.board_from.ensures.boarded
       ];
-      steps = boards_join T (g.S.Scan.net c.args.self.now.scan.now).lines Q.from 0 c.loop-place.place (c.loop-place.place + 1) c.args.steps.now c.loop-place.steps c.board_from.new.steps (omega arith) (omega arith) c.loop-place.invariant.steps c.board_from.ensures.steps;
+      steps = boards_join N Q.from 0 c.loop-place.place (c.loop-place.place + 1) c.args.steps.now c.loop-place.steps c.board_from.new.steps (omega arith) (omega arith) c.loop-place.invariant.steps c.board_from.ensures.steps;
     }
 
 pub returns-clause-steps : goal.returns-clause-steps
 returns-clause-steps g c =
-    boards_bounded (g.S.Scan.net c.args.self.now.scan.now).table (g.S.Scan.net c.args.self.now.scan.now).lines c.args.self.now.query.now.from 0 c.loop-place.place c.args.steps.now c.loop-place.steps c.loop-place.invariant.steps
+    boards_bounded (g.S.Scan.net c.args.self.now.scan.now) c.args.self.now.query.now.from 0 c.loop-place.place c.args.steps.now c.loop-place.steps c.loop-place.invariant.steps

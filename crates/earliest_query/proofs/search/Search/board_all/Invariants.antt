@@ -4,8 +4,8 @@ use Rattle.earliest_query.proofs.search.Search.board_all.Given as goal
 
 abbrev pub invariant-loop-place : goal.invariant-loop-place
 invariant-loop-place g l = record {
-  queue : IsQueue (g.S.Scan.net l.self.scan.now).table (g.S.Scan.net l.self.scan.now).lines (g.S.Scan.net l.self.scan.now).hops l.self.query.now l.desk 1;
+  queue : IsQueue (g.S.Scan.net l.self.scan.now) l.self.query.now l.desk 1;
   extends : Extends l.initial.desk l.desk 1;
   boarded : (place : ℕ) → place < l.place → AreBoarded (g.S.Scan.net l.self.scan.now).table l.self.query.now l.desk place;
-  steps : BoardsStops (g.S.Scan.net l.self.scan.now).table (g.S.Scan.net l.self.scan.now).lines l.self.query.now.from 0 l.place l.initial.steps l.steps;
+  steps : BoardsStops (g.S.Scan.net l.self.scan.now) l.self.query.now.from 0 l.place l.initial.steps l.steps;
 }

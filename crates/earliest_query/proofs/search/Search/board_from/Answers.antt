@@ -1,5 +1,6 @@
 use Rattle.std.proofs.Common.{◌≡◌, ◌∙◌, ℕ, ◌+◌, ◌<◌, ◌⊎◌, inl, inr, length, get_or, sym, ap, subst, arith}
 use Rattle.std.specs.Prelude.{Some}
+use Rattle.tb_base.specs.Network.{NetData}
 use Rattle.tb_base.specs.declared.table.Path.{Path}
 use Rattle.tb_base.specs.TimetableData.{TimetableData}
 use Rattle.tb_base.specs.BestValues.{QueryData}
@@ -17,19 +18,18 @@ use Rattle.earliest_query.proofs.search.Search.board_from.Goals as goal
 
 pub loop-path-init : goal.loop-path-init
 loop-path-init g c =
-    let T : TimetableData = (g.S.Scan.net c.args.self.now.scan.now).table in
-    let lines = (g.S.Scan.net c.args.self.now.scan.now).lines in
+    let N : NetData = g.S.Scan.net c.args.self.now.scan.now in
     let Q : QueryData = c.args.self.now.query.now in
     let o : ℕ = c.index-origins-place.result in
     let is : o ≡ get_or Q.from c.args.place 0 = origin_is c.origins.result.now Q.from c.args.place o c.origins.ensures c.requires.place c.index-origins-place.is in
     record {
       queue = c.board_if_first.ensures.queue;
       extends = c.board_if_first.ensures.extends;
-      own = subst (λ s. IsFirstChoice T Q.from c.args.place s 0 → IsBoarded T Q c.board_if_first.new.desk s 0) is c.board_if_first.ensures.boarded;
+      own = subst (λ s. IsFirstChoice N.table Q.from c.args.place s 0 → IsBoarded N.table Q c.board_if_first.new.desk s 0) is c.board_if_first.ensures.boarded;
       boarded = λ k d below. absurd (omega (arith, below));
-      steps = among_start T lines Q.from c.args.place (get_or Q.from c.args.place 0) c.walks-path-items.result.now c.requires.place 0 c.args.steps.now c.board_if_first.new.steps
-          (c.requires.origins c.args.place 0 c.requires.place) (walk-same T (get_or Q.from c.args.place 0))
-          (subst (λ s. BoardsOnce T lines Q.from c.args.place s 0 c.args.steps.now c.board_if_first.new.steps) is c.board_if_first.ensures.steps);
+      steps = among_start N Q.from c.args.place (get_or Q.from c.args.place 0) c.walks-path-items.result.now c.requires.place 0 c.args.steps.now c.board_if_first.new.steps
+          (c.requires.origins c.args.place 0 c.requires.place) (walk-same N.table (get_or Q.from c.args.place 0))
+          (subst (λ s. BoardsOnce N Q.from c.args.place s 0 c.args.steps.now c.board_if_first.new.steps) is c.board_if_first.ensures.steps);
     }
 
 pub board_if_first-requires-in-loop-path-clause-queue : goal.board_if_first-requires-in-loop-path-clause-queue
@@ -53,8 +53,7 @@ below_or_at k i h = grind arith
 
 pub loop-path-preserved : goal.loop-path-preserved
 loop-path-preserved g c =
-    let T : TimetableData = (g.S.Scan.net c.args.self.now.scan.now).table in
-    let lines = (g.S.Scan.net c.args.self.now.scan.now).lines in
+    let N : NetData = g.S.Scan.net c.args.self.now.scan.now in
     let Q : QueryData = c.args.self.now.query.now in
     let E : DeskData = c.loop-path.desk in
     let F : DeskData = c.board_if_first-in-loop-path.new.desk in
@@ -66,18 +65,18 @@ loop-path-preserved g c =
     let k : ℕ = c.loop-path.path-index in
     let inside : k < length paths = c.loop-path-test.true in
     let read = λ (d : Path). get_or-inside paths k d f inside ∙ sym c.path-item.is in
-    let sound = subst (IsSoundPath (length T.stops) o) (read f) (c.walks-path-items.ensures.sound k f inside) in
-    let walks = subst (λ s. walk T s f.to ≡ Some f.secs) is (path_walk T o paths k f c.walks-path-items.ensures.paths c.walks-path-items.ensures.ascending inside read sound.away) in
+    let sound = subst (IsSoundPath (length N.table.stops) o) (read f) (c.walks-path-items.ensures.sound k f inside) in
+    let walks = subst (λ s. walk N.table s f.to ≡ Some f.secs) is (path_walk N.table o paths k f c.walks-path-items.ensures.paths c.walks-path-items.ensures.ascending inside read sound.away) in
     let more = c.board_if_first-in-loop-path.ensures in
     record {
       queue = more.queue;
       extends = extends-trans c.args.desk.now E F 1 c.loop-path.invariant.extends more.extends;
-      own = λ first. boarded-kept T Q E F own 0 more.extends (c.loop-path.invariant.own first);
+      own = λ first. boarded-kept N.table Q E F own 0 more.extends (c.loop-path.invariant.own first);
       boarded = λ i d below. elim (below_or_at i k below) [
-        | inl before ↦ λ first. boarded-kept T Q E F (get_or paths i d).to (get_or paths i d).secs more.extends (c.loop-path.invariant.boarded i d before first)
-        | inr e ↦ subst (λ (p : Path). IsFirstChoice T Q.from c.args.place p.to p.secs → IsBoarded T Q F p.to p.secs) (sym (read d) ∙ ap (λ m. get_or paths m d) e) more.boarded
+        | inl before ↦ λ first. boarded-kept N.table Q E F (get_or paths i d).to (get_or paths i d).secs more.extends (c.loop-path.invariant.boarded i d before first)
+        | inr e ↦ subst (λ (p : Path). IsFirstChoice N.table Q.from c.args.place p.to p.secs → IsBoarded N.table Q F p.to p.secs) (sym (read d) ∙ ap (λ m. get_or paths m d) e) more.boarded
       ];
-      steps = among_more T lines Q.from c.args.place own paths c.requires.place k f.secs c.args.steps.now c.loop-path.steps c.board_if_first-in-loop-path.new.steps f read sound.to
+      steps = among_more N Q.from c.args.place own paths c.requires.place k f.secs c.args.steps.now c.loop-path.steps c.board_if_first-in-loop-path.new.steps f read sound.to
           (λ e. sound.away (e ∙ sym is)) (λ i d before. earlier_other paths k i d f c.walks-path-items.ensures.ascending before inside read) walks c.loop-path.invariant.steps more.steps;
     }
 
@@ -106,4 +105,4 @@ returns-clause-boarded g c = λ stop secs walks first.
 pub returns-clause-steps : goal.returns-clause-steps
 returns-clause-steps g c =
     let Q : QueryData = c.args.self.now.query.now in
-    among_all (g.S.Scan.net c.args.self.now.scan.now).table (g.S.Scan.net c.args.self.now.scan.now).lines Q.from c.args.place (get_or Q.from c.args.place 0) c.walks-path-items.result.now c.requires.place c.loop-path.path-index c.args.steps.now c.loop-path.steps c.loop-path.invariant.steps
+    among_all (g.S.Scan.net c.args.self.now.scan.now) Q.from c.args.place (get_or Q.from c.args.place 0) c.walks-path-items.result.now c.requires.place c.loop-path.path-index c.args.steps.now c.loop-path.steps c.loop-path.invariant.steps

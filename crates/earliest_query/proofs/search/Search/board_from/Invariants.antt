@@ -6,10 +6,10 @@ use Rattle.earliest_query.proofs.search.Search.board_from.Given as goal
 
 abbrev pub invariant-loop-path : goal.invariant-loop-path
 invariant-loop-path g l = record {
-  queue : IsQueue (g.S.Scan.net l.self.scan.now).table (g.S.Scan.net l.self.scan.now).lines (g.S.Scan.net l.self.scan.now).hops l.self.query.now l.desk 1;
+  queue : IsQueue (g.S.Scan.net l.self.scan.now) l.self.query.now l.desk 1;
   extends : Extends l.fn.desk l.desk 1;
   own : IsFirstChoice (g.S.Scan.net l.self.scan.now).table l.self.query.now.from l.place (get_or l.self.query.now.from l.place 0) 0 → IsBoarded (g.S.Scan.net l.self.scan.now).table l.self.query.now l.desk (get_or l.self.query.now.from l.place 0) 0;
   boarded : (k : ℕ) (d : Path) → k < l.path-index → IsFirstChoice (g.S.Scan.net l.self.scan.now).table l.self.query.now.from l.place (get_or l.path-items k d).to (get_or l.path-items k d).secs →
       IsBoarded (g.S.Scan.net l.self.scan.now).table l.self.query.now l.desk (get_or l.path-items k d).to (get_or l.path-items k d).secs;
-  steps : BoardsAmong (g.S.Scan.net l.self.scan.now).table (g.S.Scan.net l.self.scan.now).lines l.self.query.now.from l.place (get_or l.self.query.now.from l.place 0) l.path-items l.path-index l.fn.steps l.steps;
+  steps : BoardsAmong (g.S.Scan.net l.self.scan.now) l.self.query.now.from l.place (get_or l.self.query.now.from l.place 0) l.path-items l.path-index l.fn.steps l.steps;
 }

@@ -1,5 +1,6 @@
 use Rattle.std.proofs.Common.{◌≡◌, ◌∙◌, ℕ, suc, ◌+◌, ◌<◌, ◌⊎◌, inl, inr, length, get_or, sym, ap, subst, arith}
 use Rattle.std.specs.Prelude.{Contains}
+use Rattle.tb_base.specs.Network.{NetData}
 use Rattle.tb_base.specs.declared.transfer.Hop.{Hop}
 use Rattle.segment_queue.specs.declared.desk.Segment.{Segment}
 use Rattle.segment_queue.specs.Traced.{round_of, segment_of}
@@ -10,7 +11,7 @@ use Rattle.earliest_query.proofs.search.Search.follow.Goals as goal
 
 pub enter-requires-clause-queue : goal.enter-requires-clause-queue
 enter-requires-clause-queue g c =
-    subst (λ r. IsQueue (g.S.Scan.net c.args.self.now.scan.now).table (g.S.Scan.net c.args.self.now.scan.now).lines (g.S.Scan.net c.args.self.now.scan.now).hops c.args.self.now.query.now c.loop-hop.desk (suc r))
+    subst (λ r. IsQueue (g.S.Scan.net c.args.self.now.scan.now) c.args.self.now.query.now c.loop-hop.desk (suc r))
     (sym (extends-round c.args.desk.now c.loop-hop.desk (suc (round_of c.args.desk.now.segments c.args.segment)) c.loop-hop.invariant.extends c.args.segment c.requires.segment)) c.loop-hop.invariant.queue
 
 pub enter-requires-clause-trip : goal.enter-requires-clause-trip
@@ -46,19 +47,19 @@ below_or_at k i h = grind arith
 
 pub loop-hop-preserved : goal.loop-hop-preserved
 loop-hop-preserved g c =
-    let T = (g.S.Scan.net c.args.self.now.scan.now).table in
+    let N : NetData = g.S.Scan.net c.args.self.now.scan.now in
     let top : ℕ = suc (round_of c.args.desk.now.segments c.args.segment) in
     let same : suc (round_of c.loop-hop.desk.segments c.args.segment) ≡ top = ap suc (extends-round c.args.desk.now c.loop-hop.desk top c.loop-hop.invariant.extends c.args.segment c.requires.segment) in
     let joined : Extends c.loop-hop.desk c.enter.new.desk top = subst (λ r. Extends c.loop-hop.desk c.enter.new.desk r) same c.enter.ensures.extends in
-    let here : IsReachedBy T c.enter.new.desk (length c.enter.new.desk.segments) top c.hop-item.result.trip c.hop-item.result.at
-    = subst (λ r. IsReachedBy T c.enter.new.desk (length c.enter.new.desk.segments) r c.hop-item.result.trip c.hop-item.result.at) same c.enter.ensures.reached in
+    let here : IsReachedBy N.table c.enter.new.desk (length c.enter.new.desk.segments) top c.hop-item.result.trip c.hop-item.result.at
+    = subst (λ r. IsReachedBy N.table c.enter.new.desk (length c.enter.new.desk.segments) r c.hop-item.result.trip c.hop-item.result.at) same c.enter.ensures.reached in
     record {
-      queue = subst (λ r. IsQueue T (g.S.Scan.net c.args.self.now.scan.now).lines (g.S.Scan.net c.args.self.now.scan.now).hops c.args.self.now.query.now c.enter.new.desk r) same c.enter.ensures.queue;
+      queue = subst (λ r. IsQueue N c.args.self.now.query.now c.enter.new.desk r) same c.enter.ensures.queue;
       extends = extends-trans c.args.desk.now c.loop-hop.desk c.enter.new.desk top c.loop-hop.invariant.extends joined;
       reached = λ k d below. elim (below_or_at k c.loop-hop.hop-index below) [
-        | inl before ↦ extends-reached T c.loop-hop.desk c.enter.new.desk top (length c.loop-hop.desk.segments) (length c.enter.new.desk.segments) top top (get_or c.args.hops.now k d).trip (get_or c.args.hops.now k d).at joined
+        | inl before ↦ extends-reached N.table c.loop-hop.desk c.enter.new.desk top (length c.loop-hop.desk.segments) (length c.enter.new.desk.segments) top top (get_or c.args.hops.now k d).trip (get_or c.args.hops.now k d).at joined
             (c.loop-hop.invariant.reached k d before) (omega arith) (extends-long c.loop-hop.desk c.enter.new.desk top joined) (omega arith)
-        | inr e ↦ subst (λ (h : Hop). IsReachedBy T c.enter.new.desk (length c.enter.new.desk.segments) top h.trip h.at)
+        | inr e ↦ subst (λ (h : Hop). IsReachedBy N.table c.enter.new.desk (length c.enter.new.desk.segments) top h.trip h.at)
             (c.hop-item.is ∙ get_or-inside c.args.hops.now c.loop-hop.hop-index c.hop-item.result d c.loop-hop-test.true ∙ ap (λ m. get_or c.args.hops.now m d) e) here
       ];
     }

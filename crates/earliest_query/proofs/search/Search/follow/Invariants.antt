@@ -6,7 +6,7 @@ use Rattle.earliest_query.proofs.search.Search.follow.Given as goal
 
 abbrev pub invariant-loop-hop : goal.invariant-loop-hop
 invariant-loop-hop g l = record {
-  queue : IsQueue (g.S.Scan.net l.self.scan.now).table (g.S.Scan.net l.self.scan.now).lines (g.S.Scan.net l.self.scan.now).hops l.self.query.now l.desk (suc (round_of l.initial.desk.segments l.segment));
+  queue : IsQueue (g.S.Scan.net l.self.scan.now) l.self.query.now l.desk (suc (round_of l.initial.desk.segments l.segment));
   extends : Extends l.initial.desk l.desk (suc (round_of l.initial.desk.segments l.segment));
   reached : (k : ℕ) (d : Hop) → k < l.hop-index → IsReachedBy (g.S.Scan.net l.self.scan.now).table l.desk (length l.desk.segments) (suc (round_of l.initial.desk.segments l.segment)) (get_or l.hops k d).trip (get_or l.hops k d).at;
 }

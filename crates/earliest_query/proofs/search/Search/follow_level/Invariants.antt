@@ -7,7 +7,7 @@ use Rattle.earliest_query.proofs.search.Search.follow_level.Given as goal
 
 abbrev pub invariant-loop-hop : goal.invariant-loop-hop
 invariant-loop-hop g l = record {
-  queue : IsSweptQueue (g.S.Scan.net l.self.scan.now).table (g.S.Scan.net l.self.scan.now).lines (g.S.Scan.net l.self.scan.now).hops l.self.query.now l.desk l.levels;
+  queue : IsSweptQueue (g.S.Scan.net l.self.scan.now) l.self.query.now l.desk l.levels;
   levels : length l.levels ≡ length l.initial.levels;
   extends : Extends l.initial.desk l.desk (suc l.level);
   still : Fits (g.S.Scan.net l.self.scan.now).table l.initial.desk → Fits (g.S.Scan.net l.self.scan.now).table l.desk;

@@ -1,6 +1,7 @@
 use Rattle.std.proofs.Common.{◌≡◌, ◌∙◌, ℕ, suc, ◌+◌, inl, sym, ap, subst, refl, arith}
 use Rattle.std.proofs.lemmas.Int.{ints}
 use Rattle.std.proofs.lemmas.Option.{get_or_from_slice_get}
+use Rattle.tb_base.specs.Network.{NetData}
 use Rattle.tb_base.specs.TimetableData.{TimetableData}
 use Rattle.tb_base.specs.BestValues.{QueryData}
 use Rattle.segment_queue.specs.declared.desk.Segment.{Segment}
@@ -40,7 +41,7 @@ visit-visit-requires-clause-at g c =
 pub follow-requires-clause-queue : goal.follow-requires-clause-queue
 follow-requires-clause-queue g c =
     let top : ℕ = suc c.args.round in
-    subst (λ r. IsQueue (g.S.Scan.net c.args.self.now.scan.now).table (g.S.Scan.net c.args.self.now.scan.now).lines (g.S.Scan.net c.args.self.now.scan.now).hops c.args.self.now.query.now c.loop-before.desk (suc r))
+    subst (λ r. IsQueue (g.S.Scan.net c.args.self.now.scan.now) c.args.self.now.query.now c.loop-before.desk (suc r))
     (sym (extends-round c.args.desk.now c.loop-before.desk top c.loop-before.invariant.extends c.args.n c.requires.segment ∙ c.requires.round)) c.loop-before.invariant.queue
 
 pub follow-requires-clause-segment : goal.follow-requires-clause-segment
@@ -78,16 +79,15 @@ weigh-best-requires-clause-arr g c =
 
 pub loop-before-preserved : goal.loop-before-preserved
 loop-before-preserved g c =
-    let T : TimetableData = (g.S.Scan.net c.args.self.now.scan.now).table in
+    let N : NetData = g.S.Scan.net c.args.self.now.scan.now in
     let Q : QueryData = c.args.self.now.query.now in
-    let hops = (g.S.Scan.net c.args.self.now.scan.now).hops in
     let D : DeskData = c.args.desk.now in
     let E : DeskData = c.loop-before.desk in
     let n : ℕ = c.args.n in
     let at : ℕ = c.loop-before.before + 1 in
     let F : DeskData = c.follow.new.desk in
     let top : ℕ = suc c.args.round in
-    let looked : IsLookedAt T hops Q D E n at c.args.round c.args.so_far c.loop-before.best c.weigh-best.result
+    let looked : IsLookedAt N Q D E n at c.args.round c.args.so_far c.loop-before.best c.weigh-best.result
     = record {
       segment = c.in-Some.segment;
       is = get_or_from_slice_get D.segments n c.in-Some.segment no_segment (sym c.in-Some.ensures);
@@ -110,24 +110,23 @@ loop-before-preserved g c =
     let round : suc (round_of E.segments n) ≡ top = ap suc (extends-round D E top c.loop-before.invariant.extends n c.requires.segment ∙ c.requires.round) in
     let joined : Extends E F top = subst (λ r. Extends E F r) round c.follow.ensures.extends in
     record {
-      queue = subst (λ r. IsQueue T (g.S.Scan.net c.args.self.now.scan.now).lines hops Q F r) round c.follow.ensures.queue;
-      extends = extends_on T hops Q D E n at c.args.round c.args.so_far c.loop-before.best c.weigh-best.result looked F joined c.follow.ensures.followed;
-      followed = followed_on T hops Q D E n at c.args.round c.args.so_far c.loop-before.best c.weigh-best.result looked F joined c.follow.ensures.followed;
-      bounded = bounded_on T hops Q D E n at c.args.round c.args.so_far c.loop-before.best c.weigh-best.result looked F joined c.follow.ensures.followed;
-      improved = improved_on T hops Q D E n at c.args.round c.args.so_far c.loop-before.best c.weigh-best.result looked F joined c.follow.ensures.followed;
+      queue = subst (λ r. IsQueue N Q F r) round c.follow.ensures.queue;
+      extends = extends_on N Q D E n at c.args.round c.args.so_far c.loop-before.best c.weigh-best.result looked F joined c.follow.ensures.followed;
+      followed = followed_on N Q D E n at c.args.round c.args.so_far c.loop-before.best c.weigh-best.result looked F joined c.follow.ensures.followed;
+      bounded = bounded_on N Q D E n at c.args.round c.args.so_far c.loop-before.best c.weigh-best.result looked F joined c.follow.ensures.followed;
+      improved = improved_on N Q D E n at c.args.round c.args.so_far c.loop-before.best c.weigh-best.result looked F joined c.follow.ensures.followed;
       steps = omega (arith, c.loop-before.invariant.steps, c.visit-visit.ensures.step, ap (λ (s : Segment). s.board) looked.is);
     }
 
 pub returns-then-is_late : goal.returns-then-is_late
 returns-then-is_late g c =
-    let T : TimetableData = (g.S.Scan.net c.args.self.now.scan.now).table in
+    let N : NetData = g.S.Scan.net c.args.self.now.scan.now in
     let Q : QueryData = c.args.self.now.query.now in
-    let hops = (g.S.Scan.net c.args.self.now.scan.now).hops in
     let D : DeskData = c.args.desk.now in
     let E : DeskData = c.loop-before.desk in
     let n : ℕ = c.args.n in
     let at : ℕ = c.loop-before.before + 1 in
-    let looked : IsLookedAt T hops Q D E n at c.args.round c.args.so_far c.loop-before.best c.weigh-best.result
+    let looked : IsLookedAt N Q D E n at c.args.round c.args.so_far c.loop-before.best c.weigh-best.result
     = record {
       segment = c.in-Some.segment;
       is = get_or_from_slice_get D.segments n c.in-Some.segment no_segment (sym c.in-Some.ensures);
@@ -150,9 +149,9 @@ returns-then-is_late g c =
     record {
       queue = c.loop-before.invariant.queue;
       extends = c.loop-before.invariant.extends;
-      followed = followed_late T hops Q D E n at c.args.round c.args.so_far c.loop-before.best c.weigh-best.result looked c.shape-shape.ensures.sound (c.requires.queue.step.segments n no_segment c.requires.segment) (c.if-is_late.ensures.0 refl);
-      bounded = bounded_late T hops Q D E n at c.args.round c.args.so_far c.loop-before.best c.weigh-best.result looked c.shape-shape.ensures.sound (c.requires.queue.step.segments n no_segment c.requires.segment) (c.if-is_late.ensures.0 refl);
-      improved = improved_late T hops Q D E n at c.args.round c.args.so_far c.loop-before.best c.weigh-best.result looked c.shape-shape.ensures.sound (c.requires.queue.step.segments n no_segment c.requires.segment) (c.if-is_late.ensures.0 refl);
+      followed = followed_late N Q D E n at c.args.round c.args.so_far c.loop-before.best c.weigh-best.result looked c.shape-shape.ensures.sound (c.requires.queue.step.segments n no_segment c.requires.segment) (c.if-is_late.ensures.0 refl);
+      bounded = bounded_late N Q D E n at c.args.round c.args.so_far c.loop-before.best c.weigh-best.result looked c.shape-shape.ensures.sound (c.requires.queue.step.segments n no_segment c.requires.segment) (c.if-is_late.ensures.0 refl);
+      improved = improved_late N Q D E n at c.args.round c.args.so_far c.loop-before.best c.weigh-best.result looked c.shape-shape.ensures.sound (c.requires.queue.step.segments n no_segment c.requires.segment) (c.if-is_late.ensures.0 refl);
       steps = omega (arith, c.loop-before.invariant.steps, c.visit-visit.ensures.step, ap (λ (s : Segment). s.board) looked.is, ap (λ (s : Segment). s.end) looked.is, c.loop-before-test.true);
     }
 

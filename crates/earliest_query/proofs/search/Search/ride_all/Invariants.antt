@@ -5,7 +5,7 @@ use Rattle.earliest_query.proofs.search.Search.ride_all.Given as goal
 
 abbrev pub invariant-loop-from : goal.invariant-loop-from
 invariant-loop-from g l = record {
-  ridden : IsRidden (g.S.Scan.net l.self.scan.now).table (g.S.Scan.net l.self.scan.now).lines (g.S.Scan.net l.self.scan.now).hops l.self.query.now l.desk l.from l.round;
+  ridden : IsRidden (g.S.Scan.net l.self.scan.now) l.self.query.now l.desk l.from l.round;
   most : l.from ≤ 10000000;
   steps : l.steps ≤ l.initial.steps + covered_before l.desk.segments l.from;
 }

@@ -1,7 +1,7 @@
 use Rattle.std.proofs.Common.{◌≡◌, ◌∙◌, ℕ, suc, ◌+◌, inl, sym, ap, subst, refl, arith}
 use Rattle.std.proofs.lemmas.Int.{ints}
 use Rattle.std.proofs.lemmas.Option.{get_or_from_slice_get}
-use Rattle.tb_base.specs.TimetableData.{TimetableData}
+use Rattle.tb_base.specs.Network.{NetData}
 use Rattle.tb_base.specs.BestValues.{QueryData}
 use Rattle.segment_queue.specs.declared.desk.Segment.{Segment}
 use Rattle.segment_queue.specs.Queue.{DeskData, IsSoundSegment}
@@ -75,15 +75,14 @@ follow_level-requires-clause-hops g c =
 
 pub loop-before-preserved : goal.loop-before-preserved
 loop-before-preserved g c =
-    let T : TimetableData = (g.S.Scan.net c.args.self.now.scan.now).table in
+    let N : NetData = g.S.Scan.net c.args.self.now.scan.now in
     let Q : QueryData = c.args.self.now.query.now in
-    let hops = (g.S.Scan.net c.args.self.now.scan.now).hops in
     let D : DeskData = c.args.desk.now in
     let E : DeskData = c.loop-before.desk in
     let n : ℕ = c.args.n in
     let at : ℕ = c.loop-before.before + 1 in
     let F : DeskData = c.follow_level.new.desk in
-    let looked : IsLookedAt T hops Q D E n at c.args.round c.args.so_far c.loop-before.best c.weigh-best.result
+    let looked : IsLookedAt N Q D E n at c.args.round c.args.so_far c.loop-before.best c.weigh-best.result
     = record {
       segment = c.in-Some.segment;
       is = get_or_from_slice_get D.segments n c.in-Some.segment no_segment (sym c.in-Some.ensures);
@@ -106,23 +105,22 @@ loop-before-preserved g c =
     record {
       queue = c.in_ok-follow_level.ensures.queue;
       levels = c.in_ok-follow_level.ensures.levels ∙ c.loop-before.invariant.levels;
-      extends = extends_on T hops Q D E n at c.args.round c.args.so_far c.loop-before.best c.weigh-best.result looked F c.in_ok-follow_level.ensures.extends c.in_ok-follow_level.ensures.followed;
-      followed = followed_on T hops Q D E n at c.args.round c.args.so_far c.loop-before.best c.weigh-best.result looked F c.in_ok-follow_level.ensures.extends c.in_ok-follow_level.ensures.followed;
-      bounded = bounded_on T hops Q D E n at c.args.round c.args.so_far c.loop-before.best c.weigh-best.result looked F c.in_ok-follow_level.ensures.extends c.in_ok-follow_level.ensures.followed;
-      improved = improved_on T hops Q D E n at c.args.round c.args.so_far c.loop-before.best c.weigh-best.result looked F c.in_ok-follow_level.ensures.extends c.in_ok-follow_level.ensures.followed;
+      extends = extends_on N Q D E n at c.args.round c.args.so_far c.loop-before.best c.weigh-best.result looked F c.in_ok-follow_level.ensures.extends c.in_ok-follow_level.ensures.followed;
+      followed = followed_on N Q D E n at c.args.round c.args.so_far c.loop-before.best c.weigh-best.result looked F c.in_ok-follow_level.ensures.extends c.in_ok-follow_level.ensures.followed;
+      bounded = bounded_on N Q D E n at c.args.round c.args.so_far c.loop-before.best c.weigh-best.result looked F c.in_ok-follow_level.ensures.extends c.in_ok-follow_level.ensures.followed;
+      improved = improved_on N Q D E n at c.args.round c.args.so_far c.loop-before.best c.weigh-best.result looked F c.in_ok-follow_level.ensures.extends c.in_ok-follow_level.ensures.followed;
       still = λ fits. c.follow_level.ensures.still (c.loop-before.invariant.still fits);
     }
 
 pub returns-then-is_late : goal.returns-then-is_late
 returns-then-is_late g c =
-    let T : TimetableData = (g.S.Scan.net c.args.self.now.scan.now).table in
+    let N : NetData = g.S.Scan.net c.args.self.now.scan.now in
     let Q : QueryData = c.args.self.now.query.now in
-    let hops = (g.S.Scan.net c.args.self.now.scan.now).hops in
     let D : DeskData = c.args.desk.now in
     let E : DeskData = c.loop-before.desk in
     let n : ℕ = c.args.n in
     let at : ℕ = c.loop-before.before + 1 in
-    let looked : IsLookedAt T hops Q D E n at c.args.round c.args.so_far c.loop-before.best c.weigh-best.result
+    let looked : IsLookedAt N Q D E n at c.args.round c.args.so_far c.loop-before.best c.weigh-best.result
     = record {
       segment = c.in-Some.segment;
       is = get_or_from_slice_get D.segments n c.in-Some.segment no_segment (sym c.in-Some.ensures);
@@ -146,9 +144,9 @@ returns-then-is_late g c =
       queue = c.loop-before.invariant.queue;
       levels = c.loop-before.invariant.levels;
       extends = c.loop-before.invariant.extends;
-      followed = followed_late T hops Q D E n at c.args.round c.args.so_far c.loop-before.best c.weigh-best.result looked c.shape-shape.ensures.sound (c.requires.queue.sound n no_segment c.requires.segment) (c.if-is_late.ensures.0 refl);
-      bounded = bounded_late T hops Q D E n at c.args.round c.args.so_far c.loop-before.best c.weigh-best.result looked c.shape-shape.ensures.sound (c.requires.queue.sound n no_segment c.requires.segment) (c.if-is_late.ensures.0 refl);
-      improved = improved_late T hops Q D E n at c.args.round c.args.so_far c.loop-before.best c.weigh-best.result looked c.shape-shape.ensures.sound (c.requires.queue.sound n no_segment c.requires.segment) (c.if-is_late.ensures.0 refl);
+      followed = followed_late N Q D E n at c.args.round c.args.so_far c.loop-before.best c.weigh-best.result looked c.shape-shape.ensures.sound (c.requires.queue.sound n no_segment c.requires.segment) (c.if-is_late.ensures.0 refl);
+      bounded = bounded_late N Q D E n at c.args.round c.args.so_far c.loop-before.best c.weigh-best.result looked c.shape-shape.ensures.sound (c.requires.queue.sound n no_segment c.requires.segment) (c.if-is_late.ensures.0 refl);
+      improved = improved_late N Q D E n at c.args.round c.args.so_far c.loop-before.best c.weigh-best.result looked c.shape-shape.ensures.sound (c.requires.queue.sound n no_segment c.requires.segment) (c.if-is_late.ensures.0 refl);
       still = c.loop-before.invariant.still;
     }
 

@@ -4,6 +4,7 @@ use Rattle.earliest_query.proofs.Growing.{extends-round, extends-trans}
 use Rattle.earliest_query.proofs.BestSoFar.{improved-trans}
 use Rattle.earliest_query.proofs.SegmentBySegment.{bounded_one_more, followed_one_more}
 use Rattle.earliest_query.proofs.search.Search.ride_level_round.Goals as goal
+use Rattle.tb_base.specs.Network.{NetData}
 
 pub ride_level-requires-clause-round : goal.ride_level-requires-clause-round
 ride_level-requires-clause-round g c =
@@ -11,8 +12,7 @@ ride_level-requires-clause-round g c =
 
 pub loop-n-preserved : goal.loop-n-preserved
 loop-n-preserved g c =
-    let T = (g.S.Scan.net c.args.self.now.scan.now).table in
-    let hops = (g.S.Scan.net c.args.self.now.scan.now).hops in
+    let N : NetData = g.S.Scan.net c.args.self.now.scan.now in
     let Q = c.args.self.now.query.now in
     let D : DeskData = c.args.desk.now in
     let E : DeskData = c.loop-n.desk in
@@ -25,9 +25,9 @@ loop-n-preserved g c =
       queue = ridden.queue;
       levels = ridden.levels ∙ before.levels;
       extends = extends-trans D E F top before.extends ridden.extends;
-      followed = followed_one_more T hops Q D E F c.args.from c.loop-n.n c.args.round c.loop-n.best c.in_ok-best.best inside before.extends ridden.extends ridden.improved before.followed ridden.followed;
-      bounded = bounded_one_more T hops Q D E F c.args.from c.loop-n.n c.args.round c.loop-n.best c.in_ok-best.best inside before.extends ridden.extends ridden.improved before.bounded ridden.bounded;
-      improved = improved-trans T Q E F top c.args.round c.args.so_far c.loop-n.best c.in_ok-best.best ridden.extends before.improved ridden.improved;
+      followed = followed_one_more N Q D E F c.args.from c.loop-n.n c.args.round c.loop-n.best c.in_ok-best.best inside before.extends ridden.extends ridden.improved before.followed ridden.followed;
+      bounded = bounded_one_more N Q D E F c.args.from c.loop-n.n c.args.round c.loop-n.best c.in_ok-best.best inside before.extends ridden.extends ridden.improved before.bounded ridden.bounded;
+      improved = improved-trans N.table Q E F top c.args.round c.args.so_far c.loop-n.best c.in_ok-best.best ridden.extends before.improved ridden.improved;
       still = λ fits. c.ride_level.ensures.still (before.still fits);
     }
 

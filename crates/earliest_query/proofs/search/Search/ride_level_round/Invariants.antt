@@ -6,10 +6,10 @@ use Rattle.earliest_query.proofs.search.Search.ride_level_round.Given as goal
 
 abbrev pub invariant-loop-n : goal.invariant-loop-n
 invariant-loop-n g l = record {
-  queue : IsSweptQueue (g.S.Scan.net l.self.scan.now).table (g.S.Scan.net l.self.scan.now).lines (g.S.Scan.net l.self.scan.now).hops l.self.query.now l.desk l.levels;
+  queue : IsSweptQueue (g.S.Scan.net l.self.scan.now) l.self.query.now l.desk l.levels;
   levels : length l.levels ≡ length l.initial.levels;
   extends : Extends l.initial.desk l.desk (suc l.round);
-  followed : (n i : ℕ) → l.from ≤ n → n < l.n → Covers l.initial.desk n i → IsDone (g.S.Scan.net l.self.scan.now).table (g.S.Scan.net l.self.scan.now).hops l.desk l.best n i;
+  followed : (n i : ℕ) → l.from ≤ n → n < l.n → Covers l.initial.desk n i → IsDone (g.S.Scan.net l.self.scan.now) l.desk l.best n i;
   bounded : (n i : ℕ) → l.from ≤ n → n < l.n → Covers l.initial.desk n i → IsBounded (g.S.Scan.net l.self.scan.now).table l.self.query.now l.initial.desk l.best n i;
   improved : IsImproved (g.S.Scan.net l.self.scan.now).table l.self.query.now l.desk l.round l.initial.best l.best;
   still : Fits (g.S.Scan.net l.self.scan.now).table l.initial.desk → Fits (g.S.Scan.net l.self.scan.now).table l.desk;

@@ -5,7 +5,7 @@ use Rattle.earliest_query.proofs.search.Search.ride_levels.Given as goal
 
 abbrev pub invariant-loop-next : goal.invariant-loop-next
 invariant-loop-next g l = record {
-  ridden : IsSweptRound (g.S.Scan.net l.self.scan.now).table (g.S.Scan.net l.self.scan.now).lines (g.S.Scan.net l.self.scan.now).hops l.self.query.now l.desk l.levels l.values l.next l.round;
+  ridden : IsSweptRound (g.S.Scan.net l.self.scan.now) l.self.query.now l.desk l.levels l.values l.next l.round;
   few : l.round ≤ l.next + 1;
   still : Fits (g.S.Scan.net l.self.scan.now).table l.initial.desk → Fits (g.S.Scan.net l.self.scan.now).table l.desk;
 }

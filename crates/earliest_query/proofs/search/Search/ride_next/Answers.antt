@@ -1,7 +1,7 @@
 use Rattle.std.proofs.Common.{◌≡◌, ◌∙◌, suc, ◌+◌, ◌++◌, length, take, sym, ap, subst, arith}
 use Rattle.std.specs.Prelude.{sum_by}
 use Rattle.std.proofs.lemmas.List.{take-append-le}
-use Rattle.tb_base.specs.TimetableData.{TimetableData}
+use Rattle.tb_base.specs.Network.{NetData}
 use Rattle.tb_base.specs.BestValues.{QueryData}
 use Rattle.segment_queue.specs.Queue.{DeskData, covered_indices}
 use Rattle.segment_queue.proofs.InStep.{segments_le_events}
@@ -23,23 +23,21 @@ keep-requires g c =
       c.requires.ridden.few_rounds,
       c.requires.from,
       extends-long D E (suc c.args.round) c.ride_round-best.ensures.extends,
-      segments_le_events (g.S.Scan.net c.args.self.now.scan.now).table (g.S.Scan.net c.args.self.now.scan.now).lines E c.ride_round-best.ensures.queue.step,
+      segments_le_events (g.S.Scan.net c.args.self.now.scan.now) E c.ride_round-best.ensures.queue.step,
       c.ride_round-best.ensures.queue.step.fits.hits,
     )
 
 pub returns-clause-ridden : goal.returns-clause-ridden
 returns-clause-ridden g c =
-    let T : TimetableData = (g.S.Scan.net c.args.self.now.scan.now).table in
-    let lines = (g.S.Scan.net c.args.self.now.scan.now).lines in
-    let hops = (g.S.Scan.net c.args.self.now.scan.now).hops in
+    let N : NetData = g.S.Scan.net c.args.self.now.scan.now in
     let Q : QueryData = c.args.self.now.query.now in
     let D : DeskData = c.args.desk.now in
     let E : DeskData = c.ride_round-best.new.desk in
     let more = c.ride_round-best.ensures in
-    let improved = subst (λ o. IsImproved T Q E c.args.round o c.ride_round-best.result) c.last_hit-last.ensures more.improved in
-    let next : IsRidden T lines hops Q (record E { hits = D.hits ++ hits_of c.args.round c.ride_round-best.result }) c.count-to.result (c.args.round + 1)
-    = ridden_next T lines hops Q D E c.ride_round-best.result c.args.from c.count-to.result c.args.round c.requires.ridden c.count-to.ensures.result c.requires.from more.queue more.extends more.followed more.bounded improved in
-    subst (λ d. IsRidden T lines hops Q d c.count-to.result (c.args.round + 1))
+    let improved = subst (λ o. IsImproved N.table Q E c.args.round o c.ride_round-best.result) c.last_hit-last.ensures more.improved in
+    let next : IsRidden N Q (record E { hits = D.hits ++ hits_of c.args.round c.ride_round-best.result }) c.count-to.result (c.args.round + 1)
+    = ridden_next N Q D E c.ride_round-best.result c.args.from c.count-to.result c.args.round c.requires.ridden c.count-to.ensures.result c.requires.from more.queue more.extends more.followed more.bounded improved in
+    subst (λ d. IsRidden N Q d c.count-to.result (c.args.round + 1))
     (ap (λ hs. record E { hits = hs ++ hits_of c.args.round c.ride_round-best.result }) (sym more.extends.hits) ∙ sym c.keep.ensures) next
 
 pub returns-clause-steps : goal.returns-clause-steps

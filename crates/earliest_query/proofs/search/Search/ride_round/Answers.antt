@@ -6,6 +6,7 @@ use Rattle.earliest_query.proofs.Growing.{extends-round, extends-segment, extend
 use Rattle.earliest_query.proofs.BestSoFar.{improved-trans}
 use Rattle.earliest_query.proofs.SegmentBySegment.{bounded_one_more, followed_one_more}
 use Rattle.earliest_query.proofs.search.Search.ride_round.Goals as goal
+use Rattle.tb_base.specs.Network.{NetData}
 
 pub ride-best-requires-clause-round : goal.ride-best-requires-clause-round
 ride-best-requires-clause-round g c =
@@ -13,7 +14,7 @@ ride-best-requires-clause-round g c =
 
 pub loop-n-preserved : goal.loop-n-preserved
 loop-n-preserved g c =
-    let T = (g.S.Scan.net c.args.self.now.scan.now).table in
+    let N : NetData = g.S.Scan.net c.args.self.now.scan.now in
     let Q = c.args.self.now.query.now in
     let D : DeskData = c.args.desk.now in
     let E : DeskData = c.loop-n.desk in
@@ -25,9 +26,9 @@ loop-n-preserved g c =
     record {
       queue = c.ride-best.ensures.queue;
       extends = extends-trans D E F top before.extends c.ride-best.ensures.extends;
-      followed = followed_one_more T (g.S.Scan.net c.args.self.now.scan.now).hops Q D E F c.args.from c.loop-n.n c.args.round c.loop-n.best c.ride-best.result inside before.extends c.ride-best.ensures.extends c.ride-best.ensures.improved before.followed c.ride-best.ensures.followed;
-      bounded = bounded_one_more T (g.S.Scan.net c.args.self.now.scan.now).hops Q D E F c.args.from c.loop-n.n c.args.round c.loop-n.best c.ride-best.result inside before.extends c.ride-best.ensures.extends c.ride-best.ensures.improved before.bounded c.ride-best.ensures.bounded;
-      improved = improved-trans T Q E F top c.args.round c.args.so_far c.loop-n.best c.ride-best.result c.ride-best.ensures.extends before.improved c.ride-best.ensures.improved;
+      followed = followed_one_more N Q D E F c.args.from c.loop-n.n c.args.round c.loop-n.best c.ride-best.result inside before.extends c.ride-best.ensures.extends c.ride-best.ensures.improved before.followed c.ride-best.ensures.followed;
+      bounded = bounded_one_more N Q D E F c.args.from c.loop-n.n c.args.round c.loop-n.best c.ride-best.result inside before.extends c.ride-best.ensures.extends c.ride-best.ensures.improved before.bounded c.ride-best.ensures.bounded;
+      improved = improved-trans N.table Q E F top c.args.round c.args.so_far c.loop-n.best c.ride-best.result c.ride-best.ensures.extends before.improved c.ride-best.ensures.improved;
       steps = omega (arith, before.steps, c.ride-best.ensures.steps, ap covered_indices same, sum_by_more covered_indices D.segments c.loop-n.n no_segment inside);
     }
 

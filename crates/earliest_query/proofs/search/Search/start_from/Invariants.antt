@@ -7,7 +7,7 @@ use Rattle.earliest_query.proofs.search.Search.start_from.Given as goal
 
 abbrev pub invariant-loop-path : goal.invariant-loop-path
 invariant-loop-path g l = record {
-  queue : IsSweptQueue (g.S.Scan.net l.self.scan.now).table (g.S.Scan.net l.self.scan.now).lines (g.S.Scan.net l.self.scan.now).hops l.self.query.now l.desk l.levels;
+  queue : IsSweptQueue (g.S.Scan.net l.self.scan.now) l.self.query.now l.desk l.levels;
   extends : Extends l.fn.desk l.desk 1;
   own : IsBoarded (g.S.Scan.net l.self.scan.now).table l.self.query.now l.desk l.fn.origin 0;
   boarded : (k : ℕ) (d : Path) → k < l.path-index → IsBoarded (g.S.Scan.net l.self.scan.now).table l.self.query.now l.desk (get_or l.path-items k d).to (get_or l.path-items k d).secs;

@@ -9,7 +9,7 @@ use Rattle.earliest_query.proofs.search.Search.start_stop.Given as goal
 
 abbrev pub invariant-loop-berth : goal.invariant-loop-berth
 invariant-loop-berth g l = record {
-  queue : IsSweptQueue (g.S.Scan.net l.self.scan.now).table (g.S.Scan.net l.self.scan.now).lines (g.S.Scan.net l.self.scan.now).hops l.self.query.now l.desk l.levels;
+  queue : IsSweptQueue (g.S.Scan.net l.self.scan.now) l.self.query.now l.desk l.levels;
   extends : Extends l.initial.desk l.desk 1;
   reached : (k : ℕ) (h : Hop) → k < l.berth → boarding_hop (g.S.Scan.net l.self.scan.now).table (get_or (line_indices_at (g.S.Scan.net l.self.scan.now).table (g.S.Scan.net l.self.scan.now).lines l.stop) k no_line_index) (l.self.query.now.leave +ℤ pos l.secs) ≡ Some h →
       IsReachedBy (g.S.Scan.net l.self.scan.now).table l.desk (length l.desk.segments) 1 h.trip h.at;

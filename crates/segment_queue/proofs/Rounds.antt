@@ -1,9 +1,9 @@
 -- The rounds of segments, when the queue grows.
-use Rattle.std.proofs.Common.{◌≡◌, ◌∙◌, ℕ, ◌+◌, ◌<◌, List, [], ◌∷◌, ◌++◌, length, map, get_or, refl, sym, ap, arith, length-append}
-use Rattle.std.specs.Prelude.{fold}
+use Rattle.std.proofs.Common.{◌≡◌, ◌∙◌, ℕ, zero, suc, ◌+◌, ◌<◌, List, [], ◌∷◌, ◌++◌, length, map, take, drop, get_or, Option, Some, None, refl, sym, ap, arith, length-append}
+use Rattle.std.specs.Prelude.{IfSome, fold}
 use Rattle.std.proofs.Math.ListN.{get_or-append}
 use Rattle.std.proofs.Math.Seq.{get_or-append_seam}
-use Rattle.std.proofs.lemmas.List.{append_assoc, append-nil, get_or-map, map-append}
+use Rattle.std.proofs.lemmas.List.{append_assoc, append-nil, get_or-map, map-append, take-append-drop, take_more}
 use Rattle.std.proofs.lemmas.List.Sums.{fold-append}
 use Rattle.tb_base.specs.Search.{RoundSegment, segment_at}
 use Rattle.segment_queue.specs.declared.desk.Segment.{Segment}
@@ -73,3 +73,32 @@ board_of segments n inside = part_of (λ r. r.board) (λ s. s.board) (λ s r. re
 
 pub end_of : (segments : List Segment) (n : ℕ) → n < length segments → (segment_at (round_segments segments) n).end ≡ (segment_of segments n).end
 end_of segments n inside = part_of (λ r. r.end) (λ s. s.end) (λ s r. refl) segments n inside
+
+-- the round of a segment is that behind its parent
+pub round_behind : (segments : List Segment) (n : ℕ) → n < length segments → (parent : Option (ℕ × ℕ)) → (segment_of segments n).parent ≡ parent → IfSome parent (λ p. p.0 < n) → round_of segments n ≡ round_after (round_segments segments) parent
+round_behind segments n inside parent is earlier =
+    let before : List Segment = take n segments in
+    let s : Segment = segment_of segments n in
+    let after : List Segment = drop (n + 1) segments in
+    let whole : segments ≡ (before ++ s ∷ []) ++ after = split segments n inside in
+    let long : length before ≡ n = taken segments n inside in
+    let longer : length (before ++ s ∷ []) ≡ n + 1 = omega (arith, length-append before (s ∷ []), long) in
+    ap (λ xs. round_of xs n) whole
+    ∙ round_of-kept (before ++ s ∷ []) after n (omega (arith, longer))
+    ∙ ap (round_of (before ++ s ∷ [])) (sym long)
+    ∙ ap (λ (r : RoundSegment). r.round) (segment_at-last before s)
+    ∙ ap (round_after (round_segments before)) is
+    ∙ by_parent parent earlier before after s whole long
+  where
+    taken : (xs : List Segment) (n : ℕ) → n < length xs → length (take n xs) ≡ n
+    taken [] n h = absurd (omega (arith, h))
+    taken (x ∷ xs) zero h = refl
+    taken (x ∷ xs) (suc n) h = omega (arith, taken xs n (omega (arith, h)))
+
+    split : (xs : List Segment) (n : ℕ) → n < length xs → xs ≡ (take n xs ++ segment_of xs n ∷ []) ++ drop (n + 1) xs
+    split xs n h = sym (take-append-drop (n + 1) xs) ∙ ap (λ ys. ys ++ drop (n + 1) xs) (take_more xs n no_segment h)
+
+    by_parent : (o : Option (ℕ × ℕ)) → IfSome o (λ p. p.0 < n) → (before after : List Segment) (s : Segment) → segments ≡ (before ++ s ∷ []) ++ after → length before ≡ n → round_after (round_segments before) o ≡ round_after (round_segments segments) o
+    by_parent None h before after s whole long = refl
+    by_parent (Some p) h before after s whole long =
+        ap suc (ap (λ (r : RoundSegment). r.round) (sym (ap (λ xs. segment_at (round_segments xs) p.0) (whole ∙ append_assoc before (s ∷ []) after) ∙ segment_at-kept before (s ∷ [] ++ after) p.0 (omega (arith, h, long)))))

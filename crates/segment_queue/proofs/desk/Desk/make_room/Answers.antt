@@ -1,0 +1,20 @@
+use Rattle.std.proofs.Common.{sym, subst, arith}
+use Rattle.segment_queue.specs.contracts.desk.Desk.{the_view}
+use Rattle.segment_queue.specs.Queue.{IsInStep}
+use Rattle.segment_queue.proofs.InStep.{in_step-grown}
+use Rattle.segment_queue.proofs.desk.Desk.make_room.Goals as goal
+
+pub returns-in_err-make_room_for-clause-step : goal.returns-in_err-make_room_for-clause-step
+returns-in_err-make_room_for-clause-step g c =
+    λ N step. in_step-grown N (the_view c.self.inside) (the_view (record { marks = c.make_room.new.self; segments = c.make_room_for.new.items; hits = c.self.inside.hits })) _
+    (subst (IsInStep N) (sym c.self.view_is) step) c.in_ok-make_room.ensures.room c.make_room_for.ensures.items c.make_room_for.ensures.grows (omega arith)
+
+pub returns-in_err-make_room_for-2-clause-step : goal.returns-in_err-make_room_for-2-clause-step
+returns-in_err-make_room_for-2-clause-step g c =
+    λ N step. in_step-grown N (the_view c.self.inside) (the_view (record { marks = c.make_room.new.self; segments = c.make_room_for.new.items; hits = c.make_room_for-2.new.items })) _
+    (subst (IsInStep N) (sym c.self.view_is) step) c.in_ok-make_room.ensures.room c.make_room_for.ensures.items c.make_room_for.ensures.grows c.make_room_for-2.ensures.grows
+
+pub returns-clause-step : goal.returns-clause-step
+returns-clause-step g c =
+    λ N step. in_step-grown N (the_view c.self.inside) (the_view (record { marks = c.make_room.new.self; segments = c.make_room_for.new.items; hits = c.make_room_for-2.new.items })) _
+    (subst (IsInStep N) (sym c.self.view_is) step) c.in_ok-make_room.ensures.room c.make_room_for.ensures.items c.make_room_for.ensures.grows c.make_room_for-2.ensures.grows
