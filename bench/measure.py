@@ -13,13 +13,13 @@ import tempfile
 import time
 
 HERE = os.path.dirname(os.path.abspath(__file__))
-PROGRAM = os.path.join(HERE, "..", "crates", "router_cli", "out", "router_cli")
+PROGRAM = os.path.join(HERE, "..", "crates", "router", "out", "router")
 OPTIONS = ["--change", "60"]
 NO_DAY, DAY = "20300101", "20260302"
 
 
 def build():
-    folder = os.path.join(HERE, "..", "crates", "router_cli")
+    folder = os.path.join(HERE, "..", "crates", "router")
     example = os.path.join("..", "..", "examples", "f1")
     subprocess.run(["rt", "run", "--", "direct", example, DAY, "A", "D", "08:05:00"], cwd=folder, check=True, stdout=subprocess.DEVNULL)
 

@@ -15,7 +15,7 @@ use Rattle.segment_queue.specs.declared.desk.Hit.{Hit}
 use Rattle.query_gate.specs.Questions.{Ends, window_at}
 use Rattle.query_gate.specs.Replies.{AreBestChoices, AreBestOffers}
 
-pub best_choices : (N : NetData) (T : TimetableData) → N.table ≡ T → (Q : QueryData) (D : DeskData) → IsAnswered N.table N.hops Q D →
+pub best_choices : (N : NetData) (T : TimetableData) → N.table ≡ T → (Q : QueryData) (D : DeskData) → IsAnswered N Q D →
     {A E : Type 0} (items : A → List ChoiceData) (r : Result A E) →
     IfOk r (λ cs. map ChoiceData.value (items cs) ≡ map (λ (h : Hit). h.value) D.hits) →
     IfOk r (λ cs. All (λ c. SpellShortest T Q (ChoiceData.legs c) (ChoiceData.value c)) (items cs)) →

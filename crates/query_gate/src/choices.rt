@@ -23,7 +23,7 @@ fn search_on<S: Scan, L: Ledger>(scan: &S, query: &Query, desk: &mut Desk, blank
     requires leave { query.now.leave ≤ℤ pos 359999 }
     requires sufficient { AreSufficient (S.net scan.now).table (S.net scan.now).hops }
     ensures fits { Fits (S.net scan.now).table desk.new }
-    ensures answered { IsAnswered (S.net scan.now).table (S.net scan.now).hops query.now desk.new }
+    ensures answered { IsAnswered (S.net scan.now) query.now desk.new }
 {
     let mut steps = Steps::<L>::new(blank);
     earliest(scan, query, desk, &mut steps);
@@ -47,7 +47,7 @@ pub fn best_choices<S: Scan>(
     requires sufficient { AreSufficient table.now (S.net scan.now).hops }
     ensures best { IfOk result (λ cs. AreBestChoices (S.net scan.now) query.now cs.items) }
     ensures fits { Fits table.now desk.new }
-    ensures answered { IsAnswered (S.net scan.now).table (S.net scan.now).hops query.now desk.new }
+    ensures answered { IsAnswered (S.net scan.now) query.now desk.new }
 {
     search_on::<S, Brand>(scan, query, desk, Blank::new(1));
     choices(alloc, desk, table, query)

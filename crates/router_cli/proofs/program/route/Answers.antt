@@ -2,7 +2,7 @@ use Rattle.std.proofs.Common.{◌≡◌, map}
 use Rattle.std.specs.Prelude.{string_bytes}
 use Rattle.router_cli.specs.Words.{request_of}
 use Rattle.router_cli.proofs.Endings.{completed}
-use Rattle.router_cli.proofs.route.route.Goals as goal
+use Rattle.router_cli.proofs.program.route.Goals as goal
 
 pub returns-clause-complete : goal.returns-clause-complete
 returns-clause-complete g c =

@@ -1,22 +1,14 @@
 //! The program `router`: answers about one service day of a GTFS feed.
 //!
-//! [`route`] does all that the program does, from the words of the command line and the bytes of the folder to the bytes
-//! written. Its contract is the program's promise. `main` hands in the machine's files and standard output.
-//! The files follow the GTFS Schedule Reference.
+//! `route` of `router_cli` does all that the program does. `main` hands in the words of the command line, the machine's files and
+//! standard output, writes how the program ended to standard error, and ends with the number of that.
 #![tactic(auto)]
 
 ghost use Rattle.std.specs.Prelude.{◌≡◌};
 ghost use Rattle.std.specs.Process.{exit_status};
 ghost use Rattle.router_cli.specs.Outcome.{status_code};
 
-mod answers;
-mod given;
-mod route;
-mod status;
-mod words;
-
-pub use route::route;
-pub use status::{Status, status_text};
+use router_cli::{Status, route, status_text};
 use std::io::ErrorKind;
 use std::process::ExitCode;
 use std::rt::Env;
@@ -71,6 +63,3 @@ fn main(rt: HostRuntime) -> ExitCode {
     );
     end(&rt, status)
 }
-
-#[cfg(test)]
-mod tests;

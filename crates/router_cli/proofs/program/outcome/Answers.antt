@@ -1,5 +1,5 @@
 use Rattle.std.proofs.Common.{◌≡◌}
-use Rattle.router_cli.proofs.route.outcome.Goals as goal
+use Rattle.router_cli.proofs.program.outcome.Goals as goal
 
 pub returns-in-Err-Feed-clause-promise : goal.returns-in-Err-Feed-clause-promise
 returns-in-Err-Feed-clause-promise g c = rw (← c.in-Some.ensures) (rw c.in-Err-Feed.field-0-is at c.in-Err-Feed.ensures.text)
