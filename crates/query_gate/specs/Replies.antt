@@ -1,7 +1,7 @@
 -- Which replies are right.
 use Rattle.std.specs.Prelude.{◌≡◌, ◌<◌, ⊤, ℕ, List, Ok, Err, All, map}
 use Rattle.tb_base.specs.BestValues.{AreBestValues, ChoiceData, QueryData}
-use Rattle.tb_base.specs.JourneyRules.{SpellSlot}
+use Rattle.tb_base.specs.JourneyRules.{HasNumbers, SpellSlot}
 use Rattle.tb_base.specs.Network.{NetData}
 use Rattle.tb_base.specs.Profiles.{IsProfile, OfferData, WindowData}
 use Rattle.tb_base.specs.TimetableData.{TimetableData}
@@ -49,3 +49,9 @@ IsProfileReply N q (Values choices) = ⊥
 IsProfileReply N q (Slots offers) =
     (ends : Ends) × (ends_between N.table q.from q.to ≡ Ok ends) × AreBestOffers N (window_at ends q.first q.last) offers.items
 IsProfileReply N q (UnknownStop name) = ends_between N.table q.from q.to ≡ Err name
+
+-- the trips, stops and indices in all legs of a reply exist
+abbrev pub HaveNumbers : TimetableData → Reply → Type 0
+HaveNumbers T (Values choices) = All (λ c. All (HasNumbers T) (ChoiceData.legs c)) choices.items
+HaveNumbers T (Slots offers) = All (λ o. All (HasNumbers T) (OfferData.legs o)) offers.items
+HaveNumbers T (UnknownStop name) = ⊤

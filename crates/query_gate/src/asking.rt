@@ -1,7 +1,7 @@
 //! The best values between two named places.
 ghost use Rattle.std.specs.Prelude.{◌≡◌, ◌≤ℤ◌, IfOk, pos};
 ghost use Rattle.edition_store.specs.Editions.{net_of};
-ghost use Rattle.query_gate.specs.Replies.{IsAskReply};
+ghost use Rattle.query_gate.specs.Replies.{HaveNumbers, IsAskReply};
 
 use crate::between::{Between, stops_between};
 use crate::choices::best_choices;
@@ -39,7 +39,8 @@ pub fn ask(
     text: &AskText,
 ) -> Result<Reply, Memory>
     requires { text.now.leave ≤ℤ pos 359999 }
-    ensures { IfOk result (IsAskReply (net_of edition.now) text.now) }
+    ensures reply { IfOk result (IsAskReply (net_of edition.now) text.now) }
+    ensures numbers { IfOk result (HaveNumbers edition.now.table) }
 {
     edition.soundness();
     let table = edition.table();

@@ -1,7 +1,7 @@
 //! The best departures between two named places within a window.
 ghost use Rattle.std.specs.Prelude.{◌≡◌, ◌≤ℤ◌, IfOk, pos};
 ghost use Rattle.edition_store.specs.Editions.{net_of};
-ghost use Rattle.query_gate.specs.Replies.{IsProfileReply};
+ghost use Rattle.query_gate.specs.Replies.{HaveNumbers, IsProfileReply};
 
 use crate::between::{Between, stops_between};
 use crate::reply::Reply;
@@ -38,7 +38,8 @@ pub fn profile(
     text: &ProfileText,
 ) -> Result<Reply, Memory>
     requires { text.now.last ≤ℤ pos 359999 }
-    ensures { IfOk result (IsProfileReply (net_of edition.now) text.now) }
+    ensures reply { IfOk result (IsProfileReply (net_of edition.now) text.now) }
+    ensures numbers { IfOk result (HaveNumbers edition.now.table) }
 {
     edition.soundness();
     let table = edition.table();
