@@ -1,37 +1,59 @@
 -- Answers from their parts.
-use Rattle.std.proofs.Common.{◌≡◌, List, [], ◌∷◌, ℕ, Some, None, Option, Result, Ok, Err, ℤ, arith, refl, rules, subst, map, filter_map}
-use Rattle.std.specs.Prelude.{IfOk, All, Contains, ◌<◌, length, FitsSigned}
-use Rattle.std.proofs.lemmas.Int.{ints}
-use Rattle.std.proofs.lemmas.List.Elements.{All-cons, All-weaker}
+use Rattle.std.proofs.Common.{◌≡◌, List, [], ◌∷◌, ℕ, Result, Ok, Err, ℤ, rules, subst, sym, filter_map}
+use Rattle.std.specs.Prelude.{IfOk, All, Contains, FitsSigned, MatchResult}
+use Rattle.std.specs.Int.{w32}
+use Rattle.std.proofs.lemmas.List.Elements.{All-weaker}
 use Rattle.tb_base.specs.TimetableData.{TimetableData}
-use Rattle.tb_base.specs.Soundness.{IsSound}
-use Rattle.tb_base.specs.BestValues.{QueryData, ChoiceData, HasValue, value_of}
-use Rattle.tb_base.specs.Journeys.{Journey, Ride, leaving_time}
-use Rattle.tb_base.specs.JourneyRules.{SpellValue, SpellJourney, SpellSlot, KeepAllRules, HasNumbers}
+use Rattle.tb_base.specs.BestValues.{QueryData, ChoiceData}
+use Rattle.tb_base.specs.Journeys.{Ride}
 use Rattle.tb_base.specs.Lines.{AreLines}
-use Rattle.tb_base.specs.Places.{place_named, stops_of}
 use Rattle.tb_base.specs.Profiles.{OfferData, WindowData}
 use Rattle.tb_base.specs.Transfers.{kept_hops}
 use Rattle.tb_base.specs.declared.query.Leg.{Leg}
-use Rattle.tb_base.specs.declared.query.Place.{Place}
-use Rattle.tb_base.specs.declared.query.Slot.{Slot}
-use Rattle.tb_base.specs.declared.rule.Rule.TheVariants.{BadNumber}
 use Rattle.tb_base.specs.declared.transfer.Hop.{Hop}
-use Rattle.tb_laws.proofs.RuleLaws.{rules_from_journey}
 use Rattle.segment_queue.specs.Traced.{LegsFollow, RidesFollow, ride_of}
 use Rattle.trip_rides.specs.Times.{IsFileTime}
-use Rattle.std.specs.Int.{w32}
-use Rattle.router_cli.specs.Answers.{HasKeptChanges, IsTextBetween}
-
--- the text where both names are those of places
-pub known_text : (T : TimetableData) (from to : List ℕ) (IsTextOf : List ℕ → List ℕ → List ℕ → Type 0) (origin target : Place) (bytes : List ℕ) →
-    Some origin ≡ place_named T from → Some target ≡ place_named T to →
-    IsTextOf (stops_of T origin) (stops_of T target) bytes → IsTextBetween T from to IsTextOf bytes
-known_text T from to IsTextOf origin target bytes first second text = rw (← first, ← second) text
+use Rattle.answer_text.specs.Journeys.{unknown_text}
+use Rattle.edition_store.specs.Editions.{EditionData, IsEdition, net_of}
+use Rattle.query_gate.specs.Questions.{AskData, Ends, ProfileData, ends_between, query_at, window_at}
+use Rattle.query_gate.specs.Replies.{IsAskReply, IsProfileReply}
+use Rattle.query_gate.specs.declared.reply.Reply.{Reply}
+use Rattle.query_gate.specs.declared.reply.Reply.TheVariants.{Values, Slots, UnknownStop}
+use Rattle.router_cli.specs.Answers.{HasKeptChanges, IsTextBetween, ShowsKept, ShowsProfile, reply_text}
 
 pub if_ok-map : {A E : Type 0} (r : Result A E) (P Q : A → Type 0) → ((x : A) → P x → Q x) → IfOk r P → IfOk r Q
 if_ok-map (Ok x) P Q f h = f x h
 if_ok-map (Err e) P Q f h = tt
+
+-- the text where both names are those of places
+pub known_text : (T : TimetableData) (from to : List ℕ) (IsTextOf : Ends → List ℕ → Type 0) (ends : Ends) (bytes : List ℕ) →
+    ends_between T from to ≡ Ok ends → IsTextOf ends bytes → IsTextBetween T from to IsTextOf bytes
+known_text T from to IsTextOf ends bytes is text =
+    subst (λ r. MatchResult r (λ e. IsTextOf e bytes) (λ name. bytes ≡ unknown_text name)) (sym is) text
+
+-- the text where a name is that of no place
+pub unknown_name : (T : TimetableData) (from to : List ℕ) (IsTextOf : Ends → List ℕ → Type 0) (name bytes : List ℕ) →
+    ends_between T from to ≡ Err name → bytes ≡ unknown_text name → IsTextBetween T from to IsTextOf bytes
+unknown_name T from to IsTextOf name bytes is text =
+    subst (λ r. MatchResult r (λ e. IsTextOf e bytes) (λ name. bytes ≡ unknown_text name)) (sym is) text
+
+-- the same text, by names and a time that are known by other terms
+pub same_inquiry : (T : TimetableData) (IsTextOf : TimetableData → QueryData → List ℕ → Type 0) (from start to target : List ℕ) (z time : ℤ) (bytes : List ℕ) →
+    from ≡ start → to ≡ target → z ≡ time → IsTextBetween T from to (λ ends. IsTextOf T (query_at ends z)) bytes →
+    IsTextBetween T start target (λ ends. IsTextOf T (query_at ends time)) bytes
+same_inquiry T IsTextOf from start to target z time bytes same_from same_to same_time text =
+    subst (λ f. IsTextBetween T f target (λ ends. IsTextOf T (query_at ends time)) bytes) same_from
+    (subst (λ g. IsTextBetween T from g (λ ends. IsTextOf T (query_at ends time)) bytes) same_to
+    (subst (λ y. IsTextBetween T from to (λ ends. IsTextOf T (query_at ends y)) bytes) same_time text))
+
+pub same_window : (T : TimetableData) (from start to target : List ℕ) (y first z last : ℤ) (bytes : List ℕ) →
+    from ≡ start → to ≡ target → y ≡ first → z ≡ last → IsTextBetween T from to (λ ends. ShowsProfile T (window_at ends y z)) bytes →
+    IsTextBetween T start target (λ ends. ShowsProfile T (window_at ends first last)) bytes
+same_window T from start to target y first z last bytes same_from same_to same_first same_last text =
+    subst (λ f. IsTextBetween T f target (λ ends. ShowsProfile T (window_at ends first last)) bytes) same_from
+    (subst (λ g. IsTextBetween T from g (λ ends. ShowsProfile T (window_at ends first last)) bytes) same_to
+    (subst (λ x. IsTextBetween T from to (λ ends. ShowsProfile T (window_at ends x last)) bytes) same_first
+    (subst (λ x. IsTextBetween T from to (λ ends. ShowsProfile T (window_at ends y x)) bytes) same_last text)))
 
 -- rides that follow hops follow equal hops
 rides_follow : (hops others : ℕ → ℕ → List Hop) → ((t i : ℕ) → hops t i ≡ others t i) → (rides : List Ride) → RidesFollow hops rides → RidesFollow others rides
@@ -40,13 +62,30 @@ rides_follow hops others same (r ∷ []) follow = tt
 rides_follow hops others same (r ∷ s ∷ rest) follow =
     (subst (λ hs. Contains hs (record { trip = s.trip; at = s.board })) (same r.trip r.alight) follow.0, rides_follow hops others same (s ∷ rest) follow.1)
 
--- legs that follow the kept hops of the timetable's lines change by kept transfers
-pub kept_changes : (T : TimetableData) (lines : List (List ℕ)) → AreLines T lines → (hops : ℕ → ℕ → List Hop) → ((t i : ℕ) → hops t i ≡ kept_hops T lines t i) →
-    {A : Type 0} (legs_of : A → List Leg) (xs : List A) → All (λ x. LegsFollow hops (legs_of x)) xs → All (λ x. HasKeptChanges T (legs_of x)) xs
-kept_changes T lines are hops same legs_of xs follow =
-    All-weaker (λ x. LegsFollow hops (legs_of x)) (λ x. HasKeptChanges T (legs_of x))
-    (λ x h. record { lines = lines; are_lines = are; kept = rides_follow hops (kept_hops T lines) same (filter_map ride_of (legs_of x)) h })
+-- legs that follow the hops of an edition change by kept transfers
+kept_changes : (e : EditionData) → IsEdition e → {A : Type 0} (legs_of : A → List Leg) (xs : List A) → All (λ x. LegsFollow (net_of e).hops (legs_of x)) xs → All (λ x. HasKeptChanges e.table (legs_of x)) xs
+kept_changes e sound legs_of xs follow =
+    All-weaker (λ x. LegsFollow (net_of e).hops (legs_of x)) (λ x. HasKeptChanges e.table (legs_of x))
+    (λ x h. record { lines = e.lines; are_lines = sound.lines; kept = rides_follow (net_of e).hops (kept_hops e.table e.lines) sound.hops (filter_map ride_of (legs_of x)) h })
     xs follow
+
+-- the text of a right reply to a question for the best values
+pub ask_shown : (e : EditionData) → IsEdition e → (q : AskData) (r : Reply) → IsAskReply (net_of e) q r → (bytes : List ℕ) → bytes ≡ reply_text e.table r →
+    IsTextBetween e.table q.from q.to (λ ends. ShowsKept e.table (query_at ends q.leave)) bytes
+ask_shown e sound q (Values choices) (ends, is, best) bytes text =
+    known_text e.table q.from q.to (λ ends. ShowsKept e.table (query_at ends q.leave)) ends bytes is
+    (record { choices = choices.items; values = best.values; journeys = best.journeys; kind = kept_changes e sound ChoiceData.legs choices.items best.hops; text = text })
+ask_shown e sound q (Slots offers) h bytes text = absurd h
+ask_shown e sound q (UnknownStop name) is bytes text = unknown_name e.table q.from q.to (λ ends. ShowsKept e.table (query_at ends q.leave)) name bytes is text
+
+-- the text of a right reply to a question for a profile
+pub profile_shown : (e : EditionData) → IsEdition e → (q : ProfileData) (r : Reply) → IsProfileReply (net_of e) q r → (bytes : List ℕ) → bytes ≡ reply_text e.table r →
+    IsTextBetween e.table q.from q.to (λ ends. ShowsProfile e.table (window_at ends q.first q.last)) bytes
+profile_shown e sound q (Values choices) h bytes text = absurd h
+profile_shown e sound q (Slots offers) (ends, is, best) bytes text =
+    known_text e.table q.from q.to (λ ends. ShowsProfile e.table (window_at ends q.first q.last)) ends bytes is
+    (record { offers = offers.items; slots = best.slots; journeys = best.journeys; kept = kept_changes e sound OfferData.legs offers.items best.hops; text = text })
+profile_shown e sound q (UnknownStop name) is bytes text = unknown_name e.table q.from q.to (λ ends. ShowsProfile e.table (window_at ends q.first q.last)) name bytes is text
 
 -- a time of a file fits 32 bits
 pub file_time-fits : (z : ℤ) → IsFileTime z → FitsSigned w32 z

@@ -1,9 +1,8 @@
 -- What the program writes for a request.
-use Rattle.std.specs.Prelude.{◌≡◌, ℕ, List, ℤ, Bool, Option, MatchOption, All, map, ⊤, if◌then◌else◌}
+use Rattle.std.specs.Prelude.{◌≡◌, ◌<◌, ◌≤ℤ◌, ℕ, List, ℤ, pos, Bool, true, false, Option, Ok, Err, MatchResult, All, length, map, ⊤}
 use Rattle.tb_base.specs.declared.query.Leg.{Leg}
 use Rattle.tb_base.specs.TimetableData.{TimetableData}
 use Rattle.tb_base.specs.Lines.{AreLines}
-use Rattle.tb_base.specs.Places.{place_named, stops_of}
 use Rattle.tb_base.specs.BestValues.{QueryData, ChoiceData, AreBestValues, IsLeast, IsDirectArrival}
 use Rattle.tb_base.specs.JourneyRules.{SpellSlot}
 use Rattle.tb_base.specs.Profiles.{OfferData, WindowData, IsProfile}
@@ -12,10 +11,13 @@ use Rattle.segment_queue.specs.Traced.{LegsFollow}
 use Rattle.plain_rounds.specs.Shown.{SpellShortest}
 use Rattle.answer_text.specs.Journeys.{arrival_text, choices_text, offers_text, unknown_text}
 use Rattle.build_report.specs.Reports.{IsReport}
+use Rattle.query_gate.specs.Questions.{Ends, ends_between, query_at, window_at}
+use Rattle.query_gate.specs.declared.reply.Reply.{Reply}
+use Rattle.query_gate.specs.declared.reply.Reply.TheVariants as reply
 use Rattle.router_cli.specs.Inquiry.{InquiryData, WindowInquiryData}
 use Rattle.router_cli.specs.Words.{RequestData}
-use Rattle.router_cli.specs.declared.answers.Method.{Method}
-use Rattle.router_cli.specs.declared.answers.Method.TheVariants as method
+use Rattle.router_cli.specs.declared.answers.Asked.{Asked}
+use Rattle.router_cli.specs.declared.answers.Asked.TheVariants as asked
 use Rattle.router_cli.specs.declared.words.Command.{Command}
 use Rattle.router_cli.specs.declared.words.Command.TheVariants as command
 
@@ -46,32 +48,49 @@ pub record ShowsProfile (T : TimetableData) (W : WindowData) (bytes : List ℕ) 
   pub kept : All (λ o. HasKeptChanges T (OfferData.legs o)) offers
   pub text : bytes ≡ offers_text T offers
 
--- what is written for a query; round by round, any journey may be shown
-abbrev pub IsText : TimetableData → Method → QueryData → List ℕ → Type 0
-IsText T method.OneRide Q = IsDirectText T Q
-IsText T method.Search Q = ShowsBestValues T Q (HasKeptChanges T)
-IsText T method.Rounds Q = ShowsBestValues T Q (λ legs. ⊤)
+-- the best values, each with a journey by kept transfers
+abbrev pub ShowsKept : TimetableData → QueryData → List ℕ → Type 0
+ShowsKept T Q = ShowsBestValues T Q (HasKeptChanges T)
+
+-- the best values, each with any journey
+abbrev pub ShowsAny : TimetableData → QueryData → List ℕ → Type 0
+ShowsAny T Q = ShowsBestValues T Q (λ legs. ⊤)
+
+-- round by round any journey may be shown, else one by kept transfers
+abbrev pub Shows : Bool → TimetableData → QueryData → List ℕ → Type 0
+Shows true = ShowsAny
+Shows false = ShowsKept
 
 -- What is written about two places: where one is no place of the timetable, that the stop is unknown, the origin first; else a
 -- text about the stops of both.
-abbrev pub IsTextBetween : TimetableData → List ℕ → List ℕ → (List ℕ → List ℕ → List ℕ → Type 0) → List ℕ → Type 0
+abbrev pub IsTextBetween : TimetableData → List ℕ → List ℕ → (Ends → List ℕ → Type 0) → List ℕ → Type 0
 IsTextBetween T from to IsTextOf bytes =
-    MatchOption (place_named T from) (bytes ≡ unknown_text from) (λ origin.
-    MatchOption (place_named T to) (bytes ≡ unknown_text to) (λ target.
-    IsTextOf (stops_of T origin) (stops_of T target) bytes))
+    MatchResult (ends_between T from to) (λ ends. IsTextOf ends bytes) (λ name. bytes ≡ unknown_text name)
 
-abbrev pub IsInquiryText : TimetableData → Method → InquiryData → List ℕ → Type 0
-IsInquiryText T m i = IsTextBetween T i.from i.to (λ from to. IsText T m (record { from = from; to = to; leave = i.time }))
+abbrev pub IsInquiryText : TimetableData → (TimetableData → QueryData → List ℕ → Type 0) → InquiryData → List ℕ → Type 0
+IsInquiryText T IsTextOf i = IsTextBetween T i.from i.to (λ ends. IsTextOf T (query_at ends i.time))
 
 abbrev pub IsProfileText : TimetableData → WindowInquiryData → List ℕ → Type 0
-IsProfileText T i = IsTextBetween T i.from i.to (λ from to. ShowsProfile T (record { from = from; to = to; first = i.first; last = i.last }))
+IsProfileText T i = IsTextBetween T i.from i.to (λ ends. ShowsProfile T (window_at ends i.first i.last))
 
 -- the answer to a command
 abbrev pub IsCommandText : TimetableData → Bool → Command → List ℕ → Type 0
-IsCommandText T plain (command.Direct i) = IsInquiryText T method.OneRide i
-IsCommandText T plain (command.Ask i) = IsInquiryText T (if plain then method.Rounds else method.Search) i
+IsCommandText T plain (command.Direct i) = IsInquiryText T IsDirectText i
+IsCommandText T plain (command.Ask i) = IsInquiryText T (Shows plain) i
 IsCommandText T plain (command.Profile i) = IsProfileText T i
 IsCommandText T plain (command.Build list) = IsReport T list
 
 abbrev pub IsAnswer : TimetableData → RequestData → List ℕ → Type 0
 IsAnswer T r = IsCommandText T r.plain r.command
+
+-- the query that an inquiry means, between stops that exist, or the name in it that is no place
+abbrev pub IsQuery : TimetableData → InquiryData → Asked → Type 0
+IsQuery T i (asked.Query q) = (ends : Ends) × (ends_between T i.from i.to ≡ Ok ends) × (q ≡ query_at ends i.time)
+    × All (λ p. p < length T.stops) ends.from × All (λ p. p < length T.stops) ends.to × (i.time ≤ℤ pos 359999)
+IsQuery T i (asked.Unknown name) = ends_between T i.from i.to ≡ Err name.now
+
+-- what is written for a reply
+abbrev pub reply_text : TimetableData → Reply → List ℕ
+reply_text T (reply.Values choices) = choices_text T choices.items
+reply_text T (reply.Slots offers) = offers_text T offers.items
+reply_text T (reply.UnknownStop name) = unknown_text name

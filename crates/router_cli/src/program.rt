@@ -39,7 +39,7 @@ fn text_of<R: Threads + Sync, F: Folder, G: Gate>(
         Err(fault) => return Err(fault),
     };
     table.soundness();
-    match answer(rt, alloc, &table, request, gate) {
+    match answer(rt, alloc, table, request, gate) {
         Ok(text) => Ok(text),
         Err(_) => Err(DayFault::Memory),
     }

@@ -1,31 +1,20 @@
-use Rattle.std.proofs.Common.{◌≡◌, ◌∙◌, ap, subst, sym}
-use Rattle.answer_text.specs.Journeys.{offers_text}
-use Rattle.transfer_pack.specs.Packed.{packed}
-use Rattle.tb_base.specs.Profiles.{OfferData}
-use Rattle.tb_base.specs.Sufficiency.{AreSufficient}
-use Rattle.router_cli.proofs.AnswerLemmas.{numbers_of_offers, kept_changes, if_ok-map}
+use Rattle.std.proofs.Common.{◌∙◌, ap, subst, w32}
+use Rattle.std.proofs.lemmas.Int.{to_z-of_z}
+use Rattle.router_cli.specs.Answers.{IsProfileText, reply_text}
+use Rattle.router_cli.specs.Inquiry.{WindowInquiryData}
+use Rattle.router_cli.proofs.AnswerLemmas.{file_time-fits, if_ok-map, profile_shown, same_window}
 use Rattle.router_cli.proofs.answers.profile_text.Goals as goal
-
-pub profile-requires-clause-sufficient : goal.profile-requires-clause-sufficient
-profile-requires-clause-sufficient g c =
-    subst (λ set. AreSufficient c.args.table.now (λ t i. packed set t i)) (sym c.new-view.ensures.set) c.in_ok-set.ensures.sufficient
-
-pub offers_text-requires : goal.offers_text-requires
-offers_text-requires g c =
-    rw c.as_slice.ensures.value
-    (numbers_of_offers c.args.table.now c.args.window.now c.soundness.ensures c.requires.origins c.in_ok-offers.offers.items c.in_ok-offers.ensures.journeys)
 
 pub returns : goal.returns
 returns g c =
-    let kept = kept_changes c.args.table.now c.in_ok-lines.lines.lines c.in_ok-lines.ensures.lines (packed c.new-view.result.2)
-    (λ t i. ap (λ set. packed set t i) c.new-view.ensures.set ∙ c.in_ok-set.ensures.hops t i)
-    OfferData.legs c.in_ok-offers.offers.items c.in_ok-offers.ensures.hops in
-    if_ok-map c.offers_text.result _ _
-    (λ text same. record {
-      offers = c.in_ok-offers.offers.items;
-      slots = c.in_ok-offers.ensures.slots;
-      journeys = c.in_ok-offers.ensures.journeys;
-      kept = kept;
-      text = same ∙ ap (λ os. offers_text c.args.table.now os) c.as_slice.ensures.value;
-    })
-    c.offers_text.ensures
+    let e = c.in_ok-edition.edition in
+    let is = c.inquiry.view_is in
+    let first = to_z-of_z w32 c.inquiry.inside.first (file_time-fits c.inquiry.inside.first c.inquiry.invariant.0) ∙ ap WindowInquiryData.first is in
+    let last = to_z-of_z w32 c.inquiry.inside.last (file_time-fits c.inquiry.inside.last c.inquiry.invariant.1) ∙ ap WindowInquiryData.last is in
+    let from = c.in_ok-new.ensures ∙ c.as_bytes.ensures.value ∙ ap WindowInquiryData.from is in
+    let to = c.in_ok-new-2.ensures ∙ c.as_bytes-2.ensures.value ∙ ap WindowInquiryData.to is in
+    if_ok-map c.reply_text.result _ _
+    (λ text shown. subst (λ T. IsProfileText T c.args.inquiry.now text.items) c.in_ok-edition.ensures
+    (same_window e.table _ c.args.inquiry.now.from _ c.args.inquiry.now.to _ c.args.inquiry.now.first _ c.args.inquiry.now.last text.items from to first last
+    (profile_shown e c.soundness.ensures _ c.in_ok-reply.reply c.in_ok-reply.ensures.reply text.items (shown ∙ ap (λ T. reply_text T c.in_ok-reply.reply) c.table.ensures))))
+    c.reply_text.ensures
