@@ -1,6 +1,7 @@
 -- Each segment of a queue leads back to an origin, and so does each hit.
-use Rattle.std.proofs.Common.{◌≡◌, ◌∙◌, ℕ, zero, suc, ◌<◌, List, [], length, refl, sym, ap, subst, arith, Option, Some, None, ℤ, ◌+ℤ◌}
-use Rattle.std.specs.Prelude.{IsSome}
+use Rattle.std.proofs.Common.{◌≡◌, ◌∙◌, ℕ, zero, suc, ◌<◌, List, [], ◌∷◌, length, refl, sym, ap, subst, arith, Option, Some, None, ℤ, ◌+ℤ◌}
+use Rattle.std.specs.Prelude.{All, Contains, IsSome}
+use Rattle.std.proofs.lemmas.List.Elements.{All-head}
 use Rattle.tb_base.specs.declared.query.Value.{Value}
 use Rattle.tb_base.specs.TimetableData.{TimetableData, arrival_at, stop_at}
 use Rattle.tb_base.specs.BestValues.{IsAttained, QueryData}
@@ -59,3 +60,18 @@ module _ (T : TimetableData) (Q : QueryData) (segments : List Segment) (entered 
         where
           same : (v : Value) (a : ℤ) (n : ℕ) → v.arrive ≡ a → v.rides ≡ n → v ≡ record { arrive = a; rides = n }
           same v a n e f = same_values v.arrive a v.rides n e f
+
+-- where there is no target there is no hit
+pub no_hits : (T : TimetableData) (Q : QueryData) (segments : List Segment) (hits : List Hit) → All (IsTracedHit T Q segments) hits → Q.to ≡ [] → hits ≡ []
+no_hits T Q segments [] all none = refl
+no_hits T Q segments (h ∷ hits) all none = absurd (by_leg h.last (All-head (IsTracedHit T Q segments) h hits all))
+  where
+    in_none : (q : ℕ) → Contains [] q → ⊥
+    in_none q (k, inside, is) = omega (arith, inside)
+
+    nowhere : (q : ℕ) → Contains Q.to q → ⊥
+    nowhere q c = in_none q (subst (λ (stops : List ℕ). Contains stops q) none c)
+
+    by_leg : (last : LastLeg) → IsTracedBy T Q segments last h.value.arrive h.value.rides → ⊥
+    by_leg (OnFoot from to) k = nowhere to k.target
+    by_leg (Aboard n i to) k = nowhere to k.target

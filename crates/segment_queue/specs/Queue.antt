@@ -51,7 +51,7 @@ last_total T = sum_by (last_index T) (numbers_below (length T.trips))
 abbrev pub IsFalling : TimetableData → List (Option ℕ) → List ℕ → Type 0
 IsFalling T marks trips = AllPairs (λ t u. mark_of T marks u ≤ mark_of T marks t) trips
 
--- The desk is in step with a timetable and its lines.
+-- The desk is in step with the timetable of a network and its lines.
 pub record IsInStep (N : NetData) (D : DeskData) : Type 0 where
   pub fits : Fits N.table D
   pub marks : (t : ℕ) → t < length N.table.trips →

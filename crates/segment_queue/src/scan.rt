@@ -26,11 +26,11 @@ pub struct Visit<'a> {
     pub out: &'a [Hop],
 }
 
-/// What a search looks at: a timetable, its lines and a list of hops for each event. No call takes memory.
+/// What a search looks at: the network of a day. No call takes memory.
 pub trait Scan {
     ghost use Rattle.tb_base.specs.Network.{NetData};
 
-    /// The network: the timetable, its lines, and the hops from each event.
+    /// The network: a timetable, its lines, and for each event the hops by which a search goes on.
     ghost net: { Self → NetData };
 
     /// How large the timetable is. It is sound, and the lines are its trips, each once.
