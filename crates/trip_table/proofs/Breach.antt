@@ -29,7 +29,7 @@ none_past (r ∷ rows) zero h = absurd (omega arith)
 none_past (r ∷ rows) (suc p) h = none_past rows p (omega arith)
 
 -- both ends of a footpath are there
-ends : (P : PathsData) (p q s : ℕ) → AreSoundPaths P → footpath P p q ≡ Some s → (p < length P.change) × (q < length P.change)
+pub ends : (P : PathsData) (p q s : ℕ) → AreSoundPaths P → footpath P p q ≡ Some s → (p < length P.change) × (q < length P.change)
 ends P p q s sound e = by_test (nat_lt p (length P.change)) refl
   where
     by_test : (b : Bool) → nat_lt p (length P.change) ≡ b → (p < length P.change) × (q < length P.change)

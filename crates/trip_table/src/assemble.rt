@@ -101,7 +101,7 @@ pub(crate) fn assemble(
     requires trip_count { length trips.items ≤ 500000 }
     requires event_count { sum_by (λ t. length (TripData.events t)) trips.items ≤ 10000000 }
     requires sound { All (IsSoundTrip (length (platforms stops.now))) trips.items }
-    ensures { IfOk result (λ table. table ≡ timetable (record { stops = stops.now; paths = paths; trips = trips.items }) paths) }
+    ensures { IfOk result (λ table. table ≡ timetable (record { stops = stops.now; footpaths = paths; trips = trips.items }) paths) }
 {
     stops.table().soundness();
     let stations = stations_of(alloc, stops)?;

@@ -7,7 +7,7 @@ ghost use Rattle.footpaths.specs.Footpaths.{PathsData};
 ghost use Rattle.footpaths.specs.Law.{AreSoundPaths, walking};
 ghost use Rattle.foot_close.specs.Closing.{IsCloseRefused};
 ghost use Rattle.trip_table.specs.Answers.{GivesRows, IsRowsFault};
-ghost use Rattle.trip_table.specs.Day.{platform_id, AreThere, IsClosing, IsSettled};
+ghost use Rattle.trip_table.specs.Day.{platform_id, AreThere, AreClosed, AreClosedOrTested};
 
 use crate::assemble::stops_of;
 use crate::law::{name_of, tested};
@@ -35,7 +35,7 @@ fn far_fault(alloc: Global, rows: &[StopRow], from: StopNo, to: StopNo) -> Resul
 // What is wrong with the feed where its footpaths can't be closed.
 fn refusal(alloc: Global, rows: &[StopRow], fault: CloseFault) -> RowsFault
     requires { AreThere (length (platforms rows.now)) fault }
-    ensures { (told : PathsData) → IsCloseRefused told fault → IsRowsFault (IsClosing rows.now told) result }
+    ensures { (told : PathsData) → IsCloseRefused told fault → IsRowsFault (AreClosed rows.now told) result }
 {
     match fault {
         CloseFault::TooMany => RowsFault::Feed(FeedFault::TooMany(Many::Footpaths, 0)),
@@ -52,7 +52,7 @@ fn refusal(alloc: Global, rows: &[StopRow], fault: CloseFault) -> RowsFault
 fn closed(alloc: Global, stops: &StopRows, paths: Paths) -> Result<Paths, RowsFault>
     requires sound { AreSoundPaths paths }
     requires many { length (PathsData.change paths) ≡ length (platforms stops.now) }
-    ensures told { GivesRows (IsClosing stops.now paths) result }
+    ensures told { GivesRows (AreClosed stops.now paths) result }
     ensures sound { IfOk result AreSoundPaths }
     ensures many { IfOk result (λ paths. length (PathsData.change paths) ≡ length (platforms stops.now)) }
     ensures law { IfOk result (λ paths. KeepsFootpathLaw (walking paths)) }
@@ -74,7 +74,7 @@ pub(crate) fn settled(
 ) -> Result<Paths, RowsFault>
     requires sound { AreSoundPaths paths }
     requires many { length (PathsData.change paths) ≡ length (platforms stops.now) }
-    ensures told { GivesRows (IsSettled close stops.now paths) result }
+    ensures told { GivesRows (AreClosedOrTested close stops.now paths) result }
     ensures sound { IfOk result AreSoundPaths }
     ensures many { IfOk result (λ paths. length (PathsData.change paths) ≡ length (platforms stops.now)) }
     ensures law { IfOk result (λ paths. KeepsFootpathLaw (walking paths)) }

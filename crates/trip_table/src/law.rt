@@ -6,7 +6,7 @@ ghost use Rattle.footpaths.specs.Stops.{platforms};
 ghost use Rattle.footpaths.specs.Footpaths.{PathsData};
 ghost use Rattle.footpaths.specs.Law.{AreSoundPaths, walking};
 ghost use Rattle.trip_table.specs.Answers.{GivesRows};
-ghost use Rattle.trip_table.specs.Day.{breach_fault, platform_id, IsAmong, IsTested};
+ghost use Rattle.trip_table.specs.Day.{breach_fault, platform_id, IsAmong, KeepTheLaw};
 
 use crate::assemble::stops_of;
 use crate::stops::StopRows;
@@ -50,7 +50,7 @@ fn breach_fault(alloc: Global, rows: &[StopRow], breach: LawFault) -> Result<Fee
 pub fn tested(alloc: Global, stops: &StopRows, paths: Paths) -> Result<Paths, RowsFault>
     requires sound { AreSoundPaths paths }
     requires many { length (PathsData.change paths) ≡ length (platforms stops.now) }
-    ensures told { GivesRows (IsTested stops.now paths) result }
+    ensures told { GivesRows (KeepTheLaw stops.now paths) result }
     ensures sound { IfOk result AreSoundPaths }
     ensures many { IfOk result (λ paths. length (PathsData.change paths) ≡ length (platforms stops.now)) }
     ensures law { IfOk result (λ paths. KeepsFootpathLaw (walking paths)) }

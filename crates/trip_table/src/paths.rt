@@ -7,7 +7,7 @@ ghost use Rattle.footpaths.specs.Stops.{platforms};
 ghost use Rattle.footpaths.specs.Footpaths.{PathsData};
 ghost use Rattle.footpaths.specs.Law.{AreSoundPaths};
 ghost use Rattle.trip_table.specs.Answers.{IsCounted, IsRefused, Leaves, feed_of};
-ghost use Rattle.trip_table.specs.Day.{told_paths};
+ghost use Rattle.trip_table.specs.Day.{given_footpaths};
 ghost use Rattle.trip_table.specs.References.{transfer_rows_of, transfers_of};
 
 use crate::DayFault;
@@ -36,7 +36,7 @@ fn transfer_rows_of<F: Folder>(
 }
 
 // The change times and footpaths of good rows: None where they are too many.
-fn told_paths(
+fn given_footpaths(
     alloc: Global,
     rows: &[TransferRow],
     stops: &StopTable,
@@ -45,7 +45,7 @@ fn told_paths(
     requires change { options.now.change ≤ 86400 }
     requires station { IfSome options.now.station (λ secs. secs ≤ 86400) }
     requires short { All (λ r. TakesAtMostADay (TransferData.rule r)) rows.now }
-    ensures told { MatchResult result (λ told. (check_transfers stops.now rows.now ≡ Ok rows.now) × IsCounted (told_paths stops.now options.now rows.now) told) (refusal.IsRefused (check_transfers stops.now rows.now)) }
+    ensures told { MatchResult result (λ told. (check_transfers stops.now rows.now ≡ Ok rows.now) × IsCounted (given_footpaths stops.now options.now rows.now) told) (refusal.IsRefused (check_transfers stops.now rows.now)) }
     ensures sound { IfOk result (λ told. IfSome told AreSoundPaths) }
     ensures many { IfOk result (λ told. IfSome told (λ paths. length (PathsData.change paths) ≡ length (platforms stops.now))) }
 {
@@ -76,7 +76,7 @@ pub fn read_paths<F: Folder>(
     requires change { options.now.change ≤ 86400 }
     requires station { IfSome options.now.station (λ secs. secs ≤ 86400) }
     ensures told { IsSome (F.files folder.old) → MatchResult result
-        (λ told. (rows : List TransferData) × (transfers_of (feed_of (F.files folder.old) dir.now) stops.now ≡ Ok rows) × IsCounted (told_paths stops.now options.now rows) told)
+        (λ told. (rows : List TransferData) × (transfers_of (feed_of (F.files folder.old) dir.now) stops.now ≡ Ok rows) × IsCounted (given_footpaths stops.now options.now rows) told)
         (IsRefused (transfers_of (feed_of (F.files folder.old) dir.now) stops.now)) }
     ensures sound { IfOk result (λ told. IfSome told AreSoundPaths) }
     ensures many { IfOk result (λ told. IfSome told (λ paths. length (PathsData.change paths) ≡ length (platforms stops.now))) }
@@ -86,7 +86,7 @@ pub fn read_paths<F: Folder>(
         Ok(rows) => rows,
         Err(fault) => return Err(fault),
     };
-    match told_paths(alloc, rows.as_slice(), stops, options) {
+    match given_footpaths(alloc, rows.as_slice(), stops, options) {
         Ok(told) => Ok(told),
         Err(RowsFault::Feed(fault)) => Err(DayFault::Feed(fault)),
         Err(RowsFault::Memory) => Err(DayFault::Memory),
