@@ -1,6 +1,7 @@
 //! Change times and footpaths from the rows of transfers.txt.
-ghost use Rattle.std.specs.Prelude.{◌≡◌, ◌<◌, ◌≤◌, ◌++◌, ℕ, [], Ok, None, All, IfOk, IfSome, OnOk, MatchResult, length, get_or};
+ghost use Rattle.std.specs.Prelude.{◌≡◌, ◌<◌, ◌≤◌, ◌++◌, ℕ, [], None, All, IfOk, IfSome, OnOk, length, get_or};
 ghost use Rattle.std.specs.Option.{option_to_list};
+ghost use Rattle.gtfs_rows.specs.Refused.{Yields};
 ghost use Rattle.gtfs_rows.specs.TransfersFile.{TransferData};
 ghost use Rattle.footpaths.specs.Stops.{platforms};
 ghost use Rattle.footpaths.specs.Links.{TakesAtMostADay, IsPathsRefused};
@@ -75,7 +76,7 @@ fn fill(
     options: &Options,
 ) -> Result<Paths, PathsFault>
     requires { count ≡ length (platforms network.now.stops) }
-    ensures { MatchResult result (λ paths. check_count (paths_of count (secs_between network.now.stops options.now network.now.links)) ≡ Ok paths) (IsPathsRefused (check_count (paths_of count (secs_between network.now.stops options.now network.now.links)))) }
+    ensures { Yields IsPathsRefused result (λ x. x) (check_count (paths_of count (secs_between network.now.stops options.now network.now.links))) }
 {
     let mut marks = Marks::new(alloc, count as usize)?;
     let mut rows = PathRows::new(alloc, count as usize)?;
@@ -104,7 +105,7 @@ pub fn build_paths(
 ) -> Result<Paths, PathsFault>
     requires change { options.now.change ≤ 86400 }
     requires station { IfSome options.now.station (λ secs. secs ≤ 86400) }
-    ensures told { MatchResult result (λ paths. footpaths stops.now options.now rows.now ≡ Ok paths) (IsPathsRefused (footpaths stops.now options.now rows.now)) }
+    ensures told { Yields IsPathsRefused result (λ x. x) (footpaths stops.now options.now rows.now) }
     ensures sound { IfOk result (λ paths. All (λ r. TakesAtMostADay (TransferData.rule r)) rows.now → AreSoundPaths paths) }
 {
     stops.soundness();

@@ -1,6 +1,7 @@
 //! The rows of transfers.txt by the numbers of their ends.
 ghost use Rattle.std.specs.Prelude.{◌≡◌, ◌<◌, ◌≤◌, ◌⊎◌, ◌++◌, ◌∷◌, [], ℕ, not, true, false, Ok, IfOk, OnErr, MatchResult, MatchBool, length, nat_eq};
 ghost use Rattle.std.specs.List.{list_any};
+ghost use Rattle.gtfs_rows.specs.Refused.{Yields};
 ghost use Rattle.footpaths.specs.Stops.{has_stop_id};
 ghost use Rattle.footpaths.specs.Links.{secs_by, end_of, link_of, links_of, check_transfers, HasEnds, LacksEnd, pair_number, IsPathsRefused};
 
@@ -99,7 +100,7 @@ fn link_of(row: &TransferRow, stops: &StopTable, change: u32) -> Link
 // Whether something is wrong with the rows.
 fn check_transfers(alloc: Global, rows: &[TransferRow], stops: &StopTable) -> Result<(), PathsFault>
     requires { length stops.now ≤ 100000 }
-    ensures { MatchResult result (λ _. check_transfers stops.now rows.now ≡ Ok rows.now) (IsPathsRefused (check_transfers stops.now rows.now)) }
+    ensures { Yields IsPathsRefused result (λ _. rows.now) (check_transfers stops.now rows.now) }
 {
     let mut pairs = Pairs::new(alloc);
     for row in rows {

@@ -1,11 +1,11 @@
 //! The trips of a day.
-ghost use Rattle.std.specs.Prelude.{◌≡◌, ◌++◌, ◌∷◌, [], ◌<◌, ◌≤◌, ◌-◌, ◌^◌, All, Err, bytes_eq, IfOk, MatchOption, MatchResult, Ok, OnOk, length, map, min, sum_by};
+ghost use Rattle.std.specs.Prelude.{◌≡◌, ◌++◌, ◌∷◌, [], ◌<◌, ◌≤◌, ◌-◌, ◌^◌, All, Err, bytes_eq, IfOk, MatchOption, Ok, OnOk, length, map, min, sum_by};
 ghost use Rattle.std.specs.List.{list_any};
 ghost use Rattle.tb_base.specs.Soundness.{IsSoundTrip};
 ghost use Rattle.tb_base.specs.TimetableData.{TripData};
 ghost use Rattle.gtfs_rows.specs.TripsFile as row;
 ghost use Rattle.footpaths.specs.Stops.{platforms};
-ghost use Rattle.gtfs_rows.specs.Refused.{IsRefused};
+ghost use Rattle.gtfs_rows.specs.Refused.{IsRefused, Yields};
 ghost use Rattle.trip_table.specs.Day.{runs_on, trips_with, check_size_of_day, trips_on};
 
 use crate::rows::FeedRows;
@@ -102,7 +102,7 @@ fn size_fault(trips: &[Trip]) -> Option<FeedFault>
 
 /// The trips of a day, or the first thing that is wrong with the times of a trip or with the size of the day.
 pub(crate) fn trips_on(alloc: Global, rows: &FeedRows, day: &Day) -> Result<Vec<Trip>, RowsFault>
-    ensures trips { MatchResult result (λ trips. trips_on rows.now day.now ≡ Ok trips.items) (IsRefused (trips_on rows.now day.now)) }
+    ensures trips { Yields IsRefused result (λ trips. trips.items) (trips_on rows.now day.now) }
     ensures trip_count { IfOk result (λ trips. length trips.items ≤ 500000) }
     ensures event_count { IfOk result (λ trips. sum_by (λ t. length (TripData.events t)) trips.items ≤ 10000000) }
     ensures sound { IfOk result (λ trips. All (IsSoundTrip (length (platforms rows.now.stops))) trips.items) }

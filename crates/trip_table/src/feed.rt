@@ -1,5 +1,6 @@
 //! The files of a feed, taken from a folder.
-ghost use Rattle.std.specs.Prelude.{◌≡◌, ◌≤◌, ◌<◌, ◌-◌, ◌^◌, ℕ, List, Ok, Some, None, IfOk, IfSome, IsSome, MatchResult, option_map, length, string_bytes, is_some, false};
+ghost use Rattle.std.specs.Prelude.{◌≡◌, ◌≤◌, ◌<◌, ◌-◌, ◌^◌, ℕ, List, Ok, Some, None, IfOk, IfSome, IsSome, option_map, length, string_bytes, is_some, false};
+ghost use Rattle.gtfs_rows.specs.Refused.{Yields};
 ghost use Rattle.gtfs_rows.specs.Lines.{typed_rows};
 ghost use Rattle.gtfs_rows.specs.Columns.{row_limit};
 ghost use Rattle.gtfs_rows.specs.Faults.{spot};
@@ -55,7 +56,7 @@ fn take<F: Folder>(
     file: FeedFile,
 ) -> Result<Option<Vec<u8>>, DayFault>
     requires { F.faults folder.old < 2 ^ 64 - 1 }
-    ensures told { IsSome (F.files folder.old) → MatchResult result (λ taken. sized file (feed_of (F.files folder.old) dir.now file) ≡ Ok (option_map (λ v. v.items) taken)) (IsRefused (sized file (feed_of (F.files folder.old) dir.now file))) }
+    ensures told { IsSome (F.files folder.old) → Yields IsRefused result (option_map (λ v. v.items)) (sized file (feed_of (F.files folder.old) dir.now file)) }
     ensures within { IfOk result (λ taken. IfSome taken (λ v. length v.items ≤ 1_073_741_824)) }
     ensures leaves { Leaves (F.files folder.old) (F.files folder.new) (F.faults folder.old) (F.faults folder.new) result }
 {
@@ -77,7 +78,7 @@ fn rows_in<R: RowReader>(
     bytes: Option<Vec<u8>>,
 ) -> Result<Option<Vec<R::Row>>, RowsFault>
     requires { IfSome bytes (λ v. length v.items ≤ 1_073_741_824) }
-    ensures rows { MatchResult result (λ rows. rows_in R.file (R.reading reader.now) (option_map (λ v. v.items) bytes) ≡ Ok (option_map (λ v. v.items) rows)) (λ f. rows.IsRefused (rows_in R.file (R.reading reader.now) (option_map (λ v. v.items) bytes)) f) }
+    ensures rows { Yields rows.IsRefused result (option_map (λ v. v.items)) (rows_in R.file (R.reading reader.now) (option_map (λ v. v.items) bytes)) }
     ensures some_bytes { IfOk result (λ rows. IfSome rows (λ v. (text : List ℕ) × (typed_rows R.file (R.reading reader.now) text ≡ Ok v.items))) }
     ensures few { IfOk result (λ rows. IfSome rows (λ v. length v.items ≤ row_limit R.file)) }
 {
@@ -98,7 +99,7 @@ pub fn file_rows<F: Folder, R: RowReader>(
     reader: &R,
 ) -> Result<Option<Vec<R::Row>>, DayFault>
     requires { F.faults folder.old < 2 ^ 64 - 1 }
-    ensures told { IsSome (F.files folder.old) → MatchResult result (λ rows. file_rows (feed_of (F.files folder.old) dir.now) R.file (R.reading reader.now) ≡ Ok (option_map (λ v. v.items) rows)) (IsRefused (file_rows (feed_of (F.files folder.old) dir.now) R.file (R.reading reader.now))) }
+    ensures told { IsSome (F.files folder.old) → Yields IsRefused result (option_map (λ v. v.items)) (file_rows (feed_of (F.files folder.old) dir.now) R.file (R.reading reader.now)) }
     ensures some_bytes { IfOk result (λ rows. IfSome rows (λ v. (text : List ℕ) × (typed_rows R.file (R.reading reader.now) text ≡ Ok v.items))) }
     ensures few { IfOk result (λ rows. IfSome rows (λ v. length v.items ≤ row_limit R.file)) }
     ensures leaves { Leaves (F.files folder.old) (F.files folder.new) (F.faults folder.old) (F.faults folder.new) result }
@@ -122,7 +123,7 @@ pub fn refuse_unbuilt<F: Folder>(
     file: FeedFile,
 ) -> Result<(), DayFault>
     requires { F.faults folder.old < 2 ^ 64 - 1 }
-    ensures told { IsSome (F.files folder.old) → MatchResult result (λ _. check_unbuilt (feed_of (F.files folder.old) dir.now) file ≡ Ok tt) (IsRefused (check_unbuilt (feed_of (F.files folder.old) dir.now) file)) }
+    ensures told { IsSome (F.files folder.old) → Yields IsRefused result (λ _. tt) (check_unbuilt (feed_of (F.files folder.old) dir.now) file) }
     ensures leaves { Leaves (F.files folder.old) (F.files folder.new) (F.faults folder.old) (F.faults folder.new) result }
 {
     let Ok(path) = path_in(alloc, dir, file) else {

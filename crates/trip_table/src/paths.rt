@@ -1,5 +1,6 @@
 //! Change times and footpaths from transfers.txt.
 ghost use Rattle.std.specs.Prelude.{◌≡◌, ◌<◌, ◌≤◌, ◌-◌, ◌^◌, All, List, Ok, IfOk, IfSome, IsSome, MatchResult, length};
+ghost use Rattle.gtfs_rows.specs.Refused.{Yields};
 ghost use Rattle.gtfs_rows.specs.Refused as refusal;
 ghost use Rattle.gtfs_rows.specs.TransfersFile.{TransferData};
 ghost use Rattle.footpaths.specs.Links.{TakesAtMostADay, check_transfers};
@@ -24,7 +25,7 @@ fn transfer_rows_of<F: Folder>(
     dir: &str,
 ) -> Result<Vec<TransferRow>, DayFault>
     requires { F.faults folder.old < 2 ^ 64 - 1 }
-    ensures told { IsSome (F.files folder.old) → MatchResult result (λ rows. transfer_rows_of (feed_of (F.files folder.old) dir.now) ≡ Ok rows.items) (IsRefused (transfer_rows_of (feed_of (F.files folder.old) dir.now))) }
+    ensures told { IsSome (F.files folder.old) → Yields IsRefused result (λ rows. rows.items) (transfer_rows_of (feed_of (F.files folder.old) dir.now)) }
     ensures short { IfOk result (λ rows. All (λ r. TakesAtMostADay (TransferData.rule r)) rows.items) }
     ensures leaves { Leaves (F.files folder.old) (F.files folder.new) (F.faults folder.old) (F.faults folder.new) result }
 {
