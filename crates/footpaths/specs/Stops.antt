@@ -3,7 +3,7 @@ use Rattle.std.specs.Prelude.{◌≡◌, ◌≤◌, ℕ, length, map, Ok, ◌&&�
 use Rattle.std.specs.List.{list_any}
 use Rattle.std.specs.Option.{option_or}
 use Rattle.gtfs_rows.specs.Faults.{spot, fault_if, check_rows}
-use Rattle.gtfs_rows.specs.StopsFile.{StopData}
+use Rattle.gtfs_rows.specs.StopsFile.{StopData, is_platform, is_station}
 use Rattle.gtfs_rows.specs.TransfersFile.{is_filled}
 use Rattle.gtfs_rows.specs.declared.stops.Kind.{Kind}
 use Rattle.gtfs_rows.specs.declared.stops.Kind.TheVariants as kind
@@ -20,16 +20,6 @@ stop_id s = s.id
 
 abbrev pub has_stop_id : List ℕ → StopData → Bool
 has_stop_id id s = bytes_eq id s.id
-
-abbrev pub is_platform : Kind → Bool
-is_platform kind.Platform = true
-is_platform kind.Station = false
-is_platform kind.Other = false
-
-abbrev pub is_station : Kind → Bool
-is_station kind.Platform = false
-is_station kind.Station = true
-is_station kind.Other = false
 
 abbrev pub is_kind : Kind → Kind → Bool
 is_kind kind.Platform = is_platform

@@ -1,8 +1,8 @@
 //! The rows of stops.txt, with their numbers and a look-up by id.
 ghost use Rattle.std.specs.Prelude.{◌≡◌, ◌<◌, ◌≤◌, ℕ, List, Ok, IfOk, MatchResult, length, map, filter, position, bytes_eq, is_some, IfSome};
 ghost use Rattle.std.specs.List.{list_any};
-ghost use Rattle.gtfs_rows.specs.StopsFile.{StopData};
-ghost use Rattle.footpaths.specs.Stops.{stop_id, has_stop_id, lacks_parent, is_platform, is_station, is_kind, platforms, stations, parent_station, check_stops, IsStopsRefused};
+ghost use Rattle.gtfs_rows.specs.StopsFile.{StopData, is_platform, is_station};
+ghost use Rattle.footpaths.specs.Stops.{stop_id, has_stop_id, lacks_parent, is_kind, platforms, stations, parent_station, check_stops, IsStopsRefused};
 
 use crate::{Found, StopsFault};
 use gtfs_rows::{Kind, StopRow};
@@ -11,31 +11,13 @@ use std::alloc::Global;
 use std::marker::Model;
 use tb_base::{Memory, Name, StopNo};
 
-fn is_platform(kind: Kind) -> bool
-    ensures { result ≡ is_platform kind }
-{
-    match kind {
-        Kind::Platform => true,
-        Kind::Station | Kind::Other => false,
-    }
-}
-
 fn is_kind(asked: Kind, kind: Kind) -> bool
     ensures { result ≡ is_kind asked kind }
 {
     match asked {
-        Kind::Platform => is_platform(kind),
-        Kind::Station => is_station(kind),
-        Kind::Other => !is_platform(kind) && !is_station(kind),
-    }
-}
-
-fn is_station(kind: Kind) -> bool
-    ensures { result ≡ is_station kind }
-{
-    match kind {
-        Kind::Station => true,
-        Kind::Platform | Kind::Other => false,
+        Kind::Platform => kind.is_platform(),
+        Kind::Station => kind.is_station(),
+        Kind::Other => !kind.is_platform() && !kind.is_station(),
     }
 }
 
@@ -114,7 +96,7 @@ fn parents_of(
 {
     let mut parents = Vec::new(alloc);
     for row in rows {
-        if is_platform(row.kind) {
+        if row.kind.is_platform() {
             parents.push(place_of(station_ids, row.parent.bytes()))?;
         }
     }

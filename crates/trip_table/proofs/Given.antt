@@ -8,14 +8,14 @@ use Rattle.gtfs_rows.specs.Steps.{and_then, prepend}
 use Rattle.gtfs_rows.specs.Columns.{row_limit}
 use Rattle.gtfs_rows.specs.Faults.{wrong_after}
 use Rattle.gtfs_rows.specs.Lines.{Line, shape, table, typed_rows}
-use Rattle.gtfs_rows.specs.StopsFile.{StopData, stop_row}
+use Rattle.gtfs_rows.specs.StopsFile.{StopData, stop_row, is_platform}
 use Rattle.gtfs_rows.specs.TransfersFile.{TransferData, transfer_row}
 use Rattle.gtfs_rows.specs.declared.fault.FeedFile.{FeedFile}
 use Rattle.gtfs_rows.specs.declared.fault.FeedFile.TheVariants as file
 use Rattle.gtfs_rows.specs.declared.fault.FeedFault.{FeedFault}
 use Rattle.footpaths.specs.declared.law.LawFault.{LawFault}
 use Rattle.footpaths.specs.declared.paths.Options.{Options}
-use Rattle.footpaths.specs.Stops.{is_platform, platforms, wrong_stop, check_stops}
+use Rattle.footpaths.specs.Stops.{platforms, wrong_stop, check_stops}
 use Rattle.footpaths.specs.Links.{TakesAtMostADay, wrong_transfer, check_transfers}
 use Rattle.footpaths.specs.Footpaths.{PathsData, changes}
 use Rattle.footpaths.specs.Law.{walking, AreSoundPaths, IsFirstBreach}

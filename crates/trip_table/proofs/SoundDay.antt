@@ -13,10 +13,10 @@ use Rattle.tb_base.specs.TimetableData.{TripData, StationData}
 use Rattle.tb_base.specs.Soundness.{IsSound, IsSoundPath, IsSoundStation, IsSoundTrip, place_names}
 use Rattle.tb_base.specs.Walking.{KeepsFootpathLaw}
 use Rattle.tb_base.proofs.Ordered.{AllPairs-tail}
-use Rattle.gtfs_rows.specs.StopsFile.{StopData}
+use Rattle.gtfs_rows.specs.StopsFile.{StopData, is_platform, is_station}
 use Rattle.gtfs_rows.specs.declared.stops.Kind.{Kind}
 use Rattle.gtfs_rows.specs.declared.stops.Kind.TheVariants as kind
-use Rattle.footpaths.specs.Stops.{stop_id, has_stop_id, is_platform, is_station, platforms, stations, station_of, check_stops}
+use Rattle.footpaths.specs.Stops.{stop_id, has_stop_id, platforms, stations, station_of, check_stops}
 use Rattle.footpaths.proofs.StopRows.{new_id}
 use Rattle.footpaths.proofs.StopPlaces.{length_kept}
 use Rattle.footpaths.specs.Footpaths.{PathsData, is_number}

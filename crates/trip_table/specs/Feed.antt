@@ -2,6 +2,7 @@
 use Rattle.std.specs.Prelude.{ℕ, List, ◌++◌, length, codes, nat_le, is_some, Option, Some, None, Result, Ok, Err, if◌then◌else◌}
 use Rattle.tb_io.specs.Files.{FileList, file_at}
 use Rattle.gtfs_rows.specs.Steps.{and_then}
+use Rattle.gtfs_rows.specs.FileNames.{file_name}
 use Rattle.gtfs_rows.specs.Lines.{Line, typed_rows}
 use Rattle.gtfs_rows.specs.declared.fault.FeedFile.{FeedFile}
 use Rattle.gtfs_rows.specs.declared.fault.FeedFile.TheVariants as file
@@ -11,15 +12,6 @@ use Rattle.gtfs_rows.specs.declared.fault.FeedFault.TheVariants as fault
 -- a feed: the bytes of each of its files that is there
 abbrev pub Feed : Type 0
 Feed = FeedFile → Option (List ℕ)
-
-abbrev pub file_name : FeedFile → List ℕ
-file_name file.Stops = codes "stops.txt"
-file_name file.Calendar = codes "calendar.txt"
-file_name file.CalendarDates = codes "calendar_dates.txt"
-file_name file.Trips = codes "trips.txt"
-file_name file.StopTimes = codes "stop_times.txt"
-file_name file.Transfers = codes "transfers.txt"
-file_name file.Frequencies = codes "frequencies.txt"
 
 -- the path of a file: the directory, a slash and the file's name
 abbrev pub path_in : List ℕ → FeedFile → List ℕ

@@ -3,35 +3,17 @@ ghost use Rattle.std.specs.Prelude.{◌≡◌, ◌≤◌, ◌++◌, ◌∷◌, [
 ghost use Rattle.tb_base.specs.TimetableData.{TripData};
 ghost use Rattle.tb_base.specs.Soundness.{IsSoundTrip};
 ghost use Rattle.tb_base.specs.Walking.{KeepsFootpathLaw};
-ghost use Rattle.gtfs_rows.specs.StopsFile.{StopData};
+ghost use Rattle.gtfs_rows.specs.StopsFile.{StopData, is_platform, is_station};
 ghost use Rattle.footpaths.specs.Footpaths.{PathsData};
 ghost use Rattle.footpaths.specs.Law.{AreSoundPaths, walking};
-ghost use Rattle.footpaths.specs.Stops.{is_platform, is_station, platforms, stations};
+ghost use Rattle.footpaths.specs.Stops.{platforms, stations};
 ghost use Rattle.trip_table.specs.Day.{stations_from, timetable};
 
 use crate::stops::StopRows;
 use footpaths::Paths;
-use gtfs_rows::{Kind, StopRow};
+use gtfs_rows::StopRow;
 use std::alloc::Global;
 use tb_base::{Memory, Name, Parts, Station, Stop, StopNo, Timetable, Trip};
-
-fn is_platform(kind: Kind) -> bool
-    ensures { result ≡ is_platform kind }
-{
-    match kind {
-        Kind::Platform => true,
-        Kind::Station | Kind::Other => false,
-    }
-}
-
-fn is_station(kind: Kind) -> bool
-    ensures { result ≡ is_station kind }
-{
-    match kind {
-        Kind::Station => true,
-        Kind::Platform | Kind::Other => false,
-    }
-}
 
 /// The platforms, as stops by their ids.
 pub(crate) fn stops_of(alloc: Global, rows: &[StopRow]) -> Result<Vec<Stop>, Memory>
@@ -39,7 +21,7 @@ pub(crate) fn stops_of(alloc: Global, rows: &[StopRow]) -> Result<Vec<Stop>, Mem
 {
     let mut stops = Vec::new(alloc);
     for row in rows {
-        if is_platform(row.kind) {
+        if row.kind.is_platform() {
             let name = Name::new(alloc, row.id.bytes())?;
             stops.push(Stop { name })?;
         }
@@ -53,7 +35,7 @@ fn empty_stations(alloc: Global, rows: &[StopRow]) -> Result<Vec<Station>, Memor
 {
     let mut stations = Vec::new(alloc);
     for row in rows {
-        if is_station(row.kind) {
+        if row.kind.is_station() {
             let name = Name::new(alloc, row.id.bytes())?;
             let stops = Vec::new(alloc);
             stations.push(Station { name, stops })?;

@@ -5,7 +5,7 @@ ghost use Rattle.gtfs_rows.specs.Lines.{typed_rows};
 ghost use Rattle.gtfs_rows.specs.Columns.{row_limit};
 ghost use Rattle.gtfs_rows.specs.Faults.{spot};
 ghost use Rattle.gtfs_rows.specs.Refused as rows;
-ghost use Rattle.trip_table.specs.Feed.{file_name, path_in, sized, rows_in, file_rows, check_unbuilt};
+ghost use Rattle.trip_table.specs.Feed.{path_in, sized, rows_in, file_rows, check_unbuilt};
 ghost use Rattle.trip_table.specs.Answers.{IsRefused, Leaves, feed_of};
 
 use crate::DayFault;
@@ -24,27 +24,13 @@ pub fn spot(file: FeedFile, row: u32, column: u8) -> Spot
     Spot { file, row, column }
 }
 
-fn file_name(file: FeedFile) -> &'static str
-    ensures { result.now ≡ file_name file }
-{
-    match file {
-        FeedFile::Stops => "stops.txt",
-        FeedFile::Calendar => "calendar.txt",
-        FeedFile::CalendarDates => "calendar_dates.txt",
-        FeedFile::Trips => "trips.txt",
-        FeedFile::StopTimes => "stop_times.txt",
-        FeedFile::Transfers => "transfers.txt",
-        FeedFile::Frequencies => "frequencies.txt",
-    }
-}
-
 // The path of a file: the directory, a slash and the file's name.
 fn path_in(alloc: Global, dir: &str, file: FeedFile) -> Result<String, Memory>
     ensures { IfOk result (λ path. string_bytes path ≡ path_in dir.now file) }
 {
     let mut path = String::from_str(alloc, dir)?;
     path.push_str("/")?;
-    path.push_str(file_name(file))?;
+    path.push_str(file.name())?;
     Ok(path)
 }
 
