@@ -23,7 +23,8 @@ fn is_kind(asked: Kind, kind: Kind) -> bool
 
 // The ids of all rows, where an id that stands twice counts once.
 fn known_ids(alloc: Global, rows: &[StopRow]) -> Result<NameIndex, Memory>
-    ensures { IfOk result (λ ids. (id : List ℕ) → list_any (bytes_eq id) ids ≡ list_any (has_stop_id id) rows.now) }
+    ensures { IfOk result
+        (λ ids. (id : List ℕ) → list_any (bytes_eq id) ids ≡ list_any (has_stop_id id) rows.now) }
 {
     let mut ids = NameIndex::new(alloc);
     for row in rows {
@@ -34,7 +35,9 @@ fn known_ids(alloc: Global, rows: &[StopRow]) -> Result<NameIndex, Memory>
 
 // Whether a row names a parent that no row has.
 fn lacks_parent(row: &StopRow, known: &NameIndex) -> bool
-    ensures { (stops : List StopData) → ((id : List ℕ) → list_any (bytes_eq id) known.now ≡ list_any (has_stop_id id) stops) → result ≡ lacks_parent stops row.now }
+    ensures { (stops : List StopData) →
+        ((id : List ℕ) → list_any (bytes_eq id) known.now ≡ list_any (has_stop_id id) stops) →
+        result ≡ lacks_parent stops row.now }
 {
     let parent = row.parent.bytes();
     !parent.is_empty() && !known.contains(parent)
@@ -42,8 +45,11 @@ fn lacks_parent(row: &StopRow, known: &NameIndex) -> bool
 
 // The ids of all rows, which differ, where nothing is wrong with the rows.
 fn checked_ids(alloc: Global, rows: &[StopRow], known: &NameIndex) -> Result<NameIndex, StopsFault>
-    requires { (id : List ℕ) → list_any (bytes_eq id) known.now ≡ list_any (has_stop_id id) rows.now }
-    ensures { MatchResult result (λ ids. (check_stops rows.now ≡ Ok rows.now) × (ids ≡ map stop_id rows.now)) (IsStopsRefused (check_stops rows.now)) }
+    requires { (id : List ℕ) →
+        list_any (bytes_eq id) known.now ≡ list_any (has_stop_id id) rows.now }
+    ensures { MatchResult result
+        (λ ids. (check_stops rows.now ≡ Ok rows.now) × (ids ≡ map stop_id rows.now))
+        (IsStopsRefused (check_stops rows.now)) }
 {
     let mut ids = NameIndex::new(alloc);
     for row in rows {
@@ -156,7 +162,9 @@ impl StopTable {
     /// a parent that no row has: the first such row, and its first such fault.
     pub fn new(alloc: Global, rows: &[StopRow]) -> Result<StopTable, StopsFault>
         requires { length rows.now ≤ 100000 }
-        ensures { MatchResult result (λ table. (table ≡ rows.now) × (check_stops rows.now ≡ Ok rows.now)) (IsStopsRefused (check_stops rows.now)) }
+        ensures { MatchResult result
+            (λ table. (table ≡ rows.now) × (check_stops rows.now ≡ Ok rows.now))
+            (IsStopsRefused (check_stops rows.now)) }
     {
         let known = known_ids(alloc, rows)?;
         let ids = checked_ids(alloc, rows, &known)?;

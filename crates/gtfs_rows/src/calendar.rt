@@ -26,7 +26,8 @@ impl Model for CalendarRow {
 
     ghost Value = { CalendarData };
 
-    ghost view = { λ r. record { row = r.row; service = r.service; days = r.days; start = r.start; end = r.end } };
+    ghost view = { λ r.
+        record { row = r.row; service = r.service; days = r.days; start = r.start; end = r.end } };
 }
 
 // Whether the service runs on a day of the week: `0` or `1`.

@@ -57,7 +57,8 @@ pub fn rides_of(
     requires trip_count { length runs.now ≤ 2000000 }
     requires sequences { DifferWithinTrips rows.now }
     requires times { All HasFileTimes rows.now }
-    ensures meant { Yields IsRefused result (λ rides. map (λ ride. ride.items) rides.items) (checked_rides rows.now runs.now) }
+    ensures meant { Yields IsRefused result (λ rides. map (λ ride. ride.items) rides.items)
+        (checked_rides rows.now runs.now) }
 
     // Whatever number of stops the rows name, the trips are sound among so many.
     ensures sound { IfOk result (λ rides. (stops : ℕ) → All (λ r. StopTime.stop r < stops) rows.now

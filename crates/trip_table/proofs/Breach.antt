@@ -12,7 +12,8 @@ use Rattle.footpaths.specs.declared.law.LawFault.{LawFault}
 use Rattle.footpaths.specs.Stops.{stop_id, platforms}
 use Rattle.footpaths.specs.Footpaths.{PathsData}
 use Rattle.footpaths.specs.Law.{AreSoundPaths, AreInARow, IsFirstBreach, IsBreach, footpath}
-use Rattle.trip_table.specs.Day.{IsAmong, platform_id}
+use Rattle.trip_table.specs.Answers.{IsAmong}
+use Rattle.trip_table.specs.Day.{platform_id}
 
 found_in : (n p q s : ℕ) (row : List Path) → All (IsSoundPath n p) row → option_map (λ (f : Path). f.secs) (find (λ (f : Path). f.to == q) row) ≡ Some s → q < n
 found_in n p q s [] h e = absurd (cc)

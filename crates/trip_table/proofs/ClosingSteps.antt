@@ -13,7 +13,8 @@ use Rattle.foot_close.specs.declared.closed.CloseFault.TheVariants as why
 use Rattle.foot_close.specs.Closing.{ClosureHas, IsHeld, IsNear, IsFirstFar, IsCloseRefused, footpath_total}
 use Rattle.foot_close.proofs.Edges.{change_day}
 use Rattle.foot_close.proofs.ClosedLaws.{closure_is, closure_inside}
-use Rattle.trip_table.specs.Day.{AreThere, AreClosed}
+use Rattle.trip_table.specs.Answers.{AreThere}
+use Rattle.trip_table.specs.Day.{AreClosed}
 use Rattle.trip_table.proofs.OneClosing.{same_closure}
 
 -- changes of sound change times and footpaths take at most a day

@@ -17,7 +17,8 @@ use tb_base::{Memory, Name, Parts, Station, Stop, StopNo, Timetable, Trip};
 
 /// The platforms, as stops by their ids.
 pub(crate) fn stops_of(alloc: Global, rows: &[StopRow]) -> Result<Vec<Stop>, Memory>
-    ensures { IfOk result (λ v. v.items ≡ map (λ s. record { name = StopData.id s }) (platforms rows.now)) }
+    ensures { IfOk result
+        (λ v. v.items ≡ map (λ s. record { name = StopData.id s }) (platforms rows.now)) }
 {
     let mut stops = Vec::new(alloc);
     for row in rows {
@@ -31,7 +32,9 @@ pub(crate) fn stops_of(alloc: Global, rows: &[StopRow]) -> Result<Vec<Stop>, Mem
 
 // The stations by their ids, as yet with no stops.
 fn empty_stations(alloc: Global, rows: &[StopRow]) -> Result<Vec<Station>, Memory>
-    ensures { IfOk result (λ v. v.items ≡ map (λ s. record { name = StopData.id s; stops = [] }) (stations rows.now)) }
+    ensures { IfOk result
+        (λ v.
+        v.items ≡ map (λ s. record { name = StopData.id s; stops = [] }) (stations rows.now)) }
 {
     let mut stations = Vec::new(alloc);
     for row in rows {
@@ -46,7 +49,8 @@ fn empty_stations(alloc: Global, rows: &[StopRow]) -> Result<Vec<Station>, Memor
 
 // One stop more of a station, after those that are there.
 fn add_stop(station: &mut Station, stop: StopNo) -> Result<(), Memory>
-    ensures { OnOk result (station.new ≡ record station.old { stops = station.old.stops ++ stop ∷ [] }) }
+    ensures { OnOk result
+        (station.new ≡ record station.old { stops = station.old.stops ++ stop ∷ [] }) }
 {
     match station.stops.push(stop) {
         Ok(()) => Ok(()),
@@ -83,7 +87,10 @@ pub(crate) fn assemble(
     requires trip_count { length trips.items ≤ 500000 }
     requires event_count { sum_by (λ t. length (TripData.events t)) trips.items ≤ 10000000 }
     requires sound { All (IsSoundTrip (length (platforms stops.now))) trips.items }
-    ensures { IfOk result (λ table. table ≡ timetable (record { stops = stops.now; footpaths = paths; trips = trips.items }) paths) }
+    ensures { IfOk result
+        (λ table. table
+        ≡ timetable (record { stops = stops.now; footpaths = paths; trips = trips.items })
+        paths) }
 {
     stops.table().soundness();
     let stations = stations_of(alloc, stops)?;

@@ -34,8 +34,10 @@ fn timetable_of(
     close: bool,
 ) -> Result<Timetable, RowsFault>
     requires sound { IfSome told AreSoundPaths }
-    requires many { IfSome told (λ paths. length (PathsData.change paths) ≡ length (platforms rows.now.stops)) }
-    ensures { (counted : Result PathsData FeedFault) → IsCounted counted told → GivesRows (Then (parts_on rows.now day.now counted) (IsTimetableOfParts close)) result }
+    requires many { IfSome told
+        (λ paths. length (PathsData.change paths) ≡ length (platforms rows.now.stops)) }
+    ensures { (counted : Result PathsData FeedFault) → IsCounted counted told →
+        GivesRows (Then (parts_on rows.now day.now counted) (IsTimetableOfParts close)) result }
 {
     let trips = match trips_on(alloc, rows, day) {
         Ok(trips) => trips,
@@ -66,8 +68,10 @@ fn read_timetable<F: Folder>(
     requires change { options.now.change ≤ 86400 }
     requires station { IfSome options.now.station (λ secs. secs ≤ 86400) }
     requires count { F.faults folder.old < 2 ^ 64 - 1 }
-    ensures told { IsSome (F.files folder.old) → Gives (IsTimetableOf (feed_of (F.files folder.old) dir.now) day.now options.now) result }
-    ensures leaves { Leaves (F.files folder.old) (F.files folder.new) (F.faults folder.old) (F.faults folder.new) result }
+    ensures told { IsSome (F.files folder.old) →
+        Gives (IsTimetableOf (feed_of (F.files folder.old) dir.now) day.now options.now) result }
+    ensures leaves { Leaves (F.files folder.old) (F.files folder.new) (F.faults folder.old)
+        (F.faults folder.new) result }
 {
     match refuse_unbuilt(alloc, folder, dir, FeedFile::Frequencies) {
         Ok(()) => {}
@@ -104,14 +108,18 @@ pub fn read_day<F: Folder>(
     requires change { options.now.change ≤ 86400 }
     requires station { IfSome options.now.station (λ secs. secs ≤ 86400) }
     requires count { F.faults folder.old < 2 ^ 64 - 1 }
-    ensures told { IsSome (F.files folder.old) → Gives (IsTimetableOf (feed_of (F.files folder.old) dir.now) day.now options.now) result }
-    ensures timetable { IsSome (F.files folder.old) → F.faults folder.new ≡ F.faults folder.old → (T : TimetableData) →
+    ensures told { IsSome (F.files folder.old) →
+        Gives (IsTimetableOf (feed_of (F.files folder.old) dir.now) day.now options.now) result }
+    ensures timetable { IsSome (F.files folder.old) → F.faults folder.new ≡ F.faults folder.old →
+        (T : TimetableData) →
         IsTimetableOf (feed_of (F.files folder.old) dir.now) day.now options.now (Ok T) →
         (result ≡ Ok T) ⊎ (result ≡ Err DayFault.Memory) }
-    ensures fault { IsSome (F.files folder.old) → F.faults folder.new ≡ F.faults folder.old → (f : FeedFault) →
+    ensures fault { IsSome (F.files folder.old) → F.faults folder.new ≡ F.faults folder.old →
+        (f : FeedFault) →
         IsTimetableOf (feed_of (F.files folder.old) dir.now) day.now options.now (Err f) →
         (result ≡ Err (DayFault.Feed f)) ⊎ (result ≡ Err DayFault.Memory) }
-    ensures leaves { Leaves (F.files folder.old) (F.files folder.new) (F.faults folder.old) (F.faults folder.new) result }
+    ensures leaves { Leaves (F.files folder.old) (F.files folder.new) (F.faults folder.old)
+        (F.faults folder.new) result }
 {
     timetable_determined();
     read_timetable(alloc, folder, dir, day, options)

@@ -42,9 +42,12 @@ fn take<F: Folder>(
     file: FeedFile,
 ) -> Result<Option<Vec<u8>>, DayFault>
     requires { F.faults folder.old < 2 ^ 64 - 1 }
-    ensures told { IsSome (F.files folder.old) → Yields IsRefused result (option_map (λ v. v.items)) (sized file (feed_of (F.files folder.old) dir.now file)) }
+    ensures told { IsSome (F.files folder.old) →
+        Yields IsRefused result (option_map (λ v. v.items))
+        (sized file (feed_of (F.files folder.old) dir.now file)) }
     ensures within { IfOk result (λ taken. IfSome taken (λ v. length v.items ≤ 1_073_741_824)) }
-    ensures leaves { Leaves (F.files folder.old) (F.files folder.new) (F.faults folder.old) (F.faults folder.new) result }
+    ensures leaves { Leaves (F.files folder.old) (F.files folder.new) (F.faults folder.old)
+        (F.faults folder.new) result }
 {
     let Ok(path) = path_in(alloc, dir, file) else {
         return Err(DayFault::Memory);
@@ -64,8 +67,11 @@ fn rows_in<R: RowReader>(
     bytes: Option<Vec<u8>>,
 ) -> Result<Option<Vec<R::Row>>, RowsFault>
     requires { IfSome bytes (λ v. length v.items ≤ 1_073_741_824) }
-    ensures rows { Yields rows.IsRefused result (option_map (λ v. v.items)) (rows_in R.file (R.reading reader.now) (option_map (λ v. v.items) bytes)) }
-    ensures some_bytes { IfOk result (λ rows. IfSome rows (λ v. (text : List ℕ) × (typed_rows R.file (R.reading reader.now) text ≡ Ok v.items))) }
+    ensures rows { Yields rows.IsRefused result (option_map (λ v. v.items))
+        (rows_in R.file (R.reading reader.now) (option_map (λ v. v.items) bytes)) }
+    ensures some_bytes { IfOk result
+        (λ rows. IfSome rows
+        (λ v. (text : List ℕ) × (typed_rows R.file (R.reading reader.now) text ≡ Ok v.items))) }
     ensures few { IfOk result (λ rows. IfSome rows (λ v. length v.items ≤ row_limit R.file)) }
 {
     let Some(bytes) = bytes else {
@@ -85,10 +91,15 @@ pub fn file_rows<F: Folder, R: RowReader>(
     reader: &R,
 ) -> Result<Option<Vec<R::Row>>, DayFault>
     requires { F.faults folder.old < 2 ^ 64 - 1 }
-    ensures told { IsSome (F.files folder.old) → Yields IsRefused result (option_map (λ v. v.items)) (file_rows (feed_of (F.files folder.old) dir.now) R.file (R.reading reader.now)) }
-    ensures some_bytes { IfOk result (λ rows. IfSome rows (λ v. (text : List ℕ) × (typed_rows R.file (R.reading reader.now) text ≡ Ok v.items))) }
+    ensures told { IsSome (F.files folder.old) →
+        Yields IsRefused result (option_map (λ v. v.items))
+        (file_rows (feed_of (F.files folder.old) dir.now) R.file (R.reading reader.now)) }
+    ensures some_bytes { IfOk result
+        (λ rows. IfSome rows
+        (λ v. (text : List ℕ) × (typed_rows R.file (R.reading reader.now) text ≡ Ok v.items))) }
     ensures few { IfOk result (λ rows. IfSome rows (λ v. length v.items ≤ row_limit R.file)) }
-    ensures leaves { Leaves (F.files folder.old) (F.files folder.new) (F.faults folder.old) (F.faults folder.new) result }
+    ensures leaves { Leaves (F.files folder.old) (F.files folder.new) (F.faults folder.old)
+        (F.faults folder.new) result }
 {
     let bytes = match take(alloc, folder, dir, reader.file()) {
         Ok(bytes) => bytes,
@@ -109,8 +120,11 @@ pub fn refuse_unbuilt<F: Folder>(
     file: FeedFile,
 ) -> Result<(), DayFault>
     requires { F.faults folder.old < 2 ^ 64 - 1 }
-    ensures told { IsSome (F.files folder.old) → Yields IsRefused result (λ _. tt) (check_unbuilt (feed_of (F.files folder.old) dir.now) file) }
-    ensures leaves { Leaves (F.files folder.old) (F.files folder.new) (F.faults folder.old) (F.faults folder.new) result }
+    ensures told { IsSome (F.files folder.old) →
+        Yields IsRefused result (λ _. tt)
+        (check_unbuilt (feed_of (F.files folder.old) dir.now) file) }
+    ensures leaves { Leaves (F.files folder.old) (F.files folder.new) (F.faults folder.old)
+        (F.faults folder.new) result }
 {
     let Ok(path) = path_in(alloc, dir, file) else {
         return Err(DayFault::Memory);

@@ -5,8 +5,8 @@ ghost use Rattle.gtfs_rows.specs.StopsFile.{StopData};
 ghost use Rattle.footpaths.specs.Stops.{platforms};
 ghost use Rattle.footpaths.specs.Footpaths.{PathsData};
 ghost use Rattle.footpaths.specs.Law.{AreSoundPaths, walking};
-ghost use Rattle.trip_table.specs.Answers.{GivesRows};
-ghost use Rattle.trip_table.specs.Day.{breach_fault, platform_id, IsAmong, KeepTheLaw};
+ghost use Rattle.trip_table.specs.Answers.{GivesRows, IsAmong};
+ghost use Rattle.trip_table.specs.Day.{breach_fault, platform_id, KeepTheLaw};
 
 use crate::assemble::stops_of;
 use crate::stops::StopRows;
@@ -18,7 +18,9 @@ use tb_base::{Memory, Stop, StopNo};
 /// The name of a stop.
 pub(crate) fn name_of(alloc: Global, stops: &[Stop], stop: StopNo) -> Result<Name, Memory>
     requires { stop < length stops.now }
-    ensures { (rows : List StopData) → stops.now ≡ map (λ s. record { name = StopData.id s }) (platforms rows) → IfOk result (λ name. name ≡ platform_id rows stop) }
+    ensures { (rows : List StopData) →
+        stops.now ≡ map (λ s. record { name = StopData.id s }) (platforms rows) →
+        IfOk result (λ name. name ≡ platform_id rows stop) }
 {
     Name::new(alloc, stops[stop.index()].name.bytes())
 }
@@ -52,7 +54,8 @@ pub fn tested(alloc: Global, stops: &StopRows, paths: Paths) -> Result<Paths, Ro
     requires many { length (PathsData.change paths) ≡ length (platforms stops.now) }
     ensures told { GivesRows (KeepTheLaw stops.now paths) result }
     ensures sound { IfOk result AreSoundPaths }
-    ensures many { IfOk result (λ paths. length (PathsData.change paths) ≡ length (platforms stops.now)) }
+    ensures many { IfOk result
+        (λ paths. length (PathsData.change paths) ≡ length (platforms stops.now)) }
     ensures law { IfOk result (λ paths. KeepsFootpathLaw (walking paths)) }
 {
     let Err(breach) = test_law(&paths) else {

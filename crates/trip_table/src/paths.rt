@@ -25,9 +25,13 @@ fn transfer_rows_of<F: Folder>(
     dir: &str,
 ) -> Result<Vec<TransferRow>, DayFault>
     requires { F.faults folder.old < 2 ^ 64 - 1 }
-    ensures told { IsSome (F.files folder.old) → Yields IsRefused result (λ rows. rows.items) (transfer_rows_of (feed_of (F.files folder.old) dir.now)) }
-    ensures short { IfOk result (λ rows. All (λ r. TakesAtMostADay (TransferData.rule r)) rows.items) }
-    ensures leaves { Leaves (F.files folder.old) (F.files folder.new) (F.faults folder.old) (F.faults folder.new) result }
+    ensures told { IsSome (F.files folder.old) →
+        Yields IsRefused result (λ rows. rows.items)
+        (transfer_rows_of (feed_of (F.files folder.old) dir.now)) }
+    ensures short { IfOk result
+        (λ rows. All (λ r. TakesAtMostADay (TransferData.rule r)) rows.items) }
+    ensures leaves { Leaves (F.files folder.old) (F.files folder.new) (F.faults folder.old)
+        (F.faults folder.new) result }
 {
     match file_rows(alloc, folder, dir, &TransferReader) {
         Ok(Some(rows)) => Ok(rows),
@@ -46,9 +50,14 @@ fn given_footpaths(
     requires change { options.now.change ≤ 86400 }
     requires station { IfSome options.now.station (λ secs. secs ≤ 86400) }
     requires short { All (λ r. TakesAtMostADay (TransferData.rule r)) rows.now }
-    ensures told { MatchResult result (λ told. (check_transfers stops.now rows.now ≡ Ok rows.now) × IsCounted (given_footpaths stops.now options.now rows.now) told) (refusal.IsRefused (check_transfers stops.now rows.now)) }
+    ensures told { MatchResult result
+        (λ told. (check_transfers stops.now rows.now ≡ Ok rows.now)
+        × IsCounted (given_footpaths stops.now options.now rows.now) told)
+        (refusal.IsRefused (check_transfers stops.now rows.now)) }
     ensures sound { IfOk result (λ told. IfSome told AreSoundPaths) }
-    ensures many { IfOk result (λ told. IfSome told (λ paths. length (PathsData.change paths) ≡ length (platforms stops.now))) }
+    ensures many { IfOk result
+        (λ told.
+        IfSome told (λ paths. length (PathsData.change paths) ≡ length (platforms stops.now))) }
 {
     match build_paths(alloc, rows, stops, options) {
         Ok(paths) => Ok(Some(paths)),
@@ -76,12 +85,18 @@ pub fn read_paths<F: Folder>(
     requires faults { F.faults folder.old < 2 ^ 64 - 1 }
     requires change { options.now.change ≤ 86400 }
     requires station { IfSome options.now.station (λ secs. secs ≤ 86400) }
-    ensures told { IsSome (F.files folder.old) → MatchResult result
-        (λ told. (rows : List TransferData) × (transfers_of (feed_of (F.files folder.old) dir.now) stops.now ≡ Ok rows) × IsCounted (given_footpaths stops.now options.now rows) told)
+    ensures told { IsSome (F.files folder.old) →
+        MatchResult result
+        (λ told. (rows : List TransferData)
+        × (transfers_of (feed_of (F.files folder.old) dir.now) stops.now ≡ Ok rows)
+        × IsCounted (given_footpaths stops.now options.now rows) told)
         (IsRefused (transfers_of (feed_of (F.files folder.old) dir.now) stops.now)) }
     ensures sound { IfOk result (λ told. IfSome told AreSoundPaths) }
-    ensures many { IfOk result (λ told. IfSome told (λ paths. length (PathsData.change paths) ≡ length (platforms stops.now))) }
-    ensures leaves { Leaves (F.files folder.old) (F.files folder.new) (F.faults folder.old) (F.faults folder.new) result }
+    ensures many { IfOk result
+        (λ told.
+        IfSome told (λ paths. length (PathsData.change paths) ≡ length (platforms stops.now))) }
+    ensures leaves { Leaves (F.files folder.old) (F.files folder.new) (F.faults folder.old)
+        (F.faults folder.new) result }
 {
     let rows = match transfer_rows_of(alloc, folder, dir) {
         Ok(rows) => rows,

@@ -47,8 +47,10 @@ pub fn read_services<F: Folder>(
     dir: &str,
 ) -> Result<ServiceRows, DayFault>
     requires { F.faults folder.old < 2 ^ 64 - 1 }
-    ensures told { IsSome (F.files folder.old) → Yields IsRefused result (λ x. x) (services_of (feed_of (F.files folder.old) dir.now)) }
-    ensures leaves { Leaves (F.files folder.old) (F.files folder.new) (F.faults folder.old) (F.faults folder.new) result }
+    ensures told { IsSome (F.files folder.old) →
+        Yields IsRefused result (λ x. x) (services_of (feed_of (F.files folder.old) dir.now)) }
+    ensures leaves { Leaves (F.files folder.old) (F.files folder.new) (F.faults folder.old)
+        (F.faults folder.new) result }
 {
     let calendar = match file_rows(alloc, folder, dir, &CalendarReader) {
         Ok(rows) => rows,

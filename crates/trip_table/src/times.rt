@@ -159,9 +159,12 @@ pub fn read_times<F: Folder>(
     trips: &TripTable,
 ) -> Result<Vec<StopTime>, DayFault>
     requires { F.faults folder.old < 2 ^ 64 - 1 }
-    ensures told { IsSome (F.files folder.old) → Yields day.IsRefused result (λ times. times.items) (times_of (feed_of (F.files folder.old) dir.now) stops.now trips.now) }
+    ensures told { IsSome (F.files folder.old) →
+        Yields day.IsRefused result (λ times. times.items)
+        (times_of (feed_of (F.files folder.old) dir.now) stops.now trips.now) }
     ensures good { IfOk result (λ times. AreGoodTimes stops.now trips.now times.items) }
-    ensures leaves { Leaves (F.files folder.old) (F.files folder.new) (F.faults folder.old) (F.faults folder.new) result }
+    ensures leaves { Leaves (F.files folder.old) (F.files folder.new) (F.faults folder.old)
+        (F.faults folder.new) result }
 {
     let resolver = TimeResolver { stops, trips };
     let rows = match file_rows(alloc, folder, dir, &resolver) {

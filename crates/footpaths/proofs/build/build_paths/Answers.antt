@@ -1,12 +1,9 @@
-use Rattle.std.proofs.Common.{◌≡◌, ◌≤◌, ℕ, length, arith}
+use Rattle.std.proofs.Common.{◌≤◌, length, arith}
 use Rattle.std.proofs.lemmas.Result.{MatchResult-weaker}
-use Rattle.std.specs.Prelude.{IfSome, Ok, Err, Result, IfOk, MatchResult, All}
-use Rattle.gtfs_rows.specs.TransfersFile.{TransferData}
 use Rattle.gtfs_rows.specs.StopsFile.{is_platform}
 use Rattle.footpaths.specs.Stops.{platforms}
-use Rattle.footpaths.specs.Links.{links_of, TakesAtMostADay}
-use Rattle.footpaths.specs.Footpaths.{PathsData, secs_between, paths_of, check_count}
-use Rattle.footpaths.specs.Law.{AreSoundPaths}
+use Rattle.footpaths.specs.Links.{links_of}
+use Rattle.footpaths.specs.Footpaths.{secs_between}
 use Rattle.footpaths.proofs.LinkEnds.{links_have_ends}
 use Rattle.footpaths.proofs.Sound.{secs_day, sound_paths}
 use Rattle.footpaths.proofs.StopPlaces.{length_kept}

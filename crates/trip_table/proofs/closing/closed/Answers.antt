@@ -1,8 +1,8 @@
 use Rattle.std.proofs.Common.{◌∙◌, sym, ap, subst, length, List}
 use Rattle.gtfs_rows.specs.StopsFile.{StopData}
 use Rattle.footpaths.specs.Stops.{platforms}
-use Rattle.trip_table.specs.Answers.{IsRowsFault}
-use Rattle.trip_table.specs.Day.{AreThere, AreClosed}
+use Rattle.trip_table.specs.Answers.{IsRowsFault, AreThere}
+use Rattle.trip_table.specs.Day.{AreClosed}
 use Rattle.trip_table.proofs.ClosingSteps.{closing_held, closing_count, refused_inside}
 use Rattle.trip_table.proofs.closing.closed.Goals as goal
 
