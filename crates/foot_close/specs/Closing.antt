@@ -54,7 +54,8 @@ pub record IsFirstFar (closed : Changes) (p q : ℕ) : Type 0 where
 -- A refusal tells that the closure is too large, or else its first far pair; want of memory
 -- says nothing.
 abbrev pub IsCloseRefused : PathsData → CloseFault → Type 0
-IsCloseRefused given why.TooMany = ClosureHas given (λ closed. 2000000 < footpath_total given closed)
+IsCloseRefused given why.TooMany =
+    ClosureHas given (λ closed. 2000000 < footpath_total given closed)
 IsCloseRefused given (why.Far p q) =
     ClosureHas given (λ closed. (footpath_total given closed ≤ 2000000) × IsFirstFar closed p q)
 IsCloseRefused given why.Memory = ⊤

@@ -6,7 +6,8 @@ use Rattle.footpaths.specs.Law.{change_between}
 -- the seconds of a chain of changes from one stop to another, by the stops on the way
 abbrev pub chain : Changes → ℕ → List ℕ → ℕ → Option ℕ
 chain given p [] r = given p r
-chain given p (q ∷ via) r = option_and_then (λ s. option_map (λ t. s + t) (chain given q via r)) (given p q)
+chain given p (q ∷ via) r =
+    option_and_then (λ s. option_map (λ t. s + t) (chain given q via r)) (given p q)
 
 -- the seconds of the shortest chain
 pub record IsShortest (given : Changes) (p r secs : ℕ) : Type 0 where
@@ -16,7 +17,10 @@ pub record IsShortest (given : Changes) (p r secs : ℕ) : Type 0 where
 
 -- each change is the shortest chain of given ones, and absent where there is none
 abbrev pub IsClosure : Changes → Changes → Type 0
-IsClosure given closed = (p r : ℕ) → MatchOption (closed p r) ((via : List ℕ) → chain given p via r ≡ None) (IsShortest given p r)
+IsClosure given closed =
+    (p r : ℕ) →
+    MatchOption (closed p r) ((via : List ℕ) → chain given p via r ≡ None)
+    (IsShortest given p r)
 
 -- Change times and footpaths are the closure of others.
 abbrev pub IsClosed : PathsData → PathsData → Type 0

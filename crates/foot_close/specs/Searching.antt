@@ -1,4 +1,5 @@
--- The search for the shortest chains from one stop: the least seconds so far, the stops that got them, and both in order.
+-- The search for the shortest chains from one stop: the least seconds so far, the stops that got
+-- them, and both in order.
 use Rattle.std.specs.Prelude.{◌==◌, ◌≡◌, ◌≢◌, ◌⊎◌, ◌++◌, ℕ, ◌+◌, ◌*◌, ◌<◌, ◌≤◌, List, [], length, Option, None, Some, Bool, true, false, nat_lt, is_some, option_map, filter_map, slice_index_or, All, Contains, IsSomeAnd, MatchOption, count_by, sum_by, MatchBool}
 use Rattle.std.specs.Option.{option_to_list}
 use Rattle.tb_base.specs.declared.table.Path.{Path}
@@ -68,8 +69,10 @@ pub record IsRelaxed (row : List Path) (secs : ℕ) (old new : SearchData) : Typ
   pub more : List Reached
   pub grows : new.waiting ≡ old.waiting ++ more
   pub lowers : (q t : ℕ) → mark old.marks q ≡ Some t → IsSomeAnd (mark new.marks q) (λ u. u ≤ t)
-  pub each : (q t : ℕ) → mark new.marks q ≡ Some t → (mark old.marks q ≡ Some t) ⊎ IsFrom row secs more q t
-  pub relaxed : (f : Path) → Contains row f → IsSomeAnd (mark new.marks f.to) (λ u. u ≤ secs + f.secs)
+  pub each : (q t : ℕ) → mark new.marks q ≡ Some t →
+      (mark old.marks q ≡ Some t) ⊎ IsFrom row secs more q t
+  pub relaxed : (f : Path) → Contains row f →
+      IsSomeAnd (mark new.marks f.to) (λ u. u ≤ secs + f.secs)
   pub bounded : IsBounded new.marks
   pub count : reached_count old.marks ≤ reached_count new.marks
   pub cost : height new.marks + length more ≤ height old.marks
@@ -82,11 +85,15 @@ is_held s (Some t) = t == s
 -- the changes from a stop were looked at, where its seconds are still its least
 abbrev pub IsGoneOn : PathsData → Reached → SearchData → SearchData → Type 0
 IsGoneOn P r old new =
-    MatchBool (is_held r.secs (mark old.marks r.stop)) (IsRelaxed (leaving P r.stop) r.secs old new) (new ≡ old)
+    MatchBool (is_held r.secs (mark old.marks r.stop)) (IsRelaxed (leaving P r.stop) r.secs old new)
+    (new ≡ old)
 
 -- the marks are the shortest chains from a stop
 abbrev pub AreShortest : Changes → ℕ → List (Option ℕ) → Type 0
-AreShortest given p marks = (r : ℕ) → MatchOption (mark marks r) ((via : List ℕ) → chain given p via r ≡ None) (IsShortest given p r)
+AreShortest given p marks =
+    (r : ℕ) →
+    MatchOption (mark marks r) ((via : List ℕ) → chain given p via r ≡ None)
+    (IsShortest given p r)
 
 -- the stops that were reached, in order of their numbers, each with its seconds
 abbrev pub reached_at : ℕ → Option ℕ → Option Reached

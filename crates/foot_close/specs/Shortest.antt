@@ -16,7 +16,9 @@ both a b = option_and_then (λ s. option_map (λ t. s + t) b) a
 -- the seconds of the shortest chain whose stops on the way are among the first k
 abbrev pub shortest_over : ℕ → Changes → Changes
 shortest_over zero given p r = given p r
-shortest_over (suc k) given p r = lesser (shortest_over k given p r) (both (shortest_over k given p k) (shortest_over k given k r))
+shortest_over (suc k) given p r =
+    lesser (shortest_over k given p r)
+    (both (shortest_over k given p k) (shortest_over k given k r))
 
 -- the closure of change times and footpaths: all their stops may be on the way
 abbrev pub closure_of : PathsData → Changes

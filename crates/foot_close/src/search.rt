@@ -224,7 +224,8 @@ impl Search {
         requires from { from < length paths.now.change }
         requires fresh { IsFresh (length paths.now.change) self.old }
         ensures many { OnOk result (length self.new.marks ≡ length paths.now.change) }
-        ensures shortest { OnOk result (AreShortest (change_between paths.now) from self.new.marks) }
+        ensures shortest { OnOk result
+            (AreShortest (change_between paths.now) from self.new.marks) }
     {
         self.relax_from(paths, from, 0)?;
         let mut next: usize = 0;

@@ -1,16 +1,16 @@
 -- Breaches of the law on footpaths, footpath by footpath.
-use Rattle.std.proofs.Common.{◌≡◌, ◌≢◌, ◌∙◌, sym, ap, subst, refl, ℕ, zero, suc, ◌+◌, ◌<◌, ◌≤◌, ◌==◌, List, [], ◌∷◌, length, get_or, true, false, find, Some, None, arith, inl, inr}
-use Rattle.std.specs.Prelude.{AllPairs, All, IsSomeAnd, Option}
+use Rattle.std.proofs.Common.{◌≡◌, ◌≢◌, ◌∙◌, sym, ap, subst, refl, ℕ, suc, ◌+◌, ◌<◌, ◌≤◌, ◌==◌, List, [], ◌∷◌, length, get_or, find, Some, None, arith, inl, inr}
+use Rattle.std.specs.Prelude.{AllPairs, IsSomeAnd, Option}
 use Rattle.std.specs.Option.{option_map}
 use Rattle.std.specs.Ordering.{nat_cmp}
 use Rattle.std.specs.declared.cmp.Ordering.TheVariants.{Equal}
 use Rattle.std.proofs.lemmas.Bool.{cases_Bool, cases_lt}
 use Rattle.std.proofs.lemmas.Bool.Decides.{nat_tests}
-use Rattle.std.proofs.lemmas.List.{get_or_default, get_or_past}
+use Rattle.std.proofs.lemmas.List.{get_or_past}
 use Rattle.tb_base.specs.declared.table.Path.{Path}
 use Rattle.tb_base.proofs.Searching.{found_at}
 use Rattle.footpaths.specs.Footpaths.{PathsData}
-use Rattle.footpaths.specs.Law.{footpath, change_between, AreInARow, IsAbsent, IsLong, IsGood}
+use Rattle.footpaths.specs.Law.{footpath, change_between, AreInARow, IsGood}
 
 abbrev no_path : Path
 no_path = record { to = 0; secs = 0 }

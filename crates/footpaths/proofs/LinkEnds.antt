@@ -4,10 +4,10 @@ use Rattle.std.specs.Prelude.{All, IfSome, unwrap_or, option_map, position}
 use Rattle.std.specs.Option.{option_or}
 use Rattle.std.specs.List.{list_any}
 use Rattle.std.proofs.lemmas.List.Elements.{All-map}
-use Rattle.gtfs_rows.specs.StopsFile.{StopData}
+use Rattle.gtfs_rows.specs.StopsFile.{StopData, is_station}
 use Rattle.gtfs_rows.specs.TransfersFile.{TransferData}
 use Rattle.footpaths.specs.declared.found.Found.TheVariants as found
-use Rattle.footpaths.specs.Stops.{is_station, has_stop_id, platforms, stations}
+use Rattle.footpaths.specs.Stops.{has_stop_id, platforms, stations}
 use Rattle.footpaths.specs.Links.{end_of, link_of, links_of}
 use Rattle.footpaths.specs.Network.{IsEnd, HasLinkEnds}
 use Rattle.footpaths.proofs.StopPlaces.{length_kept, place_below}

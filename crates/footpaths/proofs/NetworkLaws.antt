@@ -8,11 +8,11 @@ use Rattle.std.proofs.lemmas.List.Elements.{All-filter, All-map, All-weaker}
 use Rattle.std.proofs.lemmas.List.Kept.{AllPairs-filter}
 use Rattle.std.proofs.lemmas.List.FromFn.{length-range_with_len, get_or-range_with_len, get_or-map-range_with_len, length-map-range_with_len}
 use Rattle.groups.specs.Places.{places_of}
-use Rattle.gtfs_rows.specs.StopsFile.{StopData}
+use Rattle.gtfs_rows.specs.StopsFile.{StopData, is_platform, is_station}
 use Rattle.footpaths.specs.declared.found.Found.{Found}
 use Rattle.footpaths.specs.declared.found.Found.TheVariants as found
 use Rattle.footpaths.specs.declared.found.Link.{Link}
-use Rattle.footpaths.specs.Stops.{is_platform, is_station, has_stop_id, platforms, stations, parent_station, station_of}
+use Rattle.footpaths.specs.Stops.{has_stop_id, platforms, stations, parent_station, station_of}
 use Rattle.footpaths.specs.Footpaths.{is_number, numbers}
 use Rattle.footpaths.specs.Network.{platform_key, station_key, platform_keys, station_keys, parent_keys, HasLinkEnds, IsEnd}
 use Rattle.footpaths.proofs.StopPlaces.{length_kept, place_below}

@@ -7,11 +7,11 @@ use Rattle.std.proofs.lemmas.Bool.Decides.{nat_tests}
 use Rattle.std.proofs.lemmas.List.{length-map, get_or-map, get_or-set_same, get_or-set_other}
 use Rattle.groups.specs.Places.{places_of}
 use Rattle.groups.proofs.ByPlaces.{rows_by_places}
-use Rattle.gtfs_rows.specs.StopsFile.{StopData}
+use Rattle.gtfs_rows.specs.StopsFile.{StopData, is_platform}
 use Rattle.footpaths.specs.declared.found.Found.{Found}
 use Rattle.footpaths.specs.declared.found.Found.TheVariants as found
 use Rattle.footpaths.specs.declared.found.Link.{Link}
-use Rattle.footpaths.specs.Stops.{is_platform, platforms, station_of}
+use Rattle.footpaths.specs.Stops.{platforms, station_of}
 use Rattle.footpaths.specs.Footpaths.{takes_in, fits, rank, said, is_number, longest}
 use Rattle.footpaths.specs.Marks.{better, slot, marked, marked_by, ruled, verdict_secs}
 use Rattle.footpaths.specs.Network.{link_at, platform_key, station_key, platform_keys, station_keys, HasPlaces}

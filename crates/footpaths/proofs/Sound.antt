@@ -1,7 +1,7 @@
 -- Change times and footpaths of platforms are sound, the law aside.
-use Rattle.std.proofs.Common.{◌≡◌, ◌≢◌, ◌∙◌, sym, ap, subst, refl, ℕ, zero, suc, ◌+◌, ◌<◌, ◌≤◌, List, [], ◌∷◌, ◌++◌, length, map, get_or, Bool, true, false, ◌&&◌, cond, max, Option, Some, None, arith, inl, inr}
+use Rattle.std.proofs.Common.{◌≡◌, ◌∙◌, sym, ap, subst, refl, ℕ, zero, suc, ◌+◌, ◌<◌, ◌≤◌, List, [], ◌∷◌, length, map, get_or, Bool, true, false, ◌&&◌, cond, Option, Some, None, arith, inl, inr}
 use Rattle.std.specs.Prelude.{◌==◌, All, AllPairs, IfSome, filter, filter_map, nat_lt, unwrap_or, option_map, Ok}
-use Rattle.std.specs.Option.{option_or, option_to_list}
+use Rattle.std.specs.Option.{option_or}
 use Rattle.std.specs.List.{range_with_len}
 use Rattle.std.proofs.lemmas.Bool.{cases_Bool}
 use Rattle.std.proofs.lemmas.Bool.Decides.{nat_tests}
@@ -16,7 +16,7 @@ use Rattle.gtfs_rows.specs.declared.transfers.PathRule.{PathRule}
 use Rattle.gtfs_rows.specs.declared.transfers.PathRule.TheVariants as rule
 use Rattle.footpaths.specs.declared.found.Link.{Link}
 use Rattle.footpaths.specs.declared.paths.Options.{Options}
-use Rattle.footpaths.specs.Stops.{platforms, station_of}
+use Rattle.footpaths.specs.Stops.{station_of}
 use Rattle.footpaths.specs.Links.{secs_by, link_of, links_of, TakesAtMostADay}
 use Rattle.footpaths.specs.Footpaths.{Changes, PathsData, longer, longer_said, longest, said, unsaid, fits, rank, have_one_station, secs_between, path_to, paths_from, paths_of, path_total, numbers, check_count}
 use Rattle.footpaths.specs.Law.{AreSoundPaths}

@@ -7,9 +7,9 @@ use Rattle.std.proofs.lemmas.List.{take_more, map-append, length-map, append-nil
 use Rattle.std.proofs.lemmas.List.Elements.{filter-append}
 use Rattle.std.proofs.lemmas.List.Quantifiers.{position-Some}
 use Rattle.names.proofs.Places.{list_any-over_map, position-map}
-use Rattle.gtfs_rows.specs.StopsFile.{StopData}
+use Rattle.gtfs_rows.specs.StopsFile.{StopData, is_platform, is_station}
 use Rattle.footpaths.specs.declared.found.Found.TheVariants as found
-use Rattle.footpaths.specs.Stops.{stop_id, has_stop_id, is_platform, is_station, platforms, stations, find_stop, check_stops}
+use Rattle.footpaths.specs.Stops.{stop_id, has_stop_id, platforms, stations, find_stop, check_stops}
 use Rattle.footpaths.proofs.StopRows.{new_id}
 
 either_false : (a b : Bool) → (a || b) ≡ false → (a ≡ false) × (b ≡ false)

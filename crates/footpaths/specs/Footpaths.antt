@@ -58,7 +58,8 @@ longest (x ∷ xs) = longer_said (Some x) (longest xs)
 
 -- what the fitting rows of a rank say of a pair
 abbrev pub said : List StopData → List Link → ℕ → ℕ → ℕ → Option (Option ℕ)
-said stops links p q k = longest (map (λ l. Link.secs l) (filter (λ l. fits stops p q l && (rank l == k)) links))
+said stops links p q k =
+    longest (map (λ l. Link.secs l) (filter (λ l. fits stops p q l && (rank l == k)) links))
 
 -- two platforms have one station
 abbrev pub have_one_station : Option ℕ → Option ℕ → Bool
@@ -69,12 +70,15 @@ have_one_station (Some k) b = is_number k b
 abbrev pub unsaid : List StopData → Options → ℕ → ℕ → Option ℕ
 unsaid stops options p q =
     if p == q then Some options.change
-    else if have_one_station (station_of stops q) (station_of stops p) then options.station else None
+    else if have_one_station (station_of stops q) (station_of stops p) then options.station
+    else None
 
 -- The seconds from one platform to another: the fitting rows of the lowest rank decide.
 abbrev pub secs_between : List StopData → Options → List Link → ℕ → ℕ → Option ℕ
 secs_between stops options links p q =
-    unwrap_or (option_or (said stops links p q 0) (option_or (said stops links p q 1) (said stops links p q 2))) (unsaid stops options p q)
+    unwrap_or (option_or (said stops links p q 0)
+    (option_or (said stops links p q 1) (said stops links p q 2)))
+    (unsaid stops options p q)
 
 -- changes: the seconds from one stop to another, by their numbers
 abbrev pub Changes : Type 0
@@ -102,16 +106,24 @@ paths_from n given p = filter_map (λ q. path_to p q (given p q)) (numbers n)
 
 -- the change times and footpaths of n stops
 abbrev pub paths_of : ℕ → Changes → PathsData
-paths_of n given = record { change = map (λ p. given p p) (numbers n); paths = map (paths_from n given) (numbers n) }
+paths_of n given =
+    record {
+      change = map (λ p. given p p) (numbers n);
+      paths = map (paths_from n given) (numbers n);
+    }
 
 abbrev pub path_total : PathsData → ℕ
 path_total paths = sum_by (λ row. length {A = Path} row) paths.paths
 
 -- at most 2,000,000 footpaths, or a fault
 abbrev pub check_count : PathsData → Result PathsData FeedFault
-check_count paths = unless_wrong (fault_if (nat_lt 2000000 (path_total paths)) (fault.TooMany many.Footpaths 0) ∷ []) paths
+check_count paths =
+    unless_wrong
+    (fault_if (nat_lt 2000000 (path_total paths)) (fault.TooMany many.Footpaths 0) ∷ []) paths
 
--- The changes and footpaths of a feed's platforms, or the first thing that is wrong with transfers.txt.
+-- The changes and footpaths of a feed's platforms, or the first thing that is wrong with
+-- transfers.txt.
 abbrev pub footpaths : List StopData → Options → List TransferData → Result PathsData FeedFault
 footpaths stops options rows =
-    and_then (check_transfers stops rows) (λ good. check_count (paths_of (length (platforms stops)) (changes stops good options)))
+    and_then (check_transfers stops rows)
+    (λ good. check_count (paths_of (length (platforms stops)) (changes stops good options)))

@@ -3,7 +3,7 @@ use Rattle.std.specs.Prelude.{◌≡◌, ◌≢◌, ◌⊎◌, ℕ, ◌+◌, ◌
 use Rattle.tb_base.specs.declared.table.Path.{Path}
 use Rattle.tb_base.specs.TimetableData.{TimetableData}
 use Rattle.tb_base.specs.Soundness.{IsSoundPath}
-use Rattle.tb_base.specs.Walking.{footpath_secs, change, KeepsFootpathLaw}
+use Rattle.tb_base.specs.Walking.{footpath_secs, change}
 use Rattle.footpaths.specs.declared.law.LawFault.{LawFault}
 use Rattle.footpaths.specs.declared.law.LawFault.TheVariants as why
 use Rattle.footpaths.specs.Footpaths.{PathsData, path_total}
@@ -25,7 +25,8 @@ pub record AreSoundPaths (P : PathsData) : Type 0 where
   pub rows : length P.paths ≡ length P.change
   pub footpaths : path_total P ≤ 2000000
   pub change_secs : All (λ c. IfSome c (λ secs. secs ≤ 86400)) P.change
-  pub paths : (p : ℕ) → p < length P.change → All (IsSoundPath (length P.change) p) (slice_index_or P.paths p [])
+  pub paths : (p : ℕ) → p < length P.change →
+      All (IsSoundPath (length P.change) p) (slice_index_or P.paths p [])
   pub ascending : All (λ row. AllPairs (λ (f g : Path). f.to < g.to) row) P.paths
 
 -- a footpath from p to q, and one from there on to r, of so many seconds
@@ -58,7 +59,8 @@ pub record IsGood (P : PathsData) (p q r : ℕ) : Type 0 where
 
 -- a fault tells the breach at three stops
 abbrev pub IsBreach : PathsData → ℕ → ℕ → ℕ → LawFault → Type 0
-IsBreach P p q r f = ((f ≡ why.Absent p q r) × IsAbsent P p q r) ⊎ ((f ≡ why.Long p q r) × IsLong P p q r)
+IsBreach P p q r f =
+    ((f ≡ why.Absent p q r) × IsAbsent P p q r) ⊎ ((f ≡ why.Long p q r) × IsLong P p q r)
 
 -- a fault tells the first breach among the ways over q from p
 pub record IsFirstOver (P : PathsData) (p q : ℕ) (f : LawFault) : Type 0 where

@@ -1,4 +1,5 @@
--- The rows of transfers.txt by the numbers of their ends, and the first thing that is wrong with them.
+-- The rows of transfers.txt by the numbers of their ends, and the first thing that is wrong with
+-- them.
 use Rattle.std.specs.Prelude.{◌≡◌, ◌≤◌, ℕ, ◌+◌, ◌*◌, ◌&&◌, not, List, [], ◌∷◌, map, true, false, ◌⊎◌, Option, Some, None, position, unwrap_or, bytes_eq, Result, Err, ⊤}
 use Rattle.std.specs.List.{list_any}
 use Rattle.gtfs_rows.specs.Faults.{spot, fault_if, check_rows}
@@ -35,27 +36,39 @@ end_of stops id = unwrap_or (find_stop stops id) found.Other
 
 -- a row by its ends and its seconds, where the default change time is given
 abbrev pub link_of : List StopData → ℕ → TransferData → Link
-link_of stops change r = record { from = end_of stops r.from; to = end_of stops r.to; secs = secs_by change (TransferData.rule r) }
+link_of stops change r =
+    record {
+      from = end_of stops r.from;
+      to = end_of stops r.to;
+      secs = secs_by change (TransferData.rule r);
+    }
 
 abbrev pub links_of : List StopData → ℕ → List TransferData → List Link
 links_of stops change rows = map (link_of stops change) rows
 
 -- a row may name a stop that isn't there, or go between the same two as an earlier row
-abbrev pub wrong_transfer : List StopData → List TransferData → List TransferData → TransferData → List (Option FeedFault)
+abbrev pub wrong_transfer : List StopData → List TransferData → List TransferData → TransferData →
+    List (Option FeedFault)
 wrong_transfer stops rows earlier r =
-    fault_if (not (list_any (has_stop_id r.from) stops)) (fault.UnknownStop (spot file.Transfers r.row 1))
-    ∷ fault_if (not (list_any (has_stop_id r.to) stops)) (fault.UnknownStop (spot file.Transfers r.row 2))
-    ∷ fault_if (list_any (λ e. bytes_eq r.from e.from && bytes_eq r.to e.to) earlier) (fault.DuplicateTransfer (spot file.Transfers r.row 1))
+    fault_if (not (list_any (has_stop_id r.from) stops))
+    (fault.UnknownStop (spot file.Transfers r.row 1))
+    ∷ fault_if (not (list_any (has_stop_id r.to) stops))
+    (fault.UnknownStop (spot file.Transfers r.row 2))
+    ∷ fault_if (list_any (λ e. bytes_eq r.from e.from && bytes_eq r.to e.to) earlier)
+    (fault.DuplicateTransfer (spot file.Transfers r.row 1))
     ∷ []
 
 -- the rows of transfers.txt, or the first thing that is wrong with them
-abbrev pub check_transfers : List StopData → List TransferData → Result (List TransferData) FeedFault
+abbrev pub check_transfers : List StopData → List TransferData →
+    Result (List TransferData) FeedFault
 check_transfers stops = check_rows (wrong_transfer stops)
 
 -- a refusal tells the first thing that is wrong, and want of memory says nothing
 abbrev pub IsPathsRefused : {A : Type 0} → Result A FeedFault → PathsFault → Type 0
-IsPathsRefused checked (why.DuplicateTransfer row) = checked ≡ Err (fault.DuplicateTransfer (spot file.Transfers row 1))
-IsPathsRefused checked (why.UnknownStop row column) = checked ≡ Err (fault.UnknownStop (spot file.Transfers row column))
+IsPathsRefused checked (why.DuplicateTransfer row) =
+    checked ≡ Err (fault.DuplicateTransfer (spot file.Transfers row 1))
+IsPathsRefused checked (why.UnknownStop row column) =
+    checked ≡ Err (fault.UnknownStop (spot file.Transfers row column))
 IsPathsRefused checked why.TooMany = checked ≡ Err (fault.TooMany many.Footpaths 0)
 IsPathsRefused checked why.Memory = ⊤
 
@@ -68,7 +81,8 @@ pub record HasEnds (stops : List StopData) (r : TransferData) : Type 0 where
 abbrev pub LacksEnd : List StopData → TransferData → PathsFault → Type 0
 LacksEnd stops r f =
     ((f ≡ why.UnknownStop r.row 1) × (list_any (has_stop_id r.from) stops ≡ false))
-    ⊎ ((f ≡ why.UnknownStop r.row 2) × (list_any (has_stop_id r.from) stops ≡ true) × (list_any (has_stop_id r.to) stops ≡ false))
+    ⊎ ((f ≡ why.UnknownStop r.row 2) × (list_any (has_stop_id r.from) stops ≡ true)
+    × (list_any (has_stop_id r.to) stops ≡ false))
 
 -- a number for the two ends of a row, by their places among at most 100,000 rows of stops.txt
 abbrev pub place_of : List StopData → List ℕ → ℕ

@@ -14,7 +14,8 @@ pub record NetworkData : Type 0 where
   pub links : List Link
 
 abbrev pub link_at : List Link → ℕ → Link
-link_at links i = slice_index_or links i (record { from = found.Other; to = found.Other; secs = None })
+link_at links i =
+    slice_index_or links i (record { from = found.Other; to = found.Other; secs = None })
 
 -- an end is one of the platforms or stations
 abbrev pub IsEnd : List StopData → Found → Type 0
@@ -45,14 +46,16 @@ abbrev pub station_keys : ℕ → List Link → List ℕ
 station_keys none links = map (λ l. station_key none (Link.to l)) links
 
 abbrev pub parent_keys : List StopData → List ℕ
-parent_keys stops = map (λ p. unwrap_or (station_of stops p) (length stops)) (numbers (length (platforms stops)))
+parent_keys stops =
+    map (λ p. unwrap_or (station_of stops p) (length stops)) (numbers (length (platforms stops)))
 
 -- each key has its places
 pub record HasPlaces (keys : List ℕ) (count : ℕ) (places : List (List ℕ)) : Type 0 where
   pub many : length places ≡ count + 1
   pub each : (key : ℕ) → key < count + 1 → get_or places key [] ≡ places_of keys key
 
-pub record IsNetwork (stops : List StopData) (links : List Link) (members to_platform to_station : List (List ℕ)) : Type 0 where
+pub record IsNetwork (stops : List StopData) (links : List Link)
+    (members to_platform to_station : List (List ℕ)) : Type 0 where
   pub ends : All (HasLinkEnds stops) links
   pub member : HasPlaces (parent_keys stops) (length stops) members
   pub platform : HasPlaces (platform_keys (length stops) links) (length stops) to_platform

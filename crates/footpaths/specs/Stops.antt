@@ -1,9 +1,9 @@
 -- The rows of stops.txt: the numbers of platforms and stations, and the first thing that is wrong.
-use Rattle.std.specs.Prelude.{◌≡◌, ◌≤◌, ℕ, length, map, Ok, ◌&&◌, not, List, [], ◌∷◌, Bool, true, false, Option, Some, None, filter, position, option_map, option_and_then, slice_get, bytes_eq, Result, Err, ⊤, if◌then◌else◌}
+use Rattle.std.specs.Prelude.{◌≡◌, ◌≤◌, ℕ, length, map, Ok, ◌&&◌, not, List, [], ◌∷◌, Bool, Option, Some, None, filter, position, option_map, option_and_then, slice_get, bytes_eq, Result, Err, ⊤, if◌then◌else◌}
 use Rattle.std.specs.List.{list_any}
 use Rattle.std.specs.Option.{option_or}
 use Rattle.gtfs_rows.specs.Faults.{spot, fault_if, check_rows}
-use Rattle.gtfs_rows.specs.StopsFile.{StopData}
+use Rattle.gtfs_rows.specs.StopsFile.{StopData, is_platform, is_station}
 use Rattle.gtfs_rows.specs.TransfersFile.{is_filled}
 use Rattle.gtfs_rows.specs.declared.stops.Kind.{Kind}
 use Rattle.gtfs_rows.specs.declared.stops.Kind.TheVariants as kind
@@ -20,16 +20,6 @@ stop_id s = s.id
 
 abbrev pub has_stop_id : List ℕ → StopData → Bool
 has_stop_id id s = bytes_eq id s.id
-
-abbrev pub is_platform : Kind → Bool
-is_platform kind.Platform = true
-is_platform kind.Station = false
-is_platform kind.Other = false
-
-abbrev pub is_station : Kind → Bool
-is_station kind.Platform = false
-is_station kind.Station = true
-is_station kind.Other = false
 
 abbrev pub is_kind : Kind → Kind → Bool
 is_kind kind.Platform = is_platform
@@ -76,12 +66,16 @@ check_stops = check_rows wrong_stop
 
 -- a refusal tells the first thing that is wrong, and want of memory says nothing
 abbrev pub IsStopsRefused : Result (List StopData) FeedFault → StopsFault → Type 0
-IsStopsRefused checked (why.DuplicateId row) = checked ≡ Err (fault.DuplicateId (spot file.Stops row 1))
-IsStopsRefused checked (why.UnknownStop row) = checked ≡ Err (fault.UnknownStop (spot file.Stops row 3))
+IsStopsRefused checked (why.DuplicateId row) =
+    checked ≡ Err (fault.DuplicateId (spot file.Stops row 1))
+IsStopsRefused checked (why.UnknownStop row) =
+    checked ≡ Err (fault.UnknownStop (spot file.Stops row 3))
 IsStopsRefused checked why.Memory = ⊤
 
--- what a table of stops keeps beside its rows: their ids, those of each kind, and the station of each platform
-pub record IsIndexed (stops : List StopData) (ids platform_ids station_ids : List (List ℕ)) (parents : List (Option ℕ)) : Type 0 where
+-- what a table of stops keeps beside its rows: their ids, those of each kind, and the station of
+-- each platform
+pub record IsIndexed (stops : List StopData) (ids platform_ids station_ids : List (List ℕ))
+    (parents : List (Option ℕ)) : Type 0 where
   pub few : length stops ≤ 100000
   pub checked : check_stops stops ≡ Ok stops
   pub named : ids ≡ map stop_id stops

@@ -1,6 +1,7 @@
 //! Change times and footpaths from the rows of transfers.txt.
-ghost use Rattle.std.specs.Prelude.{◌≡◌, ◌<◌, ◌≤◌, ◌++◌, ℕ, [], Ok, None, All, IfOk, IfSome, OnOk, MatchResult, length, get_or};
+ghost use Rattle.std.specs.Prelude.{◌≡◌, ◌<◌, ◌≤◌, ◌++◌, ℕ, [], None, All, IfOk, IfSome, OnOk, length, get_or};
 ghost use Rattle.std.specs.Option.{option_to_list};
+ghost use Rattle.gtfs_rows.specs.Refused.{Yields};
 ghost use Rattle.gtfs_rows.specs.TransfersFile.{TransferData};
 ghost use Rattle.footpaths.specs.Stops.{platforms};
 ghost use Rattle.footpaths.specs.Links.{TakesAtMostADay, IsPathsRefused};
@@ -24,7 +25,10 @@ fn collect(marks: &mut Marks, rows: &mut PathRows, to: StopNo) -> Result<(), Mem
     ensures marks { OnOk result (length marks.new ≡ length marks.old) }
     ensures many { OnOk result (length rows.new ≡ length rows.old) }
     ensures clear { OnOk result ((p : ℕ) → slot marks.new p ≡ None) }
-    ensures rows { OnOk result ((p : ℕ) → p < length rows.old → get_or rows.new p [] ≡ get_or rows.old p [] ++ option_to_list (path_to p to (verdict_secs (slot marks.old p)))) }
+    ensures rows { OnOk result ((p : ℕ) → p < length rows.old →
+        get_or rows.new p []
+        ≡ get_or rows.old p []
+        ++ option_to_list (path_to p to (verdict_secs (slot marks.old p)))) }
 {
     while let Some((from, verdict)) = marks.pop() {
         if let Some(secs) = verdict.secs {
@@ -58,8 +62,13 @@ fn fill_stop(
     ensures marks { OnOk result (length marks.new ≡ length marks.old) }
     ensures many { OnOk result (length rows.new ≡ length rows.old) }
     ensures clear { OnOk result ((p : ℕ) → slot marks.new p ≡ None) }
-    ensures own { IfOk result (λ own. own ≡ secs_between network.now.stops options.now network.now.links stop stop) }
-    ensures rows { OnOk result ((p : ℕ) → p < length rows.old → get_or rows.new p [] ≡ get_or rows.old p [] ++ option_to_list (path_to p stop (secs_between network.now.stops options.now network.now.links p stop))) }
+    ensures own { IfOk result
+        (λ own. own ≡ secs_between network.now.stops options.now network.now.links stop stop) }
+    ensures rows { OnOk result ((p : ℕ) → p < length rows.old →
+        get_or rows.new p []
+        ≡ get_or rows.old p []
+        ++ option_to_list (path_to p stop (secs_between network.now.stops options.now
+        network.now.links p stop))) }
 {
     network.mark_to(marks, stop, options)?;
     let own = secs_of(marks.take(stop.0));
@@ -75,7 +84,8 @@ fn fill(
     options: &Options,
 ) -> Result<Paths, PathsFault>
     requires { count ≡ length (platforms network.now.stops) }
-    ensures { MatchResult result (λ paths. check_count (paths_of count (secs_between network.now.stops options.now network.now.links)) ≡ Ok paths) (IsPathsRefused (check_count (paths_of count (secs_between network.now.stops options.now network.now.links)))) }
+    ensures { Yields IsPathsRefused result (λ x. x) (check_count
+        (paths_of count (secs_between network.now.stops options.now network.now.links))) }
 {
     let mut marks = Marks::new(alloc, count as usize)?;
     let mut rows = PathRows::new(alloc, count as usize)?;
@@ -104,8 +114,10 @@ pub fn build_paths(
 ) -> Result<Paths, PathsFault>
     requires change { options.now.change ≤ 86400 }
     requires station { IfSome options.now.station (λ secs. secs ≤ 86400) }
-    ensures told { MatchResult result (λ paths. footpaths stops.now options.now rows.now ≡ Ok paths) (IsPathsRefused (footpaths stops.now options.now rows.now)) }
-    ensures sound { IfOk result (λ paths. All (λ r. TakesAtMostADay (TransferData.rule r)) rows.now → AreSoundPaths paths) }
+    ensures told { Yields IsPathsRefused result (λ x. x)
+        (footpaths stops.now options.now rows.now) }
+    ensures sound { IfOk result
+        (λ paths. All (λ r. TakesAtMostADay (TransferData.rule r)) rows.now → AreSoundPaths paths) }
 {
     stops.soundness();
     let links = match links_of(alloc, rows, stops, options.change) {

@@ -48,7 +48,8 @@ fn test_one(paths: &Paths, p: StopNo, first: &Path, second: &Path) -> Result<(),
     requires first { footpath paths.now p first.now.to ≡ Some first.now.secs }
     requires second { footpath paths.now first.now.to second.now.to ≡ Some second.now.secs }
     requires fits { first.now.secs + second.now.secs < 4294967296 }
-    ensures { MatchResult result (λ _. IsGood paths.now p first.now.to second.now.to) (IsBreach paths.now p first.now.to second.now.to) }
+    ensures { MatchResult result (λ _. IsGood paths.now p first.now.to second.now.to)
+        (IsBreach paths.now p first.now.to second.now.to) }
 {
     match paths.change_between(p, second.to) {
         None => Err(LawFault::Absent(p, first.to, second.to)),
@@ -69,7 +70,8 @@ fn test_over(paths: &Paths, p: StopNo, first: &Path) -> Result<(), LawFault>
     requires to { first.now.to < length paths.now.paths }
     requires first { footpath paths.now p first.now.to ≡ Some first.now.secs }
     requires day { first.now.secs ≤ 86400 }
-    ensures { MatchResult result (λ _. (r : ℕ) → IsGood paths.now p first.now.to r) (IsFirstOver paths.now p first.now.to) }
+    ensures { MatchResult result (λ _. (r : ℕ) → IsGood paths.now p first.now.to r)
+        (IsFirstOver paths.now p first.now.to) }
 {
     for second in paths.row(first.to) {
         test_one(paths, p, first, second)?;
@@ -81,7 +83,8 @@ fn test_over(paths: &Paths, p: StopNo, first: &Path) -> Result<(), LawFault>
 fn test_from(paths: &Paths, p: StopNo) -> Result<(), LawFault>
     requires sound { AreSoundPaths paths.now }
     requires from { p < length paths.now.paths }
-    ensures { MatchResult result (λ _. (q r : ℕ) → IsGood paths.now p q r) (IsFirstFrom paths.now p) }
+    ensures { MatchResult result (λ _. (q r : ℕ) → IsGood paths.now p q r)
+        (IsFirstFrom paths.now p) }
 {
     for first in paths.row(p) {
         test_over(paths, p, first)?;
@@ -94,7 +97,8 @@ fn test_from(paths: &Paths, p: StopNo) -> Result<(), LawFault>
 /// their sum. Refused exactly where it doesn't, with the first triple in order of the three numbers.
 pub fn test_law(paths: &Paths) -> Result<(), LawFault>
     requires { AreSoundPaths paths.now }
-    ensures { MatchResult result (λ _. KeepsFootpathLaw (walking paths.now)) (IsFirstBreach paths.now) }
+    ensures { MatchResult result (λ _. KeepsFootpathLaw (walking paths.now))
+        (IsFirstBreach paths.now) }
 {
     let count = paths.paths.len() as u32;
     for p in 0..count {

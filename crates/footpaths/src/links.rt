@@ -1,6 +1,7 @@
 //! The rows of transfers.txt by the numbers of their ends.
 ghost use Rattle.std.specs.Prelude.{◌≡◌, ◌<◌, ◌≤◌, ◌⊎◌, ◌++◌, ◌∷◌, [], ℕ, not, true, false, Ok, IfOk, OnErr, MatchResult, MatchBool, length, nat_eq};
 ghost use Rattle.std.specs.List.{list_any};
+ghost use Rattle.gtfs_rows.specs.Refused.{Yields};
 ghost use Rattle.footpaths.specs.Stops.{has_stop_id};
 ghost use Rattle.footpaths.specs.Links.{secs_by, end_of, link_of, links_of, check_transfers, HasEnds, LacksEnd, pair_number, IsPathsRefused};
 
@@ -37,7 +38,8 @@ impl Pairs {
 
     // Adds a number at the end, unless it is there.
     fn add(&mut self, number: u64) -> Result<bool, Memory>
-        ensures added { IfOk result (λ fresh. MatchBool fresh (self.new ≡ self.old ++ number ∷ []) (self.new ≡ self.old)) }
+        ensures added { IfOk result
+            (λ fresh. MatchBool fresh (self.new ≡ self.old ++ number ∷ []) (self.new ≡ self.old)) }
         ensures fresh { IfOk result (λ fresh. fresh ≡ not (list_any (nat_eq number) self.old)) }
         ensures memory { OnErr result (self.new ≡ self.old) }
     {
@@ -60,7 +62,9 @@ fn secs_by(change: u32, rule: PathRule) -> Option<u32>
 
 // The number of the pair of stops that a row names.
 fn pair_of(row: &TransferRow, stops: &StopTable) -> Result<u64, PathsFault>
-    ensures { MatchResult result (λ number. HasEnds stops.now row.now × (number ≡ pair_number stops.now row.now)) (LacksEnd stops.now row.now) }
+    ensures { MatchResult result
+        (λ number. HasEnds stops.now row.now × (number ≡ pair_number stops.now row.now))
+        (LacksEnd stops.now row.now) }
 {
     let Some(from) = stops.place(row.from.bytes()) else {
         return Err(PathsFault::UnknownStop {
@@ -99,7 +103,7 @@ fn link_of(row: &TransferRow, stops: &StopTable, change: u32) -> Link
 // Whether something is wrong with the rows.
 fn check_transfers(alloc: Global, rows: &[TransferRow], stops: &StopTable) -> Result<(), PathsFault>
     requires { length stops.now ≤ 100000 }
-    ensures { MatchResult result (λ _. check_transfers stops.now rows.now ≡ Ok rows.now) (IsPathsRefused (check_transfers stops.now rows.now)) }
+    ensures { Yields IsPathsRefused result (λ _. rows.now) (check_transfers stops.now rows.now) }
 {
     let mut pairs = Pairs::new(alloc);
     for row in rows {
@@ -136,7 +140,10 @@ pub fn links_of(
     stops: &StopTable,
     change: u32,
 ) -> Result<Vec<Link>, PathsFault>
-    ensures { MatchResult result (λ links. (check_transfers stops.now rows.now ≡ Ok rows.now) × (links.items ≡ links_of stops.now change rows.now)) (IsPathsRefused (check_transfers stops.now rows.now)) }
+    ensures { MatchResult result
+        (λ links. (check_transfers stops.now rows.now ≡ Ok rows.now)
+        × (links.items ≡ links_of stops.now change rows.now))
+        (IsPathsRefused (check_transfers stops.now rows.now)) }
 {
     stops.soundness();
     match check_transfers(alloc, rows, stops) {

@@ -78,7 +78,8 @@ impl Marks {
     /// One verdict more at a stop.
     pub fn mark(&mut self, stop: u32, rank: u8, secs: Option<u32>) -> Result<(), Memory>
         requires { stop < length self.old }
-        ensures { OnOk result (self.new ≡ set self.old stop (Some (better (slot self.old stop) rank secs))) }
+        ensures { OnOk result
+            (self.new ≡ set self.old stop (Some (better (slot self.old stop) rank secs))) }
     {
         self.touched.push(stop)?;
         let at = stop as usize;
@@ -91,7 +92,9 @@ impl Marks {
         requires within { All (λ p. p < length self.old) stops.now }
         requires distinct { AllPairs (λ p q. p ≢ q) stops.now }
         ensures length { OnOk result (length self.new ≡ length self.old) }
-        ensures marked { OnOk result ((p : ℕ) → slot self.new p ≡ marked (list_any (λ m. m == p) stops.now) (slot self.old p) rank secs) }
+        ensures marked { OnOk result ((p : ℕ) →
+            slot self.new p
+            ≡ marked (list_any (λ m. m == p) stops.now) (slot self.old p) rank secs) }
     {
         for stop in stops {
             self.mark(*stop, rank, secs)?;

@@ -105,14 +105,16 @@ impl<'a> Model for Network<'a> {
 
     ghost view = { λ n. record { stops = n.stops.now; links = n.links.items } };
 
-    ghost invariant = { λ n. IsNetwork n.stops.now n.links.items n.members n.to_platform n.to_station };
+    ghost invariant = { λ n.
+        IsNetwork n.stops.now n.links.items n.members n.to_platform n.to_station };
 }
 
 impl<'a> Network<'a> {
     /// The network of these rows.
     pub fn new(alloc: Global, links: Vec<Link>, stops: &'a StopTable) -> Result<Network<'a>, Memory>
         requires { All (HasLinkEnds stops.now) links.items }
-        ensures { IfOk result (λ network. network ≡ record { stops = stops.now; links = links.items }) }
+        ensures { IfOk result
+            (λ network. network ≡ record { stops = stops.now; links = links.items }) }
     {
         let none = stops.row_count();
         let members = places_by(alloc, parent_keys(alloc, stops)?.as_slice(), none)?;
@@ -140,7 +142,9 @@ impl<'a> Network<'a> {
         requires end { IsEnd self.now.stops from }
         requires many { length marks.old ≡ length (platforms self.now.stops) }
         ensures length { OnOk result (length marks.new ≡ length marks.old) }
-        ensures marked { OnOk result ((p : ℕ) → p < length marks.old → slot marks.new p ≡ marked (takes_in self.now.stops from p) (slot marks.old p) rank secs) }
+        ensures marked { OnOk result ((p : ℕ) → p < length marks.old →
+            slot marks.new p
+            ≡ marked (takes_in self.now.stops from p) (slot marks.old p) rank secs) }
     {
         match from {
             Found::Platform(stop) => marks.mark(stop.0, rank, secs),
@@ -156,7 +160,10 @@ impl<'a> Network<'a> {
         requires places { All (λ i. i < length self.now.links) places.now }
         requires many { length marks.old ≡ length (platforms self.now.stops) }
         ensures length { OnOk result (length marks.new ≡ length marks.old) }
-        ensures marked { OnOk result ((p : ℕ) → p < length marks.old → slot marks.new p ≡ fold (marked_by self.now.stops p) (slot marks.old p) (map (link_at self.now.links) places.now)) }
+        ensures marked { OnOk result ((p : ℕ) → p < length marks.old →
+            slot marks.new p
+            ≡ fold (marked_by self.now.stops p) (slot marks.old p)
+            (map (link_at self.now.links) places.now)) }
     {
         for place in places {
             let link = &self.links[*place as usize];
@@ -172,7 +179,11 @@ impl<'a> Network<'a> {
         requires many { length marks.old ≡ length (platforms self.now.stops) }
         requires clear { (p : ℕ) → slot marks.old p ≡ None }
         ensures length { OnOk result (length marks.new ≡ length marks.old) }
-        ensures ruled { OnOk result ((p : ℕ) → p < length marks.old → slot marks.new p ≡ ruled (said self.now.stops self.now.links p stop 0) (said self.now.stops self.now.links p stop 1) (said self.now.stops self.now.links p stop 2)) }
+        ensures ruled { OnOk result ((p : ℕ) → p < length marks.old →
+            slot marks.new p
+            ≡ ruled (said self.now.stops self.now.links p stop 0)
+            (said self.now.stops self.now.links p stop 1)
+            (said self.now.stops self.now.links p stop 2)) }
     {
         self.mark_links(marks, self.to_platform.of(stop.index()))?;
         match self.stops.station_of(stop) {
@@ -186,7 +197,11 @@ impl<'a> Network<'a> {
         requires stop { stop < length (platforms self.now.stops) }
         requires many { length marks.old ≡ length (platforms self.now.stops) }
         ensures length { OnOk result (length marks.new ≡ length marks.old) }
-        ensures marked { OnOk result ((p : ℕ) → p < length marks.old → slot marks.new p ≡ marked (have_one_station (station_of self.now.stops stop) (station_of self.now.stops p) && is_some secs) (slot marks.old p) 4 secs) }
+        ensures marked { OnOk result ((p : ℕ) → p < length marks.old →
+            slot marks.new p
+            ≡ marked (have_one_station (station_of self.now.stops stop)
+            (station_of self.now.stops p)
+            && is_some secs) (slot marks.old p) 4 secs) }
     {
         let Some(given) = secs else {
             return Ok(());
@@ -203,7 +218,9 @@ impl<'a> Network<'a> {
         requires many { length marks.old ≡ length (platforms self.now.stops) }
         requires clear { (p : ℕ) → slot marks.old p ≡ None }
         ensures length { OnOk result (length marks.new ≡ length marks.old) }
-        ensures secs { OnOk result ((p : ℕ) → p < length marks.old → verdict_secs (slot marks.new p) ≡ secs_between self.now.stops options.now self.now.links p stop) }
+        ensures secs { OnOk result ((p : ℕ) → p < length marks.old →
+            verdict_secs (slot marks.new p)
+            ≡ secs_between self.now.stops options.now self.now.links p stop) }
     {
         self.mark_rows(marks, stop)?;
         marks.mark(stop.0, 3, Some(options.change))?;

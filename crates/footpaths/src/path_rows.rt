@@ -20,8 +20,11 @@ fn empty_rows(alloc: Global, count: usize) -> Result<Vec<Vec<Path>>, Memory>
 
 fn push_to(rows: &mut Vec<Vec<Path>>, from: usize, path: Path) -> Result<(), Memory>
     requires { from < length rows.old.items }
-    ensures added { OnOk result (map (λ row. row.items) rows.new.items ≡ set (map (λ row. row.items) rows.old.items) from (get_or (map (λ row. row.items) rows.old.items) from [] ++ path ∷ [])) }
-    ensures memory { OnErr result (map (λ row. row.items) rows.new.items ≡ map (λ row. row.items) rows.old.items) }
+    ensures added { OnOk result (map (λ row. row.items) rows.new.items
+        ≡ set (map (λ row. row.items) rows.old.items) from
+        (get_or (map (λ row. row.items) rows.old.items) from [] ++ path ∷ [])) }
+    ensures memory { OnErr result
+        (map (λ row. row.items) rows.new.items ≡ map (λ row. row.items) rows.old.items) }
 {
     let row = &mut rows[from];
     match row.push(path) {
@@ -45,7 +48,9 @@ impl Model for PathRows {
 
     ghost view = { λ r. map (λ row. row.items) r.rows.items };
 
-    ghost invariant = { λ r. r.total ≡ min (sum_by (λ row. length {A = Path} row) (map (λ row. row.items) r.rows.items)) 18446744073709551615 };
+    ghost invariant = { λ r. r.total
+        ≡ min (sum_by (λ row. length {A = Path} row) (map (λ row. row.items) r.rows.items))
+        18446744073709551615 };
 }
 
 impl PathRows {
@@ -60,7 +65,8 @@ impl PathRows {
     /// One footpath more from a stop, after those that are there.
     pub fn add(&mut self, from: u32, path: Path) -> Result<(), Memory>
         requires { from < length self.old }
-        ensures { OnOk result (self.new ≡ set self.old from (get_or self.old from [] ++ path ∷ [])) }
+        ensures { OnOk result
+            (self.new ≡ set self.old from (get_or self.old from [] ++ path ∷ [])) }
     {
         push_to(&mut self.rows, from as usize, path)?;
         self.total = self.total.saturating_add(1);
@@ -69,7 +75,8 @@ impl PathRows {
 
     /// How many footpaths there are, as far as a number tells.
     pub fn total(&self) -> u64
-        ensures { result ≡ min (sum_by (λ row. length {A = Path} row) self.now) 18446744073709551615 }
+        ensures { result
+            ≡ min (sum_by (λ row. length {A = Path} row) self.now) 18446744073709551615 }
     {
         self.total
     }

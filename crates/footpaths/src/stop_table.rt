@@ -1,8 +1,8 @@
 //! The rows of stops.txt, with their numbers and a look-up by id.
 ghost use Rattle.std.specs.Prelude.{◌≡◌, ◌<◌, ◌≤◌, ℕ, List, Ok, IfOk, MatchResult, length, map, filter, position, bytes_eq, is_some, IfSome};
 ghost use Rattle.std.specs.List.{list_any};
-ghost use Rattle.gtfs_rows.specs.StopsFile.{StopData};
-ghost use Rattle.footpaths.specs.Stops.{stop_id, has_stop_id, lacks_parent, is_platform, is_station, is_kind, platforms, stations, parent_station, check_stops, IsStopsRefused};
+ghost use Rattle.gtfs_rows.specs.StopsFile.{StopData, is_platform, is_station};
+ghost use Rattle.footpaths.specs.Stops.{stop_id, has_stop_id, lacks_parent, is_kind, platforms, stations, parent_station, check_stops, IsStopsRefused};
 
 use crate::{Found, StopsFault};
 use gtfs_rows::{Kind, StopRow};
@@ -11,37 +11,20 @@ use std::alloc::Global;
 use std::marker::Model;
 use tb_base::{Memory, Name, StopNo};
 
-fn is_platform(kind: Kind) -> bool
-    ensures { result ≡ is_platform kind }
-{
-    match kind {
-        Kind::Platform => true,
-        Kind::Station | Kind::Other => false,
-    }
-}
-
 fn is_kind(asked: Kind, kind: Kind) -> bool
     ensures { result ≡ is_kind asked kind }
 {
     match asked {
-        Kind::Platform => is_platform(kind),
-        Kind::Station => is_station(kind),
-        Kind::Other => !is_platform(kind) && !is_station(kind),
-    }
-}
-
-fn is_station(kind: Kind) -> bool
-    ensures { result ≡ is_station kind }
-{
-    match kind {
-        Kind::Station => true,
-        Kind::Platform | Kind::Other => false,
+        Kind::Platform => kind.is_platform(),
+        Kind::Station => kind.is_station(),
+        Kind::Other => !kind.is_platform() && !kind.is_station(),
     }
 }
 
 // The ids of all rows, where an id that stands twice counts once.
 fn known_ids(alloc: Global, rows: &[StopRow]) -> Result<NameIndex, Memory>
-    ensures { IfOk result (λ ids. (id : List ℕ) → list_any (bytes_eq id) ids ≡ list_any (has_stop_id id) rows.now) }
+    ensures { IfOk result
+        (λ ids. (id : List ℕ) → list_any (bytes_eq id) ids ≡ list_any (has_stop_id id) rows.now) }
 {
     let mut ids = NameIndex::new(alloc);
     for row in rows {
@@ -52,7 +35,9 @@ fn known_ids(alloc: Global, rows: &[StopRow]) -> Result<NameIndex, Memory>
 
 // Whether a row names a parent that no row has.
 fn lacks_parent(row: &StopRow, known: &NameIndex) -> bool
-    ensures { (stops : List StopData) → ((id : List ℕ) → list_any (bytes_eq id) known.now ≡ list_any (has_stop_id id) stops) → result ≡ lacks_parent stops row.now }
+    ensures { (stops : List StopData) →
+        ((id : List ℕ) → list_any (bytes_eq id) known.now ≡ list_any (has_stop_id id) stops) →
+        result ≡ lacks_parent stops row.now }
 {
     let parent = row.parent.bytes();
     !parent.is_empty() && !known.contains(parent)
@@ -60,8 +45,11 @@ fn lacks_parent(row: &StopRow, known: &NameIndex) -> bool
 
 // The ids of all rows, which differ, where nothing is wrong with the rows.
 fn checked_ids(alloc: Global, rows: &[StopRow], known: &NameIndex) -> Result<NameIndex, StopsFault>
-    requires { (id : List ℕ) → list_any (bytes_eq id) known.now ≡ list_any (has_stop_id id) rows.now }
-    ensures { MatchResult result (λ ids. (check_stops rows.now ≡ Ok rows.now) × (ids ≡ map stop_id rows.now)) (IsStopsRefused (check_stops rows.now)) }
+    requires { (id : List ℕ) →
+        list_any (bytes_eq id) known.now ≡ list_any (has_stop_id id) rows.now }
+    ensures { MatchResult result
+        (λ ids. (check_stops rows.now ≡ Ok rows.now) × (ids ≡ map stop_id rows.now))
+        (IsStopsRefused (check_stops rows.now)) }
 {
     let mut ids = NameIndex::new(alloc);
     for row in rows {
@@ -114,7 +102,7 @@ fn parents_of(
 {
     let mut parents = Vec::new(alloc);
     for row in rows {
-        if is_platform(row.kind) {
+        if row.kind.is_platform() {
             parents.push(place_of(station_ids, row.parent.bytes()))?;
         }
     }
@@ -174,7 +162,9 @@ impl StopTable {
     /// a parent that no row has: the first such row, and its first such fault.
     pub fn new(alloc: Global, rows: &[StopRow]) -> Result<StopTable, StopsFault>
         requires { length rows.now ≤ 100000 }
-        ensures { MatchResult result (λ table. (table ≡ rows.now) × (check_stops rows.now ≡ Ok rows.now)) (IsStopsRefused (check_stops rows.now)) }
+        ensures { MatchResult result
+            (λ table. (table ≡ rows.now) × (check_stops rows.now ≡ Ok rows.now))
+            (IsStopsRefused (check_stops rows.now)) }
     {
         let known = known_ids(alloc, rows)?;
         let ids = checked_ids(alloc, rows, &known)?;

@@ -19,10 +19,12 @@ unless_wrong (None ∷ rest) x = unless_wrong rest x
 unless_wrong (Some f ∷ rest) x = Err f
 
 -- what is wrong with each item in order, given the items before it
-abbrev pub wrong_after : {A : Type 0} → (List A → A → List (Option FeedFault)) → List A → List A → List (Option FeedFault)
+abbrev pub wrong_after : {A : Type 0} → (List A → A → List (Option FeedFault)) → List A → List A →
+    List (Option FeedFault)
 wrong_after wrong earlier [] = []
 wrong_after wrong earlier (x ∷ xs) = wrong earlier x ++ wrong_after wrong (earlier ++ x ∷ []) xs
 
 -- the typed rows of a file, if nothing is wrong with one of them beside the others
-abbrev pub check_rows : {A : Type 0} → (List A → List A → A → List (Option FeedFault)) → List A → Result (List A) FeedFault
+abbrev pub check_rows : {A : Type 0} → (List A → List A → A → List (Option FeedFault)) → List A →
+    Result (List A) FeedFault
 check_rows wrong rows = unless_wrong (wrong_after (wrong rows) [] rows) rows

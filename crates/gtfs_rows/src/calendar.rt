@@ -1,7 +1,7 @@
 //! The rows of calendar.txt.
-ghost use Rattle.std.specs.Prelude.{◌≡◌, ◌≤◌, MatchResult, Ok, length};
+ghost use Rattle.std.specs.Prelude.{◌≡◌, ◌≤◌, length};
 ghost use Rattle.gtfs_rows.specs.CalendarFile.{calendar_row, calendar_rows, flag_in, flag_of, week_in};
-ghost use Rattle.gtfs_rows.specs.Refused.{IsRefused};
+ghost use Rattle.gtfs_rows.specs.Refused.{IsRefused, Yields};
 ghost use Rattle.gtfs_rows.specs.declared.fault.FeedFile.TheVariants as file;
 
 use crate::civil::date_of;
@@ -26,7 +26,8 @@ impl Model for CalendarRow {
 
     ghost Value = { CalendarData };
 
-    ghost view = { λ r. record { row = r.row; service = r.service; days = r.days; start = r.start; end = r.end } };
+    ghost view = { λ r.
+        record { row = r.row; service = r.service; days = r.days; start = r.start; end = r.end } };
 }
 
 // Whether the service runs on a day of the week: `0` or `1`.
@@ -41,7 +42,7 @@ fn flag_of(text: &[u8]) -> Option<bool>
 
 fn flag_in(lines: &Lines, column: u8) -> Result<bool, RowsFault>
     requires { 1 ≤ column }
-    ensures { MatchResult result (λ flag. flag_in lines.now.line column ≡ Ok flag) (λ f. IsRefused (flag_in lines.now.line column) f) }
+    ensures { Yields IsRefused result (λ x. x) (flag_in lines.now.line column) }
 {
     good(
         flag_of(lines.cell(column)),
@@ -51,7 +52,7 @@ fn flag_in(lines: &Lines, column: u8) -> Result<bool, RowsFault>
 
 // The seven days of the week of a row, from Monday on.
 fn week_in(lines: &Lines) -> Result<[bool; 7], RowsFault>
-    ensures { MatchResult result (λ days. week_in lines.now.line ≡ Ok days) (λ f. IsRefused (week_in lines.now.line) f) }
+    ensures { Yields IsRefused result (λ x. x) (week_in lines.now.line) }
 {
     let monday = flag_in(lines, 2)?;
     let tuesday = flag_in(lines, 3)?;
@@ -106,7 +107,7 @@ impl RowReader for CalendarReader {
 /// The typed rows of calendar.txt in file order, or the file's first fault.
 pub fn calendar_rows(alloc: Global, bytes: &[u8]) -> Result<Vec<CalendarRow>, RowsFault>
     requires { length bytes.now ≤ 1_073_741_824 }
-    ensures { MatchResult result (λ v. calendar_rows bytes.now ≡ Ok v.items) (λ f. IsRefused (calendar_rows bytes.now) f) }
+    ensures { Yields IsRefused result (λ v. v.items) (calendar_rows bytes.now) }
 {
     typed_rows(alloc, &CalendarReader, bytes)
 }

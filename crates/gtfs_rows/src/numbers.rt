@@ -7,7 +7,8 @@ use tb_base::Sec;
 
 // The number that one to nine digits write.
 fn numeral_of(text: &[u8]) -> Option<u32>
-    ensures { MatchOption result (¬ (IsNumber text.now)) (λ n. IsNumber text.now × (n ≡ digits_value 10 text.now)) }
+    ensures { MatchOption result (¬ (IsNumber text.now))
+        (λ n. IsNumber text.now × (n ≡ digits_value 10 text.now)) }
 {
     if text.is_empty() || text.len() > 9 {
         return None;

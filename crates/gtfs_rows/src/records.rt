@@ -19,14 +19,21 @@ pub struct Records<'a> {
 impl<'a> Model for Records<'a> {
     ghost Value = { Place };
 
-    ghost view = { λ r. record { current = fields_of r.record; left = if r.stopped then [] else records_left r.reader } };
+    ghost view = { λ r. record {
+      current = fields_of r.record;
+      left = if r.stopped then [] else records_left r.reader;
+    } };
 
     ghost invariant = { λ r. r.stopped ≡ false → ReadsOn r.reader };
 }
 
 // Reads the next record, where there is one.
 fn take_record(reader: &mut Reader<&[u8]>, row: &mut ByteRecord) -> Result<bool, Memory>
-    ensures { ReadsOn reader.old → IfOk result (λ more. MatchBool more (ReadsOn reader.new × (records_left reader.old ≡ fields_of row.new ∷ records_left reader.new)) (records_left reader.old ≡ [])) }
+    ensures { ReadsOn reader.old →
+        IfOk result
+        (λ more. MatchBool more (ReadsOn reader.new
+        × (records_left reader.old ≡ fields_of row.new ∷ records_left reader.new))
+        (records_left reader.old ≡ [])) }
 {
     match reader.read_byte_record(row) {
         Ok(more) => Ok(more),
@@ -54,7 +61,9 @@ impl<'a> Records<'a> {
     /// left.
     pub fn advance(&mut self) -> Result<bool, Memory>
         ensures fewer { length self.new.left ≤ length self.old.left }
-        ensures next { IfOk result (λ more. MatchBool more (self.old.left ≡ self.new.current ∷ self.new.left) ((self.old.left ≡ []) × (self.new.current ≡ []) × (self.new.left ≡ []))) }
+        ensures next { IfOk result
+            (λ more. MatchBool more (self.old.left ≡ self.new.current ∷ self.new.left)
+            ((self.old.left ≡ []) × (self.new.current ≡ []) × (self.new.left ≡ []))) }
         ensures memory { OnErr result (self.new.left ≡ []) }
     {
         if self.stopped {

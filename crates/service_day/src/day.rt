@@ -73,7 +73,8 @@ impl Day {
 
 /// The day that eight digits YYYYMMDD write. Every other text is refused.
 pub fn day_of(text: &[u8]) -> Result<Day, BadDate>
-    ensures { MatchResult result (λ day. date_of text.now ≡ Some day) (λ _. date_of text.now ≡ None) }
+    ensures { MatchResult result (λ day. date_of text.now ≡ Some day)
+        (λ _. date_of text.now ≡ None) }
 {
     match date_of(text) {
         Some(date) => Ok(Day::of(date)),

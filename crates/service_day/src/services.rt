@@ -34,7 +34,9 @@ impl Services {
 
 // The services that the date rows of a day add, or those that they remove.
 fn dated(alloc: Global, day: u32, dates: &[DateRow], added: bool) -> Result<NameIndex, Memory>
-    ensures { IfOk result (λ ids. (service : List ℕ) → list_any (bytes_eq service) ids ≡ list_any (says day added service) dates.now) }
+    ensures { IfOk result
+        (λ ids. (service : List ℕ) →
+        list_any (bytes_eq service) ids ≡ list_any (says day added service) dates.now) }
 {
     let mut ids = NameIndex::new(alloc);
     for row in dates {
@@ -55,7 +57,9 @@ fn holds(day: &Day, row: &CalendarRow) -> bool
 
 // Adds a name where a test holds.
 fn add_if(alloc: Global, ids: &mut NameIndex, id: &[u8], test: bool) -> Result<(), Memory>
-    ensures { OnOk result ((name : List ℕ) → list_any (bytes_eq name) ids.new ≡ (list_any (bytes_eq name) ids.old || (test && bytes_eq name id.now))) }
+    ensures { OnOk result ((name : List ℕ) →
+        list_any (bytes_eq name) ids.new
+        ≡ (list_any (bytes_eq name) ids.old || (test && bytes_eq name id.now))) }
 {
     if !test {
         return Ok(());
@@ -68,7 +72,8 @@ fn add_if(alloc: Global, ids: &mut NameIndex, id: &[u8], test: bool) -> Result<(
 
 // Whether a calendar row holds, and its service isn't removed.
 fn counts(day: &Day, row: &CalendarRow, removed: &NameIndex) -> bool
-    ensures { result ≡ (holds day.now row.now && not (list_any (bytes_eq row.now.service) removed.now)) }
+    ensures { result
+        ≡ (holds day.now row.now && not (list_any (bytes_eq row.now.service) removed.now)) }
 {
     holds(day, row) && !removed.contains(row.service.bytes())
 }
@@ -80,7 +85,9 @@ pub fn running(
     calendar: &[CalendarRow],
     dates: &[DateRow],
 ) -> Result<Services, Memory>
-    ensures { IfOk result (λ s. (service : List ℕ) → list_any (bytes_eq service) s ≡ runs day.now calendar.now dates.now service) }
+    ensures { IfOk result
+        (λ s. (service : List ℕ) →
+        list_any (bytes_eq service) s ≡ runs day.now calendar.now dates.now service) }
 {
     let removed = dated(alloc, day.date(), dates, false)?;
     let mut ids = dated(alloc, day.date(), dates, true)?;

@@ -13,7 +13,8 @@ use Rattle.trip_rides.specs.Times.{times_of, times_at}
 
 -- the event that a row gives
 abbrev pub event_of : StopTime → Times → Event
-event_of r t = record { stop = r.stop; arr = t.arr; dep = t.dep; board = r.board; alight = r.alight }
+event_of r t =
+    record { stop = r.stop; arr = t.arr; dep = t.dep; board = r.board; alight = r.alight }
 
 -- the events of rows, of which the first stands at a place
 abbrev pub events_from : List (Option Times) → ℕ → List StopTime → List Event

@@ -65,4 +65,5 @@ own_or (Some own) other = own
 -- the times at a place: the row's own, or else those between its neighbours
 abbrev pub times_at : List (Option Times) → ℕ → Times
 times_at times k =
-    own_or (slice_index_or times k None) (between (nearest_before times k) (nearest_after times k) k)
+    own_or (slice_index_or times k None)
+    (between (nearest_before times k) (nearest_after times k) k)

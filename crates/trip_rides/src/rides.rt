@@ -1,6 +1,7 @@
 //! The events that the stop times of each trip give.
-ghost use Rattle.std.specs.Prelude.{◌≡◌, ◌≤◌, ◌<◌, ◌^◌, ℕ, Ok, All, IfOk, MatchResult, length, map};
+ghost use Rattle.std.specs.Prelude.{◌≡◌, ◌≤◌, ◌<◌, ◌^◌, ℕ, All, IfOk, length, map};
 ghost use Rattle.tb_base.specs.declared.table.Event.{Event};
+ghost use Rattle.gtfs_rows.specs.Refused.{Yields};
 ghost use Rattle.trip_rides.specs.declared.stop_time.StopTime.{StopTime};
 ghost use Rattle.trip_rides.specs.StopTimes.{DifferWithinTrips};
 ghost use Rattle.trip_rides.specs.Times.{HasFileTimes};
@@ -56,9 +57,8 @@ pub fn rides_of(
     requires trip_count { length runs.now ≤ 2000000 }
     requires sequences { DifferWithinTrips rows.now }
     requires times { All HasFileTimes rows.now }
-    ensures meant { MatchResult result
-        (λ rides. checked_rides rows.now runs.now ≡ Ok (map (λ ride. ride.items) rides.items))
-        (λ f. IsRefused (checked_rides rows.now runs.now) f) }
+    ensures meant { Yields IsRefused result (λ rides. map (λ ride. ride.items) rides.items)
+        (checked_rides rows.now runs.now) }
 
     // Whatever number of stops the rows name, the trips are sound among so many.
     ensures sound { IfOk result (λ rides. (stops : ℕ) → All (λ r. StopTime.stop r < stops) rows.now

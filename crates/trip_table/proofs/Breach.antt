@@ -12,7 +12,8 @@ use Rattle.footpaths.specs.declared.law.LawFault.{LawFault}
 use Rattle.footpaths.specs.Stops.{stop_id, platforms}
 use Rattle.footpaths.specs.Footpaths.{PathsData}
 use Rattle.footpaths.specs.Law.{AreSoundPaths, AreInARow, IsFirstBreach, IsBreach, footpath}
-use Rattle.trip_table.specs.Day.{IsAmong, platform_id}
+use Rattle.trip_table.specs.Answers.{IsAmong}
+use Rattle.trip_table.specs.Day.{platform_id}
 
 found_in : (n p q s : ℕ) (row : List Path) → All (IsSoundPath n p) row → option_map (λ (f : Path). f.secs) (find (λ (f : Path). f.to == q) row) ≡ Some s → q < n
 found_in n p q s [] h e = absurd (cc)
@@ -29,7 +30,7 @@ none_past (r ∷ rows) zero h = absurd (omega arith)
 none_past (r ∷ rows) (suc p) h = none_past rows p (omega arith)
 
 -- both ends of a footpath are there
-ends : (P : PathsData) (p q s : ℕ) → AreSoundPaths P → footpath P p q ≡ Some s → (p < length P.change) × (q < length P.change)
+pub ends : (P : PathsData) (p q s : ℕ) → AreSoundPaths P → footpath P p q ≡ Some s → (p < length P.change) × (q < length P.change)
 ends P p q s sound e = by_test (nat_lt p (length P.change)) refl
   where
     by_test : (b : Bool) → nat_lt p (length P.change) ≡ b → (p < length P.change) × (q < length P.change)

@@ -1,11 +1,8 @@
 -- What becomes of closed footpaths, from what is told of closing.
-use Rattle.std.proofs.Common.{◌≡◌, ◌∙◌, refl, ap, subst, ℕ, ◌<◌, ◌≤◌, List, length, Option, Some, None, inl, inr}
-use Rattle.std.specs.Prelude.{Ok, Err, IfSome, IsSomeAnd}
+use Rattle.std.proofs.Common.{◌≡◌, ◌∙◌, refl, ap, subst, ℕ, ◌<◌, ◌≤◌, List, length, Option, Some, None}
+use Rattle.std.specs.Prelude.{Ok, IfSome, IsSomeAnd}
 use Rattle.std.proofs.lemmas.List.FromFn.{length-map-range_with_len}
 use Rattle.gtfs_rows.specs.StopsFile.{StopData}
-use Rattle.gtfs_rows.specs.declared.fault.FeedFault.{FeedFault}
-use Rattle.gtfs_rows.specs.declared.fault.FeedFault.TheVariants as fault
-use Rattle.gtfs_rows.specs.declared.fault.Many.TheVariants as many
 use Rattle.footpaths.specs.Footpaths.{Changes, PathsData, path_total}
 use Rattle.footpaths.specs.Law.{AreSoundPaths, change_between}
 use Rattle.foot_close.specs.Closure.{IsClosed}
@@ -16,7 +13,8 @@ use Rattle.foot_close.specs.declared.closed.CloseFault.TheVariants as why
 use Rattle.foot_close.specs.Closing.{ClosureHas, IsHeld, IsNear, IsFirstFar, IsCloseRefused, footpath_total}
 use Rattle.foot_close.proofs.Edges.{change_day}
 use Rattle.foot_close.proofs.ClosedLaws.{closure_is, closure_inside}
-use Rattle.trip_table.specs.Day.{platform_id, AreThere, IsClosing}
+use Rattle.trip_table.specs.Answers.{AreThere}
+use Rattle.trip_table.specs.Day.{AreClosed}
 use Rattle.trip_table.proofs.OneClosing.{same_closure}
 
 -- changes of sound change times and footpaths take at most a day
@@ -28,7 +26,7 @@ near paths sound p q = by_secs (change_between paths p q) refl
     by_secs (Some s) e = change_day paths p q s sound e
 
 -- the closure is what becomes of them
-pub closing_held : (stops : List StopData) (told : PathsData) (c : Closed) → ClosureHas told (IsHeld told c) → IsClosed told c.paths → AreSoundPaths c.paths → IsClosing stops told (Ok c.paths)
+pub closing_held : (stops : List StopData) (told : PathsData) (c : Closed) → ClosureHas told (IsHeld told c) → IsClosed told c.paths → AreSoundPaths c.paths → AreClosed stops told (Ok c.paths)
 closing_held stops told c held closed sound =
     let one : change_between c.paths ≡ held.closed = same_closure (change_between told) (change_between c.paths) held.closed closed held.closure in
     let few : footpath_total told held.closed ≤ 2000000 = subst (λ (paths : PathsData). path_total paths ≤ 2000000) held.has.paths sound.footpaths in
@@ -38,14 +36,6 @@ closing_held stops told c held closed sound =
 -- there are as many change times as before
 pub closing_count : (told : PathsData) (c : Closed) → ClosureHas told (IsHeld told c) → length c.paths.change ≡ length told.change
 closing_count told c held = ap (λ (paths : PathsData). length paths.change) held.has.paths ∙ length-map-range_with_len (λ p. held.closed p p) 0 (length told.change)
-
--- too many footpaths are the fault
-pub closing_many : (stops : List StopData) (told : PathsData) → ClosureHas told (λ closed. 2000000 < footpath_total told closed) → IsClosing stops told (Err (fault.TooMany many.Footpaths 0))
-closing_many stops told h = record { closed = h.closed; closure = h.closure; has = inl (record { total = h.has; named = refl }) }
-
--- or the first far pair is
-pub closing_far : (stops : List StopData) (told : PathsData) (p q : ℕ) (f : FeedFault) → ClosureHas told (λ closed. (footpath_total told closed ≤ 2000000) × IsFirstFar closed p q) → f ≡ fault.FarFootpath (platform_id stops p) (platform_id stops q) → IsClosing stops told (Err f)
-closing_far stops told p q f h e = record { closed = h.closed; closure = h.closure; has = inr (record { few = h.has.0; from = p; to = q; far = h.has.1; named = e }) }
 
 -- the stops of a far pair are there
 pub far_inside : (told : PathsData) (p q : ℕ) → AreSoundPaths told → ClosureHas told (λ closed. (footpath_total told closed ≤ 2000000) × IsFirstFar closed p q) → (p < length told.change) × (q < length told.change)

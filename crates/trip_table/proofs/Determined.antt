@@ -1,5 +1,5 @@
 -- There is one timetable of a day, or one first fault.
-use Rattle.std.proofs.Common.{◌≡◌, ◌∙◌, sym, ap, subst, ℕ, ◌<◌, ◌≤◌, ◌+◌, List, Option, Some, None, inl, inr, arith}
+use Rattle.std.proofs.Common.{◌≡◌, ◌∙◌, sym, ap, subst, ℕ, ◌≤◌, ◌+◌, List, Option, Some, None, inl, inr, arith}
 use Rattle.std.specs.Prelude.{Bool, true, false, Result, Ok, Err, IsSomeAnd}
 use Rattle.tb_base.specs.TimetableData.{TimetableData}
 use Rattle.tb_base.specs.Walking.{KeepsFootpathLaw}
@@ -8,9 +8,9 @@ use Rattle.gtfs_rows.specs.declared.fault.FeedFault.{FeedFault}
 use Rattle.footpaths.specs.declared.law.LawFault.{LawFault}
 use Rattle.footpaths.specs.declared.paths.Options.{Options}
 use Rattle.footpaths.specs.Footpaths.{PathsData}
-use Rattle.footpaths.specs.Law.{walking, change_between, IsGood, IsBreach, IsFirstOver, IsFirstFrom, IsFirstBreach}
+use Rattle.footpaths.specs.Law.{walking, IsGood, IsBreach, IsFirstOver, IsFirstFrom, IsFirstBreach}
 use Rattle.trip_table.specs.Feed.{Feed}
-use Rattle.trip_table.specs.Day.{DrawnDay, drawn_day, breach_fault, timetable, IsTested, IsSettled, IsTimetable, IsTimetableOf, IsTimetableOfDrawn}
+use Rattle.trip_table.specs.Day.{DayParts, day_parts, breach_fault, timetable, KeepTheLaw, AreClosedOrTested, IsTimetableOf, IsTimetableOfParts, Then}
 use Rattle.trip_table.proofs.OneClosing.{same, closing_unique}
 
 bad : (P : PathsData) (p q r : ℕ) (f : LawFault) → IsBreach P p q r f → IsGood P p q r → ⊥
@@ -51,31 +51,30 @@ kept P p q r f law (inr (is, at)) =
 kept_first : (P : PathsData) (f : LawFault) → KeepsFootpathLaw (walking P) → IsFirstBreach P f → ⊥
 kept_first P f law first = kept P first.p first.from.q first.from.over.r f law first.from.over.breach
 
-tested_unique : (stops : List StopData) (told : PathsData) (a b : Result PathsData FeedFault) → IsTested stops told a → IsTested stops told b → a ≡ b
+tested_unique : (stops : List StopData) (told : PathsData) (a b : Result PathsData FeedFault) → KeepTheLaw stops told a → KeepTheLaw stops told b → a ≡ b
 tested_unique stops told (Ok a) (Ok b) (is, law) (also, by) = ap Ok (is ∙ sym also)
 tested_unique stops told (Ok a) (Err g) (is, law) (breach, first, fault) = absurd (kept_first told breach law first)
 tested_unique stops told (Err f) (Ok b) (breach, first, fault) (is, law) = absurd (kept_first told breach law first)
 tested_unique stops told (Err f) (Err g) (breach, first, fault) (other, also, by) =
     ap Err (fault ∙ ap (breach_fault stops) (first_unique told breach other first also) ∙ sym by)
 
-settled_unique : (close : Bool) (stops : List StopData) (told : PathsData) (a b : Result PathsData FeedFault) → IsSettled close stops told a → IsSettled close stops told b → a ≡ b
+settled_unique : (close : Bool) (stops : List StopData) (told : PathsData) (a b : Result PathsData FeedFault) → AreClosedOrTested close stops told a → AreClosedOrTested close stops told b → a ≡ b
 settled_unique true stops told a b p q = closing_unique stops told a b p q
 settled_unique false stops told a b p q = tested_unique stops told a b p q
 
-day_unique : (close : Bool) (day : DrawnDay) (a b : Result TimetableData FeedFault) → IsTimetable close day a → IsTimetable close day b → a ≡ b
-day_unique close day (Ok a) (Ok b) (paths, settled, is) (others, also, by) =
-    let e : Ok paths ≡ Ok others = settled_unique close day.stops day.paths (Ok paths) (Ok others) settled also in
-    let one : paths ≡ others = cc in
-    ap Ok (is ∙ ap (timetable day) one ∙ sym by)
-day_unique close day (Ok a) (Err g) (paths, settled, is) other = absurd (let e : Ok paths ≡ Err g = settled_unique close day.stops day.paths (Ok paths) (Err g) settled other in cc)
-day_unique close day (Err f) (Ok b) settled (others, also, by) = absurd (let e : Err f ≡ Ok others = settled_unique close day.stops day.paths (Err f) (Ok others) settled also in cc)
-day_unique close day (Err f) (Err g) settled other = let e : Err f ≡ Err g = settled_unique close day.stops day.paths (Err f) (Err g) settled other in let one : f ≡ g = cc in ap Err one
+parts_unique : (close : Bool) (parts : DayParts) (a b : Result TimetableData FeedFault) → IsTimetableOfParts close parts a → IsTimetableOfParts close parts b → a ≡ b
+parts_unique close parts (Ok a) (Ok b) (footpaths, settled, is) (others, also, by) =
+    let e : Ok footpaths ≡ Ok others = settled_unique close parts.stops parts.footpaths (Ok footpaths) (Ok others) settled also in
+    let one : footpaths ≡ others = cc in
+    ap Ok (is ∙ ap (timetable parts) one ∙ sym by)
+parts_unique close parts (Ok a) (Err g) (footpaths, settled, is) other = absurd (let e : Ok footpaths ≡ Err g = settled_unique close parts.stops parts.footpaths (Ok footpaths) (Err g) settled other in cc)
+parts_unique close parts (Err f) (Ok b) settled (others, also, by) = absurd (let e : Err f ≡ Ok others = settled_unique close parts.stops parts.footpaths (Err f) (Ok others) settled also in cc)
+parts_unique close parts (Err f) (Err g) settled other = let e : Err f ≡ Err g = settled_unique close parts.stops parts.footpaths (Err f) (Err g) settled other in let one : f ≡ g = cc in ap Err one
 
-drawn_unique : (close : Bool) (drawn : Result DrawnDay FeedFault) (a b : Result TimetableData FeedFault) → IsTimetableOfDrawn close drawn a → IsTimetableOfDrawn close drawn b → a ≡ b
-drawn_unique close (Ok day) a b p q = day_unique close day a b p q
-drawn_unique close (Err f) a b p q = p ∙ sym q
+then_unique : (close : Bool) (meant : Result DayParts FeedFault) (a b : Result TimetableData FeedFault) → Then meant (IsTimetableOfParts close) a → Then meant (IsTimetableOfParts close) b → a ≡ b
+then_unique close (Ok parts) a b p q = parts_unique close parts a b p q
+then_unique close (Err f) a b p q = p ∙ sym q
 
 -- there is one timetable of a day, or one first fault
 pub timetable_unique : (feed : Feed) (day : ℕ) (options : Options) (a b : Result TimetableData FeedFault) → IsTimetableOf feed day options a → IsTimetableOf feed day options b → a ≡ b
-timetable_unique feed day options a b p q =
-    drawn_unique options.close q.drawn a b (subst (λ (drawn : Result DrawnDay FeedFault). IsTimetableOfDrawn options.close drawn a) (sym p.given ∙ q.given) p.made) q.made
+timetable_unique feed day options a b p q = then_unique options.close (day_parts feed day options) a b p q

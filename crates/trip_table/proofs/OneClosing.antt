@@ -1,15 +1,15 @@
 -- There is one outcome of closing.
-use Rattle.std.proofs.Common.{◌≡◌, ◌∙◌, sym, ap, subst, ℕ, ◌<◌, ◌≤◌, ◌⊎◌, List, Option, Some, None, inl, inr, arith}
+use Rattle.std.proofs.Common.{◌≡◌, ◌∙◌, sym, ap, subst, ℕ, ◌<◌, ◌≤◌, ◌⊎◌, List, length, Option, Some, None, inl, inr, arith}
 use Rattle.std.specs.Prelude.{Result, Ok, Err, IfSome, IsSomeAnd}
 use Rattle.gtfs_rows.specs.StopsFile.{StopData}
 use Rattle.gtfs_rows.specs.declared.fault.FeedFault.{FeedFault}
 use Rattle.gtfs_rows.specs.declared.fault.FeedFault.TheVariants as fault
-use Rattle.footpaths.specs.Footpaths.{Changes, PathsData}
+use Rattle.footpaths.specs.Footpaths.{Changes, PathsData, paths_of}
 use Rattle.footpaths.specs.Law.{change_between}
 use Rattle.foot_close.specs.Closure.{IsClosure}
-use Rattle.foot_close.specs.Closing.{IsNear, IsFirstFar}
+use Rattle.foot_close.specs.Closing.{ClosureHas, IsFirstFar}
 use Rattle.foot_close.proofs.Chains.{one_closure}
-use Rattle.trip_table.specs.Day.{platform_id, IsWithinLimits, HasTooMany, HasFarPair, IsClosedTo, IsClosing}
+use Rattle.trip_table.specs.Day.{platform_id, IsWithinLimits, HasTooMany, HasFarPair, AreClosed}
 
 pub same : (a b : ℕ) → (a < b → ⊥) → (b < a → ⊥) → a ≡ b
 same a b p q = omega (arith, p, q)
@@ -45,6 +45,15 @@ one_fault stops told closed f g (inr x) (inr y) =
     let end : x.to ≡ y.to = first_end closed y.from x.to y.to (subst (λ p. IsFirstFar closed p x.to) start x.far) y.far in
     x.named ∙ (ap (λ p. fault.FarFootpath (platform_id stops p) (platform_id stops x.to)) start ∙ (ap (λ q. fault.FarFootpath (platform_id stops y.from) (platform_id stops q)) end ∙ sym y.named))
 
+-- what becomes of change times and footpaths with a closure
+abbrev IsClosedTo : List StopData → PathsData → Changes → Result PathsData FeedFault → Type 0
+IsClosedTo stops told closed (Ok paths) = (paths ≡ paths_of (length told.change) closed) × IsWithinLimits told closed
+IsClosedTo stops told closed (Err f) = HasTooMany told closed f ⊎ HasFarPair stops told closed f
+
+outcome : (stops : List StopData) (told : PathsData) (a : Result PathsData FeedFault) → AreClosed stops told a → ClosureHas told (λ closed. IsClosedTo stops told closed a)
+outcome stops told (Ok paths) h = h
+outcome stops told (Err f) h = h
+
 outcome_unique : (stops : List StopData) (told : PathsData) (closed : Changes) (a b : Result PathsData FeedFault) → IsClosedTo stops told closed a → IsClosedTo stops told closed b → a ≡ b
 outcome_unique stops told closed (Ok a) (Ok b) (is, limits) (also, by) = ap Ok (is ∙ sym also)
 outcome_unique stops told closed (Ok a) (Err g) (is, limits) other = absurd (within stops told closed g limits other)
@@ -52,7 +61,9 @@ outcome_unique stops told closed (Err f) (Ok b) other (is, limits) = absurd (wit
 outcome_unique stops told closed (Err f) (Err g) one other = ap Err (one_fault stops told closed f g one other)
 
 -- there is one outcome of closing
-pub closing_unique : (stops : List StopData) (told : PathsData) (a b : Result PathsData FeedFault) → IsClosing stops told a → IsClosing stops told b → a ≡ b
-closing_unique stops told a b h k =
+pub closing_unique : (stops : List StopData) (told : PathsData) (a b : Result PathsData FeedFault) → AreClosed stops told a → AreClosed stops told b → a ≡ b
+closing_unique stops told a b p q =
+    let h = outcome stops told a p in
+    let k = outcome stops told b q in
     let one : k.closed ≡ h.closed = same_closure (change_between told) k.closed h.closed k.closure h.closure in
     outcome_unique stops told h.closed a b h.has (subst (λ (closed : Changes). IsClosedTo stops told closed b) one k.has)

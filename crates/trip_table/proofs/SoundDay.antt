@@ -1,6 +1,6 @@
 -- The timetable of a day is sound.
-use Rattle.std.proofs.Common.{◌≡◌, ◌≢◌, ◌∙◌, sym, ap, subst, refl, ℕ, zero, suc, ◌+◌, ◌<◌, ◌≤◌, List, [], ◌∷◌, ◌++◌, length, map, take, get_or, Bool, true, false, cond, Option, Some, None, find, option_map, arith}
-use Rattle.std.specs.Prelude.{◌==◌, All, AllPairs, IfSome, Ok, filter, sum_by, slice_index_or}
+use Rattle.std.proofs.Common.{◌≡◌, ◌≢◌, ◌∙◌, sym, ap, subst, refl, ℕ, zero, suc, ◌+◌, ◌<◌, ◌≤◌, List, [], ◌∷◌, ◌++◌, length, map, take, get_or, Bool, true, false, cond, arith}
+use Rattle.std.specs.Prelude.{All, AllPairs, Ok, filter, sum_by, slice_index_or}
 use Rattle.std.specs.List.{list_any, range_with_len}
 use Rattle.std.proofs.lemmas.List.{get_or_default, get_or-take, length-map, length-take, map-append}
 use Rattle.std.proofs.lemmas.List.Elements.{All-append, All-cons, All-filter, All-head, All-map, All-nil, All-tail}
@@ -13,15 +13,15 @@ use Rattle.tb_base.specs.TimetableData.{TripData, StationData}
 use Rattle.tb_base.specs.Soundness.{IsSound, IsSoundPath, IsSoundStation, IsSoundTrip, place_names}
 use Rattle.tb_base.specs.Walking.{KeepsFootpathLaw}
 use Rattle.tb_base.proofs.Ordered.{AllPairs-tail}
-use Rattle.gtfs_rows.specs.StopsFile.{StopData}
+use Rattle.gtfs_rows.specs.StopsFile.{StopData, is_platform, is_station}
 use Rattle.gtfs_rows.specs.declared.stops.Kind.{Kind}
 use Rattle.gtfs_rows.specs.declared.stops.Kind.TheVariants as kind
-use Rattle.footpaths.specs.Stops.{stop_id, has_stop_id, is_platform, is_station, platforms, stations, station_of, check_stops}
+use Rattle.footpaths.specs.Stops.{stop_id, has_stop_id, platforms, stations, station_of, check_stops}
 use Rattle.footpaths.proofs.StopRows.{new_id}
 use Rattle.footpaths.proofs.StopPlaces.{length_kept}
 use Rattle.footpaths.specs.Footpaths.{PathsData, is_number}
 use Rattle.footpaths.specs.Law.{AreSoundPaths, walking}
-use Rattle.trip_table.specs.Day.{DrawnDay, station_stops, stations_from, timetable}
+use Rattle.trip_table.specs.Day.{DayParts, station_stops, stations_from, timetable}
 
 AllPairs-append : {X : Type 0} (R : X → X → Type 0) (xs ys : List X) → AllPairs R xs → AllPairs R ys → All (λ x. All (R x) ys) xs → AllPairs R (xs ++ ys)
 AllPairs-append R [] ys a b c = b
@@ -88,7 +88,7 @@ station_names : (stops : List StopData) (n : ℕ) (rows : List StopData) → map
 station_names stops n [] = refl
 station_names stops n (s ∷ rest) = ap (λ names. s.id ∷ names) (station_names stops (n + 1) rest)
 
-names_are : (day : DrawnDay) (paths : PathsData) → map stop_id (platforms day.stops ++ stations day.stops) ≡ place_names (timetable day paths)
+names_are : (day : DayParts) (paths : PathsData) → map stop_id (platforms day.stops ++ stations day.stops) ≡ place_names (timetable day paths)
 unfolding stop_of
 names_are day paths =
     let stops = day.stops in
@@ -119,7 +119,7 @@ sound_stations stops n [] = All-nil (IsSoundStation (length (platforms stops)))
 sound_stations stops n (s ∷ rest) = All-cons (IsSoundStation (length (platforms stops))) (record { name = s.id; stops = station_stops stops n }) (stations_from stops (n + 1) rest) (sound_station stops n s.id) (sound_stations stops (n + 1) rest)
 
 -- the timetable of sound trips and paths is sound, where nothing is wrong with the stops
-pub sound_day : (day : DrawnDay) (paths : PathsData) → length day.stops ≤ 100000 → check_stops day.stops ≡ Ok day.stops → All (λ s. StopData.id s ≢ []) day.stops
+pub sound_day : (day : DayParts) (paths : PathsData) → length day.stops ≤ 100000 → check_stops day.stops ≡ Ok day.stops → All (λ s. StopData.id s ≢ []) day.stops
     → AreSoundPaths paths → length paths.change ≡ length (platforms day.stops) → KeepsFootpathLaw (walking paths)
     → length day.trips ≤ 500000 → sum_by (λ t. length (TripData.events t)) day.trips ≤ 10000000 → All (IsSoundTrip (length (platforms day.stops))) day.trips → IsSound (timetable day paths)
 unfolding stop_of
@@ -148,7 +148,7 @@ sound_day day paths few checked named ways many law trip_count event_count sound
     }
 
 -- the parts, by what each is made of, are those of the timetable
-pub parts_are : (day : DrawnDay) (paths : PathsData) (rows : List StopData) (names : List Stop) (places : List StationData) → rows ≡ day.stops → names ≡ map (λ s. record { name = StopData.id s }) (platforms rows)
+pub parts_are : (day : DayParts) (paths : PathsData) (rows : List StopData) (names : List Stop) (places : List StationData) → rows ≡ day.stops → names ≡ map (λ s. record { name = StopData.id s }) (platforms rows)
     → places ≡ stations_from day.stops 0 (stations day.stops) → record { stops = names; stations = places; trips = day.trips; change = paths.change; paths = paths.paths } ≡ timetable day paths
 parts_are day paths rows names places r n p =
     let stops_are : names ≡ map (λ s. record { name = StopData.id s }) (platforms day.stops) = n ∙ ap (λ rows. map (λ s. record { name = StopData.id s }) (platforms rows)) r in

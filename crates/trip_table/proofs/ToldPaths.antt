@@ -1,5 +1,5 @@
 -- What the change times and footpaths say of the rows of transfers.txt.
-use Rattle.std.proofs.Common.{◌≡◌, ◌≢◌, ◌∙◌, refl, sym, ap, ℕ, ◌++◌, List, [], ◌∷◌, length, map, Option, Some, None, Bool, true, false}
+use Rattle.std.proofs.Common.{◌≡◌, ◌≢◌, ◌∙◌, refl, sym, ap, ℕ, ◌++◌, List, [], ◌∷◌, length, Option, Bool, true, false}
 use Rattle.std.specs.Prelude.{Result, Ok, Err, ◌&&◌, not, nat_lt, bytes_eq}
 use Rattle.std.specs.List.{list_any}
 use Rattle.std.proofs.lemmas.List.FromFn.{length-map-range_with_len}
@@ -17,7 +17,7 @@ use Rattle.footpaths.specs.declared.paths.Options.{Options}
 use Rattle.footpaths.specs.Stops.{has_stop_id, platforms}
 use Rattle.footpaths.specs.Links.{wrong_transfer, check_transfers}
 use Rattle.footpaths.specs.Footpaths.{PathsData, changes, footpaths, path_total, paths_of}
-use Rattle.trip_table.specs.Day.{told_paths}
+use Rattle.trip_table.specs.Day.{given_footpaths}
 use Rattle.trip_table.proofs.DayTrips.{unless_wrong-value}
 
 three : {A : Type 0} (a b c : Bool) (f g h k : FeedFault) (rest : List (Option FeedFault)) (x : A) → f ≢ k → g ≢ k → h ≢ k
@@ -52,36 +52,36 @@ counted (Err f) rows next k same other e = absurd (other (cc))
 counted (Ok good) rows next k same other e = let is : rows ≡ good = same good refl in (ap Ok (sym is), ap next is ∙ e)
 
 -- where there are footpaths the rows are good, and tell them
-pub told_good : (stops : List StopData) (options : Options) (rows : List TransferData) (paths : PathsData) → footpaths stops options rows ≡ Ok paths → (check_transfers stops rows ≡ Ok rows) × (told_paths stops options rows ≡ Ok paths)
-unfolding told_paths
-told_good stops options rows paths = passed (check_transfers stops rows) rows (told_paths stops options) paths (unless_wrong-value (wrong_after (wrong_transfer stops rows) [] rows) rows)
+pub told_good : (stops : List StopData) (options : Options) (rows : List TransferData) (paths : PathsData) → footpaths stops options rows ≡ Ok paths → (check_transfers stops rows ≡ Ok rows) × (given_footpaths stops options rows ≡ Ok paths)
+unfolding given_footpaths
+told_good stops options rows paths = passed (check_transfers stops rows) rows (given_footpaths stops options) paths (unless_wrong-value (wrong_after (wrong_transfer stops rows) [] rows) rows)
 
 -- where they are too many the rows are good, too
 pub told_many : (stops : List StopData) (options : Options) (rows : List TransferData) (m : Many) (n : ℕ) → footpaths stops options rows ≡ Err (fault.TooMany m n)
-    → (check_transfers stops rows ≡ Ok rows) × (told_paths stops options rows ≡ Err (fault.TooMany m n))
-unfolding told_paths
+    → (check_transfers stops rows ≡ Ok rows) × (given_footpaths stops options rows ≡ Err (fault.TooMany m n))
+unfolding given_footpaths
 told_many stops options rows m n =
-    counted (check_transfers stops rows) rows (told_paths stops options) (fault.TooMany m n) (unless_wrong-value (wrong_after (wrong_transfer stops rows) [] rows) rows)
+    counted (check_transfers stops rows) rows (given_footpaths stops options) (fault.TooMany m n) (unless_wrong-value (wrong_after (wrong_transfer stops rows) [] rows) rows)
     (no_count stops rows [] rows rows m n)
 
 -- a fault of the rows is a fault of the footpaths that isn't their number
 pub told_fault : (stops : List StopData) (options : Options) (rows : List TransferData) (f : FeedFault) → ((m : Many) (n : ℕ) → f ≢ fault.TooMany m n) → footpaths stops options rows ≡ Err f → check_transfers stops rows ≡ Err f
-unfolding told_paths
+unfolding given_footpaths
 told_fault stops options rows f other e = by_checked (check_transfers stops rows) e
   where
     by_count : (b : Bool) (paths : PathsData) (m : Many) → unless_wrong (fault_if b (fault.TooMany m 0) ∷ []) paths ≡ Err f → ⊥
     by_count true paths m q = other m 0 (cc)
     by_count false paths m q = absurd (cc)
 
-    by_checked : (checked : Result (List TransferData) FeedFault) → and_then checked (told_paths stops options) ≡ Err f → checked ≡ Err f
+    by_checked : (checked : Result (List TransferData) FeedFault) → and_then checked (given_footpaths stops options) ≡ Err f → checked ≡ Err f
     by_checked (Err g) q = cc
     by_checked (Ok good) q =
         let paths = paths_of (length (platforms stops)) (changes stops good options) in
         absurd (by_count (nat_lt 2000000 (path_total paths)) paths many.Footpaths q)
 
 -- there is a change time for each platform
-pub change_count : (stops : List StopData) (options : Options) (rows : List TransferData) (paths : PathsData) → told_paths stops options rows ≡ Ok paths → length paths.change ≡ length (platforms stops)
-unfolding told_paths
+pub change_count : (stops : List StopData) (options : Options) (rows : List TransferData) (paths : PathsData) → given_footpaths stops options rows ≡ Ok paths → length paths.change ≡ length (platforms stops)
+unfolding given_footpaths
 change_count stops options rows paths e =
     let given = changes stops rows options in
     sym (ap (λ (p : PathsData). length p.change) (unless_wrong-value (fault_if (nat_lt 2000000 (path_total (paths_of (length (platforms stops)) given))) (fault.TooMany many.Footpaths 0) ∷ []) (paths_of (length (platforms stops)) given) paths e)) ∙ length-map-range_with_len (λ p. given p p) 0 (length (platforms stops))

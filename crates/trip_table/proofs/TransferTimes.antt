@@ -1,10 +1,8 @@
 -- Rows of transfers.txt take at most a day.
 use Rattle.std.proofs.Common.{◌≡◌, refl, ℕ, ◌≤◌, List, [], ◌∷◌, Option, Some, None, Bool, true, false, arith}
-use Rattle.std.specs.Prelude.{◌==◌, Result, Ok, Err, All, IfSome, nat_le, ok_or, unwrap_or, option_map}
+use Rattle.std.specs.Prelude.{◌==◌, Result, Ok, All, IfSome, nat_le}
 use Rattle.std.specs.Bool.{if◌then◌else◌}
 use Rattle.std.proofs.lemmas.Bool.Decides.{nat_tests}
-use Rattle.std.proofs.lemmas.List.Elements.{All-nil}
-use Rattle.gtfs_rows.specs.Steps.{and_then}
 use Rattle.gtfs_rows.specs.Lines.{Line, cell, typed_rows}
 use Rattle.gtfs_rows.specs.Numbers.{number_of}
 use Rattle.gtfs_rows.specs.Fields.{id_of, or_empty, secs_of, within_a_day, transfer_type}

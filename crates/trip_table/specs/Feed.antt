@@ -2,24 +2,15 @@
 use Rattle.std.specs.Prelude.{ℕ, List, ◌++◌, length, codes, nat_le, is_some, Option, Some, None, Result, Ok, Err, if◌then◌else◌}
 use Rattle.tb_io.specs.Files.{FileList, file_at}
 use Rattle.gtfs_rows.specs.Steps.{and_then}
+use Rattle.gtfs_rows.specs.FileNames.{file_name}
 use Rattle.gtfs_rows.specs.Lines.{Line, typed_rows}
 use Rattle.gtfs_rows.specs.declared.fault.FeedFile.{FeedFile}
-use Rattle.gtfs_rows.specs.declared.fault.FeedFile.TheVariants as file
 use Rattle.gtfs_rows.specs.declared.fault.FeedFault.{FeedFault}
 use Rattle.gtfs_rows.specs.declared.fault.FeedFault.TheVariants as fault
 
 -- a feed: the bytes of each of its files that is there
 abbrev pub Feed : Type 0
 Feed = FeedFile → Option (List ℕ)
-
-abbrev pub file_name : FeedFile → List ℕ
-file_name file.Stops = codes "stops.txt"
-file_name file.Calendar = codes "calendar.txt"
-file_name file.CalendarDates = codes "calendar_dates.txt"
-file_name file.Trips = codes "trips.txt"
-file_name file.StopTimes = codes "stop_times.txt"
-file_name file.Transfers = codes "transfers.txt"
-file_name file.Frequencies = codes "frequencies.txt"
 
 -- the path of a file: the directory, a slash and the file's name
 abbrev pub path_in : List ℕ → FeedFile → List ℕ
@@ -30,7 +21,8 @@ abbrev pub feed_in : FileList → List ℕ → Feed
 feed_in files dir file = file_at files (path_in dir file)
 
 abbrev pub check_size : FeedFile → List ℕ → Result (List ℕ) FeedFault
-check_size file bytes = if nat_le (length bytes) 1073741824 then Ok bytes else Err (fault.FileTooLarge file)
+check_size file bytes =
+    if nat_le (length bytes) 1073741824 then Ok bytes else Err (fault.FileTooLarge file)
 
 -- the bytes of a file, where it is there
 abbrev pub sized : FeedFile → Option (List ℕ) → Result (Option (List ℕ)) FeedFault
@@ -38,12 +30,14 @@ sized file None = Ok None
 sized file (Some bytes) = and_then (check_size file bytes) (λ text. Ok (Some text))
 
 -- the rows in a file's bytes, where it is there
-abbrev pub rows_in : {A : Type 0} → FeedFile → (Line → Result (Option A) FeedFault) → Option (List ℕ) → Result (Option (List A)) FeedFault
+abbrev pub rows_in : {A : Type 0} → FeedFile → (Line → Result (Option A) FeedFault) →
+    Option (List ℕ) → Result (Option (List A)) FeedFault
 rows_in file read None = Ok None
 rows_in file read (Some bytes) = and_then (typed_rows file read bytes) (λ rows. Ok (Some rows))
 
 -- the typed rows of a file, where it is there
-abbrev pub file_rows : {A : Type 0} → Feed → FeedFile → (Line → Result (Option A) FeedFault) → Result (Option (List A)) FeedFault
+abbrev pub file_rows : {A : Type 0} → Feed → FeedFile → (Line → Result (Option A) FeedFault) →
+    Result (Option (List A)) FeedFault
 file_rows feed file read = and_then (sized file (feed file)) (rows_in file read)
 
 abbrev pub or_missing : {A : Type 0} → FeedFile → Option (List A) → Result (List A) FeedFault
@@ -51,7 +45,8 @@ or_missing file None = Err (fault.MissingFile file)
 or_missing file (Some rows) = Ok rows
 
 -- the typed rows of a file that has to be there
-abbrev pub required : {A : Type 0} → Feed → FeedFile → (Line → Result (Option A) FeedFault) → Result (List A) FeedFault
+abbrev pub required : {A : Type 0} → Feed → FeedFile → (Line → Result (Option A) FeedFault) →
+    Result (List A) FeedFault
 required feed file read = and_then (file_rows feed file read) (or_missing file)
 
 -- nothing is wrong with a file that isn't there; one that is there isn't read yet

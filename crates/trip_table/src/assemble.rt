@@ -3,43 +3,26 @@ ghost use Rattle.std.specs.Prelude.{◌≡◌, ◌≤◌, ◌++◌, ◌∷◌, [
 ghost use Rattle.tb_base.specs.TimetableData.{TripData};
 ghost use Rattle.tb_base.specs.Soundness.{IsSoundTrip};
 ghost use Rattle.tb_base.specs.Walking.{KeepsFootpathLaw};
-ghost use Rattle.gtfs_rows.specs.StopsFile.{StopData};
+ghost use Rattle.gtfs_rows.specs.StopsFile.{StopData, is_platform, is_station};
 ghost use Rattle.footpaths.specs.Footpaths.{PathsData};
 ghost use Rattle.footpaths.specs.Law.{AreSoundPaths, walking};
-ghost use Rattle.footpaths.specs.Stops.{is_platform, is_station, platforms, stations};
+ghost use Rattle.footpaths.specs.Stops.{platforms, stations};
 ghost use Rattle.trip_table.specs.Day.{stations_from, timetable};
 
 use crate::stops::StopRows;
 use footpaths::Paths;
-use gtfs_rows::{Kind, StopRow};
+use gtfs_rows::StopRow;
 use std::alloc::Global;
 use tb_base::{Memory, Name, Parts, Station, Stop, StopNo, Timetable, Trip};
 
-fn is_platform(kind: Kind) -> bool
-    ensures { result ≡ is_platform kind }
-{
-    match kind {
-        Kind::Platform => true,
-        Kind::Station | Kind::Other => false,
-    }
-}
-
-fn is_station(kind: Kind) -> bool
-    ensures { result ≡ is_station kind }
-{
-    match kind {
-        Kind::Station => true,
-        Kind::Platform | Kind::Other => false,
-    }
-}
-
 /// The platforms, as stops by their ids.
 pub(crate) fn stops_of(alloc: Global, rows: &[StopRow]) -> Result<Vec<Stop>, Memory>
-    ensures { IfOk result (λ v. v.items ≡ map (λ s. record { name = StopData.id s }) (platforms rows.now)) }
+    ensures { IfOk result
+        (λ v. v.items ≡ map (λ s. record { name = StopData.id s }) (platforms rows.now)) }
 {
     let mut stops = Vec::new(alloc);
     for row in rows {
-        if is_platform(row.kind) {
+        if row.kind.is_platform() {
             let name = Name::new(alloc, row.id.bytes())?;
             stops.push(Stop { name })?;
         }
@@ -49,11 +32,13 @@ pub(crate) fn stops_of(alloc: Global, rows: &[StopRow]) -> Result<Vec<Stop>, Mem
 
 // The stations by their ids, as yet with no stops.
 fn empty_stations(alloc: Global, rows: &[StopRow]) -> Result<Vec<Station>, Memory>
-    ensures { IfOk result (λ v. v.items ≡ map (λ s. record { name = StopData.id s; stops = [] }) (stations rows.now)) }
+    ensures { IfOk result
+        (λ v.
+        v.items ≡ map (λ s. record { name = StopData.id s; stops = [] }) (stations rows.now)) }
 {
     let mut stations = Vec::new(alloc);
     for row in rows {
-        if is_station(row.kind) {
+        if row.kind.is_station() {
             let name = Name::new(alloc, row.id.bytes())?;
             let stops = Vec::new(alloc);
             stations.push(Station { name, stops })?;
@@ -64,7 +49,8 @@ fn empty_stations(alloc: Global, rows: &[StopRow]) -> Result<Vec<Station>, Memor
 
 // One stop more of a station, after those that are there.
 fn add_stop(station: &mut Station, stop: StopNo) -> Result<(), Memory>
-    ensures { OnOk result (station.new ≡ record station.old { stops = station.old.stops ++ stop ∷ [] }) }
+    ensures { OnOk result
+        (station.new ≡ record station.old { stops = station.old.stops ++ stop ∷ [] }) }
 {
     match station.stops.push(stop) {
         Ok(()) => Ok(()),
@@ -101,7 +87,10 @@ pub(crate) fn assemble(
     requires trip_count { length trips.items ≤ 500000 }
     requires event_count { sum_by (λ t. length (TripData.events t)) trips.items ≤ 10000000 }
     requires sound { All (IsSoundTrip (length (platforms stops.now))) trips.items }
-    ensures { IfOk result (λ table. table ≡ timetable (record { stops = stops.now; paths = paths; trips = trips.items }) paths) }
+    ensures { IfOk result
+        (λ table. table
+        ≡ timetable (record { stops = stops.now; footpaths = paths; trips = trips.items })
+        paths) }
 {
     stops.table().soundness();
     let stations = stations_of(alloc, stops)?;

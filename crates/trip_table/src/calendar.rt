@@ -1,7 +1,7 @@
 //! The services of calendar.txt.
-ghost use Rattle.std.specs.Prelude.{◌≡◌, Ok, OnOk, MatchResult, map};
+ghost use Rattle.std.specs.Prelude.{◌≡◌, OnOk, map};
 ghost use Rattle.gtfs_rows.specs.Faults.{check_rows, spot};
-ghost use Rattle.gtfs_rows.specs.Refused.{IsRefused};
+ghost use Rattle.gtfs_rows.specs.Refused.{IsRefused, Yields};
 ghost use Rattle.gtfs_rows.specs.declared.fault.FeedFile.TheVariants as file;
 ghost use Rattle.gtfs_rows.specs.declared.fault.FeedFault.TheVariants as fault;
 ghost use Rattle.gtfs_rows.specs.declared.fault.RowsFault.TheVariants as why;
@@ -14,7 +14,7 @@ use std::alloc::Global;
 
 /// Refuses the first row of calendar.txt whose service has an earlier row.
 pub fn check_calendar(alloc: Global, rows: &[CalendarRow]) -> Result<(), RowsFault>
-    ensures { MatchResult result (λ _. check_rows wrong_calendar rows.now ≡ Ok rows.now) (λ f. IsRefused (check_rows wrong_calendar rows.now) f) }
+    ensures { Yields IsRefused result (λ _. rows.now) (check_rows wrong_calendar rows.now) }
 {
     let mut ids = NameIndex::new(alloc);
     for row in rows {

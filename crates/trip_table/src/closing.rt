@@ -6,8 +6,8 @@ ghost use Rattle.footpaths.specs.Stops.{platforms};
 ghost use Rattle.footpaths.specs.Footpaths.{PathsData};
 ghost use Rattle.footpaths.specs.Law.{AreSoundPaths, walking};
 ghost use Rattle.foot_close.specs.Closing.{IsCloseRefused};
-ghost use Rattle.trip_table.specs.Answers.{GivesRows, IsRowsFault};
-ghost use Rattle.trip_table.specs.Day.{platform_id, AreThere, IsClosing, IsSettled};
+ghost use Rattle.trip_table.specs.Answers.{GivesRows, IsRowsFault, AreThere};
+ghost use Rattle.trip_table.specs.Day.{platform_id, AreClosed, AreClosedOrTested};
 
 use crate::assemble::stops_of;
 use crate::law::{name_of, tested};
@@ -23,7 +23,8 @@ use tb_base::{Memory, StopNo};
 fn far_fault(alloc: Global, rows: &[StopRow], from: StopNo, to: StopNo) -> Result<FeedFault, Memory>
     requires from { from < length (platforms rows.now) }
     requires to { to < length (platforms rows.now) }
-    ensures { IfOk result (λ f. f ≡ fault.FarFootpath (platform_id rows.now from) (platform_id rows.now to)) }
+    ensures { IfOk result
+        (λ f. f ≡ fault.FarFootpath (platform_id rows.now from) (platform_id rows.now to)) }
 {
     let stops = stops_of(alloc, rows)?;
     let stops = stops.as_slice();
@@ -35,7 +36,8 @@ fn far_fault(alloc: Global, rows: &[StopRow], from: StopNo, to: StopNo) -> Resul
 // What is wrong with the feed where its footpaths can't be closed.
 fn refusal(alloc: Global, rows: &[StopRow], fault: CloseFault) -> RowsFault
     requires { AreThere (length (platforms rows.now)) fault }
-    ensures { (told : PathsData) → IsCloseRefused told fault → IsRowsFault (IsClosing rows.now told) result }
+    ensures { (told : PathsData) → IsCloseRefused told fault →
+        IsRowsFault (AreClosed rows.now told) result }
 {
     match fault {
         CloseFault::TooMany => RowsFault::Feed(FeedFault::TooMany(Many::Footpaths, 0)),
@@ -52,9 +54,10 @@ fn refusal(alloc: Global, rows: &[StopRow], fault: CloseFault) -> RowsFault
 fn closed(alloc: Global, stops: &StopRows, paths: Paths) -> Result<Paths, RowsFault>
     requires sound { AreSoundPaths paths }
     requires many { length (PathsData.change paths) ≡ length (platforms stops.now) }
-    ensures told { GivesRows (IsClosing stops.now paths) result }
+    ensures told { GivesRows (AreClosed stops.now paths) result }
     ensures sound { IfOk result AreSoundPaths }
-    ensures many { IfOk result (λ paths. length (PathsData.change paths) ≡ length (platforms stops.now)) }
+    ensures many { IfOk result
+        (λ paths. length (PathsData.change paths) ≡ length (platforms stops.now)) }
     ensures law { IfOk result (λ paths. KeepsFootpathLaw (walking paths)) }
 {
     closed_keeps_law();
@@ -74,9 +77,10 @@ pub(crate) fn settled(
 ) -> Result<Paths, RowsFault>
     requires sound { AreSoundPaths paths }
     requires many { length (PathsData.change paths) ≡ length (platforms stops.now) }
-    ensures told { GivesRows (IsSettled close stops.now paths) result }
+    ensures told { GivesRows (AreClosedOrTested close stops.now paths) result }
     ensures sound { IfOk result AreSoundPaths }
-    ensures many { IfOk result (λ paths. length (PathsData.change paths) ≡ length (platforms stops.now)) }
+    ensures many { IfOk result
+        (λ paths. length (PathsData.change paths) ≡ length (platforms stops.now)) }
     ensures law { IfOk result (λ paths. KeepsFootpathLaw (walking paths)) }
 {
     if close {

@@ -1,12 +1,12 @@
 //! The timetable of a day.
-ghost use Rattle.std.specs.Prelude.{◌≡◌, ◌<◌, ◌≤◌, ◌-◌, ◌^◌, IfSome, IsSome, Result, length};
-ghost use Rattle.gtfs_rows.specs.Steps.{and_then};
+ghost use Rattle.std.specs.Prelude.{◌≡◌, ◌⊎◌, ◌<◌, ◌≤◌, ◌-◌, ◌^◌, IfSome, IsSome, Ok, Err, Result, length};
+ghost use Rattle.tb_base.specs.TimetableData.{TimetableData};
 ghost use Rattle.gtfs_rows.specs.declared.fault.FeedFault.{FeedFault};
 ghost use Rattle.footpaths.specs.Stops.{platforms};
 ghost use Rattle.footpaths.specs.Footpaths.{PathsData};
 ghost use Rattle.footpaths.specs.Law.{AreSoundPaths};
 ghost use Rattle.trip_table.specs.Answers.{Gives, GivesRows, IsCounted, Leaves, feed_of};
-ghost use Rattle.trip_table.specs.Day.{drawn_rows, drawn_with, Becomes, IsTimetableOf};
+ghost use Rattle.trip_table.specs.Day.{parts_on, IsTimetableOf, IsTimetableOfParts, Then};
 
 use crate::Options;
 use crate::assemble::assemble;
@@ -14,6 +14,7 @@ use crate::closing::settled;
 use crate::day_fault::DayFault;
 use crate::day_trips::trips_on;
 use crate::feed::refuse_unbuilt;
+use crate::laws::timetable_determined;
 use crate::paths::read_paths;
 use crate::rows::{FeedRows, read_rows};
 use footpaths::Paths;
@@ -33,8 +34,10 @@ fn timetable_of(
     close: bool,
 ) -> Result<Timetable, RowsFault>
     requires sound { IfSome told AreSoundPaths }
-    requires many { IfSome told (λ paths. length (PathsData.change paths) ≡ length (platforms rows.now.stops)) }
-    ensures { (counted : Result PathsData FeedFault) → IsCounted counted told → GivesRows (Becomes close (drawn_with rows.now day.now counted)) result }
+    requires many { IfSome told
+        (λ paths. length (PathsData.change paths) ≡ length (platforms rows.now.stops)) }
+    ensures { (counted : Result PathsData FeedFault) → IsCounted counted told →
+        GivesRows (Then (parts_on rows.now day.now counted) (IsTimetableOfParts close)) result }
 {
     let trips = match trips_on(alloc, rows, day) {
         Ok(trips) => trips,
@@ -53,7 +56,8 @@ fn timetable_of(
     }
 }
 
-// The timetable of a day from the files that are read.
+// The timetable of a day, from the files of a feed in a directory of a folder, or the first thing that is wrong with the
+// feed.
 fn read_timetable<F: Folder>(
     alloc: Global,
     folder: &mut F,
@@ -64,9 +68,15 @@ fn read_timetable<F: Folder>(
     requires change { options.now.change ≤ 86400 }
     requires station { IfSome options.now.station (λ secs. secs ≤ 86400) }
     requires count { F.faults folder.old < 2 ^ 64 - 1 }
-    ensures told { IsSome (F.files folder.old) → Gives (Becomes options.now.close (drawn_rows (feed_of (F.files folder.old) dir.now) day.now options.now)) result }
-    ensures leaves { Leaves (F.files folder.old) (F.files folder.new) (F.faults folder.old) (F.faults folder.new) result }
+    ensures told { IsSome (F.files folder.old) →
+        Gives (IsTimetableOf (feed_of (F.files folder.old) dir.now) day.now options.now) result }
+    ensures leaves { Leaves (F.files folder.old) (F.files folder.new) (F.faults folder.old)
+        (F.faults folder.new) result }
 {
+    match refuse_unbuilt(alloc, folder, dir, FeedFile::Frequencies) {
+        Ok(()) => {}
+        Err(fault) => return Err(fault),
+    }
     let rows = match read_rows(alloc, folder, dir) {
         Ok(rows) => rows,
         Err(fault) => return Err(fault),
@@ -86,7 +96,8 @@ fn read_timetable<F: Folder>(
 /// the feed: with a file, then with the times of a trip, then with the size of the day, then with its footpaths.
 ///
 /// Footpaths are closed over chains where the options ask for it; else they have to keep the law. `ReadFault` comes only
-/// where the folder's count of faults rose. The seconds of the options are at most a day.
+/// where the folder's count of faults rose, and where it stands, the answer is the day's or want of memory. The seconds of
+/// the options are at most a day.
 pub fn read_day<F: Folder>(
     alloc: Global,
     folder: &mut F,
@@ -97,12 +108,19 @@ pub fn read_day<F: Folder>(
     requires change { options.now.change ≤ 86400 }
     requires station { IfSome options.now.station (λ secs. secs ≤ 86400) }
     requires count { F.faults folder.old < 2 ^ 64 - 1 }
-    ensures told { IsSome (F.files folder.old) → Gives (IsTimetableOf (feed_of (F.files folder.old) dir.now) day.now options.now) result }
-    ensures leaves { Leaves (F.files folder.old) (F.files folder.new) (F.faults folder.old) (F.faults folder.new) result }
+    ensures told { IsSome (F.files folder.old) →
+        Gives (IsTimetableOf (feed_of (F.files folder.old) dir.now) day.now options.now) result }
+    ensures timetable { IsSome (F.files folder.old) → F.faults folder.new ≡ F.faults folder.old →
+        (T : TimetableData) →
+        IsTimetableOf (feed_of (F.files folder.old) dir.now) day.now options.now (Ok T) →
+        (result ≡ Ok T) ⊎ (result ≡ Err DayFault.Memory) }
+    ensures fault { IsSome (F.files folder.old) → F.faults folder.new ≡ F.faults folder.old →
+        (f : FeedFault) →
+        IsTimetableOf (feed_of (F.files folder.old) dir.now) day.now options.now (Err f) →
+        (result ≡ Err (DayFault.Feed f)) ⊎ (result ≡ Err DayFault.Memory) }
+    ensures leaves { Leaves (F.files folder.old) (F.files folder.new) (F.faults folder.old)
+        (F.faults folder.new) result }
 {
-    match refuse_unbuilt(alloc, folder, dir, FeedFile::Frequencies) {
-        Ok(()) => {}
-        Err(fault) => return Err(fault),
-    }
+    timetable_determined();
     read_timetable(alloc, folder, dir, day, options)
 }

@@ -1,11 +1,11 @@
 //! The trips of a day.
-ghost use Rattle.std.specs.Prelude.{◌≡◌, ◌++◌, ◌∷◌, [], ◌<◌, ◌≤◌, ◌-◌, ◌^◌, All, Err, bytes_eq, IfOk, MatchOption, MatchResult, Ok, OnOk, length, map, min, sum_by};
+ghost use Rattle.std.specs.Prelude.{◌≡◌, ◌++◌, ◌∷◌, [], ◌<◌, ◌≤◌, ◌-◌, ◌^◌, All, Err, bytes_eq, IfOk, MatchOption, Ok, OnOk, length, map, min, sum_by};
 ghost use Rattle.std.specs.List.{list_any};
 ghost use Rattle.tb_base.specs.Soundness.{IsSoundTrip};
 ghost use Rattle.tb_base.specs.TimetableData.{TripData};
 ghost use Rattle.gtfs_rows.specs.TripsFile as row;
 ghost use Rattle.footpaths.specs.Stops.{platforms};
-ghost use Rattle.gtfs_rows.specs.Refused.{IsRefused};
+ghost use Rattle.gtfs_rows.specs.Refused.{IsRefused, Yields};
 ghost use Rattle.trip_table.specs.Day.{runs_on, trips_with, check_size_of_day, trips_on};
 
 use crate::rows::FeedRows;
@@ -21,7 +21,9 @@ const MOST_EVENTS: u64 = 10_000_000;
 
 // Whether the service of each row runs.
 fn services_run(alloc: Global, services: &Services, trips: &[TripRow]) -> Result<Vec<bool>, Memory>
-    ensures { IfOk result (λ runs. runs.items ≡ map (λ t. list_any (bytes_eq (row.TripData.service t)) services.now) trips.now) }
+    ensures { IfOk result
+        (λ runs. runs.items
+        ≡ map (λ t. list_any (bytes_eq (row.TripData.service t)) services.now) trips.now) }
 {
     let mut runs: Vec<bool> = Vec::new(alloc);
     for trip in trips {
@@ -53,7 +55,8 @@ fn add_trip(
     row: &TripRow,
     events: &[Event],
 ) -> Result<(), Memory>
-    ensures { OnOk result (trips.new.items ≡ trips.old.items ++ trips_with (row.now ∷ []) (events.now ∷ [])) }
+    ensures { OnOk result
+        (trips.new.items ≡ trips.old.items ++ trips_with (row.now ∷ []) (events.now ∷ [])) }
 {
     if events.is_empty() {
         return Ok(());
@@ -67,7 +70,8 @@ fn add_trip(
 // The trips with events.
 fn trips_with(alloc: Global, rows: &[TripRow], rides: &[Vec<Event>]) -> Result<Vec<Trip>, Memory>
     requires { length rows.now ≡ length rides.now }
-    ensures { IfOk result (λ trips. trips.items ≡ trips_with rows.now (map (λ ride. ride.items) rides.now)) }
+    ensures { IfOk result
+        (λ trips. trips.items ≡ trips_with rows.now (map (λ ride. ride.items) rides.now)) }
 {
     let mut trips: Vec<Trip> = Vec::new(alloc);
     for i in 0..rides.len() {
@@ -89,7 +93,8 @@ fn events_in(trips: &[Trip]) -> u64
 
 // The first limit that the trips of a day pass.
 fn size_fault(trips: &[Trip]) -> Option<FeedFault>
-    ensures { MatchOption result (check_size_of_day trips.now ≡ Ok trips.now) (λ f. check_size_of_day trips.now ≡ Err f) }
+    ensures { MatchOption result (check_size_of_day trips.now ≡ Ok trips.now)
+        (λ f. check_size_of_day trips.now ≡ Err f) }
 {
     if trips.len() > MOST_TRIPS {
         return Some(FeedFault::TooMany(Many::RunningTrips, 0));
@@ -102,10 +107,12 @@ fn size_fault(trips: &[Trip]) -> Option<FeedFault>
 
 /// The trips of a day, or the first thing that is wrong with the times of a trip or with the size of the day.
 pub(crate) fn trips_on(alloc: Global, rows: &FeedRows, day: &Day) -> Result<Vec<Trip>, RowsFault>
-    ensures trips { MatchResult result (λ trips. trips_on rows.now day.now ≡ Ok trips.items) (IsRefused (trips_on rows.now day.now)) }
+    ensures trips { Yields IsRefused result (λ trips. trips.items) (trips_on rows.now day.now) }
     ensures trip_count { IfOk result (λ trips. length trips.items ≤ 500000) }
-    ensures event_count { IfOk result (λ trips. sum_by (λ t. length (TripData.events t)) trips.items ≤ 10000000) }
-    ensures sound { IfOk result (λ trips. All (IsSoundTrip (length (platforms rows.now.stops))) trips.items) }
+    ensures event_count { IfOk result
+        (λ trips. sum_by (λ t. length (TripData.events t)) trips.items ≤ 10000000) }
+    ensures sound { IfOk result
+        (λ trips. All (IsSoundTrip (length (platforms rows.now.stops))) trips.items) }
 {
     let Ok(runs) = runs_on(alloc, rows, day) else {
         return Err(RowsFault::Memory);

@@ -1,10 +1,11 @@
 //! The files of a feed, taken from a folder.
-ghost use Rattle.std.specs.Prelude.{◌≡◌, ◌≤◌, ◌<◌, ◌-◌, ◌^◌, ℕ, List, Ok, Some, None, IfOk, IfSome, IsSome, MatchResult, option_map, length, string_bytes, is_some, false};
+ghost use Rattle.std.specs.Prelude.{◌≡◌, ◌≤◌, ◌<◌, ◌-◌, ◌^◌, ℕ, List, Ok, Some, None, IfOk, IfSome, IsSome, option_map, length, string_bytes, is_some, false};
+ghost use Rattle.gtfs_rows.specs.Refused.{Yields};
 ghost use Rattle.gtfs_rows.specs.Lines.{typed_rows};
 ghost use Rattle.gtfs_rows.specs.Columns.{row_limit};
 ghost use Rattle.gtfs_rows.specs.Faults.{spot};
 ghost use Rattle.gtfs_rows.specs.Refused as rows;
-ghost use Rattle.trip_table.specs.Feed.{file_name, path_in, sized, rows_in, file_rows, check_unbuilt};
+ghost use Rattle.trip_table.specs.Feed.{path_in, sized, rows_in, file_rows, check_unbuilt};
 ghost use Rattle.trip_table.specs.Answers.{IsRefused, Leaves, feed_of};
 
 use crate::DayFault;
@@ -23,27 +24,13 @@ pub fn spot(file: FeedFile, row: u32, column: u8) -> Spot
     Spot { file, row, column }
 }
 
-fn file_name(file: FeedFile) -> &'static str
-    ensures { result.now ≡ file_name file }
-{
-    match file {
-        FeedFile::Stops => "stops.txt",
-        FeedFile::Calendar => "calendar.txt",
-        FeedFile::CalendarDates => "calendar_dates.txt",
-        FeedFile::Trips => "trips.txt",
-        FeedFile::StopTimes => "stop_times.txt",
-        FeedFile::Transfers => "transfers.txt",
-        FeedFile::Frequencies => "frequencies.txt",
-    }
-}
-
 // The path of a file: the directory, a slash and the file's name.
 fn path_in(alloc: Global, dir: &str, file: FeedFile) -> Result<String, Memory>
     ensures { IfOk result (λ path. string_bytes path ≡ path_in dir.now file) }
 {
     let mut path = String::from_str(alloc, dir)?;
     path.push_str("/")?;
-    path.push_str(file_name(file))?;
+    path.push_str(file.name())?;
     Ok(path)
 }
 
@@ -55,9 +42,12 @@ fn take<F: Folder>(
     file: FeedFile,
 ) -> Result<Option<Vec<u8>>, DayFault>
     requires { F.faults folder.old < 2 ^ 64 - 1 }
-    ensures told { IsSome (F.files folder.old) → MatchResult result (λ taken. sized file (feed_of (F.files folder.old) dir.now file) ≡ Ok (option_map (λ v. v.items) taken)) (IsRefused (sized file (feed_of (F.files folder.old) dir.now file))) }
+    ensures told { IsSome (F.files folder.old) →
+        Yields IsRefused result (option_map (λ v. v.items))
+        (sized file (feed_of (F.files folder.old) dir.now file)) }
     ensures within { IfOk result (λ taken. IfSome taken (λ v. length v.items ≤ 1_073_741_824)) }
-    ensures leaves { Leaves (F.files folder.old) (F.files folder.new) (F.faults folder.old) (F.faults folder.new) result }
+    ensures leaves { Leaves (F.files folder.old) (F.files folder.new) (F.faults folder.old)
+        (F.faults folder.new) result }
 {
     let Ok(path) = path_in(alloc, dir, file) else {
         return Err(DayFault::Memory);
@@ -77,8 +67,11 @@ fn rows_in<R: RowReader>(
     bytes: Option<Vec<u8>>,
 ) -> Result<Option<Vec<R::Row>>, RowsFault>
     requires { IfSome bytes (λ v. length v.items ≤ 1_073_741_824) }
-    ensures rows { MatchResult result (λ rows. rows_in R.file (R.reading reader.now) (option_map (λ v. v.items) bytes) ≡ Ok (option_map (λ v. v.items) rows)) (λ f. rows.IsRefused (rows_in R.file (R.reading reader.now) (option_map (λ v. v.items) bytes)) f) }
-    ensures some_bytes { IfOk result (λ rows. IfSome rows (λ v. (text : List ℕ) × (typed_rows R.file (R.reading reader.now) text ≡ Ok v.items))) }
+    ensures rows { Yields rows.IsRefused result (option_map (λ v. v.items))
+        (rows_in R.file (R.reading reader.now) (option_map (λ v. v.items) bytes)) }
+    ensures some_bytes { IfOk result
+        (λ rows. IfSome rows
+        (λ v. (text : List ℕ) × (typed_rows R.file (R.reading reader.now) text ≡ Ok v.items))) }
     ensures few { IfOk result (λ rows. IfSome rows (λ v. length v.items ≤ row_limit R.file)) }
 {
     let Some(bytes) = bytes else {
@@ -98,10 +91,15 @@ pub fn file_rows<F: Folder, R: RowReader>(
     reader: &R,
 ) -> Result<Option<Vec<R::Row>>, DayFault>
     requires { F.faults folder.old < 2 ^ 64 - 1 }
-    ensures told { IsSome (F.files folder.old) → MatchResult result (λ rows. file_rows (feed_of (F.files folder.old) dir.now) R.file (R.reading reader.now) ≡ Ok (option_map (λ v. v.items) rows)) (IsRefused (file_rows (feed_of (F.files folder.old) dir.now) R.file (R.reading reader.now))) }
-    ensures some_bytes { IfOk result (λ rows. IfSome rows (λ v. (text : List ℕ) × (typed_rows R.file (R.reading reader.now) text ≡ Ok v.items))) }
+    ensures told { IsSome (F.files folder.old) →
+        Yields IsRefused result (option_map (λ v. v.items))
+        (file_rows (feed_of (F.files folder.old) dir.now) R.file (R.reading reader.now)) }
+    ensures some_bytes { IfOk result
+        (λ rows. IfSome rows
+        (λ v. (text : List ℕ) × (typed_rows R.file (R.reading reader.now) text ≡ Ok v.items))) }
     ensures few { IfOk result (λ rows. IfSome rows (λ v. length v.items ≤ row_limit R.file)) }
-    ensures leaves { Leaves (F.files folder.old) (F.files folder.new) (F.faults folder.old) (F.faults folder.new) result }
+    ensures leaves { Leaves (F.files folder.old) (F.files folder.new) (F.faults folder.old)
+        (F.faults folder.new) result }
 {
     let bytes = match take(alloc, folder, dir, reader.file()) {
         Ok(bytes) => bytes,
@@ -122,8 +120,11 @@ pub fn refuse_unbuilt<F: Folder>(
     file: FeedFile,
 ) -> Result<(), DayFault>
     requires { F.faults folder.old < 2 ^ 64 - 1 }
-    ensures told { IsSome (F.files folder.old) → MatchResult result (λ _. check_unbuilt (feed_of (F.files folder.old) dir.now) file ≡ Ok tt) (IsRefused (check_unbuilt (feed_of (F.files folder.old) dir.now) file)) }
-    ensures leaves { Leaves (F.files folder.old) (F.files folder.new) (F.faults folder.old) (F.faults folder.new) result }
+    ensures told { IsSome (F.files folder.old) →
+        Yields IsRefused result (λ _. tt)
+        (check_unbuilt (feed_of (F.files folder.old) dir.now) file) }
+    ensures leaves { Leaves (F.files folder.old) (F.files folder.new) (F.faults folder.old)
+        (F.faults folder.new) result }
 {
     let Ok(path) = path_in(alloc, dir, file) else {
         return Err(DayFault::Memory);

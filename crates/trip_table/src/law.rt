@@ -5,8 +5,8 @@ ghost use Rattle.gtfs_rows.specs.StopsFile.{StopData};
 ghost use Rattle.footpaths.specs.Stops.{platforms};
 ghost use Rattle.footpaths.specs.Footpaths.{PathsData};
 ghost use Rattle.footpaths.specs.Law.{AreSoundPaths, walking};
-ghost use Rattle.trip_table.specs.Answers.{GivesRows};
-ghost use Rattle.trip_table.specs.Day.{breach_fault, platform_id, IsAmong, IsTested};
+ghost use Rattle.trip_table.specs.Answers.{GivesRows, IsAmong};
+ghost use Rattle.trip_table.specs.Day.{breach_fault, platform_id, KeepTheLaw};
 
 use crate::assemble::stops_of;
 use crate::stops::StopRows;
@@ -18,7 +18,9 @@ use tb_base::{Memory, Stop, StopNo};
 /// The name of a stop.
 pub(crate) fn name_of(alloc: Global, stops: &[Stop], stop: StopNo) -> Result<Name, Memory>
     requires { stop < length stops.now }
-    ensures { (rows : List StopData) → stops.now ≡ map (λ s. record { name = StopData.id s }) (platforms rows) → IfOk result (λ name. name ≡ platform_id rows stop) }
+    ensures { (rows : List StopData) →
+        stops.now ≡ map (λ s. record { name = StopData.id s }) (platforms rows) →
+        IfOk result (λ name. name ≡ platform_id rows stop) }
 {
     Name::new(alloc, stops[stop.index()].name.bytes())
 }
@@ -50,9 +52,10 @@ fn breach_fault(alloc: Global, rows: &[StopRow], breach: LawFault) -> Result<Fee
 pub fn tested(alloc: Global, stops: &StopRows, paths: Paths) -> Result<Paths, RowsFault>
     requires sound { AreSoundPaths paths }
     requires many { length (PathsData.change paths) ≡ length (platforms stops.now) }
-    ensures told { GivesRows (IsTested stops.now paths) result }
+    ensures told { GivesRows (KeepTheLaw stops.now paths) result }
     ensures sound { IfOk result AreSoundPaths }
-    ensures many { IfOk result (λ paths. length (PathsData.change paths) ≡ length (platforms stops.now)) }
+    ensures many { IfOk result
+        (λ paths. length (PathsData.change paths) ≡ length (platforms stops.now)) }
     ensures law { IfOk result (λ paths. KeepsFootpathLaw (walking paths)) }
 {
     let Err(breach) = test_law(&paths) else {

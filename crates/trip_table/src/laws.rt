@@ -1,5 +1,5 @@
-//! Laws of the timetable of a day. The function does nothing: its contract is the law.
-ghost use Rattle.std.specs.Prelude.{◌≡◌, ℕ, Result};
+//! Laws of the timetable of a day. Each function does nothing: its contract is the law.
+ghost use Rattle.std.specs.Prelude.{◌≡◌, ◌≤◌, ℕ, IfSome, Result};
 ghost use Rattle.tb_base.specs.TimetableData.{TimetableData};
 ghost use Rattle.gtfs_rows.specs.declared.fault.FeedFault.{FeedFault};
 ghost use Rattle.footpaths.specs.declared.paths.Options.{Options};
@@ -8,5 +8,13 @@ ghost use Rattle.trip_table.specs.Day.{IsTimetableOf};
 
 /// A feed, a day and options have at most one timetable or first fault, never both: what `read_day` gives is determined.
 pub fn timetable_determined()
-    ensures { (feed : Feed) (day : ℕ) (options : Options) (a b : Result TimetableData FeedFault) → IsTimetableOf feed day options a → IsTimetableOf feed day options b → a ≡ b }
+    ensures { (feed : Feed) (day : ℕ) (options : Options) (a b : Result TimetableData FeedFault) →
+        IsTimetableOf feed day options a → IsTimetableOf feed day options b → a ≡ b }
+{}
+
+/// A feed, a day and options have a timetable or a first fault, where the seconds of the options are at most a day.
+pub fn timetable_given()
+    ensures { (feed : Feed) (day : ℕ) (options : Options) → options.change ≤ 86400
+        → IfSome options.station (λ secs. secs ≤ 86400)
+        → (r : Result TimetableData FeedFault) × IsTimetableOf feed day options r }
 {}

@@ -29,3 +29,4 @@ mod trips;
 pub use day::read_day;
 pub use day_fault::DayFault;
 pub use footpaths::Options;
+pub use service_day::{Day, day_of};

@@ -1,5 +1,6 @@
 //! Change times and footpaths from transfers.txt.
 ghost use Rattle.std.specs.Prelude.{◌≡◌, ◌<◌, ◌≤◌, ◌-◌, ◌^◌, All, List, Ok, IfOk, IfSome, IsSome, MatchResult, length};
+ghost use Rattle.gtfs_rows.specs.Refused.{Yields};
 ghost use Rattle.gtfs_rows.specs.Refused as refusal;
 ghost use Rattle.gtfs_rows.specs.TransfersFile.{TransferData};
 ghost use Rattle.footpaths.specs.Links.{TakesAtMostADay, check_transfers};
@@ -7,7 +8,7 @@ ghost use Rattle.footpaths.specs.Stops.{platforms};
 ghost use Rattle.footpaths.specs.Footpaths.{PathsData};
 ghost use Rattle.footpaths.specs.Law.{AreSoundPaths};
 ghost use Rattle.trip_table.specs.Answers.{IsCounted, IsRefused, Leaves, feed_of};
-ghost use Rattle.trip_table.specs.Day.{told_paths};
+ghost use Rattle.trip_table.specs.Day.{given_footpaths};
 ghost use Rattle.trip_table.specs.References.{transfer_rows_of, transfers_of};
 
 use crate::DayFault;
@@ -24,9 +25,13 @@ fn transfer_rows_of<F: Folder>(
     dir: &str,
 ) -> Result<Vec<TransferRow>, DayFault>
     requires { F.faults folder.old < 2 ^ 64 - 1 }
-    ensures told { IsSome (F.files folder.old) → MatchResult result (λ rows. transfer_rows_of (feed_of (F.files folder.old) dir.now) ≡ Ok rows.items) (IsRefused (transfer_rows_of (feed_of (F.files folder.old) dir.now))) }
-    ensures short { IfOk result (λ rows. All (λ r. TakesAtMostADay (TransferData.rule r)) rows.items) }
-    ensures leaves { Leaves (F.files folder.old) (F.files folder.new) (F.faults folder.old) (F.faults folder.new) result }
+    ensures told { IsSome (F.files folder.old) →
+        Yields IsRefused result (λ rows. rows.items)
+        (transfer_rows_of (feed_of (F.files folder.old) dir.now)) }
+    ensures short { IfOk result
+        (λ rows. All (λ r. TakesAtMostADay (TransferData.rule r)) rows.items) }
+    ensures leaves { Leaves (F.files folder.old) (F.files folder.new) (F.faults folder.old)
+        (F.faults folder.new) result }
 {
     match file_rows(alloc, folder, dir, &TransferReader) {
         Ok(Some(rows)) => Ok(rows),
@@ -36,7 +41,7 @@ fn transfer_rows_of<F: Folder>(
 }
 
 // The change times and footpaths of good rows: None where they are too many.
-fn told_paths(
+fn given_footpaths(
     alloc: Global,
     rows: &[TransferRow],
     stops: &StopTable,
@@ -45,9 +50,14 @@ fn told_paths(
     requires change { options.now.change ≤ 86400 }
     requires station { IfSome options.now.station (λ secs. secs ≤ 86400) }
     requires short { All (λ r. TakesAtMostADay (TransferData.rule r)) rows.now }
-    ensures told { MatchResult result (λ told. (check_transfers stops.now rows.now ≡ Ok rows.now) × IsCounted (told_paths stops.now options.now rows.now) told) (refusal.IsRefused (check_transfers stops.now rows.now)) }
+    ensures told { MatchResult result
+        (λ told. (check_transfers stops.now rows.now ≡ Ok rows.now)
+        × IsCounted (given_footpaths stops.now options.now rows.now) told)
+        (refusal.IsRefused (check_transfers stops.now rows.now)) }
     ensures sound { IfOk result (λ told. IfSome told AreSoundPaths) }
-    ensures many { IfOk result (λ told. IfSome told (λ paths. length (PathsData.change paths) ≡ length (platforms stops.now))) }
+    ensures many { IfOk result
+        (λ told.
+        IfSome told (λ paths. length (PathsData.change paths) ≡ length (platforms stops.now))) }
 {
     match build_paths(alloc, rows, stops, options) {
         Ok(paths) => Ok(Some(paths)),
@@ -75,18 +85,24 @@ pub fn read_paths<F: Folder>(
     requires faults { F.faults folder.old < 2 ^ 64 - 1 }
     requires change { options.now.change ≤ 86400 }
     requires station { IfSome options.now.station (λ secs. secs ≤ 86400) }
-    ensures told { IsSome (F.files folder.old) → MatchResult result
-        (λ told. (rows : List TransferData) × (transfers_of (feed_of (F.files folder.old) dir.now) stops.now ≡ Ok rows) × IsCounted (told_paths stops.now options.now rows) told)
+    ensures told { IsSome (F.files folder.old) →
+        MatchResult result
+        (λ told. (rows : List TransferData)
+        × (transfers_of (feed_of (F.files folder.old) dir.now) stops.now ≡ Ok rows)
+        × IsCounted (given_footpaths stops.now options.now rows) told)
         (IsRefused (transfers_of (feed_of (F.files folder.old) dir.now) stops.now)) }
     ensures sound { IfOk result (λ told. IfSome told AreSoundPaths) }
-    ensures many { IfOk result (λ told. IfSome told (λ paths. length (PathsData.change paths) ≡ length (platforms stops.now))) }
-    ensures leaves { Leaves (F.files folder.old) (F.files folder.new) (F.faults folder.old) (F.faults folder.new) result }
+    ensures many { IfOk result
+        (λ told.
+        IfSome told (λ paths. length (PathsData.change paths) ≡ length (platforms stops.now))) }
+    ensures leaves { Leaves (F.files folder.old) (F.files folder.new) (F.faults folder.old)
+        (F.faults folder.new) result }
 {
     let rows = match transfer_rows_of(alloc, folder, dir) {
         Ok(rows) => rows,
         Err(fault) => return Err(fault),
     };
-    match told_paths(alloc, rows.as_slice(), stops, options) {
+    match given_footpaths(alloc, rows.as_slice(), stops, options) {
         Ok(told) => Ok(told),
         Err(RowsFault::Feed(fault)) => Err(DayFault::Feed(fault)),
         Err(RowsFault::Memory) => Err(DayFault::Memory),

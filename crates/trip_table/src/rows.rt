@@ -1,5 +1,6 @@
 //! The rows of a feed.
-ghost use Rattle.std.specs.Prelude.{◌≡◌, ◌<◌, ◌-◌, ◌^◌, Ok, IsSome, MatchResult};
+ghost use Rattle.std.specs.Prelude.{◌≡◌, ◌<◌, ◌-◌, ◌^◌, IsSome};
+ghost use Rattle.gtfs_rows.specs.Refused.{Yields};
 ghost use Rattle.trip_table.specs.Answers.{IsRefused, Leaves, feed_of};
 ghost use Rattle.trip_table.specs.References.{rows_of};
 ghost use Rattle.trip_table.specs.GoodTimes.{AreGoodTimes};
@@ -30,7 +31,8 @@ impl Model for FeedRows {
 
     ghost Value = { Rows };
 
-    ghost view = { λ r. record { stops = r.stops; services = r.services; trips = r.trips; times = r.times.items } };
+    ghost view = { λ r.
+        record { stops = r.stops; services = r.services; trips = r.trips; times = r.times.items } };
 
     ghost invariant = { λ r. AreGoodTimes r.stops r.trips r.times.items };
 }
@@ -73,8 +75,10 @@ impl FeedRows {
 /// `ReadFault` comes only where the folder's count of faults rose. A file's bytes are dropped once its rows are read.
 pub fn read_rows<F: Folder>(alloc: Global, folder: &mut F, dir: &str) -> Result<FeedRows, DayFault>
     requires { F.faults folder.old < 2 ^ 64 - 1 }
-    ensures told { IsSome (F.files folder.old) → MatchResult result (λ rows. rows_of (feed_of (F.files folder.old) dir.now) ≡ Ok rows) (IsRefused (rows_of (feed_of (F.files folder.old) dir.now))) }
-    ensures leaves { Leaves (F.files folder.old) (F.files folder.new) (F.faults folder.old) (F.faults folder.new) result }
+    ensures told { IsSome (F.files folder.old) →
+        Yields IsRefused result (λ x. x) (rows_of (feed_of (F.files folder.old) dir.now)) }
+    ensures leaves { Leaves (F.files folder.old) (F.files folder.new) (F.faults folder.old)
+        (F.faults folder.new) result }
 {
     let stops = match read_stops(alloc, folder, dir) {
         Ok(stops) => stops,

@@ -42,7 +42,8 @@ impl SeenPlaces {
 
     /// Notes that a trip has a number, and answers whether it hadn't had it.
     pub fn add(&mut self, place: SequencePlace) -> Result<bool, Memory>
-        ensures added { IfOk result (λ fresh. MatchBool fresh (self.new ≡ self.old ++ place ∷ []) (self.new ≡ self.old)) }
+        ensures added { IfOk result
+            (λ fresh. MatchBool fresh (self.new ≡ self.old ++ place ∷ []) (self.new ≡ self.old)) }
         ensures fresh { IfOk result (λ fresh. fresh ≡ not (list_any (same_place place) self.old)) }
     {
         match self.places.insert_full(place) {

@@ -1,5 +1,6 @@
 //! The rows of calendar.txt and calendar_dates.txt.
-ghost use Rattle.std.specs.Prelude.{◌≡◌, ◌<◌, ◌-◌, ◌^◌, ◌&&◌, not, List, Ok, Err, IsSome, MatchResult, option_map, is_none, is_some, unwrap_or, []};
+ghost use Rattle.std.specs.Prelude.{◌≡◌, ◌<◌, ◌-◌, ◌^◌, ◌&&◌, not, List, IsSome, option_map, is_none, is_some, unwrap_or, []};
+ghost use Rattle.gtfs_rows.specs.Refused.{Yields};
 ghost use Rattle.gtfs_rows.specs.CalendarFile.{CalendarData};
 ghost use Rattle.gtfs_rows.specs.DatesFile.{DateData};
 ghost use Rattle.gtfs_rows.specs.Faults.{check_rows};
@@ -46,8 +47,10 @@ pub fn read_services<F: Folder>(
     dir: &str,
 ) -> Result<ServiceRows, DayFault>
     requires { F.faults folder.old < 2 ^ 64 - 1 }
-    ensures told { IsSome (F.files folder.old) → MatchResult result (λ services. services_of (feed_of (F.files folder.old) dir.now) ≡ Ok services) (IsRefused (services_of (feed_of (F.files folder.old) dir.now))) }
-    ensures leaves { Leaves (F.files folder.old) (F.files folder.new) (F.faults folder.old) (F.faults folder.new) result }
+    ensures told { IsSome (F.files folder.old) →
+        Yields IsRefused result (λ x. x) (services_of (feed_of (F.files folder.old) dir.now)) }
+    ensures leaves { Leaves (F.files folder.old) (F.files folder.new) (F.faults folder.old)
+        (F.faults folder.new) result }
 {
     let calendar = match file_rows(alloc, folder, dir, &CalendarReader) {
         Ok(rows) => rows,

@@ -1,5 +1,6 @@
 //! The rows of stops.txt.
-ghost use Rattle.std.specs.Prelude.{◌≡◌, ◌≢◌, ◌<◌, ◌-◌, ◌^◌, [], Ok, All, IsSome, MatchResult};
+ghost use Rattle.std.specs.Prelude.{◌≡◌, ◌≢◌, ◌<◌, ◌-◌, ◌^◌, [], All, IsSome};
+ghost use Rattle.gtfs_rows.specs.Refused.{Yields};
 ghost use Rattle.gtfs_rows.specs.StopsFile.{StopData};
 ghost use Rattle.trip_table.specs.Answers.{IsRefused, Leaves, feed_of};
 ghost use Rattle.trip_table.specs.References.{stops_of};
@@ -27,7 +28,8 @@ impl Model for StopRows {
 
     ghost view = { λ s. s.rows.items };
 
-    ghost invariant = { λ s. (s.table ≡ s.rows.items) × All (λ r. StopData.id r ≢ []) s.rows.items };
+    ghost invariant = { λ s.
+        (s.table ≡ s.rows.items) × All (λ r. StopData.id r ≢ []) s.rows.items };
 }
 
 impl StopRows {
@@ -50,8 +52,10 @@ impl StopRows {
 /// The rows of stops.txt.
 pub fn read_stops<F: Folder>(alloc: Global, folder: &mut F, dir: &str) -> Result<StopRows, DayFault>
     requires { F.faults folder.old < 2 ^ 64 - 1 }
-    ensures told { IsSome (F.files folder.old) → MatchResult result (λ stops. stops_of (feed_of (F.files folder.old) dir.now) ≡ Ok stops) (IsRefused (stops_of (feed_of (F.files folder.old) dir.now))) }
-    ensures leaves { Leaves (F.files folder.old) (F.files folder.new) (F.faults folder.old) (F.faults folder.new) result }
+    ensures told { IsSome (F.files folder.old) →
+        Yields IsRefused result (λ x. x) (stops_of (feed_of (F.files folder.old) dir.now)) }
+    ensures leaves { Leaves (F.files folder.old) (F.files folder.new) (F.faults folder.old)
+        (F.faults folder.new) result }
 {
     let rows = match file_rows(alloc, folder, dir, &StopReader) {
         Ok(Some(rows)) => rows,

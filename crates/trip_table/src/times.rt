@@ -1,7 +1,7 @@
 //! The rows of stop_times.txt, with what their ids name.
-ghost use Rattle.std.specs.Prelude.{◌≡◌, ◌<◌, ◌-◌, ◌^◌, Ok, IfOk, IsSome, MatchResult, map};
+ghost use Rattle.std.specs.Prelude.{◌≡◌, ◌<◌, ◌-◌, ◌^◌, IfOk, IsSome, map};
 ghost use Rattle.gtfs_rows.specs.Faults.{check_rows};
-ghost use Rattle.gtfs_rows.specs.Refused.{IsRefused};
+ghost use Rattle.gtfs_rows.specs.Refused.{IsRefused, Yields};
 ghost use Rattle.gtfs_rows.specs.TimesFile.{time_data};
 ghost use Rattle.gtfs_rows.specs.declared.fault.FeedFile.TheVariants as file;
 ghost use Rattle.trip_table.specs.Answers as day;
@@ -67,7 +67,7 @@ impl RowReader for TimeResolver<'_> {
 
 // Refuses the first row that names no trip or no platform, or whose trip has had its `stop_sequence`.
 fn check_times(alloc: Global, rows: &[ResolvedTime]) -> Result<(), RowsFault>
-    ensures { MatchResult result (λ _. check_rows wrong_time rows.now ≡ Ok rows.now) (λ f. IsRefused (check_rows wrong_time rows.now) f) }
+    ensures { Yields IsRefused result (λ _. rows.now) (check_rows wrong_time rows.now) }
 {
     let mut seen = SeenPlaces::new(alloc);
     for row in rows {
@@ -159,9 +159,12 @@ pub fn read_times<F: Folder>(
     trips: &TripTable,
 ) -> Result<Vec<StopTime>, DayFault>
     requires { F.faults folder.old < 2 ^ 64 - 1 }
-    ensures told { IsSome (F.files folder.old) → MatchResult result (λ times. times_of (feed_of (F.files folder.old) dir.now) stops.now trips.now ≡ Ok times.items) (day.IsRefused (times_of (feed_of (F.files folder.old) dir.now) stops.now trips.now)) }
+    ensures told { IsSome (F.files folder.old) →
+        Yields day.IsRefused result (λ times. times.items)
+        (times_of (feed_of (F.files folder.old) dir.now) stops.now trips.now) }
     ensures good { IfOk result (λ times. AreGoodTimes stops.now trips.now times.items) }
-    ensures leaves { Leaves (F.files folder.old) (F.files folder.new) (F.faults folder.old) (F.faults folder.new) result }
+    ensures leaves { Leaves (F.files folder.old) (F.files folder.new) (F.faults folder.old)
+        (F.faults folder.new) result }
 {
     let resolver = TimeResolver { stops, trips };
     let rows = match file_rows(alloc, folder, dir, &resolver) {

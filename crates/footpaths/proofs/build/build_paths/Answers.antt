@@ -1,11 +1,9 @@
-use Rattle.std.proofs.Common.{◌≡◌, ◌≤◌, ℕ, length, arith}
+use Rattle.std.proofs.Common.{◌≤◌, length, arith}
 use Rattle.std.proofs.lemmas.Result.{MatchResult-weaker}
-use Rattle.std.specs.Prelude.{IfSome, Ok, Err, Result, IfOk, MatchResult, All}
-use Rattle.gtfs_rows.specs.TransfersFile.{TransferData}
-use Rattle.footpaths.specs.Stops.{is_platform, platforms}
-use Rattle.footpaths.specs.Links.{links_of, TakesAtMostADay}
-use Rattle.footpaths.specs.Footpaths.{PathsData, secs_between, paths_of, check_count}
-use Rattle.footpaths.specs.Law.{AreSoundPaths}
+use Rattle.gtfs_rows.specs.StopsFile.{is_platform}
+use Rattle.footpaths.specs.Stops.{platforms}
+use Rattle.footpaths.specs.Links.{links_of}
+use Rattle.footpaths.specs.Footpaths.{secs_between}
 use Rattle.footpaths.proofs.LinkEnds.{links_have_ends}
 use Rattle.footpaths.proofs.Sound.{secs_day, sound_paths}
 use Rattle.footpaths.proofs.StopPlaces.{length_kept}
@@ -13,6 +11,9 @@ use Rattle.footpaths.proofs.build.build_paths.Goals as goal
 
 pub new-requires : goal.new-requires
 new-requires c = rw c.in-Ok.ensures.1 (links_have_ends c.args.stops.now c.args.options.now.change c.args.rows.now)
+
+pub returns-clause-told : goal.returns-clause-told
+returns-clause-told c = rw c.in-Ok.ensures.0 (rw (c.in_ok-network.ensures, c.in-Ok.ensures.1, c.platforms.ensures) at c.fill.ensures)
 
 pub returns-clause-sound : goal.returns-clause-sound
 returns-clause-sound c =

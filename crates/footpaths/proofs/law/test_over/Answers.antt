@@ -1,11 +1,6 @@
-use Rattle.std.proofs.Common.{◌≡◌, ◌∙◌, ap, sym, subst, ℕ, ◌<◌, ◌≤◌, List, [], length, get_or, map, inl, inr, arith}
-use Rattle.std.proofs.lemmas.Bool.{cases_lt}
-use Rattle.std.proofs.lemmas.List.{get_or_default, length-map}
+use Rattle.std.proofs.Common.{[], get_or, arith}
 use Rattle.std.proofs.lemmas.Result.{err_from_is_err_and}
-use Rattle.tb_base.specs.declared.table.Path.{Path}
-use Rattle.footpaths.specs.Footpaths.{PathsData}
-use Rattle.footpaths.specs.Law.{IsGood}
-use Rattle.footpaths.proofs.LawLaws.{at_row, good_over, good_from, good_before, good_middle, good_past, law_at}
+use Rattle.footpaths.proofs.LawLaws.{at_row, good_over, good_before}
 use Rattle.footpaths.proofs.law.test_over.Goals as goal
 
 pub test_one-requires-clause-second : goal.test_one-requires-clause-second

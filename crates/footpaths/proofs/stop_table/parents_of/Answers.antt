@@ -1,7 +1,7 @@
 use Rattle.std.proofs.Common.{◌∙◌, ap, sym}
 use Rattle.std.specs.Prelude.{bytes_eq, position}
-use Rattle.gtfs_rows.specs.StopsFile.{StopData}
-use Rattle.footpaths.specs.Stops.{is_platform, is_station, parent_station}
+use Rattle.gtfs_rows.specs.StopsFile.{StopData, is_platform, is_station}
+use Rattle.footpaths.specs.Stops.{parent_station}
 use Rattle.footpaths.proofs.StopPlaces.{few_ids, id_place, map_kind_more, kind_same}
 use Rattle.footpaths.proofs.stop_table.parents_of.Goals as goal
 use Rattle.footpaths.proofs.stop_table.parents_of.Goals.{then-is_platform+in_ok-push, else-is_platform}

@@ -1,8 +1,8 @@
-use Rattle.std.proofs.Common.{◌≡◌, ◌∙◌, sym, ap, subst, length, List}
+use Rattle.std.proofs.Common.{◌∙◌, sym, ap, subst, length, List}
 use Rattle.gtfs_rows.specs.StopsFile.{StopData}
 use Rattle.footpaths.specs.Stops.{platforms}
-use Rattle.trip_table.specs.Answers.{IsRowsFault}
-use Rattle.trip_table.specs.Day.{AreThere, IsClosing}
+use Rattle.trip_table.specs.Answers.{IsRowsFault, AreThere}
+use Rattle.trip_table.specs.Day.{AreClosed}
 use Rattle.trip_table.proofs.ClosingSteps.{closing_held, closing_count, refused_inside}
 use Rattle.trip_table.proofs.closing.closed.Goals as goal
 
@@ -18,7 +18,7 @@ refusal-requires c =
     subst (λ n. AreThere n c.in-Err.fault) (c.requires.many ∙ sym (ap (λ (rows : List StopData). length (platforms rows)) c.rows.ensures.rows)) inside
 
 pub returns-in-Err-clause-told : goal.returns-in-Err-clause-told
-returns-in-Err-clause-told c = subst (λ (rows : List StopData). IsRowsFault (IsClosing rows c.args.paths) c.refusal.result) c.rows.ensures.rows (c.refusal.ensures c.args.paths c.in-Err.ensures.told)
+returns-in-Err-clause-told c = subst (λ (rows : List StopData). IsRowsFault (AreClosed rows c.args.paths) c.refusal.result) c.rows.ensures.rows (c.refusal.ensures c.args.paths c.in-Err.ensures.told)
 
 pub returns-in-Ok-clause-law : goal.returns-in-Ok-clause-law
 returns-in-Ok-clause-law c = c.closed_keeps_law.ensures c.args.paths c.in-Ok.closed.paths c.in-Ok.ensures.closed

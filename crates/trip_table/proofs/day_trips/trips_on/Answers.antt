@@ -1,4 +1,4 @@
-use Rattle.std.proofs.Common.{◌≡◌, ◌∙◌, ◌<◌, ap, arith, length, map, Vec, Global}
+use Rattle.std.proofs.Common.{◌∙◌, ◌<◌, ap, arith, length, map, Vec, Global}
 use Rattle.std.proofs.lemmas.Grind.{common_steps}
 use Rattle.std.proofs.lemmas.List.Elements.{All-map}
 use Rattle.tb_base.specs.declared.table.Event.{Event}

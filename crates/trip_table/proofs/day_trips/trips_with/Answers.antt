@@ -1,4 +1,4 @@
-use Rattle.std.proofs.Common.{◌≡◌, ◌∙◌, sym, ap, arith, map, length, Vec, Global}
+use Rattle.std.proofs.Common.{◌∙◌, sym, ap, arith, map, Vec, Global}
 use Rattle.std.proofs.lemmas.List.{get_or-map}
 use Rattle.std.proofs.lemmas.Grind.{common_steps}
 use Rattle.tb_base.specs.declared.table.Event.{Event}

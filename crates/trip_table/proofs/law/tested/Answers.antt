@@ -1,7 +1,6 @@
-use Rattle.std.proofs.Common.{◌≡◌, ◌∙◌, sym, ap, subst, length}
-use Rattle.gtfs_rows.specs.StopsFile.{StopData}
+use Rattle.std.proofs.Common.{◌∙◌, sym, ap, subst, length}
 use Rattle.footpaths.specs.Stops.{platforms}
-use Rattle.trip_table.specs.Day.{IsAmong}
+use Rattle.trip_table.specs.Answers.{IsAmong}
 use Rattle.trip_table.proofs.Breach.{breach_inside}
 use Rattle.trip_table.proofs.law.tested.Goals as goal
 

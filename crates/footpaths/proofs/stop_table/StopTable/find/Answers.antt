@@ -1,5 +1,5 @@
 use Rattle.std.proofs.Common.{◌∙◌, sym, Some, None, true, false, refl}
-use Rattle.footpaths.specs.Stops.{is_platform, is_station}
+use Rattle.gtfs_rows.specs.StopsFile.{is_platform, is_station}
 use Rattle.footpaths.proofs.StopPlaces.{few_ids, find_stop-by}
 use Rattle.footpaths.proofs.stop_table.StopTable.find.Goals as goal
 

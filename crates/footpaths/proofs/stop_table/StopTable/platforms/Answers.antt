@@ -1,6 +1,7 @@
 use Rattle.std.proofs.Common.{ap, length, arith}
 use Rattle.std.proofs.lemmas.List.{length-map}
-use Rattle.footpaths.specs.Stops.{is_platform, platforms, parent_station}
+use Rattle.gtfs_rows.specs.StopsFile.{is_platform}
+use Rattle.footpaths.specs.Stops.{platforms, parent_station}
 use Rattle.footpaths.proofs.StopPlaces.{length_kept}
 use Rattle.footpaths.proofs.stop_table.StopTable.platforms.Goals as goal
 

@@ -1,6 +1,6 @@
 use Rattle.gtfs_rows.specs.declared.fault.Many.TheVariants as many
 use Rattle.trip_table.proofs.ToldPaths.{told_good, told_many, change_count}
-use Rattle.trip_table.proofs.paths.told_paths.Goals as goal
+use Rattle.trip_table.proofs.paths.given_footpaths.Goals as goal
 
 pub returns-in-Ok-clause-told : goal.returns-in-Ok-clause-told
 returns-in-Ok-clause-told c = told_good c.args.stops.now c.args.options.now c.args.rows.now c.in-Ok.paths c.in-Ok.ensures.told

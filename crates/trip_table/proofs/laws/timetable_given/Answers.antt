@@ -1,0 +1,5 @@
+use Rattle.trip_table.proofs.Given.{timetable_is}
+use Rattle.trip_table.proofs.laws.timetable_given.Goals as goal
+
+pub returns : goal.returns
+returns c = timetable_is
