@@ -14,17 +14,27 @@ pub struct Ending {
     pub err: Vec<u8>,
 }
 
-/// What is asked of the program, and how it has to end.
+/// Of what a question is asked.
+#[derive(Clone, Copy, PartialEq, Eq, Debug)]
+pub enum Asked {
+    /// The program.
+    Program,
+    /// The change times and footpaths of a day.
+    Paths,
+}
+
+/// What is asked, and how it has to end.
 #[derive(Drop)]
 pub struct Question {
+    pub asked: Asked,
     pub words: Vec<String>,
     pub want: Ending,
 }
 
 impl Question {
-    // The question of a command line, whose words have one space between two. As long as nothing else is said, it has to end well and
+    // The question of a line, whose words have one space between two. As long as nothing else is said, it has to end well and
     // to write nothing.
-    fn new(alloc: Global, line: &str) -> Result<Question, AllocError> {
+    fn new(alloc: Global, asked: Asked, line: &str) -> Result<Question, AllocError> {
         let mut words = Vec::new(alloc);
         if !line.is_empty() {
             for word in line.split(' ') {
@@ -36,7 +46,7 @@ impl Question {
             out: Vec::new(alloc),
             err: Vec::new(alloc),
         };
-        Ok(Question { words, want })
+        Ok(Question { asked, words, want })
     }
 }
 
@@ -161,8 +171,8 @@ impl Case {
     }
 
     /// A question.
-    pub fn ask(&mut self, alloc: Global, words: &str) -> Result<bool, Broken> {
-        self.questions.push(Question::new(alloc, words)?)?;
+    pub fn ask(&mut self, alloc: Global, asked: Asked, words: &str) -> Result<bool, Broken> {
+        self.questions.push(Question::new(alloc, asked, words)?)?;
         Ok(true)
     }
 

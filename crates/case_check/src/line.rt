@@ -23,6 +23,8 @@ pub enum Line<'a> {
     Byte(&'a str),
     /// The words of a command line, with one space between two.
     Words(&'a str),
+    /// A feed, a day and options, for which change times and footpaths are shown.
+    Paths(&'a str),
     /// The number with which it ends.
     Status(&'a str),
     /// A line of standard output.
@@ -62,6 +64,7 @@ fn setting_of<'a>(word: &str, rest: &'a str) -> Option<Line<'a>> {
 fn answer_of<'a>(word: &str, rest: &'a str) -> Option<Line<'a>> {
     match word {
         "words" => Some(Line::Words(rest)),
+        "paths" => Some(Line::Paths(rest)),
         "status" => Some(Line::Status(rest)),
         "out" => Some(Line::Out(rest)),
         "err" => Some(Line::Err(rest)),

@@ -11,6 +11,7 @@ mod case;
 mod feeds;
 mod line;
 mod reader;
+mod shown;
 mod trial;
 
 use broken::Broken;

@@ -1,6 +1,6 @@
 //! Cases from a text.
 use super::broken::Broken;
-use super::case::Case;
+use super::case::{Asked, Case};
 use super::line::{Line, line_of};
 use std::alloc::Global;
 use std::rt::Files;
@@ -26,7 +26,8 @@ fn add_setting<R: Files>(
 
 fn add_answer(alloc: Global, case: &mut Case, line: Line<'_>) -> Result<bool, Broken> {
     match line {
-        Line::Words(words) => case.ask(alloc, words),
+        Line::Words(words) => case.ask(alloc, Asked::Program, words),
+        Line::Paths(words) => case.ask(alloc, Asked::Paths, words),
         Line::Status(number) => Ok(case.want_status(number)),
         Line::Out(text) => case.want_out(text),
         Line::Err(text) => case.want_err(text),

@@ -1,6 +1,7 @@
 //! A case, tried.
 use super::broken::Broken;
-use super::case::{Case, Ending, Question};
+use super::case::{Asked, Case, Ending, Question};
+use super::shown::shown_paths;
 use router_cli::{route, status_text};
 use std::alloc::Global;
 use std::sync::Wait;
@@ -56,7 +57,7 @@ impl fmt::Display for Tally {
 }
 
 // How the program ends on these words over the files of a case.
-fn ending_of<R: Threads + Wait + Sync>(
+fn program_ending<R: Threads + Wait + Sync>(
     rt: &R,
     alloc: Global,
     case: &Case,
@@ -82,6 +83,30 @@ fn ending_of<R: Threads + Wait + Sync>(
     })
 }
 
+// How the change times and footpaths of a day are shown.
+fn paths_ending(alloc: Global, case: &Case, words: &[String]) -> Result<Ending, Memory> {
+    let (status, out) = shown_paths(alloc, case.files(alloc)?, words)?;
+    Ok(Ending {
+        code: status.code(),
+        out,
+        err: status_text(alloc, &status)?,
+    })
+}
+
+// How a question ends.
+fn ending_of<R: Threads + Wait + Sync>(
+    rt: &R,
+    alloc: Global,
+    case: &Case,
+    question: &Question,
+) -> Result<Ending, Memory> {
+    let words = question.words.as_slice();
+    match question.asked {
+        Asked::Program => program_ending(rt, alloc, case, words, ROOM),
+        Asked::Paths => paths_ending(alloc, case, words),
+    }
+}
+
 // Whether the program ended as it has to.
 fn is_same(came: &Ending, want: &Ending) -> bool {
     came.code == want.code
@@ -99,7 +124,11 @@ fn text_of(bytes: &[u8]) -> &str {
 
 // Writes what a question came to.
 fn write_ending(rt: &impl Print, question: &Question, came: &Ending) {
-    let _ = print!(rt; "words");
+    let asked = match question.asked {
+        Asked::Program => "words",
+        Asked::Paths => "paths",
+    };
+    let _ = print!(rt; "{asked}");
     for word in &question.words {
         let _ = print!(rt; " {word}");
     }
@@ -122,7 +151,7 @@ pub fn try_case<R: Threads + Wait + Sync + Print>(
     let title = case.title.as_str();
     let mut differs = false;
     for question in &case.questions {
-        let came = ending_of(rt, alloc, case, question.words.as_slice(), ROOM)?;
+        let came = ending_of(rt, alloc, case, question)?;
         if !is_same(&came, &question.want) {
             if !differs {
                 let _ = println!(rt; "differs {title}");
