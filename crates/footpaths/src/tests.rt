@@ -1,121 +1,71 @@
-//! Tables of rows of stops.txt and transfers.txt over a small town, whose changes and refusals were worked out by hand.
-ghost use Rattle.std.specs.Prelude.{◌≤◌, All, IfOk, IfSome};
-ghost use Rattle.footpaths.specs.Law.{AreSoundPaths};
+//! As many footpaths as there may be, and too many. What rows of stops.txt and transfers.txt give over a small town is told by the
+//! cases of `case_check`.
+ghost use Rattle.std.specs.Prelude.{All, IfOk};
 ghost use Rattle.footpaths.specs.Links.{TakesAtMostADay};
 ghost use Rattle.gtfs_rows.specs.TransfersFile.{TransferData};
 
-mod changes;
-mod laws;
-mod refusals;
-mod stops;
-
-use crate::{Options, Paths, PathsFault, StopTable, StopsFault, build_paths};
+use crate::{Options, PathsFault, StopTable, build_paths};
 use gtfs_rows::{Kind, PathRule, StopRow, TransferRow};
 use std::alloc::Global;
+use std::test::Fail;
 use tb_base::{Memory, Name};
 
-// A row of stops.txt: its id, its kind and its parent.
-type Place = (&'static str, Kind, &'static str);
-
-// A row of transfers.txt: its two ids and its rule.
-type Way = (&'static str, &'static str, PathRule);
-
-// The platforms s1, s2, t1, a and b have the numbers 0 to 4. The station S has s1 and s2, T has t1, and x is an entrance
-// of S, which as a parent gives b no station.
-const TOWN: [Place; 8] = [
-    ("S", Kind::Station, ""),
-    ("s1", Kind::Platform, "S"),
-    ("s2", Kind::Platform, "S"),
-    ("T", Kind::Station, ""),
-    ("t1", Kind::Platform, "T"),
-    ("a", Kind::Platform, ""),
-    ("x", Kind::Other, "S"),
-    ("b", Kind::Platform, "x"),
-];
-
-// The rows of a file, whose first row after the header is row 2.
-fn stop_rows(alloc: Global, places: &[Place]) -> Result<Vec<StopRow>, Memory> {
+// A station S with so many platforms.
+fn large_station(alloc: Global, platforms: u32) -> Result<Vec<StopRow>, Fail> {
     let mut rows = Vec::new(alloc);
-    let mut row: u32 = 2;
-    for (id, kind, parent) in places {
-        let id = Name::new(alloc, id.as_bytes())?;
-        let parent = Name::new(alloc, parent.as_bytes())?;
+    rows.push(StopRow {
+        row: 2,
+        id: Name::new(alloc, b"S")?,
+        kind: Kind::Station,
+        parent: Name::new(alloc, b"")?,
+    })?;
+    for number in 0..platforms {
+        let id = format!(in alloc; "{number}")?;
         rows.push(StopRow {
-            row,
-            id,
-            kind: *kind,
-            parent,
+            row: number.saturating_add(3),
+            id: Name::new(alloc, id.as_bytes())?,
+            kind: Kind::Platform,
+            parent: Name::new(alloc, b"S")?,
         })?;
-        row = row.saturating_add(1);
     }
     Ok(rows)
 }
 
-fn stop_table(alloc: Global, places: &[Place]) -> Result<StopTable, StopsFault> {
-    let rows = stop_rows(alloc, places)?;
-    if rows.len() > 100_000 {
-        return Err(StopsFault::Memory);
-    }
-    StopTable::new(alloc, &rows)
-}
-
-// A rule as a file can give it.
-fn rule_of(rule: PathRule) -> PathRule
-    ensures { TakesAtMostADay result }
-{
-    match rule {
-        PathRule::Secs(secs) => PathRule::Secs(secs.min(86_400)),
-        PathRule::Default => PathRule::Default,
-        PathRule::Forbidden => PathRule::Forbidden,
-    }
-}
-
-// The rows of a file, whose first row after the header is row 2.
-fn transfer_rows(alloc: Global, ways: &[Way]) -> Result<Vec<TransferRow>, Memory>
+// A row that forbids the way from the first platform to a stop.
+fn forbidden_way(alloc: Global, to: &str) -> Result<Vec<TransferRow>, Memory>
     ensures { IfOk result (λ rows. All (λ r. TakesAtMostADay (TransferData.rule r)) rows.items) }
 {
     let mut rows = Vec::new(alloc);
-    let mut row: u32 = 2;
-    for (from, to, rule) in ways {
-        let from = Name::new(alloc, from.as_bytes())?;
-        let to = Name::new(alloc, to.as_bytes())?;
-        rows.push(TransferRow {
-            row,
-            from,
-            to,
-            rule: rule_of(*rule),
-        })?;
-        row = row.saturating_add(1);
-    }
+    rows.push(TransferRow {
+        row: 2,
+        from: Name::new(alloc, b"0")?,
+        to: Name::new(alloc, to.as_bytes())?,
+        rule: PathRule::Forbidden,
+    })?;
     Ok(rows)
 }
 
-// A default change time of half a minute, and these seconds within a station.
-fn options(station: Option<u32>) -> Options
-    ensures change { result.change ≤ 86400 }
-    ensures station { IfSome result.station (λ secs. secs ≤ 86400) }
-{
-    let station = match station {
-        Some(secs) => Some(secs.min(86_400)),
-        None => None,
-    };
-    Options {
+// With seconds within a station 1,414 platforms have 1,997,982 footpaths, one of which a row forbids, and 1,415 have
+// 2,000,810. A bad row comes first.
+#[test]
+fn too_many_footpaths(rt: HostRuntime) -> Result<(), Fail> {
+    let options = Options {
         change: 30,
-        station,
+        station: Some(60),
         close: false,
-    }
-}
-
-// The change times and footpaths of the town.
-fn paths(alloc: Global, ways: &[Way], station: Option<u32>) -> Result<Paths, PathsFault>
-    ensures { IfOk result (λ paths. AreSoundPaths paths) }
-{
-    let Ok(table) = stop_table(alloc, &TOWN) else {
-        return Err(PathsFault::Memory);
     };
-    let rows = transfer_rows(alloc, ways)?;
-    match build_paths(alloc, &rows, &table, &options(station)) {
-        Ok(paths) => Ok(paths),
-        Err(fault) => Err(fault),
+    let unknown = PathsFault::UnknownStop { row: 2, column: 2 };
+    for (platforms, to, fault) in [
+        (1_414, "1", None),
+        (1_415, "1", Some(PathsFault::TooMany)),
+        (1_415, "q", Some(unknown)),
+    ] {
+        let stops = large_station(rt.alloc(), platforms)?;
+        assert!(rt; stops.len() <= 100_000);
+        let table = StopTable::new(rt.alloc(), &stops).ok().ok_or("refused")?;
+        let rows = forbidden_way(rt.alloc(), to)?;
+        let built = build_paths(rt.alloc(), &rows, &table, &options);
+        assert_eq!(rt; built.err(), fault, "{platforms} to {to}");
     }
+    Ok(())
 }

@@ -1,5 +1,5 @@
-//! Answers and refusals of the whole program over feeds in memory, whose expected texts were worked out by hand.
-use crate::{route, status_text};
+//! What `case_check` can't try: calls of the outside that fail, a file that has no end, and the rules of a journey.
+use crate::route;
 use std::alloc::{AllocError, Global};
 use std::sync::Wait;
 use std::test::Fail;
@@ -7,10 +7,9 @@ use std::thread::Threads;
 use tb_base::IdleGate;
 use tb_io::{MemFolder, MemSink, MemSource};
 
-mod answers;
 mod choices;
+mod endless;
 mod failing;
-mod refusals;
 
 const STOPS: &str = "stop_id\nA\nB\nC\nD\nE\n";
 
@@ -28,21 +27,13 @@ T3,08:05:00,08:05:00,A,1
 T3,08:50:00,08:50:00,D,2
 ";
 
-/// The files of the example.
+/// The texts of the example.
 const EXAMPLE: [(&str, &str); 4] = [
     ("stops.txt", STOPS),
     ("trips.txt", TRIPS),
     ("calendar_dates.txt", DATES),
     ("stop_times.txt", TIMES),
 ];
-
-/// The two best trade-offs from A to D at eight.
-const TWO_CHOICES: &str = "arrive 08:50:00 rides 1
-  ride T3 A 08:05:00 D 08:50:00
-arrive 08:30:00 rides 2
-  ride T1 A 08:00:00 B 08:10:00
-  ride T2 B 08:12:00 D 08:30:00
-";
 
 /// Files by their paths.
 type Files = Vec<(String, Vec<u8>)>;
@@ -62,24 +53,20 @@ const NO_TROUBLE: Trouble = Trouble {
     room: 4096,
 };
 
-/// How the program ended: its number, and what it wrote to standard output and to standard error.
+/// How the program ended: its number, and what it wrote to standard output.
 #[derive(Drop)]
 struct Ended {
     code: u8,
     out: Vec<u8>,
-    err: Vec<u8>,
 }
 
 fn file(alloc: Global, name: &str, bytes: &[u8]) -> Result<(String, Vec<u8>), AllocError> {
     Ok((format!(in alloc; "f1/{name}")?, bytes.to_vec(alloc)?))
 }
 
-// A feed of these files, and of those of the example that they don't replace.
-fn feed(alloc: Global, changed: &[(&str, &str)]) -> Result<Files, AllocError> {
+// The files of the example.
+fn feed(alloc: Global) -> Result<Files, AllocError> {
     let mut files = Vec::new(alloc);
-    for (name, text) in changed {
-        files.push(file(alloc, name, text.as_bytes())?)?;
-    }
     for (name, text) in EXAMPLE {
         files.push(file(alloc, name, text.as_bytes())?)?;
     }
@@ -126,6 +113,5 @@ fn run<R: Threads + Wait + Sync>(
     Ok(Ended {
         code: status.code(),
         out: sink.bytes().to_vec(alloc)?,
-        err: status_text(alloc, &status)?,
     })
 }

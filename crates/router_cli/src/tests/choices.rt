@@ -16,7 +16,7 @@ use trip_table::{Options, read_day};
 fn example(alloc: Global, change: u32) -> Result<Option<Timetable>, AllocError>
     requires { change ≤ 86400 }
 {
-    let mut folder = MemFolder::new(feed(alloc, &[])?, Vec::new(alloc));
+    let mut folder = MemFolder::new(feed(alloc)?, Vec::new(alloc));
     let Ok(day) = day_of(b"20260302".as_slice()) else {
         return Ok(None);
     };

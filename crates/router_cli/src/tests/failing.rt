@@ -10,7 +10,7 @@ fn failing_reads_end_the_program(rt: HostRuntime) -> Result<(), Fail> {
             folder: Some(number),
             ..NO_TROUBLE
         };
-        let ended = run(&rt, rt.alloc(), feed(rt.alloc(), &[])?, line, trouble)?;
+        let ended = run(&rt, rt.alloc(), feed(rt.alloc())?, line, trouble)?;
         assert_eq!(rt; ended.code, 4, "call {number}");
         assert!(rt; ended.out.is_empty(), "call {number}");
     }
@@ -18,7 +18,7 @@ fn failing_reads_end_the_program(rt: HostRuntime) -> Result<(), Fail> {
         folder: Some(15),
         ..NO_TROUBLE
     };
-    let ended = run(&rt, rt.alloc(), feed(rt.alloc(), &[])?, line, trouble)?;
+    let ended = run(&rt, rt.alloc(), feed(rt.alloc())?, line, trouble)?;
     assert_eq!(rt; ended.code, 0);
     Ok(())
 }
@@ -29,7 +29,7 @@ fn failing_writes_end_the_program(rt: HostRuntime) -> Result<(), Fail> {
     let text = b"arrive 08:50:00\n".as_slice();
     for room in 0..text.len() {
         let trouble = Trouble { room, ..NO_TROUBLE };
-        let ended = run(&rt, rt.alloc(), feed(rt.alloc(), &[])?, line, trouble)?;
+        let ended = run(&rt, rt.alloc(), feed(rt.alloc())?, line, trouble)?;
         assert_eq!(rt; ended.code, 5, "room {room}");
         assert_eq!(rt; ended.out.as_slice(), &text[..room], "room {room}");
     }
@@ -38,7 +38,7 @@ fn failing_writes_end_the_program(rt: HostRuntime) -> Result<(), Fail> {
             sink: Some(number),
             ..NO_TROUBLE
         };
-        let ended = run(&rt, rt.alloc(), feed(rt.alloc(), &[])?, line, trouble)?;
+        let ended = run(&rt, rt.alloc(), feed(rt.alloc())?, line, trouble)?;
         assert_eq!(rt; ended.code, code, "write {number}");
         assert_eq!(rt; ended.out.is_empty(), code == 5, "write {number}");
     }

@@ -1,0 +1,207 @@
+//! What a case says.
+use super::broken::Broken;
+use super::feeds;
+use super::feeds::Files;
+use gtfs_rows::number_of;
+use std::alloc::{AllocError, Global};
+use std::rt;
+
+/// How a run of the program ends: its number, and the bytes on standard output and on standard error.
+#[derive(Drop)]
+pub struct Ending {
+    pub code: u8,
+    pub out: Vec<u8>,
+    pub err: Vec<u8>,
+}
+
+/// Of what a question is asked.
+#[derive(Clone, Copy, PartialEq, Eq, Debug)]
+pub enum Asked {
+    /// The program.
+    Program,
+    /// The change times and footpaths of a day.
+    Paths,
+}
+
+/// What is asked, and how it has to end.
+#[derive(Drop)]
+pub struct Question {
+    pub asked: Asked,
+    pub words: Vec<String>,
+    pub want: Ending,
+}
+
+impl Question {
+    // The question of a line, whose words have one space between two. As long as nothing else is said, it has to end well and
+    // to write nothing.
+    fn new(alloc: Global, asked: Asked, line: &str) -> Result<Question, AllocError> {
+        let mut words = Vec::new(alloc);
+        if !line.is_empty() {
+            for word in line.split(' ') {
+                words.push(String::from_str(alloc, word)?)?;
+            }
+        }
+        let want = Ending {
+            code: 0,
+            out: Vec::new(alloc),
+            err: Vec::new(alloc),
+        };
+        Ok(Question { asked, words, want })
+    }
+}
+
+// Adds a line to a text.
+fn add_line(text: &mut Vec<u8>, line: &str) -> Result<(), AllocError> {
+    text.extend_from_slice(line.as_bytes())?;
+    text.push(b'\n')?;
+    Ok(())
+}
+
+// A number below 256.
+fn byte_of(number: &str) -> Option<u8> {
+    match number_of(number.as_bytes()) {
+        Some(byte) if byte < 256 => Some(byte as u8),
+        _ => None,
+    }
+}
+
+/// A case: over which files what is asked. What adds to it says whether that has a meaning there.
+#[derive(Drop)]
+pub struct Case {
+    pub title: String,
+    // The folder of the feed that was named last.
+    folder: String,
+    // Files that stand in place of those of feeds.
+    changed: Files,
+    // Files of feeds.
+    given: Files,
+    pub questions: Vec<Question>,
+}
+
+impl Case {
+    /// A case with no files, in which nothing is asked.
+    pub fn new(alloc: Global, title: &str) -> Result<Case, AllocError> {
+        Ok(Case {
+            title: String::from_str(alloc, title)?,
+            folder: String::new(alloc),
+            changed: Vec::new(alloc),
+            given: Vec::new(alloc),
+            questions: Vec::new(alloc),
+        })
+    }
+
+    /// The files over which is asked. Of two with one path the first counts.
+    pub fn files(&self, alloc: Global) -> Result<Files, AllocError> {
+        let mut files = Vec::new(alloc);
+        feeds::add_copies(alloc, self.changed.as_slice(), &mut files)?;
+        feeds::add_copies(alloc, self.given.as_slice(), &mut files)?;
+        Ok(files)
+    }
+
+    /// The files of a feed. It has some.
+    pub fn add_feed<R: rt::Files>(
+        &mut self,
+        rt: &R,
+        alloc: Global,
+        name: &str,
+    ) -> Result<bool, Broken> {
+        self.folder = String::from_str(alloc, name)?;
+        let count = feeds::add_feed(rt, alloc, name, &mut self.given)?;
+        Ok(count > 0)
+    }
+
+    // The path of a file of the feed.
+    fn path(&self, alloc: Global, name: &str) -> Result<String, AllocError> {
+        let folder = self.folder.as_str();
+        format!(in alloc; "{folder}/{name}")
+    }
+
+    /// A file of the feed isn't there.
+    pub fn take_away(&mut self, alloc: Global, name: &str) -> Result<bool, Broken> {
+        let path = self.path(alloc, name)?;
+        let count = self.given.len();
+        self.given.retain(|file| file.0.as_str() != path.as_str());
+        Ok(self.given.len() < count)
+    }
+
+    /// A file in place of the feed's begins.
+    pub fn begin_file(&mut self, alloc: Global, name: &str) -> Result<bool, Broken> {
+        let path = self.path(alloc, name)?;
+        self.changed.push((path, Vec::new(alloc)))?;
+        Ok(true)
+    }
+
+    /// More of that file.
+    pub fn add_text(&mut self, text: &str, end: &str) -> Result<bool, Broken> {
+        let Some(file) = self.changed.last_mut() else {
+            return Ok(false);
+        };
+        file.1.extend_from_slice(text.as_bytes())?;
+        file.1.extend_from_slice(end.as_bytes())?;
+        Ok(true)
+    }
+
+    /// A byte of it, by its number.
+    pub fn add_byte(&mut self, number: &str) -> Result<bool, Broken> {
+        match (self.changed.last_mut(), byte_of(number)) {
+            (Some(file), Some(byte)) => {
+                file.1.push(byte)?;
+                Ok(true)
+            }
+            _ => Ok(false),
+        }
+    }
+
+    /// So many lines of it, by a number and the text of a line.
+    pub fn add_rows(&mut self, alloc: Global, rows: &str) -> Result<bool, Broken> {
+        let Some((count, text)) = rows.split_once(' ') else {
+            return Ok(false);
+        };
+        let Some(count) = number_of(count.as_bytes()) else {
+            return Ok(false);
+        };
+        for number in 0..count {
+            let number = format!(in alloc; "{number}")?;
+            let row = text.replace(alloc, "#", number.as_str())?;
+            if !self.add_text(row.as_str(), "\n")? {
+                return Ok(false);
+            }
+        }
+        Ok(true)
+    }
+
+    /// A question.
+    pub fn ask(&mut self, alloc: Global, asked: Asked, words: &str) -> Result<bool, Broken> {
+        self.questions.push(Question::new(alloc, asked, words)?)?;
+        Ok(true)
+    }
+
+    /// The number with which the last question ends.
+    pub fn want_status(&mut self, number: &str) -> bool {
+        match (self.questions.last_mut(), byte_of(number)) {
+            (Some(question), Some(code)) => {
+                question.want.code = code;
+                true
+            }
+            _ => false,
+        }
+    }
+
+    /// A line of its standard output.
+    pub fn want_out(&mut self, line: &str) -> Result<bool, Broken> {
+        let Some(question) = self.questions.last_mut() else {
+            return Ok(false);
+        };
+        add_line(&mut question.want.out, line)?;
+        Ok(true)
+    }
+
+    /// A line of its standard error.
+    pub fn want_err(&mut self, line: &str) -> Result<bool, Broken> {
+        let Some(question) = self.questions.last_mut() else {
+            return Ok(false);
+        };
+        add_line(&mut question.want.err, line)?;
+        Ok(true)
+    }
+}

@@ -1,0 +1,73 @@
+//! The lines of a file of cases.
+
+/// What a line says.
+#[derive(Clone, Copy)]
+pub enum Line<'a> {
+    /// Nothing: it is empty, or a remark.
+    Nothing,
+    /// A case with this title begins.
+    Case(&'a str),
+    /// The files of this feed stand in a folder of its name.
+    Feed(&'a str),
+    /// A file of the feed isn't there.
+    Without(&'a str),
+    /// A file that stands in place of the feed's begins.
+    File(&'a str),
+    /// A line of that file.
+    Row(&'a str),
+    /// So many lines of that file, in which the sign `#` stands for 0, 1 and so on.
+    Rows(&'a str),
+    /// Bytes of that file with no end of line behind.
+    Cut(&'a str),
+    /// One byte of that file, by its number.
+    Byte(&'a str),
+    /// The words of a command line, with one space between two.
+    Words(&'a str),
+    /// A feed, a day and options, for which change times and footpaths are shown.
+    Paths(&'a str),
+    /// The number with which it ends.
+    Status(&'a str),
+    /// A line of standard output.
+    Out(&'a str),
+    /// A line of standard error.
+    Err(&'a str),
+}
+
+/// What a line says, where it says anything.
+pub fn line_of(text: &str) -> Option<Line<'_>> {
+    if text.is_empty() || text.starts_with('#') {
+        return Some(Line::Nothing);
+    }
+    let (word, rest) = match text.split_once(' ') {
+        Some(parts) => parts,
+        None => (text, ""),
+    };
+    setting_of(word, rest).or(answer_of(word, rest))
+}
+
+// A line that says over which files is asked.
+fn setting_of<'a>(word: &str, rest: &'a str) -> Option<Line<'a>> {
+    match word {
+        "case" => Some(Line::Case(rest)),
+        "feed" => Some(Line::Feed(rest)),
+        "without" => Some(Line::Without(rest)),
+        "file" => Some(Line::File(rest)),
+        "row" => Some(Line::Row(rest)),
+        "rows" => Some(Line::Rows(rest)),
+        "cut" => Some(Line::Cut(rest)),
+        "byte" => Some(Line::Byte(rest)),
+        _ => None,
+    }
+}
+
+// A line that says what is asked, and what comes.
+fn answer_of<'a>(word: &str, rest: &'a str) -> Option<Line<'a>> {
+    match word {
+        "words" => Some(Line::Words(rest)),
+        "paths" => Some(Line::Paths(rest)),
+        "status" => Some(Line::Status(rest)),
+        "out" => Some(Line::Out(rest)),
+        "err" => Some(Line::Err(rest)),
+        _ => None,
+    }
+}

@@ -1,0 +1,69 @@
+//! Cases from a text.
+use super::broken::Broken;
+use super::case::{Asked, Case};
+use super::line::{Line, line_of};
+use std::alloc::Global;
+use std::rt::Files;
+
+// What a line adds to a case. It says whether the line has a meaning there.
+fn add_setting<R: Files>(
+    rt: &R,
+    alloc: Global,
+    case: &mut Case,
+    line: Line<'_>,
+) -> Result<bool, Broken> {
+    match line {
+        Line::Feed(name) => case.add_feed(rt, alloc, name),
+        Line::Without(name) => case.take_away(alloc, name),
+        Line::File(name) => case.begin_file(alloc, name),
+        Line::Row(text) => case.add_text(text, "\n"),
+        Line::Rows(text) => case.add_rows(alloc, text),
+        Line::Cut(text) => case.add_text(text, ""),
+        Line::Byte(number) => case.add_byte(number),
+        _ => add_answer(alloc, case, line),
+    }
+}
+
+fn add_answer(alloc: Global, case: &mut Case, line: Line<'_>) -> Result<bool, Broken> {
+    match line {
+        Line::Words(words) => case.ask(alloc, Asked::Program, words),
+        Line::Paths(words) => case.ask(alloc, Asked::Paths, words),
+        Line::Status(number) => Ok(case.want_status(number)),
+        Line::Out(text) => case.want_out(text),
+        Line::Err(text) => case.want_err(text),
+        _ => Ok(true),
+    }
+}
+
+// Adds what a line says to the cases. It says whether the line has a meaning there.
+fn add_line<R: Files>(
+    rt: &R,
+    alloc: Global,
+    cases: &mut Vec<Case>,
+    text: &str,
+) -> Result<bool, Broken> {
+    let Some(line) = line_of(text) else {
+        return Ok(false);
+    };
+    if let Line::Case(title) = line {
+        cases.push(Case::new(alloc, title)?)?;
+        return Ok(true);
+    }
+    match cases.last_mut() {
+        Some(case) => add_setting(rt, alloc, case, line),
+        None => Ok(matches!(line, Line::Nothing)),
+    }
+}
+
+/// The cases of a text, with the files of the feeds that they name.
+pub fn cases_of<R: Files>(rt: &R, alloc: Global, text: &str) -> Result<Vec<Case>, Broken> {
+    let mut cases = Vec::new(alloc);
+    let mut number: usize = 0;
+    for line in text.split('\n') {
+        number = number.saturating_add(1);
+        if !add_line(rt, alloc, &mut cases, line)? {
+            return Err(Broken::BadLine(number));
+        }
+    }
+    Ok(cases)
+}

@@ -1,0 +1,106 @@
+//! What a case asks of the timetable of a day that no command of the program shows.
+ghost use Rattle.std.specs.Prelude.{◌<◌, ◌≤◌, IfSome, length};
+
+use super::feeds::Files;
+use gtfs_rows::number_of;
+use router_cli::Status;
+use service_day::day_of;
+use std::alloc::{AllocError, Global};
+use tb_base::{Memory, StopNo, Timetable};
+use tb_io::MemFolder;
+use trip_table::{DayFault, Options, read_day};
+
+// The number behind a word.
+fn number_after(words: &[String], name: &str) -> Option<u32> {
+    let mut is_next = false;
+    for word in words {
+        if is_next {
+            return number_of(word.as_bytes());
+        }
+        is_next = word.as_str() == name;
+    }
+    None
+}
+
+// What the words say of footpaths, as `change 30 station 90 close`. Seconds are at most a day.
+fn options_of(words: &[String]) -> Options
+    ensures change { result.change ≤ 86400 }
+    ensures station { IfSome result.station (λ secs. secs ≤ 86400) }
+{
+    let station = match number_after(words, "station") {
+        Some(secs) => Some(secs.min(86_400)),
+        None => None,
+    };
+    Options {
+        change: number_after(words, "change").unwrap_or(0).min(86_400),
+        station,
+        close: words.iter().any(|word| word.as_str() == "close"),
+    }
+}
+
+// Adds the id of a stop and a space.
+fn add_id(text: &mut Vec<u8>, table: &Timetable, p: u32) -> Result<(), AllocError>
+    requires { p < length table.now.stops }
+{
+    text.extend_from_slice(table.stop(StopNo(p)).name.bytes())?;
+    text.push(b' ')?;
+    Ok(())
+}
+
+// Adds a line on the change between two stops, or within one where it doesn't take what it mostly does.
+fn add_change(
+    alloc: Global,
+    text: &mut Vec<u8>,
+    table: &Timetable,
+    p: u32,
+    q: u32,
+    mostly: u32,
+) -> Result<(), AllocError>
+    requires from { p < length table.now.stops }
+    requires to { q < length table.now.stops }
+{
+    let secs = match table.change(StopNo(p), StopNo(q)) {
+        Some(secs) if p == q && secs == mostly => return Ok(()),
+        Some(secs) => format!(in alloc; "{secs}\n")?,
+        None if p == q => String::from_str(alloc, "none\n")?,
+        None => return Ok(()),
+    };
+    add_id(text, table, p)?;
+    add_id(text, table, q)?;
+    text.extend_from_slice(secs.as_bytes())?;
+    Ok(())
+}
+
+// A line `FROM TO SECONDS` for each footpath, and one for each stop whose change time isn't the one that is mostly had.
+fn paths_text(alloc: Global, table: &Timetable, mostly: u32) -> Result<Vec<u8>, AllocError> {
+    let mut text = Vec::new(alloc);
+    for p in 0..table.stop_count() {
+        for q in 0..table.stop_count() {
+            add_change(alloc, &mut text, table, p, q, mostly)?;
+        }
+    }
+    Ok(text)
+}
+
+/// Whether the timetable of a day can be had, and its change times and footpaths: `DIR DATE change SECONDS station SECONDS close`, the
+/// last three where they are wanted.
+pub fn shown_paths(
+    alloc: Global,
+    files: Files,
+    words: &[String],
+) -> Result<(Status, Vec<u8>), Memory> {
+    let (Some(dir), Some(date)) = (words.first(), words.get(1)) else {
+        return Ok((Status::Usage, Vec::new(alloc)));
+    };
+    let Ok(day) = day_of(date.as_bytes()) else {
+        return Ok((Status::Usage, Vec::new(alloc)));
+    };
+    let options = options_of(words);
+    let mut folder = MemFolder::new(files, Vec::new(alloc));
+    match read_day(alloc, &mut folder, dir.as_str(), &day, &options) {
+        Ok(table) => Ok((Status::Done, paths_text(alloc, &table, options.change)?)),
+        Err(DayFault::Feed(fault)) => Ok((Status::FeedRefused(fault), Vec::new(alloc))),
+        Err(DayFault::ReadFault) => Ok((Status::ReadFault, Vec::new(alloc))),
+        Err(DayFault::Memory) => Err(Memory),
+    }
+}

@@ -1,0 +1,168 @@
+//! A case, tried.
+use super::broken::Broken;
+use super::case::{Asked, Case, Ending, Question};
+use super::shown::shown_paths;
+use router_cli::{route, status_text};
+use std::alloc::Global;
+use std::sync::Wait;
+use std::thread::Threads;
+use std::{fmt, str};
+use tb_base::{IdleGate, Memory};
+use tb_io::{MemFolder, MemSink, MemSource};
+
+// The most bytes that an answer has.
+const ROOM: usize = 100_000;
+
+/// What was tried.
+#[derive(Clone, Copy)]
+pub struct Tally {
+    cases: u64,
+    questions: u64,
+    differing: u64,
+}
+
+impl Tally {
+    /// Nothing yet.
+    pub const NOTHING: Tally = Tally {
+        cases: 0,
+        questions: 0,
+        differing: 0,
+    };
+
+    /// Whether every case came out as it says.
+    pub fn is_clean(&self) -> bool {
+        self.differing == 0
+    }
+
+    // One more case, with so many questions.
+    fn add(&mut self, questions: usize, differs: bool) {
+        self.cases = self.cases.wrapping_add(1);
+        self.questions = self.questions.wrapping_add(questions as u64);
+        self.differing = self.differing.wrapping_add(u64::from(differs));
+    }
+}
+
+impl fmt::Display for Tally {
+    fn fmt<W: fmt::Write>(&self, f: &mut fmt::Formatter<W>) -> fmt::Result {
+        let Tally {
+            cases,
+            questions,
+            differing,
+        } = self;
+        write!(
+            f,
+            "cases {cases} questions {questions} differing {differing}"
+        )
+    }
+}
+
+// How the program ends on these words over the files of a case.
+fn program_ending<R: Threads + Wait + Sync>(
+    rt: &R,
+    alloc: Global,
+    case: &Case,
+    words: &[String],
+    room: usize,
+) -> Result<Ending, Memory> {
+    let mut folder = MemFolder::new(case.files(alloc)?, Vec::new(alloc));
+    let mut script = MemSource::new(Vec::new(alloc), Vec::new(alloc));
+    let mut sink = MemSink::new(alloc, room, Vec::new(alloc))?;
+    let status = route(
+        rt,
+        alloc,
+        words,
+        &mut folder,
+        &mut script,
+        &mut sink,
+        &IdleGate,
+    );
+    Ok(Ending {
+        code: status.code(),
+        out: sink.bytes().to_vec(alloc)?,
+        err: status_text(alloc, &status)?,
+    })
+}
+
+// How the change times and footpaths of a day are shown.
+fn paths_ending(alloc: Global, case: &Case, words: &[String]) -> Result<Ending, Memory> {
+    let (status, out) = shown_paths(alloc, case.files(alloc)?, words)?;
+    Ok(Ending {
+        code: status.code(),
+        out,
+        err: status_text(alloc, &status)?,
+    })
+}
+
+// How a question ends.
+fn ending_of<R: Threads + Wait + Sync>(
+    rt: &R,
+    alloc: Global,
+    case: &Case,
+    question: &Question,
+) -> Result<Ending, Memory> {
+    let words = question.words.as_slice();
+    match question.asked {
+        Asked::Program => program_ending(rt, alloc, case, words, ROOM),
+        Asked::Paths => paths_ending(alloc, case, words),
+    }
+}
+
+// Whether the program ended as it has to.
+fn is_same(came: &Ending, want: &Ending) -> bool {
+    came.code == want.code
+        && came.out.as_slice() == want.out.as_slice()
+        && came.err.as_slice() == want.err.as_slice()
+}
+
+// Bytes as text.
+fn text_of(bytes: &[u8]) -> &str {
+    match str::from_utf8(bytes) {
+        Ok(text) => text,
+        Err(_) => "no UTF-8\n",
+    }
+}
+
+// Writes what a question came to.
+fn write_ending(rt: &impl Print, question: &Question, came: &Ending) {
+    let asked = match question.asked {
+        Asked::Program => "words",
+        Asked::Paths => "paths",
+    };
+    let _ = print!(rt; "{asked}");
+    for word in &question.words {
+        let _ = print!(rt; " {word}");
+    }
+    let _ = println!(rt; "\nstatus {}", came.code);
+    for line in text_of(came.out.as_slice()).lines() {
+        let _ = println!(rt; "out {line}");
+    }
+    for line in text_of(came.err.as_slice()).lines() {
+        let _ = println!(rt; "err {line}");
+    }
+}
+
+/// Tries a case, and writes how it came out: `ok` or `differs` and its title, and under `differs` what came, as a case says it.
+pub fn try_case<R: Threads + Wait + Sync + Print>(
+    rt: &R,
+    alloc: Global,
+    case: &Case,
+    tally: &mut Tally,
+) -> Result<(), Broken> {
+    let title = case.title.as_str();
+    let mut differs = false;
+    for question in &case.questions {
+        let came = ending_of(rt, alloc, case, question)?;
+        if !is_same(&came, &question.want) {
+            if !differs {
+                let _ = println!(rt; "differs {title}");
+            }
+            differs = true;
+            write_ending(rt, question, &came);
+        }
+    }
+    if !differs {
+        let _ = println!(rt; "ok {title}");
+    }
+    tally.add(case.questions.len(), differs);
+    Ok(())
+}
