@@ -3,11 +3,10 @@ ghost use Rattle.build_report.specs.Reports.{IsReport, counts_of};
 
 use answer_text::{BuildCounts, build_list_text, build_text};
 use line_split::{Lines, split};
-use reduce_workers::reduce_all;
+use reduce_workers::{Reduced, reduce_all};
 use std::alloc::Global;
 use std::thread::Threads;
 use tb_base::{Gate, Memory, Timetable};
-use reduce_workers::Reduced;
 
 // How many lines there are, and the counts of the reduction.
 fn counts_of(lines: &Lines, reduced: &Reduced) -> BuildCounts

@@ -10,11 +10,13 @@
 mod queries;
 mod words;
 
+use edition_store::Edition;
 use queries::{Found, by_profiles, by_rounds, by_search};
 use service_day::Day;
 use std::alloc::Global;
 use std::process::ExitCode;
-use tb_base::Timetable;
+use std::thread::Threads;
+use tb_base::{IdleGate, Timetable};
 use tb_io::HostFolder;
 use trip_table::{Options, read_day};
 use words::{Method, Words, words_of};
@@ -32,11 +34,21 @@ fn timetable(rt: &(impl std::rt::Files + AllocGlobal), dir: &str, day: &Day) -> 
     read_day(rt.alloc(), &mut folder, dir, day, &options).ok()
 }
 
-fn found(alloc: Global, table: &Timetable, words: &Words) -> Option<Found> {
+// An edition of a timetable, by one worker.
+fn edition<R: Threads + Sync>(rt: &R, alloc: Global, table: Timetable) -> Option<Edition> {
+    Edition::build(rt, alloc, table, 1, &IdleGate).ok()
+}
+
+fn found<R: Threads + Sync>(
+    rt: &R,
+    alloc: Global,
+    table: Timetable,
+    words: &Words,
+) -> Option<Found> {
     match words.method {
-        Method::Search => by_search(alloc, table, words.count).ok(),
-        Method::Plain => by_rounds(alloc, table, words.count).ok(),
-        Method::Profile => by_profiles(alloc, table, words.count).ok(),
+        Method::Search => by_search(alloc, &edition(rt, alloc, table)?, words.count).ok(),
+        Method::Plain => by_rounds(alloc, &table, words.count).ok(),
+        Method::Profile => by_profiles(alloc, &edition(rt, alloc, table)?, words.count).ok(),
     }
 }
 
@@ -49,7 +61,7 @@ fn main(rt: HostRuntime) -> ExitCode {
         let _ = eprintln!(rt; "query_bench: the feed has no timetable of that day");
         return ExitCode::from(3);
     };
-    let Some(found) = found(rt.alloc(), &table, &words) else {
+    let Some(found) = found(&rt, rt.alloc(), table, &words) else {
         let _ = eprintln!(rt; "query_bench: out of memory");
         return ExitCode::from(6);
     };

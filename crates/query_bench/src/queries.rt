@@ -1,18 +1,16 @@
 //! Random queries, and what they find.
-ghost use Rattle.std.specs.Prelude.{◌≡◌, ◌<◌, ◌≤ℤ◌, pos, All, IfOk, length};
+ghost use Rattle.std.specs.Prelude.{◌<◌, ◌≤ℤ◌, pos, All, IfOk, length};
 ghost use Rattle.tb_base.specs.BestValues.{QueryData};
 ghost use Rattle.tb_base.specs.Profiles.{WindowData};
 
-use journey_unfold::ask;
-use line_split::split;
+use edition_store::Edition;
 use made_feeds::Draw;
 use plain_rounds::plain_ask;
 use profile_query::profile;
-use segment_queue::{Desk, View};
+use query_gate::best_choices;
+use segment_queue::Desk;
 use std::alloc::Global;
 use tb_base::{Choice, Memory, Offer, Query, Sec, StopNo, Timetable, Window};
-use transfer_pack::Set;
-use reduce_workers::kept_set;
 
 /// How many choices or slots were found, and the sum of their arrivals.
 #[derive(Clone, Copy)]
@@ -81,13 +79,11 @@ fn window(alloc: Global, table: &Timetable, draw: &mut Draw) -> Result<Window, M
 }
 
 /// What so many profiles of 24 hours find.
-pub fn by_profiles(alloc: Global, table: &Timetable, count: u32) -> Result<Found, Memory> {
-    table.soundness();
-    let lines = split(alloc, table)?;
-    let set = kept_set(alloc, table, &lines)?;
-    let view = View::<Set>::new(table, &lines, &set);
+pub fn by_profiles(alloc: Global, edition: &Edition, count: u32) -> Result<Found, Memory> {
+    edition.soundness();
+    let table = edition.table();
     let mut desk = Desk::new(alloc);
-    desk.make_room(&view)?;
+    desk.make_room(edition)?;
     let mut draw = Draw::new(1);
     let mut found = Found::NOTHING;
     if table.stop_count() == 0 {
@@ -95,19 +91,18 @@ pub fn by_profiles(alloc: Global, table: &Timetable, count: u32) -> Result<Found
     }
     for _turn in 0..count {
         let window = window(alloc, table, &mut draw)?;
-        let offers = profile(alloc, &view, table, &window, &mut desk)?;
+        let offers = profile(alloc, edition, table, &window, &mut desk)?;
         found.add_offers(offers.as_slice());
     }
     Ok(found)
 }
 
 /// What so many queries find by a search over the kept transfers.
-pub fn by_search(alloc: Global, table: &Timetable, count: u32) -> Result<Found, Memory> {
-    table.soundness();
-    let lines = split(alloc, table)?;
-    let set = kept_set(alloc, table, &lines)?;
+pub fn by_search(alloc: Global, edition: &Edition, count: u32) -> Result<Found, Memory> {
+    edition.soundness();
+    let table = edition.table();
     let mut desk = Desk::new(alloc);
-    desk.make_room(&View::<Set>::new(table, &lines, &set))?;
+    desk.make_room(edition)?;
     let mut draw = Draw::new(1);
     let mut found = Found::NOTHING;
     if table.stop_count() == 0 {
@@ -115,7 +110,7 @@ pub fn by_search(alloc: Global, table: &Timetable, count: u32) -> Result<Found, 
     }
     for _turn in 0..count {
         let query = query(alloc, table, &mut draw)?;
-        let choices = ask(alloc, &mut desk, table, &lines, &set, &query)?;
+        let choices = best_choices(alloc, edition, table, &query, &mut desk)?;
         found.add(choices.as_slice());
     }
     Ok(found)

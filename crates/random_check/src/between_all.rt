@@ -1,21 +1,17 @@
 //! The feeds made by hand, asked between all of their stops.
-ghost use Rattle.std.specs.Prelude.{◌≡◌, ◌<◌, ◌≤ℤ◌, pos, All, IfOk, length};
-ghost use Rattle.transfer_pack.specs.Packed.{packed};
+ghost use Rattle.std.specs.Prelude.{◌<◌, ◌≤ℤ◌, pos, All, IfOk, length};
 ghost use Rattle.tb_base.specs.Profiles.{WindowData};
-ghost use Rattle.tb_base.specs.Sufficiency.{AreSufficient};
-ghost use Rattle.line_split.specs.LinesOf.{AreLinesOf};
 ghost use Rattle.segment_queue.specs.Queue.{Fits};
 
 use super::profiles::same_slots;
 use super::queries::same_values;
 use super::tally::{Difference, FeedName, Refused, Tally, read};
-use line_split::{Lines, split};
+use edition_store::Edition;
 use made_feeds::{ring, town};
-use segment_queue::{Desk, View};
+use segment_queue::Desk;
 use std::alloc::Global;
-use tb_base::{Memory, Place, Query, Sec, StopNo, Timetable, Window};
-use transfer_pack::Set;
-use reduce_workers::kept_set;
+use std::thread::Threads;
+use tb_base::{IdleGate, Memory, Place, Query, Sec, StopNo, Timetable, Window};
 
 // A window is a quarter of an hour.
 const SECONDS: u32 = 900;
@@ -55,20 +51,15 @@ impl Asked {
     fn try_values(
         self,
         alloc: Global,
+        edition: &Edition,
         desk: &mut Desk,
-        table: &Timetable,
-        lines: &Lines,
-        set: &Set,
         window: &Window,
         tally: &mut Tally,
     ) -> Result<(), Refused>
-        requires fits { Fits table.now desk.old }
-        requires lines { AreLinesOf table.now lines.now }
-        requires set { set.now.table ≡ table.now }
-        requires sufficient { AreSufficient table.now (packed set.now) }
-        requires origins { All (λ p. p < length table.now.stops) window.now.from }
-        requires targets { All (λ p. p < length table.now.stops) window.now.to }
-        ensures fits { Fits table.now desk.new }
+        requires fits { Fits edition.now.table desk.old }
+        requires origins { All (λ p. p < length edition.now.table.stops) window.now.from }
+        requires targets { All (λ p. p < length edition.now.table.stops) window.now.to }
+        ensures fits { Fits edition.now.table desk.new }
     {
         for leave in [28_800, 28_801, 29_400, 30_060, 31_200] {
             let query = Query {
@@ -76,7 +67,7 @@ impl Asked {
                 to: Vec::from_slice(alloc, window.to.as_slice())?,
                 leave,
             };
-            let Some(values) = same_values(alloc, desk, table, lines, set, &query)? else {
+            let Some(values) = same_values(alloc, edition, desk, &query)? else {
                 return Err(Refused::Differs(Difference::Values, self.feed));
             };
             tally.add_query(values);
@@ -88,24 +79,20 @@ impl Asked {
     fn try_from(
         self,
         alloc: Global,
+        edition: &Edition,
         desk: &mut Desk,
-        table: &Timetable,
-        lines: &Lines,
-        set: &Set,
         from: u32,
         tally: &mut Tally,
     ) -> Result<(), Refused>
-        requires fits { Fits table.now desk.old }
-        requires lines { AreLinesOf table.now lines.now }
-        requires set { set.now.table ≡ table.now }
-        requires sufficient { AreSufficient table.now (packed set.now) }
-        requires from { from < length table.now.stops }
-        ensures fits { Fits table.now desk.new }
+        requires fits { Fits edition.now.table desk.old }
+        requires from { from < length edition.now.table.stops }
+        ensures fits { Fits edition.now.table desk.new }
     {
+        let table = edition.table();
         for to in 0..table.stop_count() {
             let window = window(alloc, table, from, to, self.first.min(86_400))?;
-            self.try_values(alloc, desk, table, lines, set, &window, tally)?;
-            let Some(slots) = same_slots(alloc, desk, table, lines, set, &window, SECONDS)? else {
+            self.try_values(alloc, edition, desk, &window, tally)?;
+            let Some(slots) = same_slots(alloc, edition, desk, &window, SECONDS)? else {
                 return Err(Refused::Differs(Difference::Slots, self.feed));
             };
             tally.add_window(slots);
@@ -117,15 +104,13 @@ impl Asked {
     fn try_all(
         self,
         alloc: Global,
+        edition: &Edition,
         desk: &mut Desk,
-        table: &Timetable,
         tally: &mut Tally,
     ) -> Result<(), Refused> {
-        let lines = split(alloc, table)?;
-        let set = kept_set(alloc, table, &lines)?;
-        desk.make_room(&View::<Set>::new(table, &lines, &set))?;
-        for from in 0..table.stop_count() {
-            self.try_from(alloc, desk, table, &lines, &set, from, tally)?;
+        desk.make_room(edition)?;
+        for from in 0..edition.table().stop_count() {
+            self.try_from(alloc, edition, desk, from, tally)?;
         }
         tally.add_feed();
         Ok(())
@@ -133,7 +118,12 @@ impl Asked {
 }
 
 /// Compares over both feeds that are made by hand.
-pub fn try_made_feeds(alloc: Global, desk: &mut Desk, tally: &mut Tally) -> Result<(), Refused> {
+pub fn try_made_feeds<R: Threads + Sync>(
+    rt: &R,
+    alloc: Global,
+    desk: &mut Desk,
+    tally: &mut Tally,
+) -> Result<(), Refused> {
     let town_asked = Asked {
         feed: FeedName::Town,
         first: 28_700,
@@ -142,6 +132,8 @@ pub fn try_made_feeds(alloc: Global, desk: &mut Desk, tally: &mut Tally) -> Resu
         feed: FeedName::Ring,
         first: 30_000,
     };
-    town_asked.try_all(alloc, desk, &read(town(alloc), town_asked.feed)?, tally)?;
-    ring_asked.try_all(alloc, desk, &read(ring(alloc), ring_asked.feed)?, tally)
+    let town = Edition::build(rt, alloc, read(town(alloc), town_asked.feed)?, 1, &IdleGate)?;
+    town_asked.try_all(alloc, &town, desk, tally)?;
+    let ring = Edition::build(rt, alloc, read(ring(alloc), ring_asked.feed)?, 1, &IdleGate)?;
+    ring_asked.try_all(alloc, &ring, desk, tally)
 }

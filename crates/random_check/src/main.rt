@@ -19,6 +19,7 @@ use std::alloc::Global;
 use std::env;
 use std::process::ExitCode;
 use std::rt::Env;
+use std::thread::Threads;
 use tally::{Refused, Tally};
 use trial::try_random_feeds;
 
@@ -45,11 +46,11 @@ fn words_of(rt: &(impl Env + AllocGlobal)) -> Option<Words> {
     })
 }
 
-fn compared(alloc: Global, words: Words) -> Result<Tally, Refused> {
+fn compared<R: Threads + Sync>(rt: &R, alloc: Global, words: Words) -> Result<Tally, Refused> {
     let mut desk = Desk::new(alloc);
     let mut tally = Tally::NOTHING;
-    try_made_feeds(alloc, &mut desk, &mut tally)?;
-    try_random_feeds(alloc, &mut desk, words.count, words.seed, &mut tally)?;
+    try_made_feeds(rt, alloc, &mut desk, &mut tally)?;
+    try_random_feeds(rt, alloc, &mut desk, words.count, words.seed, &mut tally)?;
     Ok(tally)
 }
 
@@ -71,7 +72,7 @@ fn main(rt: HostRuntime) -> ExitCode {
         let _ = eprintln!(rt; "usage: random_check COUNT [SEED]");
         return ExitCode::from(2);
     };
-    match compared(rt.alloc(), words) {
+    match compared(&rt, rt.alloc(), words) {
         Ok(tally) => {
             write_tally(&rt, tally);
             ExitCode::from(0)

@@ -1,17 +1,13 @@
 //! The profile of a window, and the best values asked at each of its seconds.
 ghost use Rattle.std.specs.Prelude.{◌≡◌, ◌<◌, ◌≤◌, ◌≤ℤ◌, pos, All, length};
-ghost use Rattle.transfer_pack.specs.Packed.{packed};
-ghost use Rattle.tb_base.specs.Sufficiency.{AreSufficient};
-ghost use Rattle.line_split.specs.LinesOf.{AreLinesOf};
 ghost use Rattle.segment_queue.specs.Queue.{Fits};
 
-use line_split::Lines;
+use edition_store::Edition;
 use plain_rounds::plain_ask;
 use profile_query::profile;
-use segment_queue::{Desk, View};
+use segment_queue::Desk;
 use std::alloc::Global;
 use tb_base::{Memory, Query, Sec, Slot, Timetable, Value, Window};
-use transfer_pack::Set;
 
 // The best values with rides of a query, by plain rounds.
 fn ridden_values(alloc: Global, table: &Timetable, query: &Query) -> Result<Vec<Value>, Memory>
@@ -87,26 +83,22 @@ fn slots_by_seconds(
 /// How many slots a window of so many seconds has, and none where its profile differs from asking at each second.
 pub fn same_slots(
     alloc: Global,
+    edition: &Edition,
     desk: &mut Desk,
-    table: &Timetable,
-    lines: &Lines,
-    set: &Set,
     window: &Window,
     seconds: u32,
 ) -> Result<Option<usize>, Memory>
-    requires fits { Fits table.now desk.old }
-    requires lines { AreLinesOf table.now lines.now }
-    requires set { set.now.table ≡ table.now }
-    requires sufficient { AreSufficient table.now (packed set.now) }
-    requires origins { All (λ p. p < length table.now.stops) window.now.from }
-    requires targets { All (λ p. p < length table.now.stops) window.now.to }
+    requires fits { Fits edition.now.table desk.old }
+    requires origins { All (λ p. p < length edition.now.table.stops) window.now.from }
+    requires targets { All (λ p. p < length edition.now.table.stops) window.now.to }
     requires last { window.now.last ≤ℤ pos 359998 }
     requires seconds { seconds ≤ 86400 }
-    ensures fits { Fits table.now desk.new }
+    ensures fits { Fits edition.now.table desk.new }
 {
+    edition.soundness();
+    let table = edition.table();
     let asked = slots_by_seconds(alloc, table, window, seconds)?;
-    let view = View::<Set>::new(table, lines, set);
-    let offers = profile(alloc, &view, table, window, desk)?;
+    let offers = profile(alloc, edition, table, window, desk)?;
     let same = offers
         .iter()
         .map(|offer| offer.slot)

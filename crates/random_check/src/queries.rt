@@ -1,19 +1,15 @@
 //! The best values of a query, by the search and by plain rounds.
-ghost use Rattle.std.specs.Prelude.{◌≡◌, ◌<◌, ◌≤◌, ◌≤ℤ◌, pos, All, IfOk, length};
-ghost use Rattle.transfer_pack.specs.Packed.{packed};
-ghost use Rattle.tb_base.specs.Sufficiency.{AreSufficient};
-ghost use Rattle.line_split.specs.LinesOf.{AreLinesOf};
+ghost use Rattle.std.specs.Prelude.{◌<◌, ◌≤◌, ◌≤ℤ◌, pos, All, IfOk, length};
 ghost use Rattle.segment_queue.specs.Queue.{Fits};
 
+use edition_store::Edition;
 use journey_rules::fault;
-use journey_unfold::ask;
-use line_split::Lines;
 use made_feeds::Draw;
 use plain_rounds::plain_ask;
+use query_gate::best_choices;
 use segment_queue::Desk;
 use std::alloc::Global;
 use tb_base::{Choice, Memory, Query, Sec, StopNo, Timetable, TripNo};
-use transfer_pack::Set;
 
 // The last second of a query.
 const LAST: Sec = 359_999;
@@ -74,22 +70,19 @@ fn break_no_rule(table: &Timetable, query: &Query, choices: &[Choice]) -> bool
 /// How many best values a query has, and none where the two ways differ or the legs of a choice break a rule.
 pub fn same_values(
     alloc: Global,
+    edition: &Edition,
     desk: &mut Desk,
-    table: &Timetable,
-    lines: &Lines,
-    set: &Set,
     query: &Query,
 ) -> Result<Option<usize>, Memory>
-    requires fits { Fits table.now desk.old }
-    requires lines { AreLinesOf table.now lines.now }
-    requires set { set.now.table ≡ table.now }
-    requires sufficient { AreSufficient table.now (packed set.now) }
-    requires origins { All (λ p. p < length table.now.stops) query.now.from }
-    requires targets { All (λ p. p < length table.now.stops) query.now.to }
+    requires fits { Fits edition.now.table desk.old }
+    requires origins { All (λ p. p < length edition.now.table.stops) query.now.from }
+    requires targets { All (λ p. p < length edition.now.table.stops) query.now.to }
     requires time { query.now.leave ≤ℤ pos 359999 }
-    ensures fits { Fits table.now desk.new }
+    ensures fits { Fits edition.now.table desk.new }
 {
-    let searched = ask(alloc, desk, table, lines, set, query)?;
+    edition.soundness();
+    let table = edition.table();
+    let searched = best_choices(alloc, edition, table, query, desk)?;
     let plain = plain_ask(alloc, table, query)?;
     let same = have_same_values(searched.as_slice(), plain.as_slice());
     if same && break_no_rule(table, query, searched.as_slice()) {

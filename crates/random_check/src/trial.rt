@@ -1,21 +1,20 @@
 //! Feeds that look random, one after another, and what is compared over each.
-ghost use Rattle.std.specs.Prelude.{◌≡◌, ◌<◌, length};
-ghost use Rattle.transfer_pack.specs.Packed.{packed};
-ghost use Rattle.tb_base.specs.Sufficiency.{AreSufficient};
-ghost use Rattle.line_split.specs.LinesOf.{AreLinesOf};
+ghost use Rattle.std.specs.Prelude.{◌<◌, length};
 ghost use Rattle.segment_queue.specs.Queue.{Fits};
 
 use super::profiles::same_slots;
 use super::queries::{same_values, some_stops, some_time};
 use super::tally::{Difference, FeedName, Refused, Tally, read};
-use line_split::{Lines, split};
+use edition_store::Edition;
 use made_feeds::{Draw, small_feed, timetable_of};
-use segment_queue::{Desk, View};
+use segment_queue::Desk;
 use std::alloc::Global;
-use tb_base::{Query, Timetable, Window};
-use transfer_pack::Set;
-use reduce_workers::kept_set;
+use std::thread::Threads;
+use tb_base::{IdleGate, Query, Timetable, Window};
 use trip_table::Options;
+
+// How many workers reduce the transfers of a feed.
+const WORKERS: u32 = 2;
 
 // How many queries and windows are asked over each feed.
 const QUERIES: u32 = 60;
@@ -48,26 +47,22 @@ impl Trial {
     fn try_queries(
         &mut self,
         alloc: Global,
+        edition: &Edition,
         desk: &mut Desk,
-        table: &Timetable,
-        lines: &Lines,
-        set: &Set,
         tally: &mut Tally,
     ) -> Result<(), Refused>
-        requires fits { Fits table.now desk.old }
-        requires lines { AreLinesOf table.now lines.now }
-        requires set { set.now.table ≡ table.now }
-        requires sufficient { AreSufficient table.now (packed set.now) }
-        requires stops { 0 < length table.now.stops }
-        ensures fits { Fits table.now desk.new }
+        requires fits { Fits edition.now.table desk.old }
+        requires stops { 0 < length edition.now.table.stops }
+        ensures fits { Fits edition.now.table desk.new }
     {
+        let table = edition.table();
         for _turn in 0..QUERIES {
             let query = Query {
                 from: some_stops(alloc, &mut self.draw, table.stop_count())?,
                 to: some_stops(alloc, &mut self.draw, table.stop_count())?,
                 leave: some_time(&mut self.draw, table),
             };
-            let Some(values) = same_values(alloc, desk, table, lines, set, &query)? else {
+            let Some(values) = same_values(alloc, edition, desk, &query)? else {
                 return Err(Refused::Differs(Difference::Values, self.feed));
             };
             tally.add_query(values);
@@ -79,19 +74,15 @@ impl Trial {
     fn try_windows(
         &mut self,
         alloc: Global,
+        edition: &Edition,
         desk: &mut Desk,
-        table: &Timetable,
-        lines: &Lines,
-        set: &Set,
         tally: &mut Tally,
     ) -> Result<(), Refused>
-        requires fits { Fits table.now desk.old }
-        requires lines { AreLinesOf table.now lines.now }
-        requires set { set.now.table ≡ table.now }
-        requires sufficient { AreSufficient table.now (packed set.now) }
-        requires stops { 0 < length table.now.stops }
-        ensures fits { Fits table.now desk.new }
+        requires fits { Fits edition.now.table desk.old }
+        requires stops { 0 < length edition.now.table.stops }
+        ensures fits { Fits edition.now.table desk.new }
     {
+        let table = edition.table();
         for _turn in 0..WINDOWS {
             let seconds = self.draw.below(WINDOW) + 1;
             let last = some_time(&mut self.draw, table)
@@ -104,7 +95,7 @@ impl Trial {
                 first: last - (seconds as i32 - 1),
                 last,
             };
-            let Some(slots) = same_slots(alloc, desk, table, lines, set, &window, seconds)? else {
+            let Some(slots) = same_slots(alloc, edition, desk, &window, seconds)? else {
                 return Err(Refused::Differs(Difference::Slots, self.feed));
             };
             tally.add_window(slots);
@@ -113,23 +104,29 @@ impl Trial {
     }
 
     // Compares all over one feed.
-    fn run(&mut self, alloc: Global, desk: &mut Desk, tally: &mut Tally) -> Result<(), Refused> {
+    fn run<R: Threads + Sync>(
+        &mut self,
+        rt: &R,
+        alloc: Global,
+        desk: &mut Desk,
+        tally: &mut Tally,
+    ) -> Result<(), Refused> {
         let table = self.timetable(alloc)?;
-        let lines = split(alloc, &table)?;
-        let set = kept_set(alloc, &table, &lines)?;
-        desk.make_room(&View::<Set>::new(&table, &lines, &set))?;
-        if table.stop_count() == 0 {
+        let edition = Edition::build(rt, alloc, table, WORKERS, &IdleGate)?;
+        desk.make_room(&edition)?;
+        if edition.table().stop_count() == 0 {
             return Ok(());
         }
-        self.try_queries(alloc, desk, &table, &lines, &set, tally)?;
-        self.try_windows(alloc, desk, &table, &lines, &set, tally)?;
+        self.try_queries(alloc, &edition, desk, tally)?;
+        self.try_windows(alloc, &edition, desk, tally)?;
         tally.add_feed();
         Ok(())
     }
 }
 
 /// Compares over so many feeds that look random, from a seed on.
-pub fn try_random_feeds(
+pub fn try_random_feeds<R: Threads + Sync>(
+    rt: &R,
     alloc: Global,
     desk: &mut Desk,
     count: u32,
@@ -142,7 +139,7 @@ pub fn try_random_feeds(
             draw: Draw::new(seed as u64),
             feed: FeedName::Seed(seed),
         };
-        trial.run(alloc, desk, tally)?;
+        trial.run(rt, alloc, desk, tally)?;
     }
     Ok(())
 }

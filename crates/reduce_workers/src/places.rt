@@ -7,11 +7,11 @@ ghost use Rattle.reduce_workers.specs.Seats.{IsDone};
 ghost use Rattle.reduce_workers.specs.Work.{Worked, number, IsPieceOf, pieces_of};
 
 use crate::claim::Claim;
+use crate::reduced::Reduced;
 use crate::seat::ClaimSeat;
 use line_split::Lines;
 use std::alloc::Global;
 use tb_base::{Memory, Timetable};
-use crate::reduced::Reduced;
 
 /// A piece by its number, and what the reduction makes of it.
 pub(crate) type Piece = (u32, Reduced);

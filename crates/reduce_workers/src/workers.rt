@@ -7,7 +7,9 @@ ghost use Rattle.reduce_workers.specs.Seats.{IsOpen};
 ghost use Rattle.reduce_workers.specs.Work.{Worked};
 
 use crate::claim::Claim;
+use crate::pieces::{piece_count, reduce_piece};
 use crate::places::{Brought, collect, join_pieces, place};
+use crate::reduced::Reduced;
 use crate::seat::ClaimSeat;
 use line_split::Lines;
 use std::alloc::Global;
@@ -15,8 +17,6 @@ use std::thread;
 use std::thread::Threads;
 use tb_base::{Gate, Memory, Timetable, Work};
 use transfer_reduce::Labels;
-use crate::pieces::{piece_count, reduce_piece};
-use crate::reduced::Reduced;
 
 // Draws pieces and reduces them until none is left, with labels of its own. The gate is told of each piece.
 fn reduce_drawn<G: Gate>(

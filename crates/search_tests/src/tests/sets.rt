@@ -3,12 +3,13 @@ ghost use Rattle.std.specs.Prelude.{◌≡◌, IfOk};
 
 use line_split::split;
 use made_feeds::{Feed, timetable};
+use reduce_workers::reduce_all;
 use std::alloc::Global;
 use std::process::Abort;
 use std::test::Fail;
-use tb_base::{Hop, Memory, OutSet, Rows, Timetable, TripNo};
+use std::thread::Threads;
+use tb_base::{Hop, IdleGate, Memory, Rows, Timetable, TripNo};
 use transfer_pack::Set;
-use reduce_workers::reduce_trips;
 
 // Three trips, of which the first and the second meet at B.
 const MEETING: Feed<'static> = Feed {
@@ -67,22 +68,26 @@ struct Sets {
     packed: Set,
 }
 
-fn sets_of(alloc: Global, table: &Timetable) -> Result<Sets, Memory>
+fn sets_of<R: Threads + Sync>(rt: &R, alloc: Global, table: &Timetable) -> Result<Sets, Memory>
     ensures plain { IfOk result (λ s. s.plain.table ≡ table.now) }
     ensures packed { IfOk result (λ s. s.packed.table ≡ table.now) }
 {
     let lines = split(alloc, table)?;
-    let rows = reduce_trips(alloc, table, &lines)?.rows;
+    let rows = reduce_all(rt, alloc, table, &lines, 1, &IdleGate)?.rows;
     let packed = Set::build(alloc, table, rows.as_slice())?;
     let plain = Rows::new(alloc, table, rows)?;
     Ok(Sets { plain, packed })
 }
 
 // How many hops there are from each event, in order, once both sets are seen to have the same.
-fn hops_at_events<R: Abort>(rt: &R, alloc: Global, feed: Feed<'_>) -> Result<Vec<usize>, Fail> {
+fn hops_at_events<R: Abort + Threads + Sync>(
+    rt: &R,
+    alloc: Global,
+    feed: Feed<'_>,
+) -> Result<Vec<usize>, Fail> {
     let table = timetable(alloc, feed)?;
     table.soundness();
-    let sets = sets_of(alloc, &table)?;
+    let sets = sets_of(rt, alloc, &table)?;
     let mut counts = Vec::new(alloc);
     for t in 0..table.trip_count() {
         for at in 0..table.trip(TripNo(t)).events.len() {

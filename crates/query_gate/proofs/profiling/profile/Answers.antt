@@ -22,9 +22,11 @@ returns-in_ok-offers-in-Stops-clause-reply c =
     let last : to_z w32 (of_z w32 c.text.inside.last) ≡ c.args.text.now.last = to_z-of_z w32 c.text.inside.last fits-last ∙ ap ProfileData.last is in
     let between = between_by c.table-table.result.now c.args.edition.now.table c.bytes.result.now c.args.text.now.from c.bytes-2.result.now c.args.text.now.to
     c.table-table.ensures (c.bytes.ensures ∙ ap ProfileData.from is) (c.bytes-2.ensures ∙ ap ProfileData.to is) c.in_ok-name.field-0 c.in_ok-name.ensures.between in
-    let found = c.in_ok-offers-in-Stops.ensures in
-    (ends, subst (IsBetween c.args.edition.now.table c.args.text.now.from c.args.text.now.to) c.in-Stops.is between,
-    best_offers (net_of c.args.edition.now) c.table-table.result.now c.table-table.ensures ends _ c.args.text.now.first _ c.args.text.now.last first last c.in_ok-offers-in-Stops.offers.items found.slots found.journeys found.hops)
+    let found = c.in_ok-offers-in-Stops.ensures in (
+      ends,
+      subst (IsBetween c.args.edition.now.table c.args.text.now.from c.args.text.now.to) c.in-Stops.is between,
+      best_offers (net_of c.args.edition.now) c.table-table.result.now c.table-table.ensures ends _ c.args.text.now.first _ c.args.text.now.last first last c.in_ok-offers-in-Stops.offers.items found.slots found.journeys found.hops,
+    )
 
 pub returns-in_ok-offers-in-Stops-clause-numbers : goal.returns-in_ok-offers-in-Stops-clause-numbers
 returns-in_ok-offers-in-Stops-clause-numbers c =

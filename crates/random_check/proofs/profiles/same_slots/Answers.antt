@@ -1,8 +1,0 @@
-use Rattle.std.proofs.Common.{◌≡◌, subst, sym}
-use Rattle.transfer_pack.specs.Packed.{packed}
-use Rattle.tb_base.specs.Sufficiency.{AreSufficient}
-use Rattle.random_check.proofs.profiles.same_slots.Goals as goal
-
-pub profile-requires-clause-sufficient : goal.profile-requires-clause-sufficient
-profile-requires-clause-sufficient c =
-    subst (λ set. AreSufficient c.args.table.now (λ t i. packed set t i)) (sym c.new-view.ensures.set) c.requires.sufficient
