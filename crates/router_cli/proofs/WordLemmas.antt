@@ -2,45 +2,55 @@
 use Rattle.std.proofs.Common.{◌≡◌, ◌∙◌, ap, refl, ℕ, ◌<◌, ◌≤◌, List, [], ◌∷◌, length, map, drop, get_or, arith, Bool, true, false, Option, None, Some}
 use Rattle.router_cli.specs.Given.{given_with, option_named, takes_value}
 use Rattle.std.specs.List.{list_any}
-use Rattle.router_cli.specs.Words.{command_line, command_of, is_hyphened, list_command, build_command, profile_command, travel_command, plain_line, request_from, request_line}
+use Rattle.router_cli.specs.Words.{command_line, inquiry_from, inquiry_of, is_hyphened, list_from, list_word, plain_line, request_from, request_line, window_from, window_inquiry_of}
 use Rattle.router_cli.specs.declared.given.Given.{Given}
 use Rattle.router_cli.specs.declared.given.OptionName.{OptionName}
 
 module _ {S : Type 0} (f : S → List ℕ) where
-  pub three_words : (name : List ℕ) (ws : List S) (a b c : S) → length ws ≡ 3 →
-      command_of name (map f ws) ≡ travel_command name (f (get_or ws 0 a)) (f (get_or ws 1 b)) (f (get_or ws 2 c))
-  three_words name [] a b c h = absurd (omega (arith, h))
-  three_words name (u ∷ []) a b c h = absurd (omega (arith, h))
-  three_words name (u ∷ v ∷ []) a b c h = absurd (omega (arith, h))
-  three_words name (u ∷ v ∷ w ∷ []) a b c h = refl
-  three_words name (u ∷ v ∷ w ∷ x ∷ rest) a b c h = absurd (omega (arith, h))
+  pub three_words : (ws : List S) (a b c : S) → length ws ≡ 3 → inquiry_from (map f ws) ≡ inquiry_of (f (get_or ws 0 a)) (f (get_or ws 1 b)) (f (get_or ws 2 c))
+  three_words [] a b c h = absurd (omega (arith, h))
+  three_words (u ∷ []) a b c h = absurd (omega (arith, h))
+  three_words (u ∷ v ∷ []) a b c h = absurd (omega (arith, h))
+  three_words (u ∷ v ∷ w ∷ []) a b c h = refl
+  three_words (u ∷ v ∷ w ∷ x ∷ rest) a b c h = absurd (omega (arith, h))
 
-  pub four_words : (name : List ℕ) (ws : List S) (a b c d : S) → length ws ≡ 4 →
-      command_of name (map f ws) ≡ profile_command name (f (get_or ws 0 a)) (f (get_or ws 1 b)) (f (get_or ws 2 c)) (f (get_or ws 3 d))
-  four_words name [] a b c d h = absurd (omega (arith, h))
-  four_words name (u ∷ []) a b c d h = absurd (omega (arith, h))
-  four_words name (u ∷ v ∷ []) a b c d h = absurd (omega (arith, h))
-  four_words name (u ∷ v ∷ w ∷ []) a b c d h = absurd (omega (arith, h))
-  four_words name (u ∷ v ∷ w ∷ x ∷ []) a b c d h = refl
-  four_words name (u ∷ v ∷ w ∷ x ∷ y ∷ rest) a b c d h = absurd (omega (arith, h))
+  pub not_three : (ws : List S) → (length ws ≡ 3 → ⊥) → inquiry_from (map f ws) ≡ None
+  not_three [] h = refl
+  not_three (u ∷ []) h = refl
+  not_three (u ∷ v ∷ []) h = refl
+  not_three (u ∷ v ∷ w ∷ []) h = absurd (h refl)
+  not_three (u ∷ v ∷ w ∷ x ∷ rest) h = refl
 
-  pub other_words : (name : List ℕ) (ws : List S) → (length ws ≡ 3 → ⊥) → (length ws ≡ 4 → ⊥) → 1 < length ws → command_of name (map f ws) ≡ None
-  other_words name [] h k many = absurd (omega (arith, many))
-  other_words name (u ∷ []) h k many = absurd (omega (arith, many))
-  other_words name (u ∷ v ∷ []) h k many = refl
-  other_words name (u ∷ v ∷ w ∷ []) h k many = absurd (h refl)
-  other_words name (u ∷ v ∷ w ∷ x ∷ []) h k many = absurd (k refl)
-  other_words name (u ∷ v ∷ w ∷ x ∷ y ∷ rest) h k many = refl
+  pub four_words : (ws : List S) (a b c d : S) → length ws ≡ 4 →
+      window_from (map f ws) ≡ window_inquiry_of (f (get_or ws 0 a)) (f (get_or ws 1 b)) (f (get_or ws 2 c)) (f (get_or ws 3 d))
+  four_words [] a b c d h = absurd (omega (arith, h))
+  four_words (u ∷ []) a b c d h = absurd (omega (arith, h))
+  four_words (u ∷ v ∷ []) a b c d h = absurd (omega (arith, h))
+  four_words (u ∷ v ∷ w ∷ []) a b c d h = absurd (omega (arith, h))
+  four_words (u ∷ v ∷ w ∷ x ∷ []) a b c d h = refl
+  four_words (u ∷ v ∷ w ∷ x ∷ y ∷ rest) a b c d h = absurd (omega (arith, h))
 
-  pub one_word : (name : List ℕ) (ws : List S) (a : S) → length ws ≡ 1 → command_of name (map f ws) ≡ list_command name (f (get_or ws 0 a))
-  one_word name [] a h = absurd (omega (arith, h))
-  one_word name (u ∷ []) a h = refl
-  one_word name (u ∷ v ∷ rest) a h = absurd (omega (arith, h))
+  pub not_four : (ws : List S) → (length ws ≡ 4 → ⊥) → window_from (map f ws) ≡ None
+  not_four [] h = refl
+  not_four (u ∷ []) h = refl
+  not_four (u ∷ v ∷ []) h = refl
+  not_four (u ∷ v ∷ w ∷ []) h = refl
+  not_four (u ∷ v ∷ w ∷ x ∷ []) h = absurd (h refl)
+  not_four (u ∷ v ∷ w ∷ x ∷ y ∷ rest) h = refl
 
-  pub no_word : (name : List ℕ) (ws : List S) → length ws ≤ 1 → (length ws ≡ 1 → ⊥) → command_of name (map f ws) ≡ build_command name false
-  no_word name [] few h = refl
-  no_word name (u ∷ []) few h = absurd (h refl)
-  no_word name (u ∷ v ∷ rest) few h = absurd (omega (arith, few))
+  pub one_word : (ws : List S) (a : S) → length ws ≡ 1 → list_from (map f ws) ≡ list_word (f (get_or ws 0 a))
+  one_word [] a h = absurd (omega (arith, h))
+  one_word (u ∷ []) a h = refl
+  one_word (u ∷ v ∷ rest) a h = absurd (omega (arith, h))
+
+  pub no_word : (ws : List S) → length ws ≡ 0 → list_from (map f ws) ≡ Some false
+  no_word [] h = refl
+  no_word (u ∷ rest) h = absurd (omega (arith, h))
+
+  pub two_words : (ws : List S) → 1 < length ws → list_from (map f ws) ≡ None
+  two_words [] h = absurd (omega (arith, h))
+  two_words (u ∷ []) h = absurd (omega (arith, h))
+  two_words (u ∷ v ∷ rest) h = refl
 
   few_plain : (g : Given) (ws : List S) → length ws < 3 → plain_line g (map f ws) ≡ None
   few_plain g [] h = refl

@@ -30,37 +30,39 @@ is_hyphened (b ∷ rest) = b == 45
 abbrev pub inquiry_of : List ℕ → List ℕ → List ℕ → Option InquiryData
 inquiry_of from to time = option_map (λ t. record { from = from; to = to; time = t }) (time_of time)
 
--- a command between two places
-abbrev pub inquiry_command : List ℕ → InquiryData → Option Command
-inquiry_command name inquiry =
-    if bytes_eq name (codes "direct") then Some (command.Direct inquiry)
-    else if bytes_eq name (codes "ask") then Some (command.Ask inquiry) else None
-
-abbrev pub travel_command : List ℕ → List ℕ → List ℕ → List ℕ → Option Command
-travel_command name from to time = option_and_then (inquiry_command name) (inquiry_of from to time)
-
 abbrev pub window_inquiry_of : List ℕ → List ℕ → List ℕ → List ℕ → Option WindowInquiryData
 window_inquiry_of from to first last =
     option_and_then (λ t. option_map (λ u. record { from = from; to = to; first = t; last = u }) (time_of last)) (time_of first)
 
-abbrev pub profile_command : List ℕ → List ℕ → List ℕ → List ℕ → List ℕ → Option Command
-profile_command name from to first last =
-    if bytes_eq name (codes "profile") then option_map command.Profile (window_inquiry_of from to first last) else None
+-- what is asked by the words FROM TO TIME
+abbrev pub inquiry_from : List (List ℕ) → Option InquiryData
+inquiry_from (from ∷ to ∷ time ∷ []) = inquiry_of from to time
+inquiry_from words = None
 
-abbrev pub build_command : List ℕ → Bool → Option Command
-build_command name list = if bytes_eq name (codes "build") then Some (command.Build list) else None
+-- what is asked by the words FROM TO FIRST LAST
+abbrev pub window_from : List (List ℕ) → Option WindowInquiryData
+window_from (from ∷ to ∷ first ∷ last ∷ []) = window_inquiry_of from to first last
+window_from words = None
 
-abbrev pub list_command : List ℕ → List ℕ → Option Command
-list_command name word = if bytes_eq word (codes "list") then build_command name true else None
+-- with a list, where the word says so
+abbrev pub list_word : List ℕ → Option Bool
+list_word word = if bytes_eq word (codes "list") then Some true else None
+
+-- whether with a list: no word, or the word `list`
+abbrev pub list_from : List (List ℕ) → Option Bool
+list_from [] = Some false
+list_from (word ∷ []) = list_word word
+list_from words = None
 
 -- a command by its name and the words behind folder and date: `direct FROM TO TIME`, `ask FROM TO TIME`,
 -- `profile FROM TO FIRST LAST`, `build`, `build list`
 abbrev pub command_of : List ℕ → List (List ℕ) → Option Command
-command_of name [] = build_command name false
-command_of name (word ∷ []) = list_command name word
-command_of name (from ∷ to ∷ time ∷ []) = travel_command name from to time
-command_of name (from ∷ to ∷ first ∷ last ∷ []) = profile_command name from to first last
-command_of name words = None
+command_of name words =
+    if bytes_eq name (codes "direct") then option_map command.Direct (inquiry_from words)
+    else if bytes_eq name (codes "ask") then option_map command.Ask (inquiry_from words)
+    else if bytes_eq name (codes "profile") then option_map command.Profile (window_from words)
+    else if bytes_eq name (codes "build") then option_map command.Build (list_from words)
+    else None
 
 -- a request by the command's name, the folder, the date, and the words behind them
 abbrev pub request_line : Given → List ℕ → List ℕ → List ℕ → List (List ℕ) → Option RequestData

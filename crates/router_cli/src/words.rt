@@ -2,7 +2,7 @@
 ghost use Rattle.std.specs.Prelude.{◌≡◌, ℕ, List, map, string_bytes};
 ghost use Rattle.std.specs.List.{list_any};
 ghost use Rattle.router_cli.specs.Given.{IsWithinLimits};
-ghost use Rattle.router_cli.specs.Words.{build_command, command_line, command_of, inquiry_command, inquiry_of, is_hyphened, list_command, profile_command, window_inquiry_of, request_from, request_line, request_of, travel_command};
+ghost use Rattle.router_cli.specs.Words.{command_line, command_of, inquiry_from, inquiry_of, is_hyphened, list_from, list_word, request_from, request_line, request_of, window_from, window_inquiry_of};
 
 use crate::given::{Given, option_named};
 use footpaths::Options;
@@ -123,23 +123,6 @@ fn inquiry_of<'a>(from: &'a str, to: &'a str, time: &str) -> Option<Inquiry<'a>>
     }
 }
 
-fn inquiry_command<'a>(name: &str, inquiry: Inquiry<'a>) -> Option<Command<'a>>
-    ensures { result ≡ inquiry_command name.now inquiry.entry }
-{
-    match name {
-        "direct" => Some(Command::Direct(inquiry)),
-        "ask" => Some(Command::Ask(inquiry)),
-        _ => None,
-    }
-}
-
-fn travel_command<'a>(name: &str, from: &'a str, to: &'a str, time: &str) -> Option<Command<'a>>
-    ensures { result ≡ travel_command name.now from.now to.now time.now }
-{
-    let inquiry = inquiry_of(from, to, time)?;
-    inquiry_command(name, inquiry)
-}
-
 fn window_inquiry_of<'a>(
     from: &'a str,
     to: &'a str,
@@ -162,68 +145,67 @@ fn window_inquiry_of<'a>(
     }
 }
 
-fn profile_command<'a>(
-    name: &str,
-    from: &'a str,
-    to: &'a str,
-    first: &str,
-    last: &str,
-) -> Option<Command<'a>>
-    ensures { result ≡ profile_command name.now from.now to.now first.now last.now }
+// What is asked by the words FROM TO TIME.
+fn inquiry_from(words: &[String]) -> Option<Inquiry<'_>>
+    ensures { result ≡ inquiry_from (map string_bytes words.now) }
 {
-    if name != "profile" {
+    if words.len() != 3 {
         return None;
     }
-    let inquiry = window_inquiry_of(from, to, first, last)?;
-    Some(Command::Profile(inquiry))
+    inquiry_of(words[0].as_str(), words[1].as_str(), words[2].as_str())
 }
 
-fn build_command<'a>(name: &str, list: bool) -> Option<Command<'a>>
-    ensures { result ≡ build_command name.now list }
+// What is asked by the words FROM TO FIRST LAST.
+fn window_from(words: &[String]) -> Option<WindowInquiry<'_>>
+    ensures { result ≡ window_from (map string_bytes words.now) }
 {
-    match name {
-        "build" => Some(Command::Build { list }),
-        _ => None,
+    if words.len() != 4 {
+        return None;
     }
+    window_inquiry_of(
+        words[0].as_str(),
+        words[1].as_str(),
+        words[2].as_str(),
+        words[3].as_str(),
+    )
 }
 
-fn list_command<'a>(name: &str, word: &str) -> Option<Command<'a>>
-    ensures { result ≡ list_command name.now word.now }
+// With a list, where the word says so.
+fn list_word(word: &str) -> Option<bool>
+    ensures { result ≡ list_word word.now }
 {
     match word {
-        "list" => build_command(name, true),
+        "list" => Some(true),
         _ => None,
     }
+}
+
+// Whether with a list: no word, or the word `list`.
+fn list_from(words: &[String]) -> Option<bool>
+    ensures { result ≡ list_from (map string_bytes words.now) }
+{
+    if words.is_empty() {
+        return Some(false);
+    }
+    if words.len() > 1 {
+        return None;
+    }
+    list_word(words[0].as_str())
 }
 
 // A command by its name and the words behind folder and date.
 fn command_of<'a>(name: &str, words: &'a [String]) -> Option<Command<'a>>
     ensures { result ≡ command_of name.now (map string_bytes words.now) }
 {
-    if words.len() == 3 {
-        return travel_command(
-            name,
-            words[0].as_str(),
-            words[1].as_str(),
-            words[2].as_str(),
-        );
+    match name {
+        "direct" => Some(Command::Direct(inquiry_from(words)?)),
+        "ask" => Some(Command::Ask(inquiry_from(words)?)),
+        "profile" => Some(Command::Profile(window_from(words)?)),
+        "build" => Some(Command::Build {
+            list: list_from(words)?,
+        }),
+        _ => None,
     }
-    if words.len() == 4 {
-        return profile_command(
-            name,
-            words[0].as_str(),
-            words[1].as_str(),
-            words[2].as_str(),
-            words[3].as_str(),
-        );
-    }
-    if words.len() > 1 {
-        return None;
-    }
-    if words.len() == 1 {
-        return list_command(name, words[0].as_str());
-    }
-    build_command(name, false)
 }
 
 // A request by the command's name, the folder, the date, and the words behind them.
