@@ -37,6 +37,3 @@ pub use times::{TimeFields, TimeReader, TimeRow, time_fields, time_rows};
 pub use transfers::{PathRule, TransferReader, TransferRow, transfer_rows};
 pub use trips::{TripReader, TripRow, trip_rows};
 pub use typed::{RowReader, typed_rows};
-
-#[cfg(test)]
-mod tests;

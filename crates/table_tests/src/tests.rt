@@ -1,8 +1,6 @@
 ghost use Rattle.std.specs.Prelude.{◌≡◌, ◌<◌, All, IfOk, length};
 
-mod rounds;
 mod rules;
-mod tables;
 
 use std::alloc::Global;
 use std::test::Fail;
