@@ -1,6 +1,9 @@
-ghost use Rattle.std.specs.Prelude.{◌≡◌, ◌<◌, ◌≤◌, IfOk};
+ghost use Rattle.std.specs.Prelude.{◌≡◌, ◌<◌, ◌≤◌, ℕ, IfOk};
+ghost use Rattle.tb_base.specs.Sufficiency.{AreSufficient};
+ghost use Rattle.tb_base.specs.Transfers.{kept_hops};
 ghost use Rattle.line_split.specs.LinesOf.{AreLinesOf};
 ghost use Rattle.reduce_workers.specs.Reductions.{reduced};
+ghost use Rattle.transfer_pack.specs.Packed.{packed};
 ghost use Rattle.edition_store.specs.Editions.{EditionData, IsEdition, net_of};
 
 use line_split::{Lines, split};
@@ -37,7 +40,7 @@ impl Model for Edition {
 
 impl Edition {
     /// The edition of a timetable. So many workers reduce its transfers, at least one and at most 64; the gate is told of their
-    /// pieces. Every number of workers gives the same edition. Refused only for want of memory; the timetable is dropped then.
+    /// pieces. Every number of workers gives the same network. Refused only for want of memory; the timetable is dropped then.
     pub fn build<G: Gate, R: Threads + Sync>(
         rt: &R,
         alloc: Global,
@@ -64,7 +67,9 @@ impl Edition {
     ) -> Result<Edition, Memory>
         requires lines { AreLinesOf table lines }
         requires transfers { transfers ≡ reduced table lines.lines }
-        ensures { IfOk result (λ e. EditionData.table e ≡ table) }
+        ensures table { IfOk result (λ e. EditionData.table e ≡ table) }
+        ensures lines { IfOk result (λ e. EditionData.lines e ≡ lines.lines) }
+        ensures kept { IfOk result (λ e. EditionData.kept e ≡ transfers.kept) }
     {
         line_split::laws::lines_divide();
         reduce_workers::laws::kept_rows();
@@ -101,10 +106,13 @@ impl Edition {
         &self.lines
     }
 
-    /// The set of its kept transfers.
+    /// The set of exactly its kept transfers. It is sufficient: a search over it finds all best values.
     pub fn set(&self) -> &Set
         ensures set { result.now ≡ self.now.set }
         ensures table { result.now.table ≡ self.now.table }
+        ensures kept { (t i : ℕ) →
+            packed result.now t i ≡ kept_hops self.now.table self.now.lines t i }
+        ensures sufficient { AreSufficient self.now.table (packed result.now) }
     {
         &self.set
     }

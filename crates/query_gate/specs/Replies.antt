@@ -6,7 +6,9 @@ use Rattle.tb_base.specs.Network.{NetData}
 use Rattle.tb_base.specs.Profiles.{IsProfile, OfferData, WindowData}
 use Rattle.tb_base.specs.TimetableData.{TimetableData}
 use Rattle.plain_rounds.specs.Shown.{SpellShortest}
-use Rattle.segment_queue.specs.Traced.{LegsFollow}
+use Rattle.segment_queue.specs.Queue.{DeskData}
+use Rattle.segment_queue.specs.Traced.{IsAnswered, LegsFollow}
+use Rattle.segment_queue.specs.declared.desk.Hit.{Hit}
 use Rattle.query_gate.specs.Questions.{AskData, Ends, ProfileData, ends_between, query_at, window_at}
 use Rattle.query_gate.specs.declared.between.Between.{Between}
 use Rattle.query_gate.specs.declared.between.Between.TheVariants as between
@@ -39,15 +41,26 @@ pub record AreBestOffers (N : NetData) (W : WindowData) (offers : List OfferData
 -- the right reply to a question for the best values
 abbrev pub IsAskReply : NetData → AskData → Reply → Type 0
 IsAskReply N q (Values choices) =
-    (ends : Ends) × (ends_between N.table q.from q.to ≡ Ok ends) × AreBestChoices N (query_at ends q.leave) choices.items
+    (ends : Ends) × (ends_between N.table q.from q.to ≡ Ok ends)
+    × AreBestChoices N (query_at ends q.leave) choices.items
 IsAskReply N q (Slots offers) = ⊥
 IsAskReply N q (UnknownStop name) = ends_between N.table q.from q.to ≡ Err name
+
+-- What a reply leaves in the desk: with values the answer to the query, whose hits have these values; of other replies nothing is said.
+abbrev pub LeavesAnswered : NetData → AskData → Reply → DeskData → Type 0
+LeavesAnswered N q (Values choices) D =
+    (ends : Ends) × (ends_between N.table q.from q.to ≡ Ok ends)
+    × IsAnswered N (query_at ends q.leave) D
+    × (map ChoiceData.value choices.items ≡ map (λ (h : Hit). h.value) D.hits)
+LeavesAnswered N q (Slots offers) D = ⊤
+LeavesAnswered N q (UnknownStop name) D = ⊤
 
 -- the right reply to a question for a profile
 abbrev pub IsProfileReply : NetData → ProfileData → Reply → Type 0
 IsProfileReply N q (Values choices) = ⊥
 IsProfileReply N q (Slots offers) =
-    (ends : Ends) × (ends_between N.table q.from q.to ≡ Ok ends) × AreBestOffers N (window_at ends q.first q.last) offers.items
+    (ends : Ends) × (ends_between N.table q.from q.to ≡ Ok ends)
+    × AreBestOffers N (window_at ends q.first q.last) offers.items
 IsProfileReply N q (UnknownStop name) = ends_between N.table q.from q.to ≡ Err name
 
 -- the trips, stops and indices in all legs of a reply exist

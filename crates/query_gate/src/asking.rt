@@ -1,7 +1,7 @@
 //! The best values between two named places.
 ghost use Rattle.std.specs.Prelude.{◌≡◌, ◌≤ℤ◌, IfOk, pos};
 ghost use Rattle.edition_store.specs.Editions.{net_of};
-ghost use Rattle.query_gate.specs.Replies.{HaveNumbers, IsAskReply};
+ghost use Rattle.query_gate.specs.Replies.{HaveNumbers, IsAskReply, LeavesAnswered};
 
 use crate::between::{Between, stops_between};
 use crate::choices::best_choices;
@@ -30,8 +30,8 @@ impl Model for AskText {
 }
 
 /// Answers a question for the best values over an edition: `UnknownStop` exactly where it has no stop and no station with a name, the
-/// origin's tried first, else `Values`. The desk may have served any network before; it is made to fit. Refused only for want of
-/// memory.
+/// origin's tried first, else `Values`; and then the desk holds the answer, whose hits have these values. The desk may have served any
+/// network before; it is made to fit. Refused only for want of memory.
 pub fn ask(
     alloc: Global,
     edition: &Edition,
@@ -41,6 +41,8 @@ pub fn ask(
     requires { text.now.leave ≤ℤ pos 359999 }
     ensures reply { IfOk result (IsAskReply (net_of edition.now) text.now) }
     ensures numbers { IfOk result (HaveNumbers edition.now.table) }
+    ensures desk { IfOk result
+        (λ reply. LeavesAnswered (net_of edition.now) text.now reply desk.new) }
 {
     edition.soundness();
     let table = edition.table();

@@ -1,5 +1,6 @@
 //! The best values of a query over any network whose hops suffice.
-ghost use Rattle.std.specs.Prelude.{◌≡◌, ◌<◌, ◌≤ℤ◌, All, IfOk, length, pos};
+ghost use Rattle.std.specs.Prelude.{◌≡◌, ◌<◌, ◌≤ℤ◌, All, IfOk, length, map, pos};
+ghost use Rattle.tb_base.specs.BestValues.{ChoiceData};
 ghost use Rattle.tb_base.specs.Sufficiency.{AreSufficient};
 ghost use Rattle.segment_queue.specs.Queue.{Fits};
 ghost use Rattle.segment_queue.specs.Traced.{IsAnswered};
@@ -46,6 +47,8 @@ pub fn best_choices<S: Scan>(
     requires leave { query.now.leave ≤ℤ pos 359999 }
     requires sufficient { AreSufficient table.now (S.net scan.now).hops }
     ensures best { IfOk result (λ cs. AreBestChoices (S.net scan.now) query.now cs.items) }
+    ensures hits { IfOk result (λ cs.
+        map ChoiceData.value cs.items ≡ map (λ h. h.value) desk.new.hits) }
     ensures fits { Fits table.now desk.new }
     ensures answered { IsAnswered (S.net scan.now) query.now desk.new }
 {
