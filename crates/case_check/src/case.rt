@@ -90,6 +90,11 @@ impl Case {
         })
     }
 
+    /// Whether something is asked.
+    pub fn is_asked(&self) -> bool {
+        !self.questions.is_empty()
+    }
+
     /// The files over which is asked. Of two with one path the first counts.
     pub fn files(&self, alloc: Global) -> Result<Files, AllocError> {
         let mut files = Vec::new(alloc);
@@ -124,8 +129,11 @@ impl Case {
         Ok(self.given.len() < count)
     }
 
-    /// A file in place of the feed's begins.
+    /// A file in place of the feed's begins. It is one that a feed can have.
     pub fn begin_file(&mut self, alloc: Global, name: &str) -> Result<bool, Broken> {
+        if self.folder.is_empty() || !feeds::is_file(name) {
+            return Ok(false);
+        }
         let path = self.path(alloc, name)?;
         self.changed.push((path, Vec::new(alloc)))?;
         Ok(true)
@@ -176,10 +184,10 @@ impl Case {
         Ok(true)
     }
 
-    /// The number with which the last question ends.
+    /// The number with which the last question ends. It is said once, and isn't that of a good end, which needs no word.
     pub fn want_status(&mut self, number: &str) -> bool {
         match (self.questions.last_mut(), byte_of(number)) {
-            (Some(question), Some(code)) => {
+            (Some(question), Some(code)) if question.want.code == 0 && code > 0 => {
                 question.want.code = code;
                 true
             }

@@ -23,6 +23,11 @@ const NAMES: [&str; 7] = [
     "frequencies.txt",
 ];
 
+/// Whether a feed can have a file of this name.
+pub fn is_file(name: &str) -> bool {
+    NAMES.iter().any(|file| *file == name)
+}
+
 /// A file of the machine, where it is there.
 pub fn host_file<R: rt::Files>(
     rt: &R,

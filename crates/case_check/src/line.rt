@@ -33,6 +33,22 @@ pub enum Line<'a> {
     Err(&'a str),
 }
 
+impl Line<'_> {
+    /// Whether it says over which files is asked.
+    pub fn is_setting(&self) -> bool {
+        matches!(
+            self,
+            Line::Feed(_)
+                | Line::Without(_)
+                | Line::File(_)
+                | Line::Row(_)
+                | Line::Rows(_)
+                | Line::Cut(_)
+                | Line::Byte(_)
+        )
+    }
+}
+
 /// What a line says, where it says anything.
 pub fn line_of(text: &str) -> Option<Line<'_>> {
     if text.is_empty() || text.starts_with('#') {

@@ -35,6 +35,14 @@ fn add_answer(alloc: Global, case: &mut Case, line: Line<'_>) -> Result<bool, Br
     }
 }
 
+// Whether the last case asks something.
+fn ends_asked(cases: &[Case]) -> bool {
+    match cases.last() {
+        Some(case) => case.is_asked(),
+        None => false,
+    }
+}
+
 // Adds what a line says to the cases. It says whether the line has a meaning there.
 fn add_line<R: Files>(
     rt: &R,
@@ -46,16 +54,21 @@ fn add_line<R: Files>(
         return Ok(false);
     };
     if let Line::Case(title) = line {
+        if !cases.is_empty() && !ends_asked(cases.as_slice()) {
+            return Ok(false);
+        }
         cases.push(Case::new(alloc, title)?)?;
         return Ok(true);
     }
     match cases.last_mut() {
+        Some(case) if line.is_setting() && case.is_asked() => Ok(false),
         Some(case) => add_setting(rt, alloc, case, line),
         None => Ok(matches!(line, Line::Nothing)),
     }
 }
 
-/// The cases of a text, with the files of the feeds that they name.
+/// The cases of a text, with the files of the feeds that they name. There is at least one, each asks something, and what it says of
+/// files comes before what it asks.
 pub fn cases_of<R: Files>(rt: &R, alloc: Global, text: &str) -> Result<Vec<Case>, Broken> {
     let mut cases = Vec::new(alloc);
     let mut number: usize = 0;
@@ -64,6 +77,9 @@ pub fn cases_of<R: Files>(rt: &R, alloc: Global, text: &str) -> Result<Vec<Case>
         if !add_line(rt, alloc, &mut cases, line)? {
             return Err(Broken::BadLine(number));
         }
+    }
+    if !ends_asked(cases.as_slice()) {
+        return Err(Broken::BadLine(number));
     }
     Ok(cases)
 }

@@ -22,6 +22,23 @@ fn number_after(words: &[String], name: &str) -> Option<u32> {
     None
 }
 
+// Whether the words behind feed and day are options, each with its number of seconds, at most a day.
+fn are_options(words: &[String]) -> bool {
+    let mut wants_number = false;
+    for word in words.iter().skip(2) {
+        let text = word.as_str();
+        let is_number = matches!(number_of(text.as_bytes()), Some(secs) if secs <= 86_400);
+        if is_number != wants_number {
+            return false;
+        }
+        wants_number = matches!(text, "change" | "station");
+        if !is_number && !wants_number && text != "close" {
+            return false;
+        }
+    }
+    !wants_number
+}
+
 // What the words say of footpaths, as `change 30 station 90 close`. Seconds are at most a day.
 fn options_of(words: &[String]) -> Options
     ensures change { result.change ≤ 86400 }
@@ -95,6 +112,9 @@ pub fn shown_paths(
     let Ok(day) = day_of(date.as_bytes()) else {
         return Ok((Status::Usage, Vec::new(alloc)));
     };
+    if !are_options(words) {
+        return Ok((Status::Usage, Vec::new(alloc)));
+    }
     let options = options_of(words);
     let mut folder = MemFolder::new(files, Vec::new(alloc));
     match read_day(alloc, &mut folder, dir.as_str(), &day, &options) {
