@@ -8,7 +8,7 @@ use Rattle.std.proofs.lemmas.Bool.{false≢true}
 use Rattle.std.proofs.lemmas.Bool.Decides.{nat_tests}
 use Rattle.history.specs.Lists.{Shown, StartsWith, Extends}
 use Rattle.edition_store.specs.Lists.{is_longer, longer}
-use Rattle.history.proofs.Lists.{extends_self}
+use Rattle.history.proofs.Lists.{starts_self, starts_more, extends_self, extends_open}
 
 module _ {A : Type 0} where
   pub extends_longer : (z v w : Shown A) → Extends z v → Extends z w → Extends z (longer v w)
@@ -46,6 +46,13 @@ module _ {A : Type 0} where
       by_other false n = let le = at_most (sym (ap (λ (d : Bool). d || nat_lt (length x.list) (length y.list)) m) ∙ is) in
           let same : y.list ≡ x.list = sym (take_all (length x.list) y.list le) ∙ h.0 in
           subst (λ (z : Shown A). Extends z y) (open_same y x m n same) (extends_self y)
+
+  -- an open list is extended by one more edition, and by its end
+  pub one_more : (s : Shown A) (x : A) → s.closed ≡ false → Extends (record { list = s.list ++ x ∷ []; closed = false }) s
+  one_more s x o = extends_open s _ o (starts_more s.list (x ∷ []))
+
+  pub closing : (s : Shown A) → s.closed ≡ false → Extends (record { list = s.list; closed = true }) s
+  closing s o = extends_open s _ o (starts_self s.list)
 
 pub kept_ok : {U E P : Type 0} (Q : E → Type 0) (r : Result U E) → false ≡ is_err r → MatchResult r (λ _. P) Q → P
 kept_ok Q (Ok u) n h = h

@@ -45,6 +45,14 @@ impl<J: Naming> Content<J> {
         })
     }
 
+    /// Two more shares of the list. Refused only for want of memory.
+    pub fn shares(&self) -> Result<(Content<J>, Content<J>), Memory>
+        ensures first { IfOk result (λ t. t.0 ≡ self.now) }
+        ensures second { IfOk result (λ t. t.1 ≡ self.now) }
+    {
+        Ok((self.share()?, self.share()?))
+    }
+
     /// Whether the other list is the longer one. Of two equal lists the closed one is the longer.
     pub fn is_behind(&self, other: &Content<J>) -> bool
         ensures exact { result ≡ is_longer other.now self.now }
@@ -52,6 +60,13 @@ impl<J: Naming> Content<J> {
     {
         self.front.compare(&other.front);
         other.closed || self.list.len() < other.list.len()
+    }
+
+    /// Whether nothing comes after the list.
+    pub fn is_closed(&self) -> bool
+        ensures { result ≡ self.now.closed }
+    {
+        self.closed
     }
 
     /// How many editions the list has.

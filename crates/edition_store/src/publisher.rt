@@ -1,6 +1,6 @@
 ghost use Rattle.std.specs.Prelude.{◌≡◌, ◌<◌, [], ◌∷◌, ◌++◌, length, true, false, IfOk};
 ghost use Rattle.std.specs.Arc.{arc_value};
-ghost use Rattle.history.specs.Lists.{Shown};
+ghost use Rattle.history.specs.Lists.{Shown, Extends};
 
 use crate::content::Content;
 use crate::edition::Edition;
@@ -10,24 +10,46 @@ use crate::shared::Shared;
 use history::{History, Naming};
 use left_right::writer::Writer;
 use std::alloc::Global;
+use std::marker::Model;
 use std::sync::{Arc, Wait};
 use tb_base::Memory;
 
 /// The writer's side of two copies, each of whose operations is a whole value.
 pub type Writing<C> = Writer<C, C, View, Kept>;
 
-/// The one who publishes, with the writer `W`: a struct's field can't have the type of the writer itself, since a `Content<J>` absorbs by
-/// a generic impl.
-pub struct Publishing<J: Naming, W> {
-    pub(crate) alloc: Global,
-    pub history: History<Edition, J>,
-    pub(crate) kept: Content<J>,
-    pub writer: W,
-    ghost published: { kept ≡ history },
-    ghost open: { history.closed ≡ false },
+/// What shows a list to readers.
+pub trait Shows {
+    ghost use Rattle.history.specs.Lists.{Shown};
+    ghost use Rattle.edition_store.specs.Editions.{EditionData};
+
+    ghost shown: { Self → Shown EditionData };
 }
 
-/// The one who publishes. It can't be dropped: `finish` ends it.
+impl<J: Naming> Shows for Writer<Content<J>, Content<J>, View, Kept> {
+    ghost shown = { λ w. w.desk.shown.value };
+}
+
+/// The one who publishes, with the writer `W`. What readers see is the list of the publisher. (A struct's field can't have the type of the
+/// writer itself, since a `Content<J>` absorbs by a generic impl.)
+pub struct Publishing<J: Naming, W: Shows> {
+    alloc: Global,
+    history: History<Edition, J>,
+    kept: Content<J>,
+    writer: W,
+}
+
+impl<J: Naming, W: Shows> Model for Publishing<J, W> {
+    ghost use Rattle.std.specs.Prelude.{◌≡◌, List, false};
+    ghost use Rattle.edition_store.specs.Editions.{EditionData};
+
+    ghost Value = { List EditionData };
+
+    ghost view = { λ p. p.history.list };
+
+    ghost invariant = { λ p. (p.kept ≡ p.history) × (W.shown p.writer ≡ p.history) × (p.history.closed ≡ false) };
+}
+
+/// The one who publishes, which contracts see as its list. It can't be dropped: `finish` ends it.
 pub type Publisher<J> = Publishing<J, Writing<Content<J>>>;
 
 // The list with one more edition.
@@ -52,13 +74,10 @@ fn show<J: Naming, R: Wait>(
     writer: Writing<Content<J>>,
     next: Content<J>,
 ) -> Result<Writing<Content<J>>, Memory>
+    requires { Extends next writer.desk.shown.value }
     ensures { IfOk result (λ w. w.desk.shown.value ≡ next) }
 {
     let mut writer = writer;
-    if !writer.published().is_behind(&next) {
-        writer.take(rt);
-        return Err(Memory);
-    }
     if writer.append(next).is_err() {
         writer.take(rt);
         return Err(Memory);
@@ -71,17 +90,29 @@ fn show<J: Naming, R: Wait>(
     Ok(writer)
 }
 
-// Two shares of a list.
-fn shares_of<J: Naming>(content: &Content<J>) -> Result<(Content<J>, Content<J>), Memory>
-    ensures { IfOk result (λ t. (t.0 ≡ content.now) × (t.1 ≡ content.now)) }
-{
-    Ok((content.share()?, content.share()?))
-}
-
 impl<J: Naming> Publishing<J, Writing<Content<J>>> {
+    pub(crate) fn over(
+        alloc: Global,
+        history: History<Edition, J>,
+        kept: Content<J>,
+        writer: Writing<Content<J>>,
+    ) -> Publisher<J>
+        requires kept { kept ≡ history }
+        requires shown { writer.desk.shown.value ≡ history }
+        requires open { history.closed ≡ false }
+        ensures { result ≡ history.list }
+    {
+        Publishing {
+            alloc,
+            history,
+            kept,
+            writer,
+        }
+    }
+
     /// How many editions were published.
     pub fn count(&self) -> u32
-        ensures { result ≡ length self.now.history.list }
+        ensures { result ≡ length self.now }
     {
         self.kept.len() as u32
     }
@@ -93,11 +124,9 @@ impl<J: Naming> Publishing<J, Writing<Content<J>>> {
         rt: &R,
         edition: Shared,
     ) -> Result<(Publisher<J>, Receipt<J>), Memory>
-        requires room { length self.history.list < 100 }
-        ensures list { IfOk result (λ t. t.0.history.list ≡ self.history.list ++ edition ∷ []) }
-        ensures shown { IfOk result (λ t. t.0.writer.desk.shown.value ≡ t.0.history) }
-        ensures receipt { IfOk result (λ t. t.1.list ≡ self.history.list ++ edition ∷ []) }
-        ensures open { IfOk result (λ t. t.1.closed ≡ false) }
+        requires room { length self < 100 }
+        ensures list { IfOk result (λ t. t.0 ≡ self ++ edition ∷ []) }
+        ensures receipt { IfOk result (λ t. t.1 ≡ record { list = self ++ edition ∷ []; closed = false }) }
     {
         let Publishing {
             alloc,
@@ -116,25 +145,22 @@ impl<J: Naming> Publishing<J, Writing<Content<J>>> {
             closed: false,
             front: history.front(),
         };
-        let shares = shares_of(&kept);
+        let shares = kept.shares();
         let Ok((next, content)) = shares else {
             writer.take(rt);
             return Err(Memory);
         };
         let writer = show(rt, writer, next)?;
-        let publisher = Publishing {
-            alloc,
-            history,
-            kept,
-            writer,
-        };
-        Ok((publisher, Receipt { content }))
+        Ok((
+            Publishing::over(alloc, history, kept, writer),
+            Receipt { content },
+        ))
     }
 
     /// Closes the list, to which nothing is added any more, and gives all of it. May wait for readers that are just entering. Refused only
     /// for want of memory: the list stays as it was and never grows again, and the publisher is dropped.
     pub fn finish<R: Wait>(self, rt: &R) -> Result<Last<J>, Memory>
-        ensures { IfOk result (λ l. l ≡ self.history.list) }
+        ensures { IfOk result (λ l. l ≡ self) }
     {
         let Publishing {
             alloc: _,

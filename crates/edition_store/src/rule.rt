@@ -1,6 +1,6 @@
 ghost use Rattle.std.specs.Prelude.{◌≡◌, [], false};
 ghost use Rattle.history.specs.Lists.{Shown, Extends};
-ghost use Rattle.edition_store.specs.Rules.{AllBehind};
+ghost use Rattle.edition_store.specs.Rules.{IsKept};
 
 use crate::content::Content;
 use crate::edition::Edition;
@@ -23,11 +23,11 @@ impl Model for View {
     ghost view = { λ v. record { list = v.list; closed = v.closed } };
 }
 
-/// The rule between any two steps of the two sides: the published list extends each list that was seen.
+/// The rule between any two steps: the published list was seen by who published it, and extends each list that was seen.
 pub struct Kept;
 
 impl<J: Naming> Protocol<Content<J>, View> for Kept {
-    ghost holds = { AllBehind };
+    ghost holds = { IsKept };
 
     ghost first = { record { list = []; closed = false } };
 }

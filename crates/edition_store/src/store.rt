@@ -1,6 +1,7 @@
 ghost use Rattle.std.specs.Prelude.{◌≡◌, ◌<◌, ◌≤◌, [], ◌∷◌, length, replicate, false, IfOk};
 ghost use Rattle.std.specs.Arc.{arc_value};
 ghost use Rattle.history.specs.Lists.{Shown};
+ghost use Rattle.edition_store.specs.Rules.{IsFirst};
 
 use crate::content::Content;
 use crate::edition::Edition;
@@ -31,11 +32,7 @@ fn keepers<J: Naming>(alloc: Global, first: &Content<J>, seats: u32) -> Result<V
 {
     let mut keepers = Vec::new(alloc);
     for _ in 0..seats {
-        let seat = Seat {
-            kept: first.share()?,
-            reader: None,
-        };
-        keepers.push(seat)?;
+        keepers.push(Seat::keeping(first.share()?))?;
     }
     Ok(keepers)
 }
@@ -57,6 +54,7 @@ fn started<J: Naming>(
 ) -> Result<Writing<Content<J>>, Memory>
     requires some { 0 < seats }
     requires most { seats ≤ 65 }
+    requires first { IsFirst first.now }
     ensures { IfOk result (λ w. w.desk.shown.value ≡ first.now) }
 {
     let one = first.share()?;
@@ -76,8 +74,7 @@ impl Store {
         requires book { opened.seen.book ≡ J.book }
         requires some { 0 < seats }
         requires most { seats ≤ 65 }
-        ensures list { IfOk result (λ t. t.0.history.list ≡ first ∷ []) }
-        ensures shown { IfOk result (λ t. t.0.writer.desk.shown.value ≡ t.0.history) }
+        ensures list { IfOk result (λ t. t.0 ≡ first ∷ []) }
         ensures seats { IfOk result (λ t. t.1.items ≡
             replicate seats (record { list = first ∷ []; closed = false })) }
     {
@@ -93,14 +90,6 @@ impl Store {
         let mut places = keepers(alloc, &content, seats)?;
         let writer = started(&content, alloc, seats)?;
         give_readers(&writer, &mut places);
-        Ok((
-            Publishing {
-                alloc,
-                history,
-                kept: content,
-                writer,
-            },
-            places,
-        ))
+        Ok((Publishing::over(alloc, history, content, writer), places))
     }
 }

@@ -10,7 +10,7 @@ publish_as-writer-requires g c next is =
     let one = kept_ok _ c.append.result c.if-is_err.ensures.value c.append.ensures.pending in
     let made = is ∙ last_as _ _ c.args.next _ one in
     let now = c.append.new.self.desk.shown.value in
-    let up : Extends c.args.next now = subst (λ (z : Shown EditionData). Extends c.args.next z) (c.published.ensures ∙ sym (ap (λ d. d.shown.value) c.append.ensures.desk)) c.if-not-is_behind.ensures.extends in
+    let up : Extends c.args.next now = subst (λ (z : Shown EditionData). Extends c.args.next z) (sym (ap (λ d. d.shown.value) c.append.ensures.desk)) c.requires in
     turns _ _ now next (subst (λ (z : Shown EditionData). Extends z now) (sym made) up)
 
 pub returns : goal.returns
