@@ -1,1 +1,5 @@
 pub mod Editions
+pub mod Lists
+pub mod Steps
+pub mod Rules
+pub mod Tied

@@ -1,0 +1,105 @@
+ghost use Rattle.std.specs.Prelude.{◌≡◌, ◌⊎◌, ◌-◌, ◌<◌, true, length, slice_get, IfSome, IfNone, Some};
+ghost use Rattle.history.specs.Lists.{Shown, Extends};
+
+use crate::content::Content;
+use crate::edition::Edition;
+use history::Naming;
+use std::marker::Model;
+
+/// A published list of editions. It takes no reader's place, so it may be held for as long as one likes.
+#[derive(Drop)]
+pub struct Pinned<J: Naming> {
+    pub(crate) content: Content<J>,
+}
+
+impl<J: Naming> Model for Pinned<J> {
+    ghost use Rattle.history.specs.Lists.{Shown};
+    ghost use Rattle.edition_store.specs.Editions.{EditionData};
+
+    ghost Value = { Shown EditionData };
+
+    ghost view = { λ p. p.content };
+}
+
+/// Knows the list as it was after one publication.
+#[derive(Drop)]
+pub struct Receipt<J: Naming> {
+    pub(crate) content: Content<J>,
+}
+
+impl<J: Naming> Model for Receipt<J> {
+    ghost use Rattle.history.specs.Lists.{Shown};
+    ghost use Rattle.edition_store.specs.Editions.{EditionData};
+
+    ghost Value = { Shown EditionData };
+
+    ghost view = { λ r. r.content };
+}
+
+/// Knows the whole list, to which nothing is added any more.
+#[derive(Drop)]
+pub struct Last<J: Naming> {
+    pub(crate) content: Content<J>,
+}
+
+impl<J: Naming> Model for Last<J> {
+    ghost use Rattle.std.specs.Prelude.{◌≡◌, List, true};
+    ghost use Rattle.edition_store.specs.Editions.{EditionData};
+
+    ghost Value = { List EditionData };
+
+    ghost view = { λ l. l.content.list };
+
+    ghost invariant = { λ l. l.content.closed ≡ true };
+}
+
+impl<J: Naming> Pinned<J> {
+    /// How many editions the list has.
+    pub fn number(&self) -> u32
+        ensures { result ≡ length self.now.list }
+    {
+        self.content.len() as u32
+    }
+
+    /// The last edition of the list.
+    pub fn edition(&self) -> &Edition
+        ensures { slice_get self.now.list (length self.now.list - 1) ≡ Some result.now }
+    {
+        let last = self.content.len() - 1;
+        self.content.list[last].edition()
+    }
+
+    /// The edition of this number, from 1. `None` for 0 and for numbers past the list's end.
+    pub fn earlier(&self, number: u32) -> Option<&Edition>
+        ensures some { IfSome result (λ e. slice_get self.now.list (number - 1) ≡ Some e.now) }
+        ensures none { IfNone result ((number ≡ 0) ⊎ (length self.now.list < number)) }
+    {
+        if number == 0 || number as usize > self.content.len() {
+            return None;
+        }
+        Some(self.content.list[number as usize - 1].edition())
+    }
+
+    /// Of two pinned lists of one store one extends the other. Does nothing.
+    pub fn compare(&self, other: &Pinned<J>)
+        ensures { Extends self.now other.now ⊎ Extends other.now self.now }
+    {
+        self.content.front.compare(&other.content.front);
+    }
+}
+
+impl<J: Naming> Last<J> {
+    /// How many editions the list has.
+    pub fn number(&self) -> u32
+        ensures { result ≡ length self.now }
+    {
+        self.content.len() as u32
+    }
+
+    /// The whole list extends each pinned one. Does nothing.
+    pub fn covers(&self, pinned: &Pinned<J>)
+        ensures { Extends (record { list = self.now; closed = true }) pinned.now }
+    {
+        self.content.front.compare(&pinned.content.front);
+    }
+}

@@ -1,0 +1,188 @@
+ghost use Rattle.std.specs.Prelude.{◌≡◌, ◌<◌, [], ◌∷◌, ◌++◌, length, true, false, IfOk};
+ghost use Rattle.std.specs.Arc.{arc_value};
+ghost use Rattle.history.specs.Lists.{Shown, Extends};
+
+use crate::content::Content;
+use crate::edition::Edition;
+use crate::pinned::{Last, Receipt};
+use crate::rule::{Kept, Sees, View};
+use crate::shared::Shared;
+use history::{History, Naming};
+use left_right::writer::Writer;
+use std::alloc::Global;
+use std::marker::Model;
+use std::sync::{Arc, Wait};
+use tb_base::Memory;
+
+/// The writer's side of two copies, each of whose operations is a whole value.
+pub type Writing<C> = Writer<C, C, View, Kept>;
+
+/// What shows a list to readers.
+pub trait Shows {
+    ghost use Rattle.history.specs.Lists.{Shown};
+    ghost use Rattle.edition_store.specs.Editions.{EditionData};
+
+    ghost shown: { Self → Shown EditionData };
+}
+
+impl<J: Naming> Shows for Writer<Content<J>, Content<J>, View, Kept> {
+    ghost shown = { λ w. w.desk.shown.value };
+}
+
+/// The one who publishes, with the writer `W`. What readers see is the list of the publisher. (A struct's field can't have the type of the
+/// writer itself, since a `Content<J>` absorbs by a generic impl.)
+pub struct Publishing<J: Naming, W: Shows> {
+    alloc: Global,
+    history: History<Edition, J>,
+    kept: Content<J>,
+    writer: W,
+}
+
+impl<J: Naming, W: Shows> Model for Publishing<J, W> {
+    ghost use Rattle.std.specs.Prelude.{◌≡◌, List, false};
+    ghost use Rattle.edition_store.specs.Editions.{EditionData};
+
+    ghost Value = { List EditionData };
+
+    ghost view = { λ p. p.history.list };
+
+    ghost invariant = { λ p. (p.kept ≡ p.history) × (W.shown p.writer ≡ p.history) × (p.history.closed ≡ false) };
+}
+
+/// The one who publishes, which contracts see as its list. It can't be dropped: `finish` ends it.
+pub type Publisher<J> = Publishing<J, Writing<Content<J>>>;
+
+// The list with one more edition.
+fn with_edition(
+    alloc: Global,
+    now: &Vec<Shared>,
+    edition: Shared,
+) -> Result<Arc<Vec<Shared>>, Memory>
+    ensures { IfOk result (λ v. (arc_value v).items ≡ now.now.items ++ edition ∷ []) }
+{
+    let mut list = Vec::new(alloc);
+    for shared in now.iter() {
+        list.push(shared.share()?)?;
+    }
+    list.push(edition)?;
+    Ok(Arc::new(alloc, list)?)
+}
+
+// Shows the readers the next list. At a refusal they are shown none any more.
+fn show<J: Naming, R: Wait>(
+    rt: &R,
+    writer: Writing<Content<J>>,
+    next: Content<J>,
+) -> Result<Writing<Content<J>>, Memory>
+    requires { Extends next writer.desk.shown.value }
+    ensures { IfOk result (λ w. w.desk.shown.value ≡ next) }
+{
+    let mut writer = writer;
+    if writer.append(next).is_err() {
+        writer.take(rt);
+        return Err(Memory);
+    }
+    let (writer, done) = writer.publish_as::<Sees, R>(rt);
+    if done.is_err() {
+        writer.take(rt);
+        return Err(Memory);
+    }
+    Ok(writer)
+}
+
+impl<J: Naming> Publishing<J, Writing<Content<J>>> {
+    pub(crate) fn over(
+        alloc: Global,
+        history: History<Edition, J>,
+        kept: Content<J>,
+        writer: Writing<Content<J>>,
+    ) -> Publisher<J>
+        requires kept { kept ≡ history }
+        requires shown { writer.desk.shown.value ≡ history }
+        requires open { history.closed ≡ false }
+        ensures { result ≡ history.list }
+    {
+        Publishing {
+            alloc,
+            history,
+            kept,
+            writer,
+        }
+    }
+
+    /// How many editions were published.
+    pub fn count(&self) -> u32
+        ensures { result ≡ length self.now }
+    {
+        self.kept.len() as u32
+    }
+
+    /// Appends the edition to the list in one step. May wait for readers that are just entering. Refused only for want of memory: the list
+    /// stays as it was and never grows again, and the publisher and the edition are dropped.
+    pub fn publish<R: Wait>(
+        self,
+        rt: &R,
+        edition: Shared,
+    ) -> Result<(Publisher<J>, Receipt<J>), Memory>
+        requires room { length self < 100 }
+        ensures list { IfOk result (λ t. t.0 ≡ self ++ edition ∷ []) }
+        ensures receipt { IfOk result (λ t. t.1 ≡ record { list = self ++ edition ∷ []; closed = false }) }
+    {
+        let Publishing {
+            alloc,
+            mut history,
+            kept,
+            writer,
+        } = self;
+        history.publish(edition.edition());
+        let made = with_edition(alloc, &kept.list, edition);
+        let Ok(list) = made else {
+            writer.take(rt);
+            return Err(Memory);
+        };
+        let kept = Content {
+            list,
+            closed: false,
+            front: history.front(),
+        };
+        let shares = kept.shares();
+        let Ok((next, content)) = shares else {
+            writer.take(rt);
+            return Err(Memory);
+        };
+        let writer = show(rt, writer, next)?;
+        Ok((
+            Publishing::over(alloc, history, kept, writer),
+            Receipt { content },
+        ))
+    }
+
+    /// Closes the list, to which nothing is added any more, and gives all of it. May wait for readers that are just entering. Refused only
+    /// for want of memory: the list stays as it was and never grows again, and the publisher is dropped.
+    pub fn finish<R: Wait>(self, rt: &R) -> Result<Last<J>, Memory>
+        ensures { IfOk result (λ l. l ≡ self) }
+    {
+        let Publishing {
+            alloc: _,
+            history,
+            kept,
+            writer,
+        } = self;
+        let Ok(list) = Arc::try_clone(&kept.list) else {
+            writer.take(rt);
+            return Err(Memory);
+        };
+        let content = Content {
+            list,
+            closed: true,
+            front: history.finish(),
+        };
+        let Ok(next) = content.share() else {
+            writer.take(rt);
+            return Err(Memory);
+        };
+        let writer = show(rt, writer, next)?;
+        writer.take(rt);
+        Ok(Last { content })
+    }
+}

@@ -1,0 +1,95 @@
+ghost use Rattle.std.specs.Prelude.{◌≡◌, ◌<◌, ◌≤◌, [], ◌∷◌, length, replicate, false, IfOk};
+ghost use Rattle.std.specs.Arc.{arc_value};
+ghost use Rattle.history.specs.Lists.{Shown};
+ghost use Rattle.edition_store.specs.Rules.{IsFirst};
+
+use crate::content::Content;
+use crate::edition::Edition;
+use crate::publisher::{Publisher, Publishing, Writing};
+use crate::seat::Seat;
+use crate::shared::Shared;
+use history::{Naming, Opened};
+use left_right::writer::Writer;
+use std::alloc::Global;
+use std::sync::Arc;
+use tb_base::Memory;
+
+/// A list of editions that is published while others read it.
+pub struct Store;
+
+// The list of one edition.
+fn alone(alloc: Global, first: Shared) -> Result<Arc<Vec<Shared>>, Memory>
+    ensures { IfOk result (λ v. (arc_value v).items ≡ first ∷ []) }
+{
+    let mut list = Vec::new(alloc);
+    list.push(first)?;
+    Ok(Arc::new(alloc, list)?)
+}
+
+// So many seats that keep the list, and have no reader yet.
+fn keepers<J: Naming>(alloc: Global, first: &Content<J>, seats: u32) -> Result<Vec<Seat<J>>, Memory>
+    ensures { IfOk result (λ v. v.items ≡ replicate seats first.now) }
+{
+    let mut keepers = Vec::new(alloc);
+    for _ in 0..seats {
+        keepers.push(Seat::keeping(first.share()?))?;
+    }
+    Ok(keepers)
+}
+
+// Gives each a reader, as far as there are some.
+fn give_readers<J: Naming>(writer: &Writing<Content<J>>, seats: &mut Vec<Seat<J>>)
+    ensures { seats.new.items ≡ seats.old.items }
+{
+    for i in 0..seats.len() {
+        seats[i].take_reader(writer);
+    }
+}
+
+// The writer of two copies of the list, for so many readers.
+fn started<J: Naming>(
+    first: &Content<J>,
+    alloc: Global,
+    seats: u32,
+) -> Result<Writing<Content<J>>, Memory>
+    requires some { 0 < seats }
+    requires most { seats ≤ 65 }
+    requires first { IsFirst first.now }
+    ensures { IfOk result (λ w. w.desk.shown.value ≡ first.now) }
+{
+    let one = first.share()?;
+    let two = first.share()?;
+    Ok(Writer::new(alloc, one, two, seats as usize)?)
+}
+
+impl Store {
+    /// A publisher whose list is the first edition alone, and so many seats, each of which keeps this list. `opened` has the store's name:
+    /// the call is made at the `J` that was picked for it. Refused only for want of memory; the edition is dropped then.
+    pub fn new<J: Naming>(
+        alloc: Global,
+        opened: Opened<Edition>,
+        first: Shared,
+        seats: u32,
+    ) -> Result<(Publisher<J>, Vec<Seat<J>>), Memory>
+        requires book { opened.seen.book ≡ J.book }
+        requires some { 0 < seats }
+        requires most { seats ≤ 65 }
+        ensures list { IfOk result (λ t. t.0 ≡ first ∷ []) }
+        ensures seats { IfOk result (λ t. t.1.items ≡
+            replicate seats (record { list = first ∷ []; closed = false })) }
+    {
+        let begun = opened.begin::<J>(first.edition());
+        let Some(history) = begun else {
+            return Err(Memory);
+        };
+        let content = Content {
+            list: alone(alloc, first)?,
+            closed: false,
+            front: history.front(),
+        };
+        let mut places = keepers(alloc, &content, seats)?;
+        let writer = started(&content, alloc, seats)?;
+        give_readers(&writer, &mut places);
+        Ok((Publishing::over(alloc, history, content, writer), places))
+    }
+}
