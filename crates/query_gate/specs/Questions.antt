@@ -6,14 +6,16 @@ use Rattle.tb_base.specs.Profiles.{WindowData}
 use Rattle.tb_base.specs.TimetableData.{TimetableData}
 use Rattle.tb_base.specs.declared.query.Place.{Place}
 
--- from which place to which, and how early one can leave
+-- from which edition on, from which place to which, and how early one can leave
 pub record AskData : Type 0 where
+  pub since : ℕ
   pub from : List ℕ
   pub to : List ℕ
   pub leave : ℤ
 
--- from which place to which, and within which window one leaves, both ends counted
+-- from which edition on, from which place to which, and within which window one leaves, both ends counted
 pub record ProfileData : Type 0 where
+  pub since : ℕ
   pub from : List ℕ
   pub to : List ℕ
   pub first : ℤ

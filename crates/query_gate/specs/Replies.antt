@@ -13,7 +13,7 @@ use Rattle.query_gate.specs.Questions.{AskData, Ends, ProfileData, ends_between,
 use Rattle.query_gate.specs.declared.between.Between.{Between}
 use Rattle.query_gate.specs.declared.between.Between.TheVariants as between
 use Rattle.query_gate.specs.declared.reply.Reply.{Reply}
-use Rattle.query_gate.specs.declared.reply.Reply.TheVariants.{Values, Slots, UnknownStop}
+use Rattle.query_gate.specs.declared.reply.Reply.TheVariants.{Values, Slots, UnknownStop, Deferred}
 
 -- the stops of two named places, or the first name that is none
 abbrev pub IsBetween : TimetableData → List ℕ → List ℕ → Between → Type 0
@@ -45,6 +45,7 @@ IsAskReply N q (Values choices) =
     × AreBestChoices N (query_at ends q.leave) choices.items
 IsAskReply N q (Slots offers) = ⊥
 IsAskReply N q (UnknownStop name) = ends_between N.table q.from q.to ≡ Err name
+IsAskReply N q (Deferred number) = ⊥
 
 -- What a reply leaves in the desk: with values the answer to the query, whose hits have these values; of other replies nothing is said.
 abbrev pub LeavesAnswered : NetData → AskData → Reply → DeskData → Type 0
@@ -54,6 +55,7 @@ LeavesAnswered N q (Values choices) D =
     × (map ChoiceData.value choices.items ≡ map (λ (h : Hit). h.value) D.hits)
 LeavesAnswered N q (Slots offers) D = ⊤
 LeavesAnswered N q (UnknownStop name) D = ⊤
+LeavesAnswered N q (Deferred number) D = ⊤
 
 -- the right reply to a question for a profile
 abbrev pub IsProfileReply : NetData → ProfileData → Reply → Type 0
@@ -62,9 +64,11 @@ IsProfileReply N q (Slots offers) =
     (ends : Ends) × (ends_between N.table q.from q.to ≡ Ok ends)
     × AreBestOffers N (window_at ends q.first q.last) offers.items
 IsProfileReply N q (UnknownStop name) = ends_between N.table q.from q.to ≡ Err name
+IsProfileReply N q (Deferred number) = ⊥
 
 -- the trips, stops and indices in all legs of a reply exist
 abbrev pub HaveNumbers : TimetableData → Reply → Type 0
 HaveNumbers T (Values choices) = All (λ c. All (HasNumbers T) (ChoiceData.legs c)) choices.items
 HaveNumbers T (Slots offers) = All (λ o. All (HasNumbers T) (OfferData.legs o)) offers.items
 HaveNumbers T (UnknownStop name) = ⊤
+HaveNumbers T (Deferred number) = ⊤

@@ -12,10 +12,12 @@ use std::alloc::Global;
 use std::marker::Model;
 use tb_base::{Memory, Name, Query, Sec};
 
-/// A question for the best values: from which place to which, by the names of stops or stations, and how early one can leave, in
-/// seconds since noon minus twelve hours.
+/// A question for the best values: from which edition on it may be answered, from which place to which, by the names of stops or
+/// stations, and how early one can leave, in seconds since noon minus twelve hours.
 #[derive(Drop)]
 pub struct AskText {
+    /// The number of an edition, from 1; 0 for any.
+    pub since: u32,
     pub from: Name,
     pub to: Name,
     pub leave: Sec,
@@ -26,10 +28,10 @@ impl Model for AskText {
 
     ghost Value = { AskData };
 
-    ghost view = { λ q. record { from = q.from; to = q.to; leave = q.leave } };
+    ghost view = { λ q. record { since = q.since; from = q.from; to = q.to; leave = q.leave } };
 }
 
-/// Answers a question for the best values over an edition: `UnknownStop` exactly where it has no stop and no station with a name, the
+/// Answers a question for the best values over an edition, whatever its number is: `UnknownStop` exactly where it has no stop and no station with a name, the
 /// origin's tried first, else `Values`; and then the desk holds the answer, whose hits have these values. The desk may have served any
 /// network before; it is made to fit. Refused only for want of memory.
 pub fn ask(

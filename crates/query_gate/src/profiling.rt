@@ -11,10 +11,12 @@ use std::alloc::Global;
 use std::marker::Model;
 use tb_base::{Memory, Name, Sec, Window};
 
-/// A question for a profile: from which place to which, by the names of stops or stations, and within which window one leaves, both
+/// A question for a profile: from which edition on it may be answered, from which place to which, by the names of stops or stations, and within which window one leaves, both
 /// ends counted, in seconds since noon minus twelve hours.
 #[derive(Drop)]
 pub struct ProfileText {
+    /// The number of an edition, from 1; 0 for any.
+    pub since: u32,
     pub from: Name,
     pub to: Name,
     pub first: Sec,
@@ -26,10 +28,16 @@ impl Model for ProfileText {
 
     ghost Value = { ProfileData };
 
-    ghost view = { λ q. record { from = q.from; to = q.to; first = q.first; last = q.last } };
+    ghost view = { λ q. record {
+      since = q.since;
+      from = q.from;
+      to = q.to;
+      first = q.first;
+      last = q.last;
+    } };
 }
 
-/// Answers a question for a profile over an edition: `UnknownStop` exactly where it has no stop and no station with a name, the
+/// Answers a question for a profile over an edition, whatever its number is: `UnknownStop` exactly where it has no stop and no station with a name, the
 /// origin's tried first, else `Slots`. The desk may have served any network before; it is made to fit. Refused only for want of memory.
 pub fn profile(
     alloc: Global,

@@ -9,4 +9,6 @@ pub enum Reply {
     Slots(Vec<Offer>),
     /// The first name that no stop and no station has.
     UnknownStop(Name),
+    /// The edition with this number or a later one was asked for, and isn't there yet.
+    Deferred(u32),
 }
