@@ -8,7 +8,7 @@ use std::alloc::Global;
 use std::process::Abort;
 use std::test::Fail;
 use std::thread::Threads;
-use tb_base::{Hop, IdleGate, Memory, Rows, Timetable, TripNo};
+use tb_base::{Hop, IdleGate, Memory, OutSet, Rows, Timetable, TripNo};
 use transfer_pack::Set;
 
 // Three trips, of which the first and the second meet at B.

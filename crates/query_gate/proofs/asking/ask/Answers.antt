@@ -36,7 +36,9 @@ returns-in_ok-best_choices-in-Stops-clause-desk c =
     let fits : FitsSigned w32 c.text.inside.leave = search rules in
     let leave : to_z w32 (of_z w32 c.text.inside.leave) ≡ c.args.text.now.leave = to_z-of_z w32 c.text.inside.leave fits ∙ ap AskData.leave is in
     let between = between_by c.table-table.result.now c.args.edition.now.table c.bytes.result.now c.args.text.now.from c.bytes-2.result.now c.args.text.now.to
-    c.table-table.ensures (c.bytes.ensures ∙ ap AskData.from is) (c.bytes-2.ensures ∙ ap AskData.to is) c.in_ok-name.field-0 c.in_ok-name.ensures.between in
-    (ends, subst (IsBetween c.args.edition.now.table c.args.text.now.from c.args.text.now.to) c.in-Stops.is between,
-    subst (λ z. IsAnswered (net_of c.args.edition.now) (query_at ends z) c.best_choices.new.desk) leave c.best_choices.ensures.answered,
-    c.in_ok-best_choices-in-Stops.ensures.hits)
+    c.table-table.ensures (c.bytes.ensures ∙ ap AskData.from is) (c.bytes-2.ensures ∙ ap AskData.to is) c.in_ok-name.field-0 c.in_ok-name.ensures.between in (
+      ends,
+      subst (IsBetween c.args.edition.now.table c.args.text.now.from c.args.text.now.to) c.in-Stops.is between,
+      subst (λ z. IsAnswered (net_of c.args.edition.now) (query_at ends z) c.best_choices.new.desk) leave c.best_choices.ensures.answered,
+      c.in_ok-best_choices-in-Stops.ensures.hits,
+    )
