@@ -66,9 +66,9 @@ IsProfileReply N q (Slots offers) =
 IsProfileReply N q (UnknownStop name) = ends_between N.table q.from q.to ≡ Err name
 IsProfileReply N q (Deferred number) = ⊥
 
--- the trips, stops and indices in all legs of a reply exist
+-- the reply is an edition's answer, and the trips, stops and indices in all its legs exist
 abbrev pub HaveNumbers : TimetableData → Reply → Type 0
 HaveNumbers T (Values choices) = All (λ c. All (HasNumbers T) (ChoiceData.legs c)) choices.items
 HaveNumbers T (Slots offers) = All (λ o. All (HasNumbers T) (OfferData.legs o)) offers.items
 HaveNumbers T (UnknownStop name) = ⊤
-HaveNumbers T (Deferred number) = ⊤
+HaveNumbers T (Deferred number) = ⊥

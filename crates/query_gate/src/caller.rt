@@ -66,7 +66,7 @@ fn profile_of(
     requires { text.now.last ≤ℤ pos 359999 }
     ensures { IfOk result (AnswersProfile number edition.now text.now) }
 {
-    if number < text.since {
+    if text.since > number {
         return Ok(Reply::Deferred(text.since));
     }
     profile(alloc, edition, desk, text)
@@ -104,7 +104,13 @@ impl<J: Naming> Caller<J> {
         ensures last { self.old.kept.closed ≡ true → self.new.kept ≡ self.old.kept }
     {
         let pinned = self.seat.pin()?;
-        let reply = ask_of(alloc, pinned.number(), pinned.edition(), &mut self.desk, text)?;
+        let reply = ask_of(
+            alloc,
+            pinned.number(),
+            pinned.edition(),
+            &mut self.desk,
+            text,
+        )?;
         Ok(Answer { pinned, reply })
     }
 
@@ -120,7 +126,13 @@ impl<J: Naming> Caller<J> {
         ensures last { self.old.kept.closed ≡ true → self.new.kept ≡ self.old.kept }
     {
         let pinned = self.seat.pin()?;
-        let reply = profile_of(alloc, pinned.number(), pinned.edition(), &mut self.desk, text)?;
+        let reply = profile_of(
+            alloc,
+            pinned.number(),
+            pinned.edition(),
+            &mut self.desk,
+            text,
+        )?;
         Ok(Answer { pinned, reply })
     }
 

@@ -18,7 +18,7 @@ use Rattle.edition_store.specs.Editions.{EditionData, IsEdition, net_of}
 use Rattle.query_gate.specs.Questions.{AskData, Ends, ProfileData, ends_between, query_at, window_at}
 use Rattle.query_gate.specs.Replies.{IsAskReply, IsProfileReply}
 use Rattle.query_gate.specs.declared.reply.Reply.{Reply}
-use Rattle.query_gate.specs.declared.reply.Reply.TheVariants.{Values, Slots, UnknownStop}
+use Rattle.query_gate.specs.declared.reply.Reply.TheVariants.{Values, Slots, UnknownStop, Deferred}
 use Rattle.router_cli.specs.Answers.{HasKeptChanges, IsTextBetween, ShowsKept, ShowsProfile, reply_text}
 
 pub if_ok-map : {A E : Type 0} (r : Result A E) (P Q : A → Type 0) → ((x : A) → P x → Q x) → IfOk r P → IfOk r Q
@@ -76,6 +76,7 @@ ask_shown e sound q (Values choices) (ends, is, best) bytes text =
     known_text e.table q.from q.to (λ ends. ShowsKept e.table (query_at ends q.leave)) ends bytes is
     (record { choices = choices.items; values = best.values; journeys = best.journeys; kind = kept_changes e sound ChoiceData.legs choices.items best.hops; text = text })
 ask_shown e sound q (Slots offers) h bytes text = absurd h
+ask_shown e sound q (Deferred number) h bytes text = absurd h
 ask_shown e sound q (UnknownStop name) is bytes text = unknown_name e.table q.from q.to (λ ends. ShowsKept e.table (query_at ends q.leave)) name bytes is text
 
 -- the text of a right reply to a question for a profile
@@ -85,6 +86,7 @@ profile_shown e sound q (Values choices) h bytes text = absurd h
 profile_shown e sound q (Slots offers) (ends, is, best) bytes text =
     known_text e.table q.from q.to (λ ends. ShowsProfile e.table (window_at ends q.first q.last)) ends bytes is
     (record { offers = offers.items; slots = best.slots; journeys = best.journeys; kept = kept_changes e sound OfferData.legs offers.items best.hops; text = text })
+profile_shown e sound q (Deferred number) h bytes text = absurd h
 profile_shown e sound q (UnknownStop name) is bytes text = unknown_name e.table q.from q.to (λ ends. ShowsProfile e.table (window_at ends q.first q.last)) name bytes is text
 
 -- a time of a file fits 32 bits

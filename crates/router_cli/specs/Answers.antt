@@ -1,5 +1,5 @@
 -- What the program writes for a request.
-use Rattle.std.specs.Prelude.{◌≡◌, ◌<◌, ◌≤ℤ◌, ℕ, List, ℤ, pos, Bool, true, false, Option, Ok, Err, MatchResult, All, length, map, ⊤}
+use Rattle.std.specs.Prelude.{◌≡◌, ◌<◌, ◌≤ℤ◌, ℕ, List, [], ℤ, pos, Bool, true, false, Option, Ok, Err, MatchResult, All, length, map, ⊤}
 use Rattle.tb_base.specs.declared.query.Leg.{Leg}
 use Rattle.tb_base.specs.TimetableData.{TimetableData}
 use Rattle.tb_base.specs.Lines.{AreLines}
@@ -89,8 +89,9 @@ IsQuery T i (asked.Query q) = (ends : Ends) × (ends_between T i.from i.to ≡ O
     × All (λ p. p < length T.stops) ends.from × All (λ p. p < length T.stops) ends.to × (i.time ≤ℤ pos 359999)
 IsQuery T i (asked.Unknown name) = ends_between T i.from i.to ≡ Err name.now
 
--- what is written for a reply
+-- what is written for an edition's answer
 abbrev pub reply_text : TimetableData → Reply → List ℕ
 reply_text T (reply.Values choices) = choices_text T choices.items
 reply_text T (reply.Slots offers) = offers_text T offers.items
 reply_text T (reply.UnknownStop name) = unknown_text name
+reply_text T (reply.Deferred number) = []

@@ -64,7 +64,7 @@ fn rounds_text(alloc: Global, table: &Timetable, inquiry: &Inquiry) -> Result<Ve
     }
 }
 
-// What is written for a reply.
+// What is written for an edition's answer.
 fn reply_text(alloc: Global, table: &Timetable, reply: &Reply) -> Result<Vec<u8>, Memory>
     requires { HaveNumbers table.now reply.now }
     ensures { IfOk result (λ text. text.items ≡ reply_text table.now reply.now) }
@@ -73,6 +73,7 @@ fn reply_text(alloc: Global, table: &Timetable, reply: &Reply) -> Result<Vec<u8>
         Reply::Values(choices) => choices_text(alloc, table, choices.as_slice()),
         Reply::Slots(offers) => offers_text(alloc, table, offers.as_slice()),
         Reply::UnknownStop(name) => unknown_text(alloc, name.bytes()),
+        Reply::Deferred(_) => unreachable!(),
     }
 }
 
@@ -91,6 +92,7 @@ fn ask_text<G: Gate, R: Threads + Sync>(
     let edition = Edition::build(rt, alloc, table, workers, gate)?;
     edition.soundness();
     let question = AskText {
+        since: 0,
         from: Name::new(alloc, inquiry.from.as_bytes())?,
         to: Name::new(alloc, inquiry.to.as_bytes())?,
         leave: inquiry.time,
@@ -115,6 +117,7 @@ fn profile_text<G: Gate, R: Threads + Sync>(
     let edition = Edition::build(rt, alloc, table, workers, gate)?;
     edition.soundness();
     let question = ProfileText {
+        since: 0,
         from: Name::new(alloc, inquiry.from.as_bytes())?,
         to: Name::new(alloc, inquiry.to.as_bytes())?,
         first: inquiry.first,
