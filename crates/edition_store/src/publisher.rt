@@ -173,8 +173,9 @@ impl<J: Naming> Publishing<J, Writing<Content<J>>> {
         ))
     }
 
-    /// Closes the list, to which nothing is added any more, and gives all of it. May wait for readers that are just entering. Refused only
-    /// for want of memory: the list stays as it was and never grows again, and the publisher is dropped.
+    /// Closes the list, to which nothing is added any more, and gives all of it. From then on no seat is let in: each pins what it keeps
+    /// until it has learned the end. May wait for readers that are just entering. Refused only for want of memory: the list stays as it
+    /// was and never grows again, and the publisher is dropped.
     pub fn finish<R: Wait>(self, rt: &R) -> Result<Last<J>, Memory>
         ensures { IfOk result (λ l. l ≡ self) }
     {
