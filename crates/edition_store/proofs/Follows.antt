@@ -1,9 +1,9 @@
 -- Every run keeps that the list extends all that was told and all that is known.
-use Rattle.std.proofs.Common.{◌≡◌, ℕ, List, [], ◌∷◌, ◌++◌, Bool, true, false, eqb, refl, sym, ap, subst, ◌∙◌, ⊎_elim}
+use Rattle.std.proofs.Common.{◌≡◌, ℕ, List, [], ◌∷◌, ◌++◌, Bool, true, false, eqb, refl, sym, ap, subst, ⊎_elim}
 use Rattle.std.specs.Prelude.{if◌then◌else◌}
 use Rattle.history.specs.Lists.{Shown, Extends}
 use Rattle.edition_store.specs.Lists.{IsIn}
-use Rattle.edition_store.specs.Steps.{Step, Publish, Finish, Pin, Learn, Editions, starting, turned, informed, after, May, ends, Runs, list_after, PinsFollow}
+use Rattle.edition_store.specs.Steps.{Step, Publish, Finish, Pin, Learn, Editions, starting, turned, informed, after, May, ends, Runs, list_after, PinsFollow, PinsStay}
 use Rattle.history.proofs.Lists.{starts_self, starts_more, extends_self, extends_trans, extends_open}
 use Rattle.edition_store.proofs.Lists.{extends_longer}
 
@@ -65,9 +65,11 @@ module _ {A : Type 0} where
       let r1 : Runs m (ys ++ Pin j ∷ zs) = runs_rest s xs (ys ++ Pin j ∷ zs) r in
       let h : Sound m = runs_sound s xs (runs_first s xs (ys ++ Pin j ∷ zs) r) (starts_sound first) in
       let a : Extends (ends m ys).now m.now = runs_extend m ys (runs_first m ys (Pin j ∷ zs) r1) in
-      let b : Extends (ends (ends m ys) (Pin j ∷ zs)).now (ends m ys).now = runs_extend (ends m ys) (Pin j ∷ zs) (runs_rest m ys (Pin j ∷ zs) r1) in
       let p : list_after first (xs ++ ys) ≡ (ends m ys).now = ap (λ (t : Editions A). t.now) (ends_append s xs ys) in
-      let q : list_after first (xs ++ (ys ++ Pin j ∷ zs)) ≡ (ends (ends m ys) (Pin j ∷ zs)).now = ap (λ (t : Editions A). t.now) (ends_append s xs (ys ++ Pin j ∷ zs) ∙ ends_append m ys (Pin j ∷ zs)) in (
-        subst (λ (z : Shown A). Extends z (m.known j)) (sym p) (extends_trans (m.known j) m.now (ends m ys).now a (h.knows j)),
-        subst (λ (z : Shown A). Extends z (list_after first (xs ++ ys))) (sym q) (subst (λ (z : Shown A). Extends (ends (ends m ys) (Pin j ∷ zs)).now z) (sym p) b),
-      )
+      subst (λ (z : Shown A). Extends z (m.known j)) (sym p) (extends_trans (m.known j) m.now (ends m ys).now a (h.knows j))
+
+  pub pins_stay : (first : A) → PinsStay first
+  pins_stay first xs zs j r = let s = starting first in let m = ends s xs in
+      let b : Extends (ends m (Pin j ∷ zs)).now m.now = runs_extend m (Pin j ∷ zs) (runs_rest s xs (Pin j ∷ zs) r) in
+      let q : list_after first (xs ++ Pin j ∷ zs) ≡ (ends m (Pin j ∷ zs)).now = ap (λ (t : Editions A). t.now) (ends_append s xs (Pin j ∷ zs)) in
+      subst (λ (z : Shown A). Extends z m.now) (sym q) b

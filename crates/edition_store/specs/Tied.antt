@@ -21,4 +21,5 @@ module _ {A : Type 0} where
 
   -- the list after a run is what the history of its events shows
   abbrev pub IsTied : A → Type 0
-  IsTied first = (xs : List (Step A)) → Runs (starting first) xs → list_after first xs ≡ shown_by (Publish first ∷ events_of xs)
+  IsTied first = (xs : List (Step A)) → Runs (starting first) xs →
+      list_after first xs ≡ shown_by (Publish first ∷ events_of xs)

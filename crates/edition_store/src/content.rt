@@ -1,4 +1,4 @@
-ghost use Rattle.std.specs.Prelude.{◌≡◌, ◌<◌, ◌≤◌, length, IfOk, MatchBool};
+ghost use Rattle.std.specs.Prelude.{◌≡◌, ◌<◌, ◌≤◌, true, length, IfOk, MatchBool};
 ghost use Rattle.history.specs.Lists.{Extends};
 ghost use Rattle.edition_store.specs.Lists.{is_longer};
 
@@ -29,13 +29,14 @@ impl<J: Naming> Model for Content<J> {
 
     ghost view = { λ c. record { list = (arc_value c.list).items; closed = c.closed } };
 
-    ghost invariant = { λ c. (c.front ≡ record { list = (arc_value c.list).items; closed = c.closed })
+    ghost invariant = { λ c.
+        (c.front ≡ record { list = (arc_value c.list).items; closed = c.closed })
         × (0 < length (arc_value c.list).items) × (length (arc_value c.list).items ≤ 100) };
 }
 
 impl<J: Naming> Content<J> {
     /// One more share of the list. Refused only for want of memory.
-    pub fn share(&self) -> Result<Content<J>, Memory>
+    pub(crate) fn share(&self) -> Result<Content<J>, Memory>
         ensures { IfOk result (λ c. c ≡ self.now) }
     {
         Ok(Content {
@@ -46,31 +47,49 @@ impl<J: Naming> Content<J> {
     }
 
     /// Two more shares of the list. Refused only for want of memory.
-    pub fn shares(&self) -> Result<(Content<J>, Content<J>), Memory>
+    pub(crate) fn shares(&self) -> Result<(Content<J>, Content<J>), Memory>
         ensures first { IfOk result (λ t. t.0 ≡ self.now) }
         ensures second { IfOk result (λ t. t.1 ≡ self.now) }
     {
         Ok((self.share()?, self.share()?))
     }
 
+    /// The list, to which nothing is added any more.
+    pub(crate) fn closed_by(self, front: Front<Edition, J>) -> Content<J>
+        requires { front ≡ record { list = self.list; closed = true } }
+        ensures { result ≡ front }
+    {
+        let Content {
+            list,
+            closed: _,
+            front: _,
+        } = self;
+        Content {
+            list,
+            closed: true,
+            front,
+        }
+    }
+
     /// Whether the other list is the longer one. Of two equal lists the closed one is the longer.
-    pub fn is_behind(&self, other: &Content<J>) -> bool
+    pub(crate) fn is_behind(&self, other: &Content<J>) -> bool
         ensures exact { result ≡ is_longer other.now self.now }
-        ensures extends { MatchBool result (Extends other.now self.now) (Extends self.now other.now) }
+        ensures extends { MatchBool result (Extends other.now self.now)
+            (Extends self.now other.now) }
     {
         self.front.compare(&other.front);
         other.closed || self.list.len() < other.list.len()
     }
 
     /// Whether nothing comes after the list.
-    pub fn is_closed(&self) -> bool
+    pub(crate) fn is_closed(&self) -> bool
         ensures { result ≡ self.now.closed }
     {
         self.closed
     }
 
     /// How many editions the list has.
-    pub fn len(&self) -> usize
+    pub(crate) fn len(&self) -> usize
         ensures length { result ≡ length self.now.list }
         ensures some { 0 < result }
         ensures most { result ≤ 100 }

@@ -22,11 +22,10 @@ mod seat;
 mod shared;
 mod store;
 
-pub use content::Content;
 pub use edition::Edition;
 pub use history::{Naming, Opened};
 pub use pinned::{Last, Pinned, Receipt};
-pub use publisher::{Publisher, Publishing, Writing};
+pub use publisher::Publisher;
 pub use seat::Seat;
 pub use shared::{Shared, build_edition};
 pub use store::Store;

@@ -46,7 +46,8 @@ impl<J: Naming, W: Shows> Model for Publishing<J, W> {
 
     ghost view = { λ p. p.history.list };
 
-    ghost invariant = { λ p. (p.kept ≡ p.history) × (W.shown p.writer ≡ p.history) × (p.history.closed ≡ false) };
+    ghost invariant = { λ p. (p.kept ≡ p.history) × (W.shown p.writer ≡ p.history)
+        × (p.history.closed ≡ false) };
 }
 
 /// The one who publishes, which contracts see as its list. It can't be dropped: `finish` ends it.
@@ -66,6 +67,31 @@ fn with_edition(
     }
     list.push(edition)?;
     Ok(Arc::new(alloc, list)?)
+}
+
+// Three shares of the list with one more edition, which the history has then too.
+fn grown<J: Naming>(
+    alloc: Global,
+    history: &mut History<Edition, J>,
+    now: &Content<J>,
+    edition: Shared,
+) -> Result<(Content<J>, Content<J>, Content<J>), Memory>
+    requires same { now.now ≡ history.old }
+    requires room { length now.now.list < 100 }
+    ensures history { history.new ≡
+        record { list = history.old.list ++ edition ∷ []; closed = false } }
+    ensures first { IfOk result (λ t. t.0 ≡ history.new) }
+    ensures second { IfOk result (λ t. t.1 ≡ history.new) }
+    ensures third { IfOk result (λ t. t.2 ≡ history.new) }
+{
+    history.publish(edition.edition());
+    let content = Content {
+        list: with_edition(alloc, &now.list, edition)?,
+        closed: false,
+        front: history.front(),
+    };
+    let (next, told) = content.shares()?;
+    Ok((content, next, told))
 }
 
 // Shows the readers the next list. At a refusal they are shown none any more.
@@ -126,7 +152,8 @@ impl<J: Naming> Publishing<J, Writing<Content<J>>> {
     ) -> Result<(Publisher<J>, Receipt<J>), Memory>
         requires room { length self < 100 }
         ensures list { IfOk result (λ t. t.0 ≡ self ++ edition ∷ []) }
-        ensures receipt { IfOk result (λ t. t.1 ≡ record { list = self ++ edition ∷ []; closed = false }) }
+        ensures receipt { IfOk result (λ t. t.1 ≡
+            record { list = self ++ edition ∷ []; closed = false }) }
     {
         let Publishing {
             alloc,
@@ -134,19 +161,8 @@ impl<J: Naming> Publishing<J, Writing<Content<J>>> {
             kept,
             writer,
         } = self;
-        history.publish(edition.edition());
-        let made = with_edition(alloc, &kept.list, edition);
-        let Ok(list) = made else {
-            writer.take(rt);
-            return Err(Memory);
-        };
-        let kept = Content {
-            list,
-            closed: false,
-            front: history.front(),
-        };
-        let shares = kept.shares();
-        let Ok((next, content)) = shares else {
+        let grown = grown(alloc, &mut history, &kept, edition);
+        let Ok((kept, next, content)) = grown else {
             writer.take(rt);
             return Err(Memory);
         };
@@ -157,8 +173,9 @@ impl<J: Naming> Publishing<J, Writing<Content<J>>> {
         ))
     }
 
-    /// Closes the list, to which nothing is added any more, and gives all of it. May wait for readers that are just entering. Refused only
-    /// for want of memory: the list stays as it was and never grows again, and the publisher is dropped.
+    /// Closes the list, to which nothing is added any more, and gives all of it. From then on no seat is let in: each pins what it keeps
+    /// until it has learned the end. May wait for readers that are just entering. Refused only for want of memory: the list stays as it
+    /// was and never grows again, and the publisher is dropped.
     pub fn finish<R: Wait>(self, rt: &R) -> Result<Last<J>, Memory>
         ensures { IfOk result (λ l. l ≡ self) }
     {
@@ -168,15 +185,7 @@ impl<J: Naming> Publishing<J, Writing<Content<J>>> {
             kept,
             writer,
         } = self;
-        let Ok(list) = Arc::try_clone(&kept.list) else {
-            writer.take(rt);
-            return Err(Memory);
-        };
-        let content = Content {
-            list,
-            closed: true,
-            front: history.finish(),
-        };
+        let content = kept.closed_by(history.finish());
         let Ok(next) = content.share() else {
             writer.take(rt);
             return Err(Memory);

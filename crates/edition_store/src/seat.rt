@@ -93,7 +93,8 @@ impl<J: Naming> Seat<J> {
     }
 
     /// A published list, which begins with each that the seat has pinned or learned. One step, which waits for nobody. Where the seat
-    /// isn't let in, it is the list that the seat keeps. Refused only for want of memory: the seat keeps the list that it kept.
+    /// isn't let in, as after the end, it is the list that the seat keeps. Refused only for want of memory: the seat keeps the list that
+    /// it kept.
     pub fn pin(&mut self) -> Result<Pinned<J>, Memory>
         ensures later { IfOk result (λ p. Extends p self.old) }
         ensures kept { IfOk result (λ p. self.new ≡ p) }

@@ -87,8 +87,8 @@ impl<E, J: Naming> Model for History<E, J> {
 
     ghost view = { λ h. shown h.seen.log };
 
-    ghost invariant = { λ h. (h.head ≡ head_of J.book) × (h.seen.book ≡ J.book) × (h.pen.book ≡ J.book)
-        × (h.pen.nib.right ≡ may_write) × Guarded h.pen.nib.key h.seen.log
+    ghost invariant = { λ h. (h.head ≡ head_of J.book) × (h.seen.book ≡ J.book)
+        × (h.pen.book ≡ J.book) × (h.pen.nib.right ≡ may_write) × Guarded h.pen.nib.key h.seen.log
         × ((shown h.seen.log).closed ≡ false) × Legal h.seen.log };
 }
 
