@@ -55,6 +55,7 @@ pub fn fast<R: Threads + Sync>(rt: &R, alloc: Global) -> Result<Shared, Memory> 
 /// What is answered to a question from A at eight o'clock.
 pub fn reply(alloc: Global, edition: &Edition, to: &[u8]) -> Result<Reply, Memory> {
     let text = AskText {
+        since: 0,
         from: Name::new(alloc, b"A".as_slice())?,
         to: Name::new(alloc, to)?,
         leave: 28_800,
