@@ -4,5 +4,5 @@ use Rattle.router_cli.proofs.answers.answer.Goals as goal
 
 pub returns-in-Build : goal.returns-in-Build
 returns-in-Build g c =
-    subst (λ r. IfOk c.report.result (λ text. IsAnswer c.args.table.now r text.items)) c.request.view_is
-    (subst (λ command. IfOk c.report.result (λ text. IsCommandText c.args.table.now c.request.inside.plain command text.items)) (sym c.in-Build.is) c.report.ensures)
+    subst (λ r. IfOk c.report.result (λ text. IsAnswer c.args.table r text.items)) c.request.view_is
+    (subst (λ command. IfOk c.report.result (λ text. IsCommandText c.args.table c.request.inside.plain command text.items)) (sym c.in-Build.is) c.report.ensures)
