@@ -78,7 +78,7 @@ fn values_of<J: Naming>(
 fn refusals<J: Naming>(alloc: Global, pin: &Pinned<J>) -> Result<(bool, bool, bool), Memory> {
     let unknown = match reply(alloc, pin.edition(), b"Q".as_slice())? {
         Reply::UnknownStop(name) => name.bytes() == b"Q".as_slice(),
-        Reply::Values(_) | Reply::Slots(_) => false,
+        Reply::Values(_) | Reply::Slots(_) | Reply::Deferred(_) => false,
     };
     Ok((pin.earlier(0).is_none(), pin.earlier(3).is_none(), unknown))
 }
