@@ -71,7 +71,7 @@ pub fn values(alloc: Global, edition: &Edition) -> Result<(Option<Value>, Option
             choices.first().map(|choice| choice.value),
             choices.last().map(|choice| choice.value),
         )),
-        Reply::Slots(_) | Reply::UnknownStop(_) => Err(Memory),
+        Reply::Slots(_) | Reply::UnknownStop(_) | Reply::Deferred(_) => Err(Memory),
     }
 }
 
