@@ -14,7 +14,7 @@ labelled label n = label ++ decimal n
 abbrev pub table_text : TimetableData → List ℕ
 table_text T =
     labelled (codes "stops ") (length T.stops) ++ labelled (codes " trips ") (length T.trips)
-    ++ labelled (codes " events ") (event_total T) ++ labelled (codes " footpaths ") (path_total T) ++ codes "\n"
+    ++ labelled (codes " events ") (event_total T) ++ labelled (codes " footpaths ") (path_total T.footpaths) ++ codes "\n"
 
 -- `lines N generated N after_uturn N kept N`
 abbrev pub counts_text : BuildCounts → List ℕ

@@ -4,13 +4,14 @@ use Rattle.std.specs.Prelude.{AllPairs, slice_get}
 use Rattle.std.specs.Option.{option_map}
 use Rattle.std.proofs.lemmas.Bool.Decides.{nat_tests}
 use Rattle.std.proofs.lemmas.Option.{get_or_from_slice_get}
+use Rattle.std.proofs.lemmas.Bool.{cases_eq}
 use Rattle.tb_base.specs.declared.table.Path.{Path}
 use Rattle.tb_base.specs.TimetableData.{TimetableData}
 use Rattle.tb_base.specs.BestValues.{QueryData}
 use Rattle.tb_base.specs.Walking.{walk}
 use Rattle.tb_base.proofs.Ordered.{Member, AllPairs-head, AllPairs-tail}
 use Rattle.tb_base.proofs.Members.{find_found}
-use Rattle.tb_laws.proofs.Triangles.{equal_or_not, walk-same, walk-other}
+use Rattle.tb_laws.proofs.Triangles.{walk-same, walk-other}
 use Rattle.segment_queue.specs.Queue.{DeskData}
 use Rattle.earliest_query.specs.UnderWay.{AreBoarded, Extends, IsBoarded}
 use Rattle.earliest_query.proofs.Growing.{extends-long, extends-reached}
@@ -28,7 +29,7 @@ number_same : (a b : ℕ) → a ≡ b → (a == b) ≡ true
 number_same a b h = grind (arith, nat_tests, h)
 
 number_other : (a b : ℕ) → (a ≡ b → ⊥) → (a == b) ≡ false
-number_other a b h = elim (equal_or_not a b) [ inl e ↦ absurd (h e) | inr n ↦ grind (arith, nat_tests, n) ]
+number_other a b h = elim (cases_eq a b) [ inl e ↦ absurd (h e) | inr n ↦ grind (arith, nat_tests, n) ]
 
 -- along ascending paths a look-up finds the path at its place
 found_path : (paths : List Path) (k : ℕ) (f : Path) → AllPairs (λ (g h : Path). g.to < h.to) paths → k < length paths → ((d : Path) → get_or paths k d ≡ f) → find (λ (g : Path). g.to == f.to) paths ≡ Some f
@@ -42,11 +43,11 @@ found_path (g ∷ gs) (suc k) f ascending h is =
     ∙ found_path gs k f (AllPairs-tail (λ (x y : Path). x.to < y.to) g gs ascending) below is
 
 -- a path is a walk
-pub path_walk : (T : TimetableData) (p : ℕ) (paths : List Path) (k : ℕ) (f : Path) → slice_get T.paths p ≡ Some paths → AllPairs (λ (g h : Path). g.to < h.to) paths → k < length paths → ((d : Path) → get_or paths k d ≡ f) → f.to ≢ p
+pub path_walk : (T : TimetableData) (p : ℕ) (paths : List Path) (k : ℕ) (f : Path) → slice_get T.footpaths.paths p ≡ Some paths → AllPairs (λ (g h : Path). g.to < h.to) paths → k < length paths → ((d : Path) → get_or paths k d ≡ f) → f.to ≢ p
     → walk T p f.to ≡ Some f.secs
 path_walk T p paths k f row ascending inside is away =
     walk-other T p f.to (λ e. away (sym e))
-    ∙ ap (λ fs. option_map (λ (g : Path). g.secs) (find (λ (g : Path). g.to == f.to) fs)) (get_or_from_slice_get T.paths p paths [] row)
+    ∙ ap (λ fs. option_map (λ (g : Path). g.secs) (find (λ (g : Path). g.to == f.to) fs)) (get_or_from_slice_get T.footpaths.paths p paths [] row)
     ∙ ap (option_map (λ (g : Path). g.secs)) (found_path paths k f ascending inside is)
 
 -- paths before lead to other stops
@@ -63,8 +64,8 @@ pub record IsByPath (paths : List Path) (q s : ℕ) : Type 0 where
   pub to : path.to ≡ q
   pub secs : path.secs ≡ s
 
-pub walked_to : (T : TimetableData) (p : ℕ) (paths : List Path) (q secs : ℕ) → slice_get T.paths p ≡ Some paths → walk T p q ≡ Some secs → ((q ≡ p) × (secs ≡ 0)) ⊎ IsByPath paths q secs
-walked_to T p paths q secs row walks = by_stop (equal_or_not p q)
+pub walked_to : (T : TimetableData) (p : ℕ) (paths : List Path) (q secs : ℕ) → slice_get T.footpaths.paths p ≡ Some paths → walk T p q ≡ Some secs → ((q ≡ p) × (secs ≡ 0)) ⊎ IsByPath paths q secs
+walked_to T p paths q secs row walks = by_stop (cases_eq p q)
   where
     place_of : (xs : List Path) (f : Path) → Member f xs → (k : ℕ) × (k < length xs) × ((d : Path) → get_or xs k d ≡ f)
     place_of [] f h = absurd h
@@ -81,7 +82,7 @@ walked_to T p paths q secs row walks = by_stop (equal_or_not p q)
     by_stop : (p ≡ q) ⊎ (p ≢ q) → ((q ≡ p) × (secs ≡ 0)) ⊎ IsByPath paths q secs
     by_stop (inl e) = inl (sym e, (let own : walk T p q ≡ Some 0 = subst (λ x. walk T p x ≡ Some 0) e (walk-same T p) in let k : 0 ≡ secs = cc in sym k))
     by_stop (inr n) = inr (by_path (find (λ (g : Path). g.to == q) paths) refl
-        (ap (λ fs. option_map (λ (g : Path). g.secs) (find (λ (g : Path). g.to == q) fs)) (sym (get_or_from_slice_get T.paths p paths [] row)) ∙ sym (walk-other T p q n) ∙ walks))
+        (ap (λ fs. option_map (λ (g : Path). g.secs) (find (λ (g : Path). g.to == q) fs)) (sym (get_or_from_slice_get T.footpaths.paths p paths [] row)) ∙ sym (walk-other T p q n) ∙ walks))
 
 pub origin_is : (xs ys : List ℕ) (place o : ℕ) → xs ≡ ys → place < length ys → o ≡ get_or xs place o → o ≡ get_or ys place 0
 origin_is xs ys place o same inside is = is ∙ ap (λ zs. get_or zs place o) same ∙ get_or-inside ys place o 0 inside

@@ -5,6 +5,7 @@ use Rattle.std.specs.List.{concat}
 use Rattle.std.specs.Option.{option_map}
 use Rattle.std.proofs.lemmas.Bool.Decides.{nat_tests}
 use Rattle.std.proofs.lemmas.Int.{ints}
+use Rattle.std.proofs.lemmas.Bool.{and_parts}
 use Rattle.tb_base.specs.declared.table.Event.{Event}
 use Rattle.tb_base.specs.declared.transfer.Hop.{Hop}
 use Rattle.tb_base.specs.TimetableData.{TimetableData, departure_at, event_at, events_of, stop_at, MayBoard}
@@ -15,7 +16,7 @@ use Rattle.tb_base.proofs.Events.{MayBoard-inside}
 use Rattle.tb_base.proofs.Ordered.{Member, Member-from_Contains}
 use Rattle.tb_laws.proofs.Exchange.{≤ℤ-trans}
 use Rattle.tb_base.proofs.LineFacts.{MayFollow, first_no_later, line_of, no_later}
-use Rattle.tb_base.proofs.Members.{both_true, find_first, find_found, Member-filter, Member-filter_back, Member-flat_map, Member-flat_map_back, Member-numbers_below}
+use Rattle.tb_base.proofs.Members.{find_first, find_found, Member-filter, Member-filter_back, Member-flat_map, Member-flat_map_back, Member-numbers_below}
 use Rattle.segment_queue.specs.Scans.{LineIndex, boarding_hop, first_trip, indices_at, line_indices_at, no_line_index}
 use Rattle.segment_queue.proofs.Distinct.{of_member}
 
@@ -91,7 +92,7 @@ module _ (T : TimetableData) (lines : List (List ℕ)) (p : ℕ) (divided : AreD
           let found = find_found (λ u. int_le time (departure_at T u b.at)) b.line u (sym e) in
           let facts = index_facts b at in
           let like : IsTripNoLater T (first_trip b.line) u = first_no_later T b.line u (pairs b.line facts.0) found.0 in
-          let tests = both_true _ _ may in
+          let tests = and_parts _ _ may in
           subst (Boards T p time) hop (record {
             boards = sym (like.at b.at).board ∙ tests.0;
             not_last = omega (arith, like.long, below_number _ _ tests.1);

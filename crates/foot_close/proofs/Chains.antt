@@ -3,9 +3,9 @@ use Rattle.std.proofs.Common.{◌≡◌, ◌≢◌, ◌∙◌, sym, ap, refl, �
 use Rattle.std.specs.Prelude.{MatchOption, IsSomeAnd, option_map, option_and_then}
 use Rattle.std.proofs.lemmas.Bool.{cases_Bool}
 use Rattle.std.proofs.lemmas.Bool.Decides.{nat_tests}
-use Rattle.tb_base.specs.Walking.{KeepsFootpathLaw}
-use Rattle.footpaths.specs.Footpaths.{Changes, PathsData}
-use Rattle.footpaths.specs.Law.{walking, footpath, change_between}
+use Rattle.tb_base.specs.Walking.{KeepsFootpathLaw, footpath_secs, change_between}
+use Rattle.footpaths.specs.Footpaths.{Changes}
+use Rattle.tb_base.specs.TimetableData.{FootpathData}
 use Rattle.foot_close.specs.Closure.{chain, IsShortest, IsClosure, IsClosed}
 
 pub parts_by : (o u : Option ℕ) (s : ℕ) → option_and_then (λ a. option_map (λ b. a + b) u) o ≡ Some s → (a : ℕ) × (b : ℕ) × (o ≡ Some a) × (u ≡ Some b) × (a + b ≡ s)
@@ -35,14 +35,14 @@ closed_triangle given closed h p q r s t e f =
     let second : IsShortest given q r t = rw f at (h q r) in
     least_by given p r (s + t) (first.via ++ q ∷ second.via) (closed p r) (h p r) (chain-append given p first.via q second.via r s t first.attained second.attained)
 
-pub between : (P : PathsData) (p q : ℕ) (o : Option ℕ) → p ≢ q → footpath P p q ≡ o → change_between P p q ≡ o
+pub between : (P : FootpathData) (p q : ℕ) (o : Option ℕ) → p ≢ q → footpath_secs P p q ≡ o → change_between P p q ≡ o
 between P p q o h e =
     elim (cases_Bool (p == q)) [
       | inl t ↦ absurd (h (grind (arith, nat_tests, t)))
       | inr f ↦ rw f e
     ]
 
-pub closed_keeps : (given closed : PathsData) → IsClosed given closed → KeepsFootpathLaw (walking closed)
+pub closed_keeps : (given closed : FootpathData) → IsClosed given closed → KeepsFootpathLaw closed
 closed_keeps given closed h = λ p q r s t away onward e f. closed_triangle (change_between given) (change_between closed) h p q r s t (between closed p q (Some s) away e) (between closed q r (Some t) onward f)
 
 pub same_by : (given : Changes) (p r : ℕ) (a b : Option ℕ) → MatchOption a ((via : List ℕ) → chain given p via r ≡ None) (IsShortest given p r) → MatchOption b ((via : List ℕ) → chain given p via r ≡ None) (IsShortest given p r) → a ≡ b

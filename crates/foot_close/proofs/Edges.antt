@@ -7,10 +7,10 @@ use Rattle.std.proofs.lemmas.Bool.Decides.{nat_tests}
 use Rattle.std.proofs.lemmas.List.{get_or_past}
 use Rattle.std.proofs.lemmas.List.Elements.{Contains-append_left, Contains-append_right, Contains-append_cases, All-contains}
 use Rattle.tb_base.specs.declared.table.Path.{Path}
-use Rattle.tb_base.specs.Soundness.{IsSoundPath}
+use Rattle.tb_base.specs.Soundness.{IsSoundPath, IsSoundFootpaths}
 use Rattle.tb_base.proofs.Ordered.{Member, Member-from_Contains, Contains-from_Member}
-use Rattle.footpaths.specs.Footpaths.{PathsData}
-use Rattle.footpaths.specs.Law.{change_between, AreSoundPaths}
+use Rattle.tb_base.specs.TimetableData.{FootpathData}
+use Rattle.tb_base.specs.Walking.{change_between}
 use Rattle.footpaths.proofs.LawLaws.{at_row}
 use Rattle.foot_close.specs.Searching.{SearchData, own_row, leaving, IsRelaxed}
 use Rattle.foot_close.proofs.Relaxing.{relaxed_both}
@@ -35,17 +35,17 @@ own_inside q r w o e f =
 same_test : (p q : ℕ) → p ≡ q → (p == q) ≡ true
 same_test p q e = grind (arith, nat_tests, e)
 
-own_between : (P : PathsData) (q r : ℕ) (o : Option ℕ) → q ≡ r → get_or P.change q None ≡ o → change_between P q r ≡ o
+own_between : (P : FootpathData) (q r : ℕ) (o : Option ℕ) → q ≡ r → get_or P.change q None ≡ o → change_between P q r ≡ o
 own_between P q r o e own = rw (same_test q r e) own
 
-pub row_secs : (P : PathsData) (q : ℕ) (f : Path) → AreSoundPaths P → q < length P.change → Contains (get_or P.paths q []) f → change_between P q f.to ≡ Some f.secs
+pub row_secs : (P : FootpathData) (q : ℕ) (f : Path) → IsSoundFootpaths P → q < length P.change → Contains (get_or P.paths q []) f → change_between P q f.to ≡ Some f.secs
 row_secs P q f sound inside h =
     let row = get_or P.paths q [] in
     let away : IsSoundPath (length P.change) q f = All-contains (IsSoundPath (length P.change) q) row f (sound.paths q inside) h in
     between P q f.to (Some f.secs) (λ e. away.away (sym e)) (at_row row h.0 f (sound.ascending q [] (omega (arith, inside, sound.rows))) h.1 (sym h.2))
 
 -- a footpath that leaves a stop tells the change
-pub edge_secs : (P : PathsData) (q : ℕ) (f : Path) → AreSoundPaths P → q < length P.change → Contains (leaving P q) f → change_between P q f.to ≡ Some f.secs
+pub edge_secs : (P : FootpathData) (q : ℕ) (f : Path) → IsSoundFootpaths P → q < length P.change → Contains (leaving P q) f → change_between P q f.to ≡ Some f.secs
 edge_secs P q f sound inside h =
     elim (Contains-append_cases (own_row q (get_or P.change q None)) (get_or P.paths q []) f h) [
       | inl own ↦ (let e = own_of q (get_or P.change q None) f own in own_between P q f.to (Some f.secs) (sym e.0) e.1)
@@ -65,7 +65,7 @@ found_inside (f ∷ fs) r w e =
     ]
 
 -- a change is a footpath that leaves its stop
-pub change_edge : (P : PathsData) (q r w : ℕ) → change_between P q r ≡ Some w → Contains (leaving P q) (record { to = r; secs = w })
+pub change_edge : (P : FootpathData) (q r w : ℕ) → change_between P q r ≡ Some w → Contains (leaving P q) (record { to = r; secs = w })
 change_edge P q r w e =
     elim (cases_Bool (q == r)) [
       | inl t ↦
@@ -79,7 +79,7 @@ change_edge P q r w e =
     ]
 
 -- changes lead from stops that are there
-pub change_from : (P : PathsData) (q r w : ℕ) → AreSoundPaths P → change_between P q r ≡ Some w → q < length P.change
+pub change_from : (P : FootpathData) (q r w : ℕ) → IsSoundFootpaths P → change_between P q r ≡ Some w → q < length P.change
 change_from P q r w sound e =
     elim (cases_lt q (length P.change)) [
       | inl l ↦ l
@@ -90,7 +90,7 @@ change_from P q r w sound e =
     ]
 
 -- and to stops that are there
-pub change_to : (P : PathsData) (q r w : ℕ) → AreSoundPaths P → change_between P q r ≡ Some w → r < length P.change
+pub change_to : (P : FootpathData) (q r w : ℕ) → IsSoundFootpaths P → change_between P q r ≡ Some w → r < length P.change
 change_to P q r w sound e =
     let inside = change_from P q r w sound e in
     elim (Contains-append_cases (own_row q (get_or P.change q None)) (get_or P.paths q []) (record { to = r; secs = w }) (change_edge P q r w e)) [
@@ -99,7 +99,7 @@ change_to P q r w sound e =
     ]
 
 -- a change takes at most a day
-pub change_day : (P : PathsData) (q r w : ℕ) → AreSoundPaths P → change_between P q r ≡ Some w → w ≤ 86400
+pub change_day : (P : FootpathData) (q r w : ℕ) → IsSoundFootpaths P → change_between P q r ≡ Some w → w ≤ 86400
 change_day P q r w sound e =
     let inside = change_from P q r w sound e in
     elim (Contains-append_cases (own_row q (get_or P.change q None)) (get_or P.paths q []) (record { to = r; secs = w }) (change_edge P q r w e)) [
@@ -108,11 +108,11 @@ change_day P q r w sound e =
     ]
 
 -- the changes from a stop, looked at one kind after the other
-pub relaxed_leaving : (P : PathsData) (q : ℕ) (own : Option ℕ) (row : List Path) (secs : ℕ) (old mid new : SearchData) → own ≡ get_or P.change q None → row ≡ get_or P.paths q [] → IsRelaxed (own_row q own) secs old mid → IsRelaxed row secs mid new → IsRelaxed (leaving P q) secs old new
+pub relaxed_leaving : (P : FootpathData) (q : ℕ) (own : Option ℕ) (row : List Path) (secs : ℕ) (old mid new : SearchData) → own ≡ get_or P.change q None → row ≡ get_or P.paths q [] → IsRelaxed (own_row q own) secs old mid → IsRelaxed row secs mid new → IsRelaxed (leaving P q) secs old new
 relaxed_leaving P q own row secs old mid new e f h k =
     subst (λ o. IsRelaxed (own_row q o ++ get_or P.paths q []) secs old new) e
     (subst (λ r. IsRelaxed (own_row q own ++ r) secs old new) f (relaxed_both (own_row q own) row secs old mid new h k))
 
 -- the footpaths that leave a stop
-pub row_sound : (P : PathsData) (q : ℕ) (row : List Path) → AreSoundPaths P → q < length P.change → row ≡ get_or P.paths q [] → All (IsSoundPath (length P.change) q) row
+pub row_sound : (P : FootpathData) (q : ℕ) (row : List Path) → IsSoundFootpaths P → q < length P.change → row ≡ get_or P.paths q [] → All (IsSoundPath (length P.change) q) row
 row_sound P q row sound inside e = subst (λ r. All (IsSoundPath (length P.change) q) r) (sym e) (sound.paths q inside)

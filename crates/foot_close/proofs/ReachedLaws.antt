@@ -10,8 +10,10 @@ use Rattle.std.proofs.lemmas.List.{take_more, take_all, get_or_default}
 use Rattle.std.proofs.lemmas.List.Kept.{AllPairs-from_increasing, Contains-from_dedup, Contains-dedup_nat}
 use Rattle.std.proofs.lemmas.List.Sorted.{All-permutation, Contains-permutation}
 use Rattle.std.proofs.lemmas.List.Elements.{All-head, All-tail, All-contains, filter_map-append}
-use Rattle.footpaths.specs.Footpaths.{PathsData, numbers}
-use Rattle.footpaths.specs.Law.{change_between, AreSoundPaths}
+use Rattle.footpaths.specs.Footpaths.{numbers}
+use Rattle.tb_base.specs.TimetableData.{FootpathData}
+use Rattle.tb_base.specs.Walking.{change_between}
+use Rattle.tb_base.specs.Soundness.{IsSoundFootpaths}
 use Rattle.foot_close.specs.declared.search.Reached.{Reached}
 use Rattle.foot_close.specs.Shortest.{closure_of}
 use Rattle.foot_close.proofs.Chains.{same_by}
@@ -95,7 +97,7 @@ reached_same f g h [] = refl
 reached_same f g h (k ∷ ks) = rw (h k, reached_same f g h ks) refl
 
 -- the shortest chains of a search are the closure's
-pub reached_closure : (P : PathsData) (p : ℕ) (marks : List (Option ℕ)) → AreSoundPaths P → length marks ≡ length P.change → AreShortest (change_between P) p marks → reached_of (length marks) (mark marks) ≡ reached_of (length P.change) (closure_of P p)
+pub reached_closure : (P : FootpathData) (p : ℕ) (marks : List (Option ℕ)) → IsSoundFootpaths P → length marks ≡ length P.change → AreShortest (change_between P) p marks → reached_of (length marks) (mark marks) ≡ reached_of (length P.change) (closure_of P p)
 reached_closure P p marks sound many shortest =
     ap (λ n. reached_of n (mark marks)) many
     ∙ reached_same (mark marks) (closure_of P p) (λ q. same_by (change_between P) p q (mark marks q) (closure_of P p q) (shortest q) (closure_is P sound p q)) (numbers (length P.change))

@@ -7,8 +7,10 @@ use Rattle.std.proofs.Math.Seq.{drop-cons}
 use Rattle.std.proofs.Math.ListN.{drop_of_length-le}
 use Rattle.tb_base.specs.declared.table.Path.{Path}
 use Rattle.tb_base.proofs.Ordered.{Member-from_Contains, Contains-from_Member}
-use Rattle.footpaths.specs.Footpaths.{Changes, PathsData}
-use Rattle.footpaths.specs.Law.{change_between, AreSoundPaths}
+use Rattle.footpaths.specs.Footpaths.{Changes}
+use Rattle.tb_base.specs.TimetableData.{FootpathData}
+use Rattle.tb_base.specs.Walking.{change_between}
+use Rattle.tb_base.specs.Soundness.{IsSoundFootpaths}
 use Rattle.std.proofs.lemmas.Bool.Decides.{nat_tests}
 use Rattle.foot_close.specs.declared.search.Reached.{Reached}
 use Rattle.foot_close.specs.Closure.{chain, IsShortest}
@@ -27,7 +29,7 @@ pub record IsChain (given : Changes) (p q s : ℕ) : Type 0 where
   pub is : chain given p via q ≡ Some s
 
 -- the stops from a place on wait
-pub record IsSearch (P : PathsData) (p : ℕ) (s : SearchData) (next : ℕ) : Type 0 where
+pub record IsSearch (P : FootpathData) (p : ℕ) (s : SearchData) (next : ℕ) : Type 0 where
   pub many : length s.marks ≡ length P.change
   pub bounded : IsBounded s.marks
   pub place : next ≤ length s.waiting
@@ -35,13 +37,13 @@ pub record IsSearch (P : PathsData) (p : ℕ) (s : SearchData) (next : ℕ) : Ty
   pub started : IsSettled (change_between P) s.marks p 0
   pub settled : (q t : ℕ) → mark s.marks q ≡ Some t → Contains (drop next s.waiting) (record { stop = q; secs = t }) ⊎ IsSettled (change_between P) s.marks q t
 
-settled_by : (P : PathsData) (q t : ℕ) (old new : SearchData) → IsRelaxed (leaving P q) t old new → IsSettled (change_between P) new.marks q t
+settled_by : (P : FootpathData) (q t : ℕ) (old new : SearchData) → IsRelaxed (leaving P q) t old new → IsSettled (change_between P) new.marks q t
 settled_by P q t old new h = λ r w e. h.relaxed (record { to = r; secs = w }) (change_edge P q r w e)
 
 still_settled : (given : Changes) (row : List Path) (secs : ℕ) (old new : SearchData) (q t : ℕ) → IsRelaxed row secs old new → IsSettled given old.marks q t → IsSettled given new.marks q t
 still_settled given row secs old new q t h s = λ r w e. lowers_most old.marks new.marks r (t + w) h.lowers (s r w e)
 
-pub search_begun : (P : PathsData) (p : ℕ) (old new : SearchData) → AreSoundPaths P → p < length P.change → IsFresh (length P.change) old → IsRelaxed (leaving P p) 0 old new → IsSearch P p new 0
+pub search_begun : (P : FootpathData) (p : ℕ) (old new : SearchData) → IsSoundFootpaths P → p < length P.change → IsFresh (length P.change) old → IsRelaxed (leaving P p) 0 old new → IsSearch P p new 0
 search_begun P p old new sound inside fresh h = record {
   many = h.many ∙ fresh.many;
   bounded = h.bounded;
@@ -70,7 +72,7 @@ next_or_later ls next r x below at h =
     ]
 
 -- a stop was looked at whose seconds are its least
-search_on : (P : PathsData) (p : ℕ) (old new : SearchData) (next : ℕ) (r : Reached) → AreSoundPaths P → Reached.stop r < length P.change → IsSearch P p old next → next < length old.waiting → r ≡ get_or old.waiting next r
+search_on : (P : FootpathData) (p : ℕ) (old new : SearchData) (next : ℕ) (r : Reached) → IsSoundFootpaths P → Reached.stop r < length P.change → IsSearch P p old next → next < length old.waiting → r ≡ get_or old.waiting next r
     → mark old.marks (Reached.stop r) ≡ Some (Reached.secs r) → IsRelaxed (leaving P (Reached.stop r)) (Reached.secs r) old new → IsSearch P p new (next + 1)
 search_on P p old new next r sound inside s below at here h = record {
   many = h.many ∙ s.many;
@@ -102,7 +104,7 @@ search_on P p old new next r sound inside s below at here h = record {
         subst (λ ls. Contains (drop (next + 1) ls) x) (sym h.grows) (subst (λ ls. Contains ls x) (sym parts) c)
 
 -- a stop whose seconds fell since needs no look now
-search_past : (P : PathsData) (p : ℕ) (s : SearchData) (next : ℕ) (r : Reached) → IsSearch P p s next → next < length s.waiting → r ≡ get_or s.waiting next r → (mark s.marks (Reached.stop r) ≡ Some (Reached.secs r) → ⊥) → IsSearch P p s (next + 1)
+search_past : (P : FootpathData) (p : ℕ) (s : SearchData) (next : ℕ) (r : Reached) → IsSearch P p s next → next < length s.waiting → r ≡ get_or s.waiting next r → (mark s.marks (Reached.stop r) ≡ Some (Reached.secs r) → ⊥) → IsSearch P p s (next + 1)
 search_past P p s next r h below at other = record {
   many = h.many;
   bounded = h.bounded;
@@ -126,7 +128,7 @@ not_held : (s : ℕ) (o : Option ℕ) → is_held s o ≡ false → o ≡ Some s
 not_held s None e g = absurd (let c : None ≡ Some s = g in cc)
 not_held s (Some t) e g = (let same : t ≡ s = cc in let passes : (t == s) ≡ true = grind (arith, nat_tests, same) in let c : false ≡ true = sym e ∙ passes in absurd cc)
 
-pub search_gone : (P : PathsData) (p : ℕ) (old new : SearchData) (next : ℕ) (r : Reached) → AreSoundPaths P → Reached.stop r < length P.change → IsSearch P p old next → next < length old.waiting → r ≡ get_or old.waiting next r → IsGoneOn P r old new → IsSearch P p new (next + 1)
+pub search_gone : (P : FootpathData) (p : ℕ) (old new : SearchData) (next : ℕ) (r : Reached) → IsSoundFootpaths P → Reached.stop r < length P.change → IsSearch P p old next → next < length old.waiting → r ≡ get_or old.waiting next r → IsGoneOn P r old new → IsSearch P p new (next + 1)
 search_gone P p old new next r sound inside s below at h = by_held (is_held (Reached.secs r) (mark old.marks (Reached.stop r))) refl h
   where
     by_held : (b : Bool) → is_held (Reached.secs r) (mark old.marks (Reached.stop r)) ≡ b → MatchBool b (IsRelaxed (leaving P (Reached.stop r)) (Reached.secs r) old new) (new ≡ old) → IsSearch P p new (next + 1)
@@ -144,7 +146,7 @@ least_on given marks settled q s h (x ∷ via) r w e =
     let parts = parts_by (given q x) (chain given x via r) w e in
     weaker (mark marks r) (s + parts.0 + parts.1) (s + w) (least_on given marks settled x (s + parts.0) (settle given marks settled q x s parts.0 (mark marks q) refl h parts.2) via r parts.1 parts.3) (omega (arith, parts.4))
 
-pub searched : (P : PathsData) (p : ℕ) (s : SearchData) (next : ℕ) → IsSearch P p s next → length s.waiting ≤ next → AreShortest (change_between P) p s.marks
+pub searched : (P : FootpathData) (p : ℕ) (s : SearchData) (next : ℕ) → IsSearch P p s next → length s.waiting ≤ next → AreShortest (change_between P) p s.marks
 searched P p s next h done r = by_mark (mark s.marks r) refl
   where
     settled : (q t : ℕ) → mark s.marks q ≡ Some t → IsSettled (change_between P) s.marks q t
@@ -170,7 +172,7 @@ searched P p s next h done r = by_mark (mark s.marks r) refl
         record { via = a.via; attained = a.is; least = λ other w f. (let m : AtMost (Some t) w = rw e at (least other w f) in m) }
 
 -- going on leaves less to do
-pub gone_smaller : (P : PathsData) (old new : SearchData) (next : ℕ) (r : Reached) → next < length old.waiting → IsGoneOn P r old new → height new.marks + (length new.waiting - (next + 1)) < height old.marks + (length old.waiting - next)
+pub gone_smaller : (P : FootpathData) (old new : SearchData) (next : ℕ) (r : Reached) → next < length old.waiting → IsGoneOn P r old new → height new.marks + (length new.waiting - (next + 1)) < height old.marks + (length old.waiting - next)
 gone_smaller P old new next r below h = by_held (is_held (Reached.secs r) (mark old.marks (Reached.stop r))) h
   where
     by_held : (b : Bool) → MatchBool b (IsRelaxed (leaving P (Reached.stop r)) (Reached.secs r) old new) (new ≡ old) → height new.marks + (length new.waiting - (next + 1)) < height old.marks + (length old.waiting - next)

@@ -1,14 +1,15 @@
 -- What closing footpaths gives, and why it may give nothing.
 use Rattle.std.specs.Prelude.{◌≡◌, ◌<◌, ◌≤◌, ℕ, length, Option, None, Some, Bool, true, false, nat_lt, IfSome, IsSomeAnd, count_by, sum_by, ⊤}
-use Rattle.footpaths.specs.Footpaths.{Changes, PathsData, numbers, paths_of, path_total}
-use Rattle.footpaths.specs.Law.{change_between}
+use Rattle.footpaths.specs.Footpaths.{Changes, numbers, paths_of}
+use Rattle.tb_base.specs.TimetableData.{FootpathData, path_total}
+use Rattle.tb_base.specs.Walking.{change_between}
 use Rattle.foot_close.specs.Closure.{IsClosure}
 use Rattle.foot_close.specs.declared.closed.Closed.{Closed}
 use Rattle.foot_close.specs.declared.closed.CloseFault.{CloseFault}
 use Rattle.foot_close.specs.declared.closed.CloseFault.TheVariants as why
 
 -- something holds of the closure of given changes
-pub record ClosureHas (given : PathsData) (P : Changes → Type 0) : Type 0 where
+pub record ClosureHas (given : FootpathData) (P : Changes → Type 0) : Type 0 where
   pub closed : Changes
   pub closure : IsClosure (change_between given) closed
   pub has : P closed
@@ -30,7 +31,7 @@ is_lowered (Some s) None = false
 is_lowered None t = false
 
 -- the change times and footpaths are those of a closure, and the counts tell what it changed
-pub record IsHeld (given : PathsData) (c : Closed) (closed : Changes) : Type 0 where
+pub record IsHeld (given : FootpathData) (c : Closed) (closed : Changes) : Type 0 where
   pub paths : c.paths ≡ paths_of (length given.change) closed
   pub added : c.added ≡ pair_count (length given.change)
       (λ p q. is_added (change_between given p q) (closed p q))
@@ -38,7 +39,7 @@ pub record IsHeld (given : PathsData) (c : Closed) (closed : Changes) : Type 0 w
       (λ p q. is_lowered (change_between given p q) (closed p q))
 
 -- how many ordered pairs of different stops have a change
-abbrev pub footpath_total : PathsData → Changes → ℕ
+abbrev pub footpath_total : FootpathData → Changes → ℕ
 footpath_total given closed = path_total (paths_of (length given.change) closed)
 
 -- at most a day, where there is a change
@@ -53,7 +54,7 @@ pub record IsFirstFar (closed : Changes) (p q : ℕ) : Type 0 where
 
 -- A refusal tells that the closure is too large, or else its first far pair; want of memory
 -- says nothing.
-abbrev pub IsCloseRefused : PathsData → CloseFault → Type 0
+abbrev pub IsCloseRefused : FootpathData → CloseFault → Type 0
 IsCloseRefused given why.TooMany =
     ClosureHas given (λ closed. 2000000 < footpath_total given closed)
 IsCloseRefused given (why.Far p q) =

@@ -1,7 +1,8 @@
 -- Closure of footpaths: the shortest chains of given changes.
 use Rattle.std.specs.Prelude.{◌≡◌, ℕ, ◌+◌, ◌≤◌, List, [], ◌∷◌, Option, None, Some, option_map, option_and_then, MatchOption}
-use Rattle.footpaths.specs.Footpaths.{Changes, PathsData}
-use Rattle.footpaths.specs.Law.{change_between}
+use Rattle.footpaths.specs.Footpaths.{Changes}
+use Rattle.tb_base.specs.TimetableData.{FootpathData}
+use Rattle.tb_base.specs.Walking.{change_between}
 
 -- the seconds of a chain of changes from one stop to another, by the stops on the way
 abbrev pub chain : Changes → ℕ → List ℕ → ℕ → Option ℕ
@@ -23,5 +24,5 @@ IsClosure given closed =
     (IsShortest given p r)
 
 -- Change times and footpaths are the closure of others.
-abbrev pub IsClosed : PathsData → PathsData → Type 0
+abbrev pub IsClosed : FootpathData → FootpathData → Type 0
 IsClosed given closed = IsClosure (change_between given) (change_between closed)

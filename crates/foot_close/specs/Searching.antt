@@ -3,7 +3,8 @@
 use Rattle.std.specs.Prelude.{◌==◌, ◌≡◌, ◌≢◌, ◌⊎◌, ◌++◌, ℕ, ◌+◌, ◌*◌, ◌<◌, ◌≤◌, List, [], length, Option, None, Some, Bool, true, false, nat_lt, is_some, option_map, filter_map, slice_index_or, All, Contains, IsSomeAnd, MatchOption, count_by, sum_by, MatchBool}
 use Rattle.std.specs.Option.{option_to_list}
 use Rattle.tb_base.specs.declared.table.Path.{Path}
-use Rattle.footpaths.specs.Footpaths.{Changes, PathsData, numbers}
+use Rattle.footpaths.specs.Footpaths.{Changes, numbers}
+use Rattle.tb_base.specs.TimetableData.{FootpathData}
 use Rattle.foot_close.specs.Closure.{chain, IsShortest}
 use Rattle.foot_close.specs.declared.search.Reached.{Reached}
 
@@ -60,7 +61,7 @@ abbrev pub own_row : ℕ → Option ℕ → List Path
 own_row q own = option_to_list (option_map (λ s. record { to = q; secs = s }) own)
 
 -- the changes from a stop, its own among them, as footpaths
-abbrev pub leaving : PathsData → ℕ → List Path
+abbrev pub leaving : FootpathData → ℕ → List Path
 leaving P q = own_row q (slice_index_or P.change q None) ++ slice_index_or P.paths q []
 
 -- the footpaths of a row were looked at, where so many seconds lead up to them
@@ -83,7 +84,7 @@ is_held s None = false
 is_held s (Some t) = t == s
 
 -- the changes from a stop were looked at, where its seconds are still its least
-abbrev pub IsGoneOn : PathsData → Reached → SearchData → SearchData → Type 0
+abbrev pub IsGoneOn : FootpathData → Reached → SearchData → SearchData → Type 0
 IsGoneOn P r old new =
     MatchBool (is_held r.secs (mark old.marks r.stop)) (IsRelaxed (leaving P r.stop) r.secs old new)
     (new ≡ old)

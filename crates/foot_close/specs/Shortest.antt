@@ -1,7 +1,8 @@
 -- The closure as a function: the stops on the way are let in one after another.
 use Rattle.std.specs.Prelude.{ℕ, zero, suc, ◌+◌, Option, None, Some, option_map, option_and_then, min, length}
-use Rattle.footpaths.specs.Footpaths.{Changes, PathsData}
-use Rattle.footpaths.specs.Law.{change_between}
+use Rattle.footpaths.specs.Footpaths.{Changes}
+use Rattle.tb_base.specs.TimetableData.{FootpathData}
+use Rattle.tb_base.specs.Walking.{change_between}
 
 -- of two that may be there the lesser
 abbrev pub lesser : Option ℕ → Option ℕ → Option ℕ
@@ -21,5 +22,5 @@ shortest_over (suc k) given p r =
     (both (shortest_over k given p k) (shortest_over k given k r))
 
 -- the closure of change times and footpaths: all their stops may be on the way
-abbrev pub closure_of : PathsData → Changes
+abbrev pub closure_of : FootpathData → Changes
 closure_of P = shortest_over (length P.change) (change_between P)

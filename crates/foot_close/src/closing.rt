@@ -1,6 +1,6 @@
 //! Closing footpaths over chains.
 ghost use Rattle.std.specs.Prelude.{IfOk, MatchResult};
-ghost use Rattle.footpaths.specs.Law.{AreSoundPaths};
+ghost use Rattle.tb_base.specs.Soundness.{IsSoundFootpaths};
 ghost use Rattle.foot_close.specs.Closure.{IsClosed};
 ghost use Rattle.foot_close.specs.Closing.{ClosureHas, IsHeld, IsCloseRefused};
 
@@ -15,11 +15,11 @@ use std::alloc::Global;
 /// change of more than 86,400 seconds, with the first such pair in order of the two numbers. The
 /// given ones are dropped at a refusal.
 pub fn close(alloc: Global, paths: Paths) -> Result<Closed, CloseFault>
-    requires { AreSoundPaths paths }
+    requires { IsSoundFootpaths paths }
     ensures told { MatchResult result
         (λ c. ClosureHas paths (IsHeld paths c)) (IsCloseRefused paths) }
     ensures closed { IfOk result (λ c. IsClosed paths c.paths) }
-    ensures sound { IfOk result (λ c. AreSoundPaths c.paths) }
+    ensures sound { IfOk result (λ c. IsSoundFootpaths c.paths) }
 {
     let table = Table::new(alloc, paths)?;
     table.soundness();

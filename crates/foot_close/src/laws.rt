@@ -1,15 +1,16 @@
 //! Laws of closed footpaths. Each function does nothing: its contract is the law.
 ghost use Rattle.std.specs.Prelude.{◌≡◌, ℕ};
-ghost use Rattle.tb_base.specs.Walking.{KeepsFootpathLaw};
-ghost use Rattle.footpaths.specs.Footpaths.{Changes, PathsData};
-ghost use Rattle.footpaths.specs.Law.{walking, change_between, AreSoundPaths};
+ghost use Rattle.tb_base.specs.Walking.{KeepsFootpathLaw, change_between};
+ghost use Rattle.footpaths.specs.Footpaths.{Changes};
+ghost use Rattle.tb_base.specs.TimetableData.{FootpathData};
+ghost use Rattle.tb_base.specs.Soundness.{IsSoundFootpaths};
 ghost use Rattle.foot_close.specs.Closure.{IsClosure, IsClosed};
 ghost use Rattle.foot_close.specs.Shortest.{closure_of};
 
 /// What is closed keeps the law on footpaths.
 pub fn closed_keeps_law()
-    ensures { (given closed : PathsData) → IsClosed given closed
-        → KeepsFootpathLaw (walking closed) }
+    ensures { (given closed : FootpathData) → IsClosed given closed
+        → KeepsFootpathLaw closed }
 {}
 
 /// There is at most one closure.
@@ -20,6 +21,6 @@ pub fn closure_unique()
 
 /// There is a closure of all sound change times and footpaths.
 pub fn closure_exists()
-    ensures { (given : PathsData) → AreSoundPaths given
+    ensures { (given : FootpathData) → IsSoundFootpaths given
         → IsClosure (change_between given) (closure_of given) }
 {}

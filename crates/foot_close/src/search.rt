@@ -1,7 +1,8 @@
 //! The search for the shortest chains from one stop.
 ghost use Rattle.std.specs.Prelude.{◌≡◌, ◌<◌, ◌≤◌, ◌*◌, ◌∷◌, ℕ, [], All, IfOk, IfSome, OnOk, None, length, slice_index, slice_index_or};
 ghost use Rattle.std.specs.List.Sorted.{IsStrictlyIncreasing};
-ghost use Rattle.footpaths.specs.Law.{AreSoundPaths, change_between};
+ghost use Rattle.tb_base.specs.Soundness.{IsSoundFootpaths};
+ghost use Rattle.tb_base.specs.Walking.{change_between};
 ghost use Rattle.foot_close.specs.Shortest.{closure_of};
 ghost use Rattle.foot_close.specs.Searching.{mark, IsFresh, IsCovered, IsBounded, reached_count, own_row, leaving, IsRelaxed, IsGoneOn, AreShortest, reached_of};
 
@@ -25,22 +26,6 @@ fn is_less(secs: u64, mark: Option<u64>) -> bool
         None => true,
         Some(held) => secs < held,
     }
-}
-
-/// The change time of a stop.
-pub fn own_change(paths: &Paths, stop: StopNo) -> Option<u32>
-    requires { stop < length paths.now.change }
-    ensures { result ≡ slice_index_or paths.now.change stop None }
-{
-    paths.change[stop.index()]
-}
-
-/// The footpaths that leave a stop.
-pub fn path_row(paths: &Paths, stop: StopNo) -> &[Path]
-    requires { stop < length paths.now.paths }
-    ensures { result.now ≡ slice_index_or paths.now.paths stop [] }
-{
-    paths.paths[stop.index()].as_slice()
 }
 
 // Whether a mark holds so many seconds.
@@ -160,15 +145,15 @@ impl Search {
 
     // Looks at the changes from a stop, its own among them, where so many seconds lead up to it.
     fn relax_from(&mut self, paths: &Paths, from: StopNo, secs: u64) -> Result<(), Memory>
-        requires sound { AreSoundPaths paths.now }
+        requires sound { IsSoundFootpaths paths.now }
         requires from { from < length paths.now.change }
         requires many { length self.old.marks ≡ length paths.now.change }
         requires bounded { IsBounded self.old.marks }
         requires secs { secs ≤ 86400 * reached_count self.old.marks }
         ensures { OnOk result (IsRelaxed (leaving paths.now from) secs self.old self.new) }
     {
-        self.relax_own(from, own_change(paths, from), secs)?;
-        self.relax_all(path_row(paths, from), secs)?;
+        self.relax_own(from, paths.change_time(from), secs)?;
+        self.relax_all(paths.leaving(from), secs)?;
         Ok(())
     }
 
@@ -206,7 +191,7 @@ impl Search {
 
     // Goes on from a stop, where its seconds are still its least.
     fn go_on(&mut self, paths: &Paths, reached: Reached) -> Result<(), Memory>
-        requires sound { AreSoundPaths paths.now }
+        requires sound { IsSoundFootpaths paths.now }
         requires stop { reached.stop < length paths.now.change }
         requires many { length self.old.marks ≡ length paths.now.change }
         requires bounded { IsBounded self.old.marks }
@@ -220,7 +205,7 @@ impl Search {
 
     // The shortest chains from a stop.
     fn run(&mut self, paths: &Paths, from: StopNo) -> Result<(), Memory>
-        requires sound { AreSoundPaths paths.now }
+        requires sound { IsSoundFootpaths paths.now }
         requires from { from < length paths.now.change }
         requires fresh { IsFresh (length paths.now.change) self.old }
         ensures many { OnOk result (length self.new.marks ≡ length paths.now.change) }
@@ -282,7 +267,7 @@ impl Search {
         paths: &Paths,
         from: StopNo,
     ) -> Result<Vec<Reached>, Memory>
-        requires sound { AreSoundPaths paths.now }
+        requires sound { IsSoundFootpaths paths.now }
         requires from { from < length paths.now.change }
         requires fresh { IsFresh (length paths.now.change) self.old }
         ensures fresh { OnOk result (IsFresh (length paths.now.change) self.new) }

@@ -1,17 +1,18 @@
 //! What chains of given changes lead to from each stop.
 ghost use Rattle.std.specs.Prelude.{◌≡◌, ◌<◌, ◌≤◌, ◌==◌, MatchResult, filter_map, length, map};
-ghost use Rattle.footpaths.specs.Law.{AreSoundPaths, change_between};
+ghost use Rattle.tb_base.specs.Soundness.{IsSoundFootpaths};
+ghost use Rattle.tb_base.specs.Walking.{change_between};
 ghost use Rattle.foot_close.specs.Searching.{reached_of};
 ghost use Rattle.foot_close.specs.Shortest.{closure_of};
 ghost use Rattle.foot_close.specs.Tables.{path_of, IsTable};
 ghost use Rattle.foot_close.specs.Closing.{footpath_total, IsCloseRefused};
 
 use crate::CloseFault;
-use crate::search::{Reached, Search, own_change, path_row};
+use crate::search::{Reached, Search};
 use footpaths::Paths;
 use std::alloc::Global;
 use std::marker::Model;
-use tb_base::{Memory, Path, StopNo, path_secs};
+use tb_base::{Memory, StopNo};
 
 // How many stops other than the first one chains lead to.
 fn other_stops(row: &[Reached], from: StopNo) -> u32
@@ -36,10 +37,10 @@ pub struct Table {
 
 impl Model for Table {
     ghost use Rattle.std.specs.Prelude.{map};
-    ghost use Rattle.footpaths.specs.Footpaths.{PathsData};
+    ghost use Rattle.tb_base.specs.TimetableData.{FootpathData};
     ghost use Rattle.foot_close.specs.Tables.{IsTable};
 
-    ghost Value = { PathsData };
+    ghost Value = { FootpathData };
 
     ghost view = { λ t. t.given };
 
@@ -48,7 +49,7 @@ impl Model for Table {
 
 // What chains lead to from each stop, unless it is too much.
 fn reach_all(alloc: Global, given: &Paths) -> Result<Vec<Vec<Reached>>, CloseFault>
-    requires { AreSoundPaths given.now }
+    requires { IsSoundFootpaths given.now }
     ensures { MatchResult result
         (λ rows. IsTable given.now (map (λ row. row.items) rows.items)) (IsCloseRefused given.now) }
 {
@@ -73,7 +74,7 @@ impl Table {
     /// The table of given change times and footpaths. Refused where there would be more than
     /// 2,000,000 footpaths.
     pub fn new(alloc: Global, given: Paths) -> Result<Table, CloseFault>
-        requires { AreSoundPaths given }
+        requires { IsSoundFootpaths given }
         ensures { MatchResult result (λ table. table ≡ given) (IsCloseRefused given) }
     {
         match reach_all(alloc, &given) {
@@ -84,7 +85,7 @@ impl Table {
 
     /// What the given change times and footpaths keep, and that there are few enough after closing.
     pub fn soundness(&self)
-        ensures sound { AreSoundPaths self.now }
+        ensures sound { IsSoundFootpaths self.now }
         ensures few { footpath_total self.now (closure_of self.now) ≤ 2000000 }
     {
         let _ = &self.given;
@@ -110,9 +111,6 @@ impl Table {
         requires { from < length self.now.change }
         ensures { result ≡ change_between self.now from to }
     {
-        if from.index() == to.index() {
-            return own_change(&self.given, from);
-        }
-        path_secs(path_row(&self.given, from), to)
+        self.given.change_between(from, to)
     }
 }

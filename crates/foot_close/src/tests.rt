@@ -1,5 +1,5 @@
 ghost use Rattle.std.specs.Prelude.{◌≤◌, All, IfOk, length};
-ghost use Rattle.footpaths.specs.Law.{AreSoundPaths};
+ghost use Rattle.tb_base.specs.Soundness.{IsSoundFootpaths};
 ghost use Rattle.footpaths.specs.Links.{TakesAtMostADay};
 ghost use Rattle.gtfs_rows.specs.TransfersFile.{TransferData};
 
@@ -57,7 +57,7 @@ fn transfers(alloc: Global, ways: &[Way]) -> Result<Vec<TransferRow>, Memory>
 
 // Change times and footpaths of A to D, who have a change time of 0 where no way says otherwise.
 fn paths(alloc: Global, ways: &[Way]) -> Result<Paths, Fail>
-    ensures { IfOk result (λ paths. AreSoundPaths paths) }
+    ensures { IfOk result (λ paths. IsSoundFootpaths paths) }
 {
     let stops = stops(alloc)?;
     let table = StopTable::new(alloc, &stops).ok().ok_or("no stops")?;

@@ -10,7 +10,8 @@ use Rattle.std.proofs.lemmas.List.Sums.{sum_by-cons}
 use Rattle.tb_base.specs.declared.table.Path.{Path}
 use Rattle.gtfs_rows.specs.declared.fault.FeedFault.TheVariants as fault
 use Rattle.gtfs_rows.specs.declared.fault.Many.TheVariants as many
-use Rattle.footpaths.specs.Footpaths.{Changes, path_to, paths_from, paths_of, path_total, check_count, numbers}
+use Rattle.footpaths.specs.Footpaths.{Changes, path_to, paths_from, paths_of, check_count, numbers}
+use Rattle.tb_base.specs.TimetableData.{path_total}
 use Rattle.footpaths.proofs.NumberLists.{numbers_more}
 
 abbrev pub paths_before : Changes → ℕ → ℕ → List Path

@@ -9,8 +9,9 @@ use Rattle.std.proofs.lemmas.Bool.Decides.{nat_tests}
 use Rattle.std.proofs.lemmas.List.{get_or_past}
 use Rattle.tb_base.specs.declared.table.Path.{Path}
 use Rattle.tb_base.proofs.Searching.{found_at}
-use Rattle.footpaths.specs.Footpaths.{PathsData}
-use Rattle.footpaths.specs.Law.{footpath, change_between, AreInARow, IsGood}
+use Rattle.tb_base.specs.TimetableData.{FootpathData}
+use Rattle.footpaths.specs.Law.{AreInARow, IsGood}
+use Rattle.tb_base.specs.Walking.{footpath_secs, change_between}
 
 abbrev no_path : Path
 no_path = record { to = 0; secs = 0 }
@@ -43,7 +44,7 @@ before_at row i j f up h at k less =
     ]
 
 -- two footpaths in a row and the change over both keep the law
-pub good_by : (P : PathsData) (p q r s t u : ℕ) → footpath P p q ≡ Some s → footpath P q r ≡ Some t → change_between P p r ≡ Some u → u ≤ s + t → IsGood P p q r
+pub good_by : (P : FootpathData) (p q r s t u : ℕ) → footpath_secs P p q ≡ Some s → footpath_secs P q r ≡ Some t → change_between P p r ≡ Some u → u ≤ s + t → IsGood P p q r
 good_by P p q r s t u e f g h = record {
   there = λ a. (let x : None ≡ Some u = sym a.absent ∙ g in cc);
   short = λ a.
@@ -54,59 +55,59 @@ good_by P p q r s t u e f g h = record {
 }
 
 -- where each footpath from q is good, the ways over q are
-pub good_over : (P : PathsData) (p q : ℕ) → ((j : ℕ) (d : Path) → j < length (get_or P.paths q []) → IsGood P p q (Path.to (get_or (get_or P.paths q []) j d))) → (r : ℕ) → IsGood P p q r
+pub good_over : (P : FootpathData) (p q : ℕ) → ((j : ℕ) (d : Path) → j < length (get_or P.paths q []) → IsGood P p q (Path.to (get_or (get_or P.paths q []) j d))) → (r : ℕ) → IsGood P p q r
 good_over P p q h r = record {
   there = λ a. (let m = found_index (get_or P.paths q []) r a.t a.row.second in let g : IsGood P p q r = subst (λ x. IsGood P p q x) (m.2 no_path) (h m.0 no_path m.1) in g.there a);
   short = λ a. (let m = found_index (get_or P.paths q []) r a.t a.row.second in let g : IsGood P p q r = subst (λ x. IsGood P p q x) (m.2 no_path) (h m.0 no_path m.1) in g.short a);
 }
 
 -- where each footpath from p is good, all ways from p are
-pub good_from : (P : PathsData) (p : ℕ) → ((j : ℕ) (d : Path) (r : ℕ) → j < length (get_or P.paths p []) → IsGood P p (Path.to (get_or (get_or P.paths p []) j d)) r) → (q r : ℕ) → IsGood P p q r
+pub good_from : (P : FootpathData) (p : ℕ) → ((j : ℕ) (d : Path) (r : ℕ) → j < length (get_or P.paths p []) → IsGood P p (Path.to (get_or (get_or P.paths p []) j d)) r) → (q r : ℕ) → IsGood P p q r
 good_from P p h q r = record {
   there = λ a. (let m = found_index (get_or P.paths p []) q a.s a.row.first in let g : IsGood P p q r = subst (λ x. IsGood P p x r) (m.2 no_path) (h m.0 no_path r m.1) in g.there a);
   short = λ a. (let m = found_index (get_or P.paths p []) q a.s a.row.first in let g : IsGood P p q r = subst (λ x. IsGood P p x r) (m.2 no_path) (h m.0 no_path r m.1) in g.short a);
 }
 
 -- where each footpath from q before a place is good, the ways over q to lesser stops are
-pub good_before : (P : PathsData) (p q i : ℕ) (f : Path) → AllPairs (λ (f g : Path). f.to < g.to) (get_or P.paths q []) → i < length (get_or P.paths q []) → f ≡ get_or (get_or P.paths q []) i f
+pub good_before : (P : FootpathData) (p q i : ℕ) (f : Path) → AllPairs (λ (f g : Path). f.to < g.to) (get_or P.paths q []) → i < length (get_or P.paths q []) → f ≡ get_or (get_or P.paths q []) i f
     → ((j : ℕ) (d : Path) → j < i → IsGood P p q (Path.to (get_or (get_or P.paths q []) j d))) → (c : ℕ) → c < f.to → IsGood P p q c
 good_before P p q i f up k at h c less = record {
   there = λ a. (here a.t a.row.second).there a;
   short = λ a. (here a.t a.row.second).short a;
 }
   where
-    here : (t : ℕ) → footpath P q c ≡ Some t → IsGood P p q c
+    here : (t : ℕ) → footpath_secs P q c ≡ Some t → IsGood P p q c
     here t e =
         let m = found_index (get_or P.paths q []) c t e in
         let b : m.0 < i = before_at (get_or P.paths q []) i m.0 f up k at m.1 (omega (arith, m.2 f)) in
         subst (λ x. IsGood P p q x) (m.2 f) (h m.0 f b)
 
 -- where each footpath from p before a place is good, the ways over lesser stops are
-pub good_middle : (P : PathsData) (p i : ℕ) (f : Path) → AllPairs (λ (f g : Path). f.to < g.to) (get_or P.paths p []) → i < length (get_or P.paths p []) → f ≡ get_or (get_or P.paths p []) i f
+pub good_middle : (P : FootpathData) (p i : ℕ) (f : Path) → AllPairs (λ (f g : Path). f.to < g.to) (get_or P.paths p []) → i < length (get_or P.paths p []) → f ≡ get_or (get_or P.paths p []) i f
     → ((j : ℕ) (d : Path) (r : ℕ) → j < i → IsGood P p (Path.to (get_or (get_or P.paths p []) j d)) r) → (b c : ℕ) → b < f.to → IsGood P p b c
 good_middle P p i f up k at h b c less = record {
   there = λ a. (here a.s a.row.first).there a;
   short = λ a. (here a.s a.row.first).short a;
 }
   where
-    here : (s : ℕ) → footpath P p b ≡ Some s → IsGood P p b c
+    here : (s : ℕ) → footpath_secs P p b ≡ Some s → IsGood P p b c
     here s e =
         let m = found_index (get_or P.paths p []) b s e in
         let w : m.0 < i = before_at (get_or P.paths p []) i m.0 f up k at m.1 (omega (arith, m.2 f)) in
         subst (λ x. IsGood P p x c) (m.2 f) (h m.0 f c w)
 
 -- no footpath leaves a stop that isn't there
-pub good_past : (P : PathsData) (a b c : ℕ) → length P.paths ≤ a → IsGood P a b c
+pub good_past : (P : FootpathData) (a b c : ℕ) → length P.paths ≤ a → IsGood P a b c
 good_past P a b c h = record {
   there = λ x. none x.s x.row.first;
   short = λ x. none x.s x.row.first;
 }
   where
-    none : (s : ℕ) → footpath P a b ≡ Some s → ⊥
+    none : (s : ℕ) → footpath_secs P a b ≡ Some s → ⊥
     none s e = (let empty = get_or_past P.paths a [] h in let w : None ≡ Some s = (rw empty at e) in cc)
 
 -- at three good stops the change over two footpaths is there, and no longer than both
-pub law_at : (P : PathsData) (p q r s t : ℕ) → IsGood P p q r → p ≢ q → q ≢ r → footpath P p q ≡ Some s → footpath P q r ≡ Some t → IsSomeAnd (change_between P p r) (λ u. u ≤ s + t)
+pub law_at : (P : FootpathData) (p q r s t : ℕ) → IsGood P p q r → p ≢ q → q ≢ r → footpath_secs P p q ≡ Some s → footpath_secs P q r ≡ Some t → IsSomeAnd (change_between P p r) (λ u. u ≤ s + t)
 law_at P p q r s t good away onward e f = by_change (change_between P p r) refl
   where
     row : AreInARow P p q r s t

@@ -9,7 +9,7 @@ use Rattle.std.proofs.lemmas.List.Elements.{All-filter, All-map, All-head, All-t
 use Rattle.std.proofs.lemmas.List.Kept.{AllPairs-cons}
 use Rattle.std.proofs.lemmas.List.FromFn.{length-map-range_with_len, get_or-map-range_with_len}
 use Rattle.tb_base.specs.declared.table.Path.{Path}
-use Rattle.tb_base.specs.Soundness.{IsSoundPath}
+use Rattle.tb_base.specs.Soundness.{IsSoundPath, IsSoundFootpaths}
 use Rattle.gtfs_rows.specs.StopsFile.{StopData}
 use Rattle.gtfs_rows.specs.TransfersFile.{TransferData}
 use Rattle.gtfs_rows.specs.declared.transfers.PathRule.{PathRule}
@@ -18,8 +18,8 @@ use Rattle.footpaths.specs.declared.found.Link.{Link}
 use Rattle.footpaths.specs.declared.paths.Options.{Options}
 use Rattle.footpaths.specs.Stops.{station_of}
 use Rattle.footpaths.specs.Links.{secs_by, link_of, links_of, TakesAtMostADay}
-use Rattle.footpaths.specs.Footpaths.{Changes, PathsData, longer, longer_said, longest, said, unsaid, fits, rank, have_one_station, secs_between, path_to, paths_from, paths_of, path_total, numbers, check_count}
-use Rattle.footpaths.specs.Law.{AreSoundPaths}
+use Rattle.footpaths.specs.Footpaths.{Changes, longer, longer_said, longest, said, unsaid, fits, rank, have_one_station, secs_between, path_to, paths_from, paths_of, numbers, check_count}
+use Rattle.tb_base.specs.TimetableData.{FootpathData, path_total}
 
 abbrev IsDay : Option ℕ → Type 0
 IsDay o = IfSome o (λ secs. secs ≤ 86400)
@@ -111,7 +111,7 @@ row_sound given n p day (suc k) a h = by_path (path_to p a (given p a)) refl (ro
     by_path None e rest = rw e (later n p a (paths_in given p (a + 1) k) rest)
     by_path (Some f) e rest = (let w = path_is n p a (given p a) f e (day a) (omega arith) in rw e (row_cons n p a f (paths_in given p (a + 1) k) w.0 w.1 rest))
 
-small_total : (P Q : PathsData) → check_count P ≡ Ok Q → (path_total P ≤ 2000000) × (P ≡ Q)
+small_total : (P Q : FootpathData) → check_count P ≡ Ok Q → (path_total P ≤ 2000000) × (P ≡ Q)
 small_total P Q e =
     elim (cases_Bool (nat_lt 2000000 (path_total P))) [
       | inl t ↦ absurd (let c = rw t at e in cc)
@@ -119,12 +119,12 @@ small_total P Q e =
     ]
 
 -- change times and footpaths that are few enough are sound
-pub sound_paths : (given : Changes) (n : ℕ) (P : PathsData) → n ≤ 100000 → ((p q : ℕ) → IfSome (given p q) (λ secs. secs ≤ 86400)) → check_count (paths_of n given) ≡ Ok P → AreSoundPaths P
+pub sound_paths : (given : Changes) (n : ℕ) (P : FootpathData) → n ≤ 100000 → ((p q : ℕ) → IfSome (given p q) (λ secs. secs ≤ 86400)) → check_count (paths_of n given) ≡ Ok P → IsSoundFootpaths P
 sound_paths given n P few day e =
     let c = small_total (paths_of n given) P e in
-    let many : length (PathsData.change (paths_of n given)) ≡ n = length-map-range_with_len (λ p. given p p) 0 n in
-    let rows : length (PathsData.paths (paths_of n given)) ≡ n = length-map-range_with_len (paths_from n given) 0 n in
-    subst AreSoundPaths c.1 (record {
+    let many : length (FootpathData.change (paths_of n given)) ≡ n = length-map-range_with_len (λ p. given p p) 0 n in
+    let rows : length (FootpathData.paths (paths_of n given)) ≡ n = length-map-range_with_len (paths_from n given) 0 n in
+    subst IsSoundFootpaths c.1 (record {
       few = omega arith;
       rows = rows ∙ sym many;
       footpaths = c.0;

@@ -1,8 +1,9 @@
 -- Changes and footpaths between platforms, by the rows of transfers.txt.
-use Rattle.std.specs.Prelude.{ℕ, ◌+◌, ◌==◌, ◌&&◌, List, [], ◌∷◌, length, map, max, filter, filter_map, sum_by, nat_lt, Bool, false, Option, Some, None, unwrap_or, option_map, Result, if◌then◌else◌}
+use Rattle.std.specs.Prelude.{ℕ, ◌+◌, ◌==◌, ◌&&◌, List, [], ◌∷◌, length, map, max, filter, filter_map, nat_lt, Bool, false, Option, Some, None, unwrap_or, option_map, Result, if◌then◌else◌}
 use Rattle.std.specs.Option.{option_or}
 use Rattle.std.specs.List.{range_with_len}
 use Rattle.tb_base.specs.declared.table.Path.{Path}
+use Rattle.tb_base.specs.TimetableData.{FootpathData, path_total}
 use Rattle.gtfs_rows.specs.Steps.{and_then}
 use Rattle.gtfs_rows.specs.Faults.{fault_if, unless_wrong}
 use Rattle.gtfs_rows.specs.StopsFile.{StopData}
@@ -91,11 +92,6 @@ changes stops rows options = secs_between stops options (links_of stops options.
 abbrev pub numbers : ℕ → List ℕ
 numbers n = range_with_len 0 n
 
--- the change time of each stop, and the footpaths that leave it
-pub record PathsData : Type 0 where
-  pub change : List (Option ℕ)
-  pub paths : List (List Path)
-
 -- the footpath to a stop
 abbrev pub path_to : ℕ → ℕ → Option ℕ → Option Path
 path_to p q secs = if p == q then None else option_map (λ s. record { to = q; secs = s }) secs
@@ -105,25 +101,22 @@ abbrev pub paths_from : ℕ → Changes → ℕ → List Path
 paths_from n given p = filter_map (λ q. path_to p q (given p q)) (numbers n)
 
 -- the change times and footpaths of n stops
-abbrev pub paths_of : ℕ → Changes → PathsData
+abbrev pub paths_of : ℕ → Changes → FootpathData
 paths_of n given =
     record {
       change = map (λ p. given p p) (numbers n);
       paths = map (paths_from n given) (numbers n);
     }
 
-abbrev pub path_total : PathsData → ℕ
-path_total paths = sum_by (λ row. length {A = Path} row) paths.paths
-
 -- at most 2,000,000 footpaths, or a fault
-abbrev pub check_count : PathsData → Result PathsData FeedFault
+abbrev pub check_count : FootpathData → Result FootpathData FeedFault
 check_count paths =
     unless_wrong
     (fault_if (nat_lt 2000000 (path_total paths)) (fault.TooMany many.Footpaths 0) ∷ []) paths
 
 -- The changes and footpaths of a feed's platforms, or the first thing that is wrong with
 -- transfers.txt.
-abbrev pub footpaths : List StopData → Options → List TransferData → Result PathsData FeedFault
+abbrev pub footpaths : List StopData → Options → List TransferData → Result FootpathData FeedFault
 footpaths stops options rows =
     and_then (check_transfers stops rows)
     (λ good. check_count (paths_of (length (platforms stops)) (changes stops good options)))

@@ -6,7 +6,7 @@ ghost use Rattle.gtfs_rows.specs.TransfersFile.{TransferData};
 ghost use Rattle.footpaths.specs.Stops.{platforms};
 ghost use Rattle.footpaths.specs.Links.{TakesAtMostADay, IsPathsRefused};
 ghost use Rattle.footpaths.specs.Footpaths.{footpaths, path_to, paths_of, check_count, secs_between};
-ghost use Rattle.footpaths.specs.Law.{AreSoundPaths};
+ghost use Rattle.tb_base.specs.Soundness.{IsSoundFootpaths};
 ghost use Rattle.footpaths.specs.Marks.{slot, verdict_secs};
 
 use crate::links::links_of;
@@ -117,7 +117,8 @@ pub fn build_paths(
     ensures told { Yields IsPathsRefused result (λ x. x)
         (footpaths stops.now options.now rows.now) }
     ensures sound { IfOk result
-        (λ paths. All (λ r. TakesAtMostADay (TransferData.rule r)) rows.now → AreSoundPaths paths) }
+        (λ paths. All (λ r. TakesAtMostADay (TransferData.rule r)) rows.now →
+        IsSoundFootpaths paths) }
 {
     stops.soundness();
     let links = match links_of(alloc, rows, stops, options.change) {

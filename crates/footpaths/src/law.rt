@@ -1,10 +1,11 @@
 //! The test of the law on footpaths.
-ghost use Rattle.std.specs.Prelude.{◌≡◌, ◌≢◌, ◌<◌, ◌≤◌, ◌+◌, ◌==◌, ℕ, [], Some, MatchResult, length, slice_index_or};
-ghost use Rattle.tb_base.specs.Walking.{KeepsFootpathLaw};
-ghost use Rattle.footpaths.specs.Law.{walking, footpath, change_between, AreSoundPaths, IsGood, IsBreach, IsFirstOver, IsFirstFrom, IsFirstBreach};
+ghost use Rattle.std.specs.Prelude.{◌≡◌, ◌≢◌, ◌<◌, ◌≤◌, ◌+◌, ℕ, Some, MatchResult, length};
+ghost use Rattle.tb_base.specs.Walking.{KeepsFootpathLaw, footpath_secs};
+ghost use Rattle.footpaths.specs.Law.{IsGood, IsBreach, IsFirstOver, IsFirstFrom, IsFirstBreach};
+ghost use Rattle.tb_base.specs.Soundness.{IsSoundFootpaths};
 
 use crate::Paths;
-use tb_base::{Path, StopNo, path_secs};
+use tb_base::{Path, StopNo};
 
 /// A breach of the law on footpaths at three stops: from the first over the second to the third.
 /// Absent where there is no change from the first to the third, Long where it takes more seconds
@@ -15,38 +16,14 @@ pub enum LawFault {
     Long(StopNo, StopNo, StopNo),
 }
 
-impl Paths {
-    ghost use Rattle.tb_base.specs.declared.table.Path.{Path};
-
-    // The footpaths that leave a stop.
-    fn row(&self, p: StopNo) -> &[Path]
-        requires { p < length self.now.paths }
-        ensures { result.now ≡ slice_index_or self.now.paths p [] }
-    {
-        self.paths[p.index()].as_slice()
-    }
-
-    // The seconds that it takes to change from one stop to another.
-    fn change_between(&self, p: StopNo, q: StopNo) -> Option<u32>
-        requires sound { AreSoundPaths self.now }
-        requires from { p < length self.now.paths }
-        ensures { result ≡ change_between self.now p q }
-    {
-        if p.index() == q.index() {
-            return self.change[p.index()];
-        }
-        path_secs(self.row(p), q)
-    }
-}
-
 // The law at two footpaths, one after the other.
 fn test_one(paths: &Paths, p: StopNo, first: &Path, second: &Path) -> Result<(), LawFault>
-    requires sound { AreSoundPaths paths.now }
+    requires sound { IsSoundFootpaths paths.now }
     requires from { p < length paths.now.paths }
     requires away { p ≢ first.now.to }
     requires onward { first.now.to ≢ second.now.to }
-    requires first { footpath paths.now p first.now.to ≡ Some first.now.secs }
-    requires second { footpath paths.now first.now.to second.now.to ≡ Some second.now.secs }
+    requires first { footpath_secs paths.now p first.now.to ≡ Some first.now.secs }
+    requires second { footpath_secs paths.now first.now.to second.now.to ≡ Some second.now.secs }
     requires fits { first.now.secs + second.now.secs < 4294967296 }
     ensures { MatchResult result (λ _. IsGood paths.now p first.now.to second.now.to)
         (IsBreach paths.now p first.now.to second.now.to) }
@@ -64,16 +41,16 @@ fn test_one(paths: &Paths, p: StopNo, first: &Path, second: &Path) -> Result<(),
 
 // The law at the ways over the end of a footpath.
 fn test_over(paths: &Paths, p: StopNo, first: &Path) -> Result<(), LawFault>
-    requires sound { AreSoundPaths paths.now }
+    requires sound { IsSoundFootpaths paths.now }
     requires from { p < length paths.now.paths }
     requires away { p ≢ first.now.to }
     requires to { first.now.to < length paths.now.paths }
-    requires first { footpath paths.now p first.now.to ≡ Some first.now.secs }
+    requires first { footpath_secs paths.now p first.now.to ≡ Some first.now.secs }
     requires day { first.now.secs ≤ 86400 }
     ensures { MatchResult result (λ _. (r : ℕ) → IsGood paths.now p first.now.to r)
         (IsFirstOver paths.now p first.now.to) }
 {
-    for second in paths.row(first.to) {
+    for second in paths.leaving(first.to) {
         test_one(paths, p, first, second)?;
     }
     Ok(())
@@ -81,12 +58,12 @@ fn test_over(paths: &Paths, p: StopNo, first: &Path) -> Result<(), LawFault>
 
 // The law at the ways from a stop.
 fn test_from(paths: &Paths, p: StopNo) -> Result<(), LawFault>
-    requires sound { AreSoundPaths paths.now }
+    requires sound { IsSoundFootpaths paths.now }
     requires from { p < length paths.now.paths }
     ensures { MatchResult result (λ _. (q r : ℕ) → IsGood paths.now p q r)
         (IsFirstFrom paths.now p) }
 {
-    for first in paths.row(p) {
+    for first in paths.leaving(p) {
         test_over(paths, p, first)?;
     }
     Ok(())
@@ -94,10 +71,11 @@ fn test_from(paths: &Paths, p: StopNo) -> Result<(), LawFault>
 
 /// Whether the law on footpaths holds: where footpaths lead from p to q and from q to r, of
 /// different stops each and r = p among them, the change from p to r is there and takes at most
-/// their sum. Refused exactly where it doesn't, with the first triple in order of the three numbers.
+/// their sum. Refused exactly where it doesn't, with the first triple in order of the three
+/// numbers.
 pub fn test_law(paths: &Paths) -> Result<(), LawFault>
-    requires { AreSoundPaths paths.now }
-    ensures { MatchResult result (λ _. KeepsFootpathLaw (walking paths.now))
+    requires { IsSoundFootpaths paths.now }
+    ensures { MatchResult result (λ _. KeepsFootpathLaw paths.now)
         (IsFirstBreach paths.now) }
 {
     let count = paths.paths.len() as u32;

@@ -3,7 +3,7 @@ ghost use Rattle.footpaths.specs.declared.paths.PathsFault.TheVariants as why;
 
 use std::alloc::{AllocError, AllocFailed};
 use std::marker::Model;
-use tb_base::{Memory, Path};
+use tb_base::{Memory, Path, StopNo, secs_between};
 
 /// How changes and footpaths are made. Seconds.
 #[derive(Debug, Clone, Copy, PartialEq, Eq)]
@@ -25,14 +25,45 @@ pub struct Paths {
 
 impl Model for Paths {
     ghost use Rattle.std.specs.Prelude.{map};
-    ghost use Rattle.footpaths.specs.Footpaths.{PathsData};
+    ghost use Rattle.tb_base.specs.TimetableData.{FootpathData};
 
-    ghost Value = { PathsData };
+    ghost Value = { FootpathData };
 
     ghost view = { λ t. record {
       change = t.change.items;
       paths = map (λ row. row.items) t.paths.items;
     } };
+}
+
+impl Paths {
+    ghost use Rattle.std.specs.Prelude.{◌<◌, [], length, slice_index_or};
+    ghost use Rattle.tb_base.specs.Soundness.{IsSoundFootpaths};
+    ghost use Rattle.tb_base.specs.Walking.{change_time, change_between};
+
+    /// The change time of a stop, where it has one.
+    pub fn change_time(&self, p: StopNo) -> Option<u32>
+        requires { p < length self.now.change }
+        ensures { result ≡ change_time self.now p }
+    {
+        self.change[p.index()]
+    }
+
+    /// The footpaths that leave a stop, by the stop that they lead to.
+    pub fn leaving(&self, p: StopNo) -> &[Path]
+        requires { p < length self.now.paths }
+        ensures { result.now ≡ slice_index_or self.now.paths p [] }
+    {
+        self.paths[p.index()].as_slice()
+    }
+
+    /// The seconds that it takes to change from one stop to another, where there is a change.
+    pub fn change_between(&self, p: StopNo, q: StopNo) -> Option<u32>
+        requires sound { IsSoundFootpaths self.now }
+        requires from { p < length self.now.paths }
+        ensures { result ≡ change_between self.now p q }
+    {
+        secs_between(self.change_time(p), self.leaving(p), p, q)
+    }
 }
 
 /// Why there are no footpaths. Rows and columns are those of transfers.txt.

@@ -1,5 +1,5 @@
-//! As many footpaths as there may be, and too many. What rows of stops.txt and transfers.txt give over a small town is told by the
-//! cases of `case_check`.
+//! As many footpaths as there may be, and too many. What rows of stops.txt and transfers.txt give
+//! over a small town is told by the cases of `case_check`.
 ghost use Rattle.std.specs.Prelude.{All, IfOk};
 ghost use Rattle.footpaths.specs.Links.{TakesAtMostADay};
 ghost use Rattle.gtfs_rows.specs.TransfersFile.{TransferData};
@@ -45,8 +45,8 @@ fn forbidden_way(alloc: Global, to: &str) -> Result<Vec<TransferRow>, Memory>
     Ok(rows)
 }
 
-// With seconds within a station 1,414 platforms have 1,997,982 footpaths, one of which a row forbids, and 1,415 have
-// 2,000,810. A bad row comes first.
+// With seconds within a station 1,414 platforms have 1,997,982 footpaths, one of which a row
+// forbids, and 1,415 have 2,000,810. A bad row comes first.
 #[test]
 fn too_many_footpaths(rt: HostRuntime) -> Result<(), Fail> {
     let options = Options {

@@ -6,11 +6,12 @@ use Rattle.std.specs.Ordering.{nat_cmp, int_cmp}
 use Rattle.std.specs.Cmp.Lexicographic.{slice_cmp}
 use Rattle.std.proofs.lemmas.Int.{ints}
 use Rattle.std.proofs.lemmas.List.Elements.{All-contains, All-head, All-tail, All-cons, All-nil}
+use Rattle.std.proofs.lemmas.Bool.{and_parts}
 use Rattle.tb_base.specs.declared.table.Event.{Event}
 use Rattle.tb_base.specs.TimetableData.{TimetableData, events_of}
 use Rattle.tb_base.specs.Lines.{may_follow, same_mark, place_trip, last_trip, times_of, TripPrecedes, AreLines, AreDividedInto}
 use Rattle.tb_base.proofs.Ordered.{Member, Member-from_Contains, Contains-from_Member, AllPairs-head, AllPairs-tail}
-use Rattle.tb_base.proofs.Members.{AllPairs-append, AllPairs-cons, both_true, Member-left, Member-right, Member-append}
+use Rattle.tb_base.proofs.Members.{AllPairs-append, AllPairs-cons, Member-left, Member-right, Member-append}
 use Rattle.tb_base.proofs.LineFacts.{MayFollow, IsEventNoLater, event_no_later}
 
 same_true : (a b : ℕ) → a ≡ b → (a == b) ≡ true
@@ -40,8 +41,8 @@ may_follow-trans [] (f ∷ fs) gs g h = cc
 may_follow-trans (e ∷ es) [] gs g h = cc
 may_follow-trans (e ∷ es) (f ∷ fs) [] g h = h
 may_follow-trans (e ∷ es) (f ∷ fs) (x ∷ xs) g h =
-    let p = both_true ((e.stop == f.stop) && same_mark e.board f.board && same_mark e.alight f.alight && int_le e.arr f.arr && int_le e.dep f.dep) (may_follow es fs) g in
-    let q = both_true ((f.stop == x.stop) && same_mark f.board x.board && same_mark f.alight x.alight && int_le f.arr x.arr && int_le f.dep x.dep) (may_follow fs xs) h in
+    let p = and_parts ((e.stop == f.stop) && same_mark e.board f.board && same_mark e.alight f.alight && int_le e.arr f.arr && int_le e.dep f.dep) (may_follow es fs) g in
+    let q = and_parts ((f.stop == x.stop) && same_mark f.board x.board && same_mark f.alight x.alight && int_le f.arr x.arr && int_le f.dep x.dep) (may_follow fs xs) h in
     let a : IsEventNoLater e f = event_no_later e f p.0 in
     let b : IsEventNoLater f x = event_no_later f x q.0 in
     both_pass _ (may_follow es xs)

@@ -1,7 +1,7 @@
 -- A trip is placed by a look at the lines of its bucket alone.
 use Rattle.std.proofs.Common.{◌≡◌, ◌≢◌, ◌∙◌, sym, ap, subst, refl, ℕ, zero, suc, ◌+◌, ◌-◌, ◌<◌, ◌⊎◌, inl, inr, Bool, true, false, cond, List, [], ◌∷◌, ◌++◌, length, get_or, set, fold, find, replicate, ◌/◌, ◌%◌, ◌^◌, Option, Some, None, arith, length-set, get_or-set_same, get_or-set_other}
 use Rattle.std.specs.Prelude.{All, AllPairs, Contains}
-use Rattle.std.proofs.lemmas.Bool.{cases_eq}
+use Rattle.std.proofs.lemmas.Bool.{cases_eq, and_parts}
 use Rattle.std.proofs.lemmas.List.{get_or_append_left, get_or_push, length_push}
 use Rattle.std.proofs.lemmas.List.Elements.{All-push, All-weaker, All-contains, Contains-push, Contains-append_left}
 use Rattle.std.proofs.lemmas.List.Quantifiers.{all_pairs_push}
@@ -9,7 +9,7 @@ use Rattle.tb_base.specs.declared.table.Event.{Event}
 use Rattle.tb_base.specs.TimetableData.{TimetableData, events_of}
 use Rattle.tb_base.specs.Lines.{may_follow, place_trip, last_trip}
 use Rattle.tb_base.proofs.Ordered.{Member, Member-from_Contains, Contains-from_Member, AllPairs-head, AllPairs-tail}
-use Rattle.tb_base.proofs.Members.{both_true, find_found}
+use Rattle.tb_base.proofs.Members.{find_found}
 use Rattle.tb_base.proofs.LineFacts.{event_no_later}
 use Rattle.line_split.specs.Patterns.{mix, marks_of, bucket_of}
 use Rattle.line_split.specs.Buckets.{last_of, AreBucketed}
@@ -53,7 +53,7 @@ same_hash hash [] [] h = refl
 same_hash hash [] (f ∷ fs) h = cc
 same_hash hash (e ∷ es) [] h = cc
 same_hash hash (e ∷ es) (f ∷ fs) h =
-    let p = both_true _ (may_follow es fs) h in
+    let p = and_parts _ (may_follow es fs) h in
     let n = event_no_later e f p.0 in
     let one : step hash e ≡ step hash f = cc (n.stop, n.board, n.alight) in
     ap (λ x. fold step x es) one ∙ same_hash (step hash f) es fs p.1

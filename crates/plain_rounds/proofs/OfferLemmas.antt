@@ -21,36 +21,36 @@ offered_in o m l s e h = and_some (λ s. l ≡ later m s) o s e h
 
 module _ (T : TimetableData) (sound : IsSound T) (p : ℕ) (inside : p < length T.stops) (m : Label) (xs ys : List (Option Label)) where
   -- all footpaths of a stop in turn
-  pub by_footpaths : (row : List Path) → slice_get T.paths p ≡ Some row → (i : ℕ) → i ≡ length row →
+  pub by_footpaths : (row : List Path) → slice_get T.footpaths.paths p ≡ Some row → (i : ℕ) → i ≡ length row →
       Takes xs ys (λ q x. (k : ℕ) × (k < i) × ((q ≡ (get_or row k no_path).to) × (x ≡ later m (get_or row k no_path).secs))) →
-      Takes xs ys (λ q x. IsOfferedIn (footpath_secs T p q) m x)
-  by_footpaths row is i all t = Takes-same xs ys (λ q x. (k : ℕ) × (k < i) × ((q ≡ (get_or row k no_path).to) × (x ≡ later m (get_or row k no_path).secs))) (λ q x. IsOfferedIn (footpath_secs T p q) m x)
+      Takes xs ys (λ q x. IsOfferedIn (footpath_secs T.footpaths p q) m x)
+  by_footpaths row is i all t = Takes-same xs ys (λ q x. (k : ℕ) × (k < i) × ((q ≡ (get_or row k no_path).to) × (x ≡ later m (get_or row k no_path).secs))) (λ q x. IsOfferedIn (footpath_secs T.footpaths p q) m x)
       (λ q x h. onto q x h.0 (omega (arith, all, h.1)) h.2.0 h.2.1)
-      (λ q x h. let s = some_and (λ s. x ≡ later m s) (footpath_secs T p q) h in
+      (λ q x h. let s = some_and (λ s. x ≡ later m s) (footpath_secs T.footpaths p q) h in
       let k = footpath_among T sound p inside row is q s.0 s.1 in
       (k.0, omega (arith, all, k.1), (sym (k.2 no_path).0, subst (λ n. x ≡ later m n) (sym (k.2 no_path).1) s.2)))
       t
     where
-      onto : (q : ℕ) (x : Label) (k : ℕ) → k < length row → q ≡ (get_or row k no_path).to → x ≡ later m (get_or row k no_path).secs → IsOfferedIn (footpath_secs T p q) m x
-      onto q x k below to is_later = offered_in (footpath_secs T p q) m x (get_or row k no_path).secs (subst (λ r. footpath_secs T p r ≡ Some (get_or row k no_path).secs) (sym to) (footpath_of T sound p inside row is k no_path below)) is_later
+      onto : (q : ℕ) (x : Label) (k : ℕ) → k < length row → q ≡ (get_or row k no_path).to → x ≡ later m (get_or row k no_path).secs → IsOfferedIn (footpath_secs T.footpaths p q) m x
+      onto q x k below to is_later = offered_in (footpath_secs T.footpaths p q) m x (get_or row k no_path).secs (subst (λ r. footpath_secs T.footpaths p r ≡ Some (get_or row k no_path).secs) (sym to) (footpath_of T sound p inside row is k no_path below)) is_later
 
-  module _ (zs : List (Option Label)) (own : Option ℕ) (secs_to : ℕ → Option ℕ) (here : secs_to p ≡ own) (there : (q : ℕ) → (q ≡ p → ⊥) → secs_to q ≡ footpath_secs T p q) where
+  module _ (zs : List (Option Label)) (own : Option ℕ) (secs_to : ℕ → Option ℕ) (here : secs_to p ≡ own) (there : (q : ℕ) → (q ≡ p → ⊥) → secs_to q ≡ footpath_secs T.footpaths p q) where
     -- the stop itself, and then its footpaths
-    pub own_and_footpaths : Takes xs ys (λ q x. (q ≡ p) × IsOfferedIn own m x) → Takes ys zs (λ q x. IsOfferedIn (footpath_secs T p q) m x) → Takes xs zs (λ q x. IsOfferedIn (secs_to q) m x)
-    own_and_footpaths t u = Takes-same xs zs (λ q x. ((q ≡ p) × IsOfferedIn own m x) ⊎ IsOfferedIn (footpath_secs T p q) m x) (λ q x. IsOfferedIn (secs_to q) m x)
+    pub own_and_footpaths : Takes xs ys (λ q x. (q ≡ p) × IsOfferedIn own m x) → Takes ys zs (λ q x. IsOfferedIn (footpath_secs T.footpaths p q) m x) → Takes xs zs (λ q x. IsOfferedIn (secs_to q) m x)
+    own_and_footpaths t u = Takes-same xs zs (λ q x. ((q ≡ p) × IsOfferedIn own m x) ⊎ IsOfferedIn (footpath_secs T.footpaths p q) m x) (λ q x. IsOfferedIn (secs_to q) m x)
         (λ q x h. onto q x h) (λ q x h. back q x h (same_or_not q p))
-        (Takes-then xs ys zs (λ q x. (q ≡ p) × IsOfferedIn own m x) (λ q x. IsOfferedIn (footpath_secs T p q) m x) t u)
+        (Takes-then xs ys zs (λ q x. (q ≡ p) × IsOfferedIn own m x) (λ q x. IsOfferedIn (footpath_secs T.footpaths p q) m x) t u)
       where
         same_or_not : (a b : ℕ) → (a ≡ b) ⊎ (a ≡ b → ⊥)
         same_or_not a b = grind arith
 
-        onto : (q : ℕ) (x : Label) → ((q ≡ p) × IsOfferedIn own m x) ⊎ IsOfferedIn (footpath_secs T p q) m x → IsOfferedIn (secs_to q) m x
+        onto : (q : ℕ) (x : Label) → ((q ≡ p) × IsOfferedIn own m x) ⊎ IsOfferedIn (footpath_secs T.footpaths p q) m x → IsOfferedIn (secs_to q) m x
         onto q x (inl h) = subst (λ o. IsOfferedIn o m x) (sym (ap secs_to h.0 ∙ here)) h.1
         onto q x (inr h) =
-            let s = some_and (λ s. x ≡ later m s) (footpath_secs T p q) h in
-            subst (λ o. IsOfferedIn o m x) (sym (there q (λ e. no_own_footpath T sound p inside s.0 (subst (λ r. footpath_secs T p r ≡ Some s.0) e s.1)))) h
+            let s = some_and (λ s. x ≡ later m s) (footpath_secs T.footpaths p q) h in
+            subst (λ o. IsOfferedIn o m x) (sym (there q (λ e. no_own_footpath T sound p inside s.0 (subst (λ r. footpath_secs T.footpaths p r ≡ Some s.0) e s.1)))) h
 
-        back : (q : ℕ) (x : Label) → IsOfferedIn (secs_to q) m x → (q ≡ p) ⊎ (q ≡ p → ⊥) → ((q ≡ p) × IsOfferedIn own m x) ⊎ IsOfferedIn (footpath_secs T p q) m x
+        back : (q : ℕ) (x : Label) → IsOfferedIn (secs_to q) m x → (q ≡ p) ⊎ (q ≡ p → ⊥) → ((q ≡ p) × IsOfferedIn own m x) ⊎ IsOfferedIn (footpath_secs T.footpaths p q) m x
         back q x h (inl e) = inl (e, subst (λ o. IsOfferedIn o m x) (ap secs_to e ∙ here) h)
         back q x h (inr far) = inr (subst (λ o. IsOfferedIn o m x) (there q far) h)
 
@@ -61,7 +61,7 @@ walk-own T p = by_test (p == p) (same p)
     same : (a : ℕ) → (a == a) ≡ true
     same a = grind arith
 
-    by_test : (b : Bool) → b ≡ true → cond b (Some 0) (footpath_secs T p p) ≡ Some 0
+    by_test : (b : Bool) → b ≡ true → cond b (Some 0) (footpath_secs T.footpaths p p) ≡ Some 0
     by_test true e = refl
     by_test false e = cc
 
@@ -72,11 +72,11 @@ by_test : (b : Bool) (x y : Option ℕ) → b ≡ false → cond b x y ≡ y
 by_test false x y e = refl
 by_test true x y e = cc
 
-pub walk-other : (T : TimetableData) (p q : ℕ) → (q ≡ p → ⊥) → walk T p q ≡ footpath_secs T p q
-walk-other T p q far = by_test (p == q) (Some 0) (footpath_secs T p q) (differ p q far)
+pub walk-other : (T : TimetableData) (p q : ℕ) → (q ≡ p → ⊥) → walk T p q ≡ footpath_secs T.footpaths p q
+walk-other T p q far = by_test (p == q) (Some 0) (footpath_secs T.footpaths p q) (differ p q far)
 
-pub change-other : (T : TimetableData) (p q : ℕ) → (q ≡ p → ⊥) → change T p q ≡ footpath_secs T p q
-change-other T p q far = by_test (p == q) (change_time T p) (footpath_secs T p q) (differ p q far)
+pub change-other : (T : TimetableData) (p q : ℕ) → (q ≡ p → ⊥) → change T p q ≡ footpath_secs T.footpaths p q
+change-other T p q far = by_test (p == q) (change_time T.footpaths p) (footpath_secs T.footpaths p q) (differ p q far)
 
 pub later-zero : (m l : Label) → l ≡ m → l ≡ later m 0
 later-zero m l e = subst (λ x. x ≡ later m 0) (sym e) (same m.time (m.time +ℤ pos 0) m.ride (zero_more m.time))

@@ -3,11 +3,11 @@ use Rattle.std.proofs.Common.{◌≡◌, ℕ, suc, ◌<◌, ◌≤◌, ◌⊎◌
 use Rattle.std.specs.Prelude.{slice_get, IsSomeAnd, IfSome}
 use Rattle.std.proofs.lemmas.Int.{ints}
 use Rattle.std.proofs.lemmas.Option.{slice_get_within}
+use Rattle.std.proofs.lemmas.List.{get_or_past}
 use Rattle.tb_base.specs.TimetableData.{TimetableData}
 use Rattle.tb_base.specs.Walking.{walk, change}
 use Rattle.tb_base.specs.Journeys.{Ride, boarding_stop, boarding_time, alighting_stop, alighting_time}
 use Rattle.tb_base.specs.BestValues.{QueryData}
-use Rattle.tb_base.proofs.Events.{get_or-past}
 use Rattle.tb_laws.proofs.CandidateLaws.{some_and, and_some}
 use Rattle.plain_rounds.specs.declared.arrivals.Arrivals.{Arrivals}
 use Rattle.plain_rounds.specs.declared.arrivals.Step.{Step}
@@ -43,7 +43,7 @@ label_inside labels p l h = by_case (inside_or_past p (length labels))
 
     by_case : (p < length labels) ⊎ (length labels ≤ p) → p < length labels
     by_case (inl k) = k
-    by_case (inr k) = let none : label_at labels p ≡ None = get_or-past labels p None k in absurd (let no : None ≡ Some l = sym none ∙ h in cc)
+    by_case (inr k) = let none : label_at labels p ≡ None = get_or_past labels p None k in absurd (let no : None ≡ Some l = sym none ∙ h in cc)
 
 -- a trace stays one where steps are added
 pub trace-grown : (old new : List Step) → ((n : ℕ) (s : Step) → slice_get old n ≡ Some s → slice_get new n ≡ Some s) → (back : List Ride) (o : Option ℕ) → IsTrace old back o → IsTrace new back o

@@ -20,7 +20,7 @@ no_path = record { to = 0; secs = 0 }
 abbrev pub LeavesBy : TimetableData → Path → ℤ → Type 0
 LeavesBy T path n = DepartsAt T path.to (n +ℤ pos path.secs)
 
-module _ (T : TimetableData) (origin : ℕ) (paths : List Path) (row : slice_get T.paths origin ≡ Some paths)
+module _ (T : TimetableData) (origin : ℕ) (paths : List Path) (row : slice_get T.footpaths.paths origin ≡ Some paths)
     (ascending : AllPairs (λ (f g : Path). f.to < g.to) paths) (sound : All (IsSoundPath (length T.stops) origin) paths) where
   -- who departs at the origin, or behind a path from it, leaves it then
   pub leaves : (n : ℤ) → DepartsAt T origin (n +ℤ pos 0) ⊎ ((k : ℕ) × (k < length paths) × LeavesBy T (get_or paths k no_path) n) → LeavesFor T origin n

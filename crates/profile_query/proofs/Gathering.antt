@@ -170,7 +170,7 @@ lines_gathered N W path divided count old times all joined =
     joined
 
 -- those of an origin and of the paths from it are those at which one leaves it
-pub paths_gathered : (T : TimetableData) (W : WindowData) (origin : ℕ) (paths : List Path) → slice_get T.paths origin ≡ Some paths → AllPairs (λ (f g : Path). f.to < g.to) paths → All (IsSoundPath (length T.stops) origin) paths → (count : ℕ) (old times : List ℤ) → count ≡ length paths →
+pub paths_gathered : (T : TimetableData) (W : WindowData) (origin : ℕ) (paths : List Path) → slice_get T.footpaths.paths origin ≡ Some paths → AllPairs (λ (f g : Path). f.to < g.to) paths → All (IsSoundPath (length T.stops) origin) paths → (count : ℕ) (old times : List ℤ) → count ≡ length paths →
     HaveJoined (λ n. (IsWithin W n × DepartsAt T origin (n +ℤ pos 0)) ⊎ ((k : ℕ) × (k < count) × (IsWithin W n × LeavesBy T (get_or paths k no_path) n))) old times → HaveJoined (λ n. IsWithin W n × LeavesFor T origin n) old times
 paths_gathered T W origin paths row ascending sound count old times all joined =
     joined_same (λ n. (IsWithin W n × DepartsAt T origin (n +ℤ pos 0)) ⊎ ((k : ℕ) × (k < count) × (IsWithin W n × LeavesBy T (get_or paths k no_path) n))) (λ n. IsWithin W n × LeavesFor T origin n) old times

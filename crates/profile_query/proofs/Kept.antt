@@ -6,17 +6,17 @@ use Rattle.std.proofs.lemmas.Int.{ints}
 use Rattle.std.proofs.lemmas.Bool.Decides.{nat_tests}
 use Rattle.std.proofs.lemmas.List.{get_or_default}
 use Rattle.std.proofs.lemmas.List.Elements.{All-contains, Contains-append_cases}
+use Rattle.std.proofs.lemmas.Bool.{and_parts}
 use Rattle.tb_base.specs.declared.query.Value.{Value}
 use Rattle.tb_base.specs.TimetableData.{TimetableData}
 use Rattle.tb_base.specs.BestValues.{QueryData, IsAttained, IsBest, IsNoWorse, IsStep}
 use Rattle.tb_base.proofs.Ordered.{Member, Member-from_Contains}
 use Rattle.tb_laws.specs.Pruning.{IsLate}
-use Rattle.tb_base.proofs.Members.{both_true}
 use Rattle.profile_query.specs.Slots.{AreFound, is_kept, is_no_worse}
 
 -- what the test says
 no_worse_is : (u v : Value) → is_no_worse u v ≡ true → IsNoWorse u v
-no_worse_is u v h = let p = both_true (int_le u.arrive v.arrive) (nat_le u.rides v.rides) h in (at_most _ _ p.0, below _ _ p.1)
+no_worse_is u v h = let p = and_parts (int_le u.arrive v.arrive) (nat_le u.rides v.rides) h in (at_most _ _ p.0, below _ _ p.1)
   where
     at_most : (a b : ℤ) → int_le a b ≡ true → a ≤ℤ b
     at_most a b h = grind (arith, ints, h)
@@ -38,7 +38,7 @@ is_no_worse-from u v h = both (int_le u.arrive v.arrive) (nat_le u.rides v.rides
 
 -- what is kept has a ride, and none of the later ones is no worse
 pub kept_has_ride : (later : List Value) (v : Value) → is_kept later v ≡ true → 0 < v.rides
-kept_has_ride later v h = below (both_true (nat_lt 0 v.rides) (not (list_any (λ u. is_no_worse u v) later)) h).0
+kept_has_ride later v h = below (and_parts (nat_lt 0 v.rides) (not (list_any (λ u. is_no_worse u v) later)) h).0
   where
     below : nat_lt 0 v.rides ≡ true → 0 < v.rides
     below k = grind (arith, nat_tests, k)
@@ -65,7 +65,7 @@ any_is (x ∷ xs) v h = by_test (any_is xs v) (is_no_worse x v) refl h
 
 pub kept_beaten_by_none : (later : List Value) (u v : Value) → is_kept later v ≡ true → Contains later u → IsNoWorse u v → ⊥
 kept_beaten_by_none later u v h c le =
-    clash (list_any (λ u. is_no_worse u v) later) (any_from later u v (Member-from_Contains u later c) (is_no_worse-from u v le)) (both_true (nat_lt 0 v.rides) (not (list_any (λ u. is_no_worse u v) later)) h).1
+    clash (list_any (λ u. is_no_worse u v) later) (any_from later u v (Member-from_Contains u later c) (is_no_worse-from u v le)) (and_parts (nat_lt 0 v.rides) (not (list_any (λ u. is_no_worse u v) later)) h).1
   where
     clash : (b : Bool) → b ≡ true → not b ≡ true → ⊥
     clash b g k = cc

@@ -2,7 +2,7 @@
 use Rattle.std.proofs.Common.{◌≡◌, ◌∙◌, ℕ, zero, suc, ◌<◌, ◌≤◌, ◌==◌, ◌⊎◌, inl, inr, List, [], ◌∷◌, ◌++◌, Bool, true, false, cond, length, map, refl, sym, ap, subst, arith}
 use Rattle.std.specs.Prelude.{All, filter, flat_map}
 use Rattle.std.proofs.lemmas.Bool.Decides.{nat_tests}
-use Rattle.std.proofs.lemmas.List.{append-nil, map-append}
+use Rattle.std.proofs.lemmas.List.{append-nil, map-append, get_or_past}
 use Rattle.std.proofs.lemmas.List.FromFn.{get_or-map-range_with_len, length-map-range_with_len}
 use Rattle.std.proofs.lemmas.List.Elements.{filter-append}
 use Rattle.tb_base.specs.declared.transfer.Hop.{Hop}
@@ -13,7 +13,7 @@ use Rattle.tb_base.specs.OutSets.{AreRowsOf, IsTransferOf, hops_at, row_of}
 use Rattle.tb_base.specs.Soundness.{IsSound}
 use Rattle.tb_base.specs.Sufficiency.{AreSufficient}
 use Rattle.tb_base.specs.Transfers.{kept_hops, numbers_down, transfers_of}
-use Rattle.tb_base.proofs.Events.{MayAlight-inside, MayBoard-inside, get_or-past}
+use Rattle.tb_base.proofs.Events.{MayAlight-inside, MayBoard-inside}
 use Rattle.tb_base.proofs.Ordered.{Member, Contains-from_Member}
 use Rattle.tb_base.proofs.Members.{Member-flat_map_back}
 use Rattle.tb_laws.proofs.KeptLaws.{kept_hops_sufficient}
@@ -99,7 +99,7 @@ module _ (T : TimetableData) (hops : ℕ → ℕ → List Hop) (enough : AreSuff
       by_trip (inl k) = ap (λ row. hops_at row i) (row_at T hops (length T.trips) t k) ∙ by_event (inside_or_past i (length (events_of T t)))
       by_trip (inr k) =
           let within : length (rows_from T hops 0 (length T.trips)) ≤ t = omega (arith, k, length-all_rows T hops (length T.trips)) in
-          ap (λ row. hops_at row i) (get_or-past (rows_from T hops 0 (length T.trips)) t [] within) ∙ sym (no_such_event t i (λ a b. omega (arith, a, k)))
+          ap (λ row. hops_at row i) (get_or_past (rows_from T hops 0 (length T.trips)) t [] within) ∙ sym (no_such_event t i (λ a b. omega (arith, a, k)))
 
   -- they are transfers from the events of their trips
   pub are_rows : AreRowsOf T (rows_from T hops 0 (length T.trips))

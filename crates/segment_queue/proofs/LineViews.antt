@@ -4,13 +4,13 @@ use Rattle.std.specs.Prelude.{All, filter, flat_map, fold, slice_get, sum_by}
 use Rattle.std.specs.List.{concat}
 use Rattle.std.specs.Option.{option_map}
 use Rattle.std.proofs.lemmas.Grind.{flat_map-append}
-use Rattle.std.proofs.lemmas.List.{get_or-map, length-map, map-append, take_all, take_more}
+use Rattle.std.proofs.lemmas.List.{get_or-map, length-map, length_push, map-append, take_all, take_more}
 use Rattle.std.proofs.lemmas.Simd.{map-map}
 use Rattle.std.proofs.lemmas.List.Elements.{All-cons, All-head, All-nil, All-tail}
 use Rattle.std.proofs.lemmas.List.Sums.{sum_by-append, sum_by-cons}
 use Rattle.std.proofs.lemmas.Option.{get_or_from_slice_get, slice_get_read}
 use Rattle.tb_base.specs.TimetableData.{TimetableData, event_total, events_of, stop_at}
-use Rattle.tb_base.specs.Lines.{AreDividedInto, AreLines, last_trip, may_follow, place_trip}
+use Rattle.tb_base.specs.Lines.{AreDividedInto, AreLines, may_join, place_trip}
 use Rattle.tb_base.specs.Transfers.{earliest_trip, line_from, may_be_boarded, numbers_below}
 use Rattle.tb_base.proofs.Ordered.{Member, AllPairs-tail}
 use Rattle.tb_base.proofs.Members.{Member-left, Member-right, Member-filter_back, Member-flat_map_back, Member-numbers_below}
@@ -26,11 +26,10 @@ IsNonempty line = 0 < length line
 
 place_nonempty : (T : TimetableData) (lines : List (List ℕ)) (t : ℕ) → All IsNonempty lines → All IsNonempty (place_trip T lines t)
 place_nonempty T [] t all = All-cons IsNonempty (t ∷ []) [] (omega arith) (All-nil IsNonempty)
-place_nonempty T ([] ∷ ls) t all = absurd (let h : IsNonempty [] = All-head IsNonempty [] ls all in omega (arith, h))
-place_nonempty T ((u ∷ us) ∷ ls) t all =
-    elim (may_follow (events_of T (last_trip u us)) (events_of T t)) as (λ b. All IsNonempty (cond b (((u ∷ us) ++ t ∷ []) ∷ ls) ((u ∷ us) ∷ place_trip T ls t))) [
-      | true ↦ All-cons IsNonempty ((u ∷ us) ++ t ∷ []) ls (omega arith) (All-tail IsNonempty (u ∷ us) ls all)
-      | false ↦ All-cons IsNonempty (u ∷ us) (place_trip T ls t) (omega arith) (place_nonempty T ls t (All-tail IsNonempty (u ∷ us) ls all))
+place_nonempty T (line ∷ ls) t all =
+    elim (may_join T line t) as (λ b. All IsNonempty (cond b ((line ++ t ∷ []) ∷ ls) (line ∷ place_trip T ls t))) [
+      | true ↦ All-cons IsNonempty (line ++ t ∷ []) ls (omega (arith, length_push line t)) (All-tail IsNonempty line ls all)
+      | false ↦ All-cons IsNonempty line (place_trip T ls t) (All-head IsNonempty line ls all) (place_nonempty T ls t (All-tail IsNonempty line ls all))
     ]
 
 fold_nonempty : (T : TimetableData) (lines : List (List ℕ)) (order : List ℕ) → All IsNonempty lines → All IsNonempty (fold (place_trip T) lines order)

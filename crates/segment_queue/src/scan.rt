@@ -45,7 +45,7 @@ pub trait Scan {
     /// The footpaths that leave a stop, by the numbers of the stops that they lead to.
     fn walks(&self, p: StopNo) -> &[Path]
         requires { p < length (net self.now).table.stops }
-        ensures paths { slice_get (net self.now).table.paths p ≡ Some result.now }
+        ensures paths { slice_get (net self.now).table.footpaths.paths p ≡ Some result.now }
         ensures sound { All (IsSoundPath (length (net self.now).table.stops) p) result.now }
         ensures ascending { AllPairs (λ f g. f.to < g.to) result.now };
 

@@ -48,7 +48,7 @@ impl<'a, O: OutSet> View<'a, O> {
     /// The footpaths that leave a stop, for as long as the timetable is lent.
     pub fn paths_from(&self, p: StopNo) -> &'a [Path]
         requires { p < length self.now.0.stops }
-        ensures paths { slice_get self.now.0.paths p ≡ Some result.now }
+        ensures paths { slice_get self.now.0.footpaths.paths p ≡ Some result.now }
         ensures sound { All (IsSoundPath (length self.now.0.stops) p) result.now }
         ensures ascending { AllPairs (λ f g. f.to < g.to) result.now }
     {

@@ -3,20 +3,13 @@ use Rattle.std.proofs.Common.{◌≡◌, ◌≢◌, ◌∙◌, sym, ap, subst, r
 use Rattle.std.specs.Prelude.{All, filter}
 use Rattle.std.proofs.lemmas.Bool.{cases_Bool}
 use Rattle.std.proofs.lemmas.Bool.Decides.{nat_tests}
-use Rattle.std.proofs.lemmas.List.{get_or-map, length-map, get_or-set_same, get_or-set_other, append-nil, map-append, map-set, take_more, length-append}
+use Rattle.std.proofs.lemmas.List.{get_or-map, get_or_push, get_or_append_left, length-map, get_or-set_same, get_or-set_other, append-nil, map-append, take_more, length-append}
 use Rattle.std.proofs.lemmas.List.Elements.{filter-append}
 use Rattle.tb_base.specs.declared.transfer.Hop.{Hop}
 use Rattle.tb_base.specs.declared.transfer.Transfer.{Transfer}
 use Rattle.tb_base.specs.TimetableData.{TimetableData, events_of}
 use Rattle.tb_base.specs.OutSets.{AreRowsOf, hops_at, row_of}
-use Rattle.tb_base.proofs.Placed.{get_or-left}
-
--- a list among lists gets one more element
-pub list_added : {A V : Type 0} (f : V → List A) (lists : List V) (i : ℕ) (list new : V) (x : A) → i < length lists → list ≡ get_or lists i list → f new ≡ f list ++ x ∷ []
-    → map f (set lists i new) ≡ set (map f lists) i (get_or (map f lists) i [] ++ x ∷ [])
-list_added f lists i list new x h r e =
-    let at : get_or (map f lists) i [] ≡ f list = get_or-map f lists i list [] h ∙ ap f (sym r) in
-    rw at (map-set f lists i new ∙ ap (set (map f lists) i) e)
+use Rattle.tb_base.proofs.NumberFacts.{below_or_at}
 
 -- the hop of a transfer
 abbrev pub hop_of : Transfer → Hop
@@ -49,33 +42,26 @@ pub record AreListed (T : TimetableData) (rows : List (List Transfer)) (n : ℕ)
   pub events : (t : ℕ) → t < n → length (get_or trips t []) ≡ length (events_of T t)
   pub hops : (t : ℕ) → t < n → (i : ℕ) → get_or (get_or trips t []) i [] ≡ hops_at (row_of rows t) i
 
-last_one : {X : Type 0} (xs : List X) (y d : X) → get_or (xs ++ y ∷ []) (length xs) d ≡ y
-last_one [] y d = refl
-last_one (x ∷ xs) y d = last_one xs y d
-
-before_or_last : (t n : ℕ) → t < n + 1 → (t < n) ⊎ (t ≡ n)
-before_or_last t n h = grind (arith, h)
-
 -- one trip more
 pub trip_listed : (T : TimetableData) (rows : List (List Transfer)) (n : ℕ) (trips new : List (List (List Hop))) (lists : List (List Hop)) → AreListed T rows n trips → length lists ≡ length (events_of T n)
     → ((i : ℕ) → get_or lists i [] ≡ hops_at (row_of rows n) i) → new ≡ trips ++ lists ∷ [] → AreListed T rows (n + 1) new
 trip_listed T rows n trips new lists listed long hops e = record {
   long = ap length e ∙ (length-append trips (lists ∷ []) ∙ ap (λ k. k + 1) listed.long);
-  events = λ t below. elim (before_or_last t n below) [
+  events = λ t below. elim (below_or_at t n below) [
     | inl h ↦ ap length (left t h) ∙ listed.events t h
     | inr is ↦ ap length (right t is) ∙ (long ∙ ap (λ k. length (events_of T k)) (sym is))
   ];
-  hops = λ t below i. elim (before_or_last t n below) [
+  hops = λ t below i. elim (below_or_at t n below) [
     | inl h ↦ ap (λ (ls : List (List Hop)). get_or ls i []) (left t h) ∙ listed.hops t h i
     | inr is ↦ ap (λ (ls : List (List Hop)). get_or ls i []) (right t is) ∙ (hops i ∙ ap (λ k. hops_at (row_of rows k) i) (sym is))
   ];
 }
   where
     left : (t : ℕ) → t < n → get_or new t [] ≡ get_or trips t []
-    left t h = (let inside : t < length trips = omega (arith, h, listed.long) in ap (λ (ls : List (List (List Hop))). get_or ls t []) e ∙ get_or-left trips (lists ∷ []) t [] inside)
+    left t h = (let inside : t < length trips = omega (arith, h, listed.long) in ap (λ (ls : List (List (List Hop))). get_or ls t []) e ∙ get_or_append_left trips (lists ∷ []) [] t inside)
 
     right : (t : ℕ) → t ≡ n → get_or new t [] ≡ lists
-    right t is = ap (λ (ls : List (List (List Hop))). get_or ls t []) e ∙ (ap (λ k. get_or (trips ++ lists ∷ []) k []) (is ∙ sym listed.long) ∙ last_one trips lists [])
+    right t is = ap (λ (ls : List (List (List Hop))). get_or ls t []) e ∙ get_or_push trips lists [] t (listed.long ∙ sym is)
 
 -- the transfers of a trip are from its events
 pub from_events : (T : TimetableData) (rows : List (List Transfer)) (t n : ℕ) (row : List Transfer) → AreRowsOf T rows → t < length T.trips → row ≡ row_of rows t → n ≡ length (events_of T t) → All (λ r. r.at < n) row

@@ -1,23 +1,12 @@
--- Names and their places in lists that are mapped.
-use Rattle.std.proofs.Common.{◌≡◌, ◌≢◌, ◌∙◌, sym, ap, refl, ℕ, zero, suc, ◌+◌, ◌<◌, List, [], ◌∷◌, ◌++◌, length, get_or, map, Bool, false, not, ◌||◌, cond, inl, inr, arith, take}
-use Rattle.std.specs.Prelude.{position, bytes_eq, AllPairs}
-use Rattle.std.specs.List.{list_any, prefix_len}
+-- Names that differ, and whether one is among others.
+use Rattle.std.proofs.Common.{◌≡◌, ◌≢◌, ◌∙◌, sym, ap, refl, ℕ, zero, suc, ◌+◌, ◌<◌, List, [], ◌∷◌, ◌++◌, length, get_or, map, false, cond, inl, inr, arith, take}
+use Rattle.std.specs.Prelude.{bytes_eq, AllPairs}
+use Rattle.std.specs.List.{list_any}
 use Rattle.std.proofs.lemmas.Bool.{cases_Bool}
 use Rattle.std.proofs.lemmas.List.{length-map, get_or-map, map-append, map_more}
 use Rattle.tb_base.proofs.Ordered.{AllPairs-tail}
+use Rattle.tb_base.proofs.Lists.{list_any-over_map}
 use Rattle.std.proofs.lemmas.Slice.Eq.{bytes_eq-Decides}
-
-prefix_len-map : {X Y : Type 0} (p : Y → Bool) (f : X → Y) (xs : List X) → prefix_len p (map f xs) ≡ prefix_len (λ x. p (f x)) xs
-prefix_len-map p f [] = refl
-prefix_len-map p f (x ∷ xs) = ap (λ n. cond (p (f x)) (1 + n) 0) (prefix_len-map p f xs)
-
--- the first place in a mapped list
-pub position-map : {X Y : Type 0} (p : Y → Bool) (f : X → Y) (xs : List X) → position p (map f xs) ≡ position (λ x. p (f x)) xs
-position-map p f xs = rw (prefix_len-map (λ y. not (p y)) f xs, length-map xs f) refl
-
-pub list_any-over_map : {X Y : Type 0} (p : Y → Bool) (f : X → Y) (xs : List X) → list_any p (map f xs) ≡ list_any (λ x. p (f x)) xs
-list_any-over_map p f [] = refl
-list_any-over_map p f (x ∷ xs) = ap (λ b. p (f x) || b) (list_any-over_map p f xs)
 
 other_name : (m n : List ℕ) → m ≢ n → bytes_eq m n ≡ false
 other_name m n apart =

@@ -1,9 +1,10 @@
 -- A search in a list that ascends by a number finds what `find` finds.
-use Rattle.std.proofs.Common.{◌≡◌, ◌≢◌, ℕ, zero, suc, ◌<◌, ◌≤◌, ◌==◌, ◌⊎◌, ⊎_elim, true, false, cond, List, [], ◌∷◌, length, get_or, Some, None, find, arith, ap, ◌∙◌}
+use Rattle.std.proofs.Common.{◌≡◌, ◌≢◌, ℕ, zero, suc, ◌<◌, ◌≤◌, ◌==◌, ⊎_elim, true, false, cond, List, [], ◌∷◌, length, get_or, Some, None, find, arith, ap, ◌∙◌}
 use Rattle.std.specs.Prelude.{AllPairs}
 use Rattle.std.specs.List.Sorted.{IsNonDecreasingBy, IsPartitionPoint}
 use Rattle.std.specs.Ordering.{nat_cmp, ordering_index}
 use Rattle.std.specs.declared.cmp.Ordering.TheVariants.{Less, Equal, Greater}
+use Rattle.std.proofs.lemmas.Bool.{cases_lt}
 use Rattle.std.proofs.lemmas.Bool.Decides.{nat_tests}
 use Rattle.tb_base.proofs.Ordered.{AllPairs-tail}
 
@@ -18,9 +19,6 @@ greater_number m n h = grind (arith, nat_tests, h)
 
 higher : (m n q : ℕ) → m ≤ n → ordering_index (nat_cmp m q) ≤ ordering_index (nat_cmp n q)
 higher m n q le = grind (arith, nat_tests, le)
-
-below_or_not : (m n : ℕ) → (m < n) ⊎ (n ≤ m)
-below_or_not m n = grind arith
 
 module _ {X : Type 0} (number : X → ℕ) where
   pub found_at : (q : ℕ) (xs : List X) (i : ℕ) (d : X) → AllPairs (λ x y. number x < number y) xs → i < length xs → nat_cmp (number (get_or xs i d)) q ≡ Equal → find (λ x. number x == q) xs ≡ Some (get_or xs i d)
@@ -44,7 +42,7 @@ module _ {X : Type 0} (number : X → ℕ) where
 
   rising : (q : ℕ) (xs : List X) → AllPairs (λ x y. number x < number y) xs → IsNonDecreasingBy (λ x. ordering_index (nat_cmp (number x) q)) xs
   rising q xs up i j d le inside =
-      higher (number (get_or xs i d)) (number (get_or xs j d)) q (⊎_elim (λ (l : i < j). let r : number (get_or xs i d) < number (get_or xs j d) = up i j d l inside in omega arith) (λ (l : j ≤ i). let e : i ≡ j = omega arith in same_place e) (below_or_not i j))
+      higher (number (get_or xs i d)) (number (get_or xs j d)) q (⊎_elim (λ (l : i < j). let r : number (get_or xs i d) < number (get_or xs j d) = up i j d l inside in omega arith) (λ (l : j ≤ i). let e : i ≡ j = omega arith in same_place e) (cases_lt i j))
     where
       same_place : i ≡ j → number (get_or xs i d) ≤ number (get_or xs j d)
       same_place e = (let s : number (get_or xs i d) ≡ number (get_or xs j d) = ap (λ k. number (get_or xs k d)) e in omega arith)
@@ -54,4 +52,4 @@ module _ {X : Type 0} (number : X → ℕ) where
       → find (λ x. number x == q) xs ≡ None
   not_found q xs i up parted =
       let parts = parted (rising q xs up) in
-      absent q xs (λ k d h. ⊎_elim (λ (l : k < i). lesser_number _ q (parts.0 k d (omega arith) l)) (λ (l : i ≤ k). greater_number _ q (parts.1 k d l h)) (below_or_not k i))
+      absent q xs (λ k d h. ⊎_elim (λ (l : k < i). lesser_number _ q (parts.0 k d (omega arith) l)) (λ (l : i ≤ k). greater_number _ q (parts.1 k d l h)) (cases_lt k i))

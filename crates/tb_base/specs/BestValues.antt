@@ -13,7 +13,8 @@ pub record QueryData : Type 0 where
 
 -- the arrival and the number of rides of a journey
 abbrev pub value_of : TimetableData → ℤ → Journey → Value
-value_of T asked j = record { arrive = arrival T asked j.origin j.rides j.target; rides = length j.rides }
+value_of T asked j =
+    record { arrive = arrival T asked j.origin j.rides j.target; rides = length j.rides }
 
 -- a journey that the query allows, with its value
 pub record HasValue (T : TimetableData) (Q : QueryData) (j : Journey) (v : Value) : Type 0 where

@@ -19,15 +19,20 @@ walk_legs T p q = if p == q then [] else WalkLeg p q (unwrap_or (walk T p q) 0) 
 -- the legs behind a ride, on to the target
 abbrev pub legs_after : TimetableData → Ride → List Ride → ℕ → List Leg
 legs_after T r [] target = walk_legs T (alighting_stop T r) target
-legs_after T r (s ∷ rest) target = walk_legs T (alighting_stop T r) (boarding_stop T s) ++ RideLeg s.trip s.board s.alight ∷ legs_after T s rest target
+legs_after T r (s ∷ rest) target =
+    walk_legs T (alighting_stop T r) (boarding_stop T s)
+    ++ RideLeg s.trip s.board s.alight ∷ legs_after T s rest target
 
 -- the legs that spell a journey
 abbrev pub legs_of : TimetableData → ℕ → List Ride → ℕ → List Leg
 legs_of T origin [] target = walk_legs T origin target
-legs_of T origin (r ∷ rest) target = walk_legs T origin (boarding_stop T r) ++ RideLeg r.trip r.board r.alight ∷ legs_after T r rest target
+legs_of T origin (r ∷ rest) target =
+    walk_legs T origin (boarding_stop T r)
+    ++ RideLeg r.trip r.board r.alight ∷ legs_after T r rest target
 
 -- the legs spell a journey that the query allows, with this value
-pub record SpellValue (T : TimetableData) (Q : QueryData) (legs : List Leg) (v : Value) : Type 0 where
+pub record SpellValue (T : TimetableData) (Q : QueryData) (legs : List Leg)
+    (v : Value) : Type 0 where
   pub by : Journey
   pub has : HasValue T Q by v
   pub spelt : legs ≡ legs_of T by.origin by.rides by.target
@@ -37,7 +42,8 @@ abbrev pub SpellJourney : TimetableData → QueryData → List Leg → Type 0
 SpellJourney T Q legs = (v : Value) × SpellValue T Q legs v
 
 -- the legs spell a journey that has the slot
-pub record SpellSlot (T : TimetableData) (W : WindowData) (legs : List Leg) (slot : Slot) : Type 0 where
+pub record SpellSlot (T : TimetableData) (W : WindowData) (legs : List Leg)
+    (slot : Slot) : Type 0 where
   pub by : IsOffered T W slot
   pub spelt : legs ≡ legs_of T by.origin (by.first ∷ by.rest) by.target
 
@@ -61,7 +67,7 @@ IsOnFoot (RideLeg t b i) = ⊥
 
 -- a walk leg is a footpath to another stop, with its seconds
 abbrev pub IsFootpathLeg : TimetableData → Leg → Type 0
-IsFootpathLeg T (WalkLeg p q secs) = (p ≢ q) × (footpath_secs T p q ≡ Some secs)
+IsFootpathLeg T (WalkLeg p q secs) = (p ≢ q) × (footpath_secs T.footpaths p q ≡ Some secs)
 IsFootpathLeg T (RideLeg t b i) = ⊤
 
 abbrev pub BoardsAllowed : TimetableData → Leg → Type 0
@@ -72,14 +78,16 @@ abbrev pub AlightsAllowed : TimetableData → Leg → Type 0
 AlightsAllowed T (WalkLeg p q secs) = ⊤
 AlightsAllowed T (RideLeg t b i) = MayAlight T t i
 
--- Below, a leg stands behind the previous leg, and that behind an earlier one, where there are such legs.
+-- Below, a leg stands behind the previous leg, and that behind an earlier one, where there are
+-- such legs.
 
 -- the first ride leaves no earlier than asked
 abbrev pub LeavesInTime : TimetableData → ℤ → Option Leg → Option Leg → Leg → Type 0
 LeavesInTime T asked previous earlier (WalkLeg p q secs) = ⊤
 LeavesInTime T asked None earlier (RideLeg t b i) = asked ≤ℤ departure_at T t b
 LeavesInTime T asked (Some (RideLeg s a e)) earlier (RideLeg t b i) = ⊤
-LeavesInTime T asked (Some (WalkLeg p q secs)) None (RideLeg t b i) = asked ≤ℤ (departure_at T t b -ℤ pos secs)
+LeavesInTime T asked (Some (WalkLeg p q secs)) None (RideLeg t b i) =
+    asked ≤ℤ (departure_at T t b -ℤ pos secs)
 LeavesInTime T asked (Some (WalkLeg p q secs)) (Some leg) (RideLeg t b i) = ⊤
 
 -- a ride behind an earlier ride leaves no earlier than the change allows
@@ -87,10 +95,12 @@ abbrev pub ChangesInTime : TimetableData → Option Leg → Option Leg → Leg �
 ChangesInTime T previous earlier (WalkLeg p q secs) = ⊤
 ChangesInTime T None earlier (RideLeg t b i) = ⊤
 ChangesInTime T (Some (RideLeg s a e)) earlier (RideLeg t b i) =
-    IsSomeAnd (change T (stop_at T s e) (stop_at T t b)) (λ secs. (arrival_at T s e +ℤ pos secs) ≤ℤ departure_at T t b)
+    IsSomeAnd (change T (stop_at T s e) (stop_at T t b))
+    (λ secs. (arrival_at T s e +ℤ pos secs) ≤ℤ departure_at T t b)
 ChangesInTime T (Some (WalkLeg p q secs)) None (RideLeg t b i) = ⊤
 ChangesInTime T (Some (WalkLeg p q secs)) (Some (WalkLeg u v w)) (RideLeg t b i) = ⊤
-ChangesInTime T (Some (WalkLeg p q secs)) (Some (RideLeg s a e)) (RideLeg t b i) = (arrival_at T s e +ℤ pos secs) ≤ℤ departure_at T t b
+ChangesInTime T (Some (WalkLeg p q secs)) (Some (RideLeg s a e)) (RideLeg t b i) =
+    (arrival_at T s e +ℤ pos secs) ≤ℤ departure_at T t b
 
 -- a walk doesn't follow a walk
 abbrev pub FollowsNoWalk : Option Leg → Leg → Type 0
@@ -113,7 +123,8 @@ EndsAtTarget T targets leg [] = Contains targets (end_of T leg)
 EndsAtTarget T targets leg (next ∷ after) = ⊤
 
 -- what a rule asks of a leg, with the legs behind it
-abbrev pub KeepsRule : TimetableData → QueryData → Option Leg → Option Leg → Leg → List Leg → Rule → Type 0
+abbrev pub KeepsRule : TimetableData → QueryData → Option Leg → Option Leg → Leg → List Leg →
+    Rule → Type 0
 KeepsRule T Q previous earlier leg after BadNumber = HasNumbers T leg
 KeepsRule T Q previous earlier leg after TwoWalks = FollowsNoWalk previous leg
 KeepsRule T Q previous earlier leg after NoWalk = IsFootpathLeg T leg
@@ -128,7 +139,9 @@ KeepsRule T Q previous earlier leg after WrongEnd = EndsAtTarget T Q.to leg afte
 -- the legs, which come behind the previous and the earlier one, keep all rules
 abbrev pub KeepAllRules : TimetableData → QueryData → Option Leg → Option Leg → List Leg → Type 0
 KeepAllRules T Q previous earlier [] = ⊤
-KeepAllRules T Q previous earlier (leg ∷ after) = ((rule : Rule) → KeepsRule T Q previous earlier leg after rule) × KeepAllRules T Q (Some leg) previous after
+KeepAllRules T Q previous earlier (leg ∷ after) =
+    ((rule : Rule) → KeepsRule T Q previous earlier leg after rule)
+    × KeepAllRules T Q (Some leg) previous after
 
 -- the place of a rule in the order in which they are tried
 abbrev pub rule_number : Rule → ℕ
@@ -144,15 +157,21 @@ rule_number TooLate = 9
 rule_number WrongEnd = 10
 
 -- a leg keeps the rules that are tried before this one, and breaks it
-abbrev pub BreaksRule : TimetableData → QueryData → Option Leg → Option Leg → Leg → List Leg → Rule → Type 0
+abbrev pub BreaksRule : TimetableData → QueryData → Option Leg → Option Leg → Leg → List Leg →
+    Rule → Type 0
 BreaksRule T Q previous earlier leg after rule =
-    ((r : Rule) → rule_number r < rule_number rule → KeepsRule T Q previous earlier leg after r) × (KeepsRule T Q previous earlier leg after rule → ⊥)
+    ((r : Rule) → rule_number r < rule_number rule → KeepsRule T Q previous earlier leg after r)
+    × (KeepsRule T Q previous earlier leg after rule → ⊥)
 
 -- leg n of the legs is the first that breaks a rule, and this is the first that it breaks
-abbrev pub IsFirstBroken : TimetableData → QueryData → Option Leg → Option Leg → List Leg → ℕ → Rule → Type 0
+abbrev pub IsFirstBroken : TimetableData → QueryData → Option Leg → Option Leg → List Leg → ℕ →
+    Rule → Type 0
 IsFirstBroken T Q previous earlier [] n rule = ⊥
-IsFirstBroken T Q previous earlier (leg ∷ after) zero rule = BreaksRule T Q previous earlier leg after rule
-IsFirstBroken T Q previous earlier (leg ∷ after) (suc n) rule = ((r : Rule) → KeepsRule T Q previous earlier leg after r) × IsFirstBroken T Q (Some leg) previous after n rule
+IsFirstBroken T Q previous earlier (leg ∷ after) zero rule =
+    BreaksRule T Q previous earlier leg after rule
+IsFirstBroken T Q previous earlier (leg ∷ after) (suc n) rule =
+    ((r : Rule) → KeepsRule T Q previous earlier leg after r)
+    × IsFirstBroken T Q (Some leg) previous after n rule
 
 -- no stop is both origin and target: then the empty list of legs is no journey
 abbrev pub IsJourneyless : QueryData → Type 0

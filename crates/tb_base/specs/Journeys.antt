@@ -30,9 +30,12 @@ pub record IsRide (T : TimetableData) (r : Ride) : Type 0 where
 
 -- there is a change from the end of one ride to the start of the next, and it is in time
 abbrev pub CanChange : TimetableData → Ride → Ride → Type 0
-CanChange T r s = IsSomeAnd (change T (alighting_stop T r) (boarding_stop T s)) (λ secs. (alighting_time T r +ℤ pos secs) ≤ℤ boarding_time T s)
+CanChange T r s =
+    IsSomeAnd (change T (alighting_stop T r) (boarding_stop T s))
+    (λ secs. (alighting_time T r +ℤ pos secs) ≤ℤ boarding_time T s)
 
--- after the ride r these rides lead to the target: with none left on foot, else by a change to the next
+-- after the ride r these rides lead to the target: with none left on foot, else by a change to the
+-- next
 abbrev pub LeadsOn : TimetableData → Ride → List Ride → ℕ → Type 0
 LeadsOn T r [] target = IsSome (walk T (alighting_stop T r) target)
 LeadsOn T r (s ∷ rest) target = CanChange T r s × IsRide T s × LeadsOn T s rest target
@@ -40,7 +43,8 @@ LeadsOn T r (s ∷ rest) target = CanChange T r s × IsRide T s × LeadsOn T s r
 -- the rides lead from the origin to the target; with none it is a walk
 abbrev pub Leads : TimetableData → ℕ → List Ride → ℕ → Type 0
 Leads T origin [] target = IsSome (walk T origin target)
-Leads T origin (r ∷ rest) target = IsSome (walk T origin (boarding_stop T r)) × IsRide T r × LeadsOn T r rest target
+Leads T origin (r ∷ rest) target =
+    IsSome (walk T origin (boarding_stop T r)) × IsRide T r × LeadsOn T r rest target
 
 pub record Journey : Type 0 where
   pub origin : ℕ

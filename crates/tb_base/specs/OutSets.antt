@@ -36,4 +36,5 @@ listed S t i = slice_index_or (slice_index_or S.lists t []) i []
 -- each event of the timetable has a list
 pub record FitsTable (S : ListedHops) : Type 0 where
   pub trips : length S.lists ≡ length S.table.trips
-  pub events : (t : ℕ) → t < length S.table.trips → length (slice_index_or S.lists t []) ≡ length (events_of S.table t)
+  pub events : (t : ℕ) → t < length S.table.trips →
+      length (slice_index_or S.lists t []) ≡ length (events_of S.table t)

@@ -1,4 +1,5 @@
--- The profile of a window: the best journeys with rides, by leaving time, arrival and number of rides.
+-- The profile of a window: the best journeys with rides, by leaving time, arrival and number of
+-- rides.
 use Rattle.std.specs.Prelude.{◌≡◌, ℕ, ◌<◌, ◌≤◌, ◌⊎◌, List, ◌∷◌, length, ℤ, ◌+ℤ◌, ◌≤ℤ◌, ◌<ℤ◌, All, AllPairs, Contains, Some, pos}
 use Rattle.tb_base.specs.declared.query.Leg.{Leg}
 use Rattle.tb_base.specs.declared.query.Slot.{Slot}
@@ -14,7 +15,12 @@ pub record WindowData : Type 0 where
 
 -- when a journey with rides leaves and arrives, and how many rides it has
 abbrev pub slot_of : TimetableData → ℕ → Ride → List Ride → ℕ → Slot
-slot_of T origin r rest target = record { leave = leaving_time T origin r; arrive = arrival_after T r rest target; rides = length (r ∷ rest) }
+slot_of T origin r rest target =
+    record {
+      leave = leaving_time T origin r;
+      arrive = arrival_after T r rest target;
+      rides = length (r ∷ rest);
+    }
 
 -- some journey with rides has the slot
 pub record IsOffered (T : TimetableData) (W : WindowData) (slot : Slot) : Type 0 where
@@ -22,7 +28,8 @@ pub record IsOffered (T : TimetableData) (W : WindowData) (slot : Slot) : Type 0
   pub first : Ride
   pub rest : List Ride
   pub target : ℕ
-  pub journey : IsJourney T W.from W.to (record { origin = origin; rides = first ∷ rest; target = target })
+  pub journey : IsJourney T W.from W.to
+      (record { origin = origin; rides = first ∷ rest; target = target })
   pub is : slot ≡ slot_of T origin first rest target
 
 -- a slot, and the legs of a journey
@@ -38,7 +45,9 @@ pub record IsSlotNoWorse (u v : Slot) : Type 0 where
 
 -- a walk that leaves with the slot arrives after it
 abbrev pub BeatsWalks : TimetableData → WindowData → Slot → Type 0
-BeatsWalks T W slot = (p q secs : ℕ) → Contains W.from p → Contains W.to q → walk T p q ≡ Some secs → slot.arrive <ℤ (slot.leave +ℤ pos secs)
+BeatsWalks T W slot =
+    (p q secs : ℕ) → Contains W.from p → Contains W.to q → walk T p q ≡ Some secs →
+    slot.arrive <ℤ (slot.leave +ℤ pos secs)
 
 pub record IsProfileSlot (T : TimetableData) (W : WindowData) (slot : Slot) : Type 0 where
   pub offered : IsOffered T W slot

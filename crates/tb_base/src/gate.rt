@@ -1,6 +1,7 @@
 //! Who is told of work that threads take up.
 
-/// A piece of work: a piece of the reduction, the publication of an edition, or a request of a lane. All numbers count from 0.
+/// A piece of work: a piece of the reduction, the publication of an edition, or a request of a
+/// lane. All numbers count from 0.
 #[derive(Clone, Copy, PartialEq, Eq, Debug)]
 pub enum Work {
     /// Some trips of the reduction, by the number of the piece.
@@ -11,7 +12,8 @@ pub enum Work {
     Request { lane: u32, line: u32 },
 }
 
-/// A gate is told when a thread begins a piece of work, and when it is done. It may hold the thread, and changes no answer.
+/// A gate is told when a thread begins a piece of work, and when it is done. It may hold the
+/// thread, and changes no answer.
 pub trait Gate: Sync {
     /// The work is about to begin.
     fn begin(&self, work: Work);

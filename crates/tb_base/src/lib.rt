@@ -1,10 +1,12 @@
 //! The shared types of the planner, and the definitions that the layers above cite.
 //!
-//! A timetable is one service day of a GTFS feed as the GTFS Schedule Reference describes it: stops, stations, trips with
-//! their events, change times and footpaths (transfers.txt). The definitions in specs/ say over plain lists what walks,
-//! journeys, best values, profiles, lines and transfers are; lines, transfers, U-turns and their reduction follow Witt,
-//! Trip-Based Public Transit Routing (ESA 2015). To the layers above the crate promises that each timetable is sound, and
-//! that each call answers exactly what these definitions say. All numbers of stops, trips and events count from 0.
+//! A timetable is one service day of a GTFS feed as the GTFS Schedule Reference describes it:
+//! stops, stations, trips with their events, change times and footpaths (transfers.txt). The
+//! definitions in specs/ say over plain lists what walks, journeys, best values, profiles, lines
+//! and transfers are; lines, transfers, U-turns and their reduction follow Witt, Trip-Based Public
+//! Transit Routing (ESA 2015). To the layers above the crate promises that each timetable is sound,
+//! and that each call answers exactly what these definitions say. All numbers of stops, trips and
+//! events count from 0.
 #![tactic(auto)]
 
 mod gate;
@@ -24,7 +26,7 @@ pub use gate::{Gate, IdleGate, Work};
 pub use memory::Memory;
 pub use numbers::{LineNo, Sec, StopNo, TripNo};
 pub use out_set::OutSet;
-pub use paths::path_secs;
+pub use paths::{path_secs, secs_between};
 pub use query::{Choice, Leg, Offer, Place, Query, Slot, Value, Window};
 pub use rows::Rows;
 pub use rule::{Rule, RuleBroken};

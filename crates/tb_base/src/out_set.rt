@@ -5,7 +5,8 @@ ghost use Rattle.tb_base.specs.TimetableData.{events_of};
 use super::numbers::TripNo;
 use super::transfer::Hop;
 
-/// A set of transfers: a list of hops for each event of a timetable. A user asks that the timetable is its own.
+/// A set of transfers: a list of hops for each event of a timetable. A user asks that the timetable
+/// is its own.
 pub trait OutSet {
     ghost use Rattle.std.specs.Prelude.{ℕ, List};
     ghost use Rattle.tb_base.specs.TimetableData.{TimetableData};

@@ -60,7 +60,8 @@ impl TripHops {
     // Adds a hop behind those of an event.
     fn add(&mut self, at: u32, hop: Hop) -> Result<(), Memory>
         requires { at < length self.old }
-        ensures { OnOk result (self.new ≡ set self.old at (slice_index_or self.old at [] ++ hop ∷ [])) }
+        ensures { OnOk result (self.new
+            ≡ set self.old at (slice_index_or self.old at [] ++ hop ∷ [])) }
     {
         let list = &mut self.lists[at as usize];
         match list.push(hop) {
@@ -78,8 +79,8 @@ impl TripHops {
     }
 }
 
-/// A set of transfers as it was given, trip by trip: from each event the hops of its transfers, in their order.
-/// It remembers for contracts of which timetable it is; that takes no room.
+/// A set of transfers as it was given, trip by trip: from each event the hops of its transfers, in
+/// their order. It remembers for contracts of which timetable it is; that takes no room.
 #[derive(Drop)]
 pub struct Rows {
     table: Snapshot<Timetable>,
@@ -99,13 +100,15 @@ impl Model for Rows {
 impl Rows {
     ghost use Rattle.tb_base.specs.OutSets.{AreRowsOf, hops_at, listed, row_of};
 
-    /// The set of these transfers: one list for each trip, of transfers from its events, in any order.
-    /// Takes time and memory by the numbers of events and transfers. Refused only for want of memory.
+    /// The set of these transfers: one list for each trip, of transfers from its events, in any
+    /// order. Takes time and memory by the numbers of events and transfers. Refused only for want
+    /// of memory.
     pub fn new(alloc: Global, table: &Timetable, rows: Vec<Vec<Transfer>>) -> Result<Rows, Memory>
         requires { AreRowsOf table.now (map (λ row. row.items) rows.items) }
         ensures table { IfOk result (λ set. set.table ≡ table.now) }
         ensures hops { IfOk result
-            (λ set. (t i : ℕ) → listed set t i ≡ hops_at (row_of (map (λ row. row.items) rows.items) t) i) }
+            (λ set. (t i : ℕ) →
+            listed set t i ≡ hops_at (row_of (map (λ row. row.items) rows.items) t) i) }
     {
         let mut trips: Vec<TripHops> = Vec::new(alloc);
         for t in 0..table.trip_count() {

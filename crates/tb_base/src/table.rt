@@ -34,7 +34,8 @@ impl Name {
     }
 }
 
-/// An event: one stop of a trip, with the times of arrival and departure, and whether one may board and alight there.
+/// An event: one stop of a trip, with the times of arrival and departure, and whether one may board
+/// and alight there.
 #[derive(Clone, Copy, Debug, PartialEq, Eq)]
 pub struct Event {
     pub stop: StopNo,
@@ -88,8 +89,8 @@ impl Model for Station {
     ghost view = { λ t. record { name = t.name; stops = t.stops.items } };
 }
 
-/// The parts of a timetable. For each stop, by its number, the change time if it has one, in seconds, and the footpaths that
-/// leave it, by the stop that they lead to.
+/// The parts of a timetable. For each stop, by its number, the change time if it has one, in
+/// seconds, and the footpaths that leave it, by the stop that they lead to.
 #[derive(Drop)]
 pub struct Parts {
     pub stops: Vec<Stop>,
@@ -109,7 +110,9 @@ impl Model for Parts {
       stops = t.stops.items;
       stations = t.stations.items;
       trips = t.trips.items;
-      change = t.change.items;
-      paths = map (λ row. row.items) t.paths.items;
+      footpaths = record {
+        change = t.change.items;
+        paths = map (λ row. row.items) t.paths.items;
+      };
     } };
 }

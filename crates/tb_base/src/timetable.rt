@@ -4,7 +4,7 @@ ghost use Rattle.tb_base.specs.TimetableData.{TripData};
 use super::memory::Memory;
 use super::name_index::NameIndex;
 use super::numbers::{StopNo, TripNo};
-use super::paths::path_secs;
+use super::paths::secs_between;
 use super::query::Place;
 use super::table::{Event, Parts, Path, Station, Stop, Trip};
 use std::alloc::Global;
@@ -50,10 +50,18 @@ fn paths_in(rows: &[Vec<Path>]) -> u64
 impl Parts {
     ghost use Rattle.std.specs.Prelude.{slice_get};
 
+    // The change time of a stop.
+    fn change_time(&self, p: StopNo) -> Option<u32>
+        requires { p < length self.now.footpaths.change }
+        ensures { slice_get self.now.footpaths.change p ≡ Some result }
+    {
+        self.change[p.index()]
+    }
+
     // The footpaths that leave a stop.
     fn paths_from(&self, p: StopNo) -> &[Path]
-        requires { p < length self.now.paths }
-        ensures { slice_get self.now.paths p ≡ Some result.now }
+        requires { p < length self.now.footpaths.paths }
+        ensures { slice_get self.now.footpaths.paths p ≡ Some result.now }
     {
         self.paths[p.index()].as_slice()
     }
@@ -64,10 +72,10 @@ impl Timetable {
     ghost use Rattle.tb_base.specs.Places.{HasPlace, place_named, stops_of};
     ghost use Rattle.tb_base.specs.Soundness.{IsSound, IsSoundEvent, IsSoundPath, IsSoundStation, IsSoundTrip};
     ghost use Rattle.tb_base.specs.TimetableData.{event_at, event_total, events_of, path_total};
-    ghost use Rattle.tb_base.specs.Walking.{change, footpath_secs, walk};
+    ghost use Rattle.tb_base.specs.Walking.{change, walk};
 
-    /// The timetable with exactly these parts. It owns them, and an index of the names of stops and stations besides.
-    /// Refused only for want of memory; the parts are dropped then.
+    /// The timetable with exactly these parts. It owns them, and an index of the names of stops and
+    /// stations besides. Refused only for want of memory; the parts are dropped then.
     pub fn new(alloc: Global, parts: Parts) -> Result<Timetable, Memory>
         requires { IsSound parts }
         ensures { IfOk result (λ table. table ≡ parts) }
@@ -122,7 +130,7 @@ impl Timetable {
 
     /// How many footpaths there are.
     pub fn path_count(&self) -> u64
-        ensures { result ≡ path_total self.now }
+        ensures { result ≡ path_total self.now.footpaths }
     {
         self.footpaths
     }
@@ -175,14 +183,15 @@ impl Timetable {
     /// The footpaths that leave a stop, by the numbers of the stops that they lead to.
     pub fn paths(&self, p: StopNo) -> &[Path]
         requires { p < length self.now.stops }
-        ensures paths { slice_get self.now.paths p ≡ Some result.now }
+        ensures paths { slice_get self.now.footpaths.paths p ≡ Some result.now }
         ensures sound { All (IsSoundPath (length self.now.stops) p) result.now }
         ensures ascending { AllPairs (λ f g. f.to < g.to) result.now }
     {
         self.parts.paths_from(p)
     }
 
-    /// The stop or the station with a name, and none exactly where no stop and no station has it. Takes no memory.
+    /// The stop or the station with a name, and none exactly where no stop and no station has it.
+    /// Takes no memory.
     pub fn place(&self, name: &[u8]) -> Option<Place>
         ensures place { result ≡ place_named self.now name.now }
         ensures within { IfSome result (HasPlace self.now) }
@@ -209,40 +218,26 @@ impl Timetable {
         }
     }
 
-    // The seconds of the footpath from one stop to another, where there is one.
-    fn footpath_secs(&self, p: StopNo, q: StopNo) -> Option<u32>
-        requires { p < length self.now.stops }
-        ensures secs { result ≡ footpath_secs self.now p q }
-        ensures at_most_a_day { IfSome result (λ secs. secs ≤ 86400) }
-    {
-        path_secs(self.paths(p), q)
-    }
-
-    /// The seconds of the walk from one stop to another: none within one stop, else those of the footpath,
-    /// where there is one. Takes time by the logarithm of the number of footpaths that leave the first stop.
+    /// The seconds of the walk from one stop to another: none within one stop, else those of the
+    /// footpath, where there is one. Takes time by the logarithm of the number of footpaths that
+    /// leave the first stop.
     pub fn walk(&self, p: StopNo, q: StopNo) -> Option<u32>
         requires from { p < length self.now.stops }
         requires to { q < length self.now.stops }
         ensures walk { result ≡ walk self.now p q }
         ensures at_most_a_day { IfSome result (λ secs. secs ≤ 86400) }
     {
-        if p.index() == q.index() {
-            return Some(0);
-        }
-        self.footpath_secs(p, q)
+        secs_between(Some(0), self.paths(p), p, q)
     }
 
-    /// The seconds that it takes to change from one stop to another: within one stop its change time,
-    /// else those of the footpath, where there is one. Takes time as a walk does.
+    /// The seconds that it takes to change from one stop to another: within one stop its change
+    /// time, else those of the footpath, where there is one. Takes time as a walk does.
     pub fn change(&self, p: StopNo, q: StopNo) -> Option<u32>
         requires from { p < length self.now.stops }
         requires to { q < length self.now.stops }
         ensures change { result ≡ change self.now p q }
         ensures at_most_a_day { IfSome result (λ secs. secs ≤ 86400) }
     {
-        if p.index() == q.index() {
-            return self.parts.change[p.index()];
-        }
-        self.footpath_secs(p, q)
+        secs_between(self.parts.change_time(p), self.paths(p), p, q)
     }
 }

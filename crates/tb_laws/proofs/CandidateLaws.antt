@@ -1,11 +1,11 @@
 -- The candidates are sufficient: no footpath law is needed.
 use Rattle.std.proofs.Common.{◌≡◌, ℕ, ◌<◌, ◌≤◌, ◌+◌, ◌⊎◌, inl, inr, List, [], ◌∷◌, ◌++◌, length, ◌==◌, ◌&&◌, ◌||◌, Bool, true, false, cond, refl, sym, ap, subst, ◌∙◌, arith, ℤ, pos, ◌+ℤ◌, ◌≤ℤ◌, Option, Some, None, length-append}
-use Rattle.std.specs.Prelude.{int_le, nat_lt, nat_le, Contains, AllPairs, slice_index_or, IsSomeAnd, flat_map, filter_map}
+use Rattle.std.specs.Prelude.{int_le, nat_lt, Contains, AllPairs, slice_index_or, IsSomeAnd, flat_map, filter_map}
 use Rattle.std.specs.List.{list_any, concat}
 use Rattle.std.specs.Option.{option_and_then}
-use Rattle.std.proofs.lemmas.Int.{ints}
 use Rattle.std.proofs.lemmas.Option.{option_and_then_some}
 use Rattle.std.proofs.lemmas.List.Elements.{All-contains}
+use Rattle.std.proofs.lemmas.Bool.{eq-eqb, and_from, lt-ltb, leb-true, ltb-true, and_parts}
 use Rattle.tb_base.specs.declared.transfer.Hop.{Hop}
 use Rattle.tb_base.specs.TimetableData.{TimetableData, no_event, events_of, event_at, stop_at, arrival_at, departure_at, MayBoard, MayAlight}
 use Rattle.tb_base.specs.Walking.{change}
@@ -16,9 +16,10 @@ use Rattle.tb_base.specs.Transfers.{candidates, hop_onto, boarding_indexes, may_
 use Rattle.tb_base.specs.Sufficiency.{IsPossibleHop, DoesAsWell, SavesARide, GoesByHop, AreSufficient}
 use Rattle.tb_base.proofs.Events.{MayBoard-inside, MayAlight-inside}
 use Rattle.tb_base.proofs.Ordered.{Member, Member-from_Contains, Contains-from_Member, AllPairs-head, AllPairs-tail}
-use Rattle.tb_base.proofs.Members.{both_true, find_first, find_found, Member-flat_map, Member-flat_map_back, Member-filter, Member-filter_back, Member-filter_map, Member-filter_map_back, Member-numbers_below}
+use Rattle.tb_base.proofs.Members.{find_first, find_found, Member-flat_map, Member-flat_map_back, Member-filter, Member-filter_back, Member-filter_map, Member-filter_map_back, Member-numbers_below}
 use Rattle.tb_base.proofs.LineFacts.{IsTripNoLater, MayFollow, no_later, first_no_later, line_of}
-use Rattle.tb_laws.proofs.Exchange.{≤ℤ-refl, ≤ℤ-trans, AlightsAs, LeadsOn-alights, arrival_after-alights, Leads-at, replaced}
+use Rattle.tb_laws.proofs.Exchange.{change_in, ≤ℤ-refl, ≤ℤ-trans, AlightsAs, LeadsOn-alights, arrival_after-alights, Leads-at, replaced}
+use Rattle.tb_base.proofs.NumberFacts.{le-int_le, int_le-true}
 
 -- what is known of a number that is there
 pub some_and : (P : ℕ → Type 0) (o : Option ℕ) → IsSomeAnd o P → (n : ℕ) × (o ≡ Some n) × P n
@@ -27,27 +28,6 @@ some_and P (Some n) h = (n, refl, h)
 
 pub and_some : (P : ℕ → Type 0) (o : Option ℕ) (n : ℕ) → o ≡ Some n → P n → IsSomeAnd o P
 and_some P o n e h = subst (λ x. IsSomeAnd x P) (sym e) h
-
-le_test : (a b : ℤ) → a ≤ℤ b → int_le a b ≡ true
-le_test a b h = grind (arith, ints)
-
-pub test_le : (a b : ℤ) → int_le a b ≡ true → a ≤ℤ b
-test_le a b h = grind (arith, ints, h)
-
-same_test : (a b : ℕ) → a ≡ b → (a == b) ≡ true
-same_test a b h = grind arith
-
-both : (a b : Bool) → a ≡ true → b ≡ true → (a && b) ≡ true
-both a b g h = cc
-
-below_test : (a b : ℕ) → a < b → nat_lt a b ≡ true
-below_test a b h = grind arith
-
-test_at_most : (a b : ℕ) → nat_le a b ≡ true → a ≤ b
-test_at_most a b h = grind arith
-
-test_below : (a b : ℕ) → nat_lt a b ≡ true → a < b
-test_below a b h = grind arith
 
 module _ (T : TimetableData) (sound : IsSound T) where
   -- an event of a trip is at a stop of the table
@@ -99,19 +79,19 @@ module _ (T : TimetableData) (lines : List (List ℕ)) (sound : IsSound T) (divi
       let here : stop_at T (slice_index_or line 0 0) j ≡ stop_at T u j = (like.at j).stop in
       let q_inside : stop_at T u j < length T.stops = stop_inside T sound u j (MayBoard-inside T u j boards).0 (MayBoard-inside T u j boards).1 in
       let long : j + 1 < length (events_of T (slice_index_or line 0 0)) = omega (arith, like.long, not_last) in
-      let boarded : may_be_boarded T (slice_index_or line 0 0) j ≡ true = both _ _ ((like.at j).board ∙ boards) (below_test _ _ long) in
+      let boarded : may_be_boarded T (slice_index_or line 0 0) j ≡ true = and_from _ _ ((like.at j).board ∙ boards) (lt-ltb _ _ long) in
       let hop : hop_onto T t i line j ≡ Some (record { trip = u; at = j }) = hop_onto-is T t i j c u line (ap (change T (stop_at T t i)) here ∙ changes) first moves in
-      let at_index : Member j (boarding_indexes T line q) = in_boarding_indexes line j q on_line (same_test _ _ here) boarded (omega (arith, long)) in
+      let at_index : Member j (boarding_indexes T line q) = in_boarding_indexes line j q on_line (eq-eqb _ _ here) boarded (omega (arith, long)) in
       let by_lines : Member (record { trip = u; at = j }) (flat_map (λ line. filter_map (λ j. hop_onto T t i line j) (boarding_indexes T line q)) lines)
       = Member-flat_map (λ line. filter_map (λ j. hop_onto T t i line j) (boarding_indexes T line q)) line _ lines of_lines (Member-filter_map (λ j. hop_onto T t i line j) j _ (boarding_indexes T line q) at_index hop) in
       let by_stops : Member (record { trip = u; at = j }) (flat_map (λ q. flat_map (λ line. filter_map (λ j. hop_onto T t i line j) (boarding_indexes T line q)) lines) (numbers_below (length T.stops)))
       = Member-flat_map (λ q. flat_map (λ line. filter_map (λ j. hop_onto T t i line j) (boarding_indexes T line q)) lines) q _ (numbers_below (length T.stops)) (Member-numbers_below q (length T.stops) q_inside) by_lines in
       subst (λ b. Member (record { trip = u; at = j }) (cond b (flat_map (λ q. flat_map (λ line. filter_map (λ j. hop_onto T t i line j) (boarding_indexes T line q)) lines) (numbers_below (length T.stops))) []))
-      (sym (both (nat_lt 0 i) (event_at T t i).alight (below_test 0 i later) alights)) by_stops
+      (sym (and_from (nat_lt 0 i) (event_at T t i).alight (lt-ltb 0 i later) alights)) by_stops
     where
       in_boarding_indexes : (line : List ℕ) (j q : ℕ) → Member u line → (stop_at T (slice_index_or line 0 0) j == q) ≡ true → may_be_boarded T (slice_index_or line 0 0) j ≡ true → j < length (events_of T (slice_index_or line 0 0)) → Member j (boarding_indexes T line q)
       in_boarding_indexes [] j q h s b l = absurd h
-      in_boarding_indexes (x ∷ xs) j q h s b l = Member-filter (λ j. (stop_at T x j == q) && may_be_boarded T x j) j (numbers_below (length (events_of T x))) (Member-numbers_below j _ l) (both _ _ s b)
+      in_boarding_indexes (x ∷ xs) j q h s b l = Member-filter (λ j. (stop_at T x j == q) && may_be_boarded T x j) j (numbers_below (length (events_of T x))) (Member-numbers_below j _ l) (and_from _ _ s b)
 
   -- from the same event of r by a candidate, and then as before
   pub record GoesByCandidate (asked : ℤ) (origin target : ℕ) (before : List Ride) (r s : Ride) (after : List Ride) : Type 0 where
@@ -122,7 +102,7 @@ module _ (T : TimetableData) (lines : List (List ℕ)) (sound : IsSound T) (divi
   -- wherever a journey changes, it may stay on its trip, or go by a candidate
   pub candidates_step : (asked : ℤ) (origin target : ℕ) (before : List Ride) (r s : Ride) (after : List Ride) →
       Leads T origin (before ++ r ∷ s ∷ after) target → LeavesNoEarlier T asked origin (before ++ r ∷ s ∷ after) →
-      SavesARide T asked origin target (before ++ r ∷ s ∷ after) ⊎ GoesByCandidate asked origin target before r s after
+      SavesARide T (change_in asked origin target before r s after) ⊎ GoesByCandidate asked origin target before r s after
   candidates_step asked origin target before r s after leads leaves =
       let at_r : IsRide T r × LeadsOn T r (s ∷ after) target = Leads-at T origin before r (s ∷ after) target leads in
       let changing = some_and (λ secs. (alighting_time T r +ℤ pos secs) ≤ℤ boarding_time T s) _ at_r.1.0 in
@@ -131,17 +111,17 @@ module _ (T : TimetableData) (lines : List (List ℕ)) (sound : IsSound T) (divi
       let on_line = line_of lines s.trip (Member-from_Contains s.trip (concat lines) (divided.complete s.trip (MayBoard-inside T s.trip s.board s_rides.boards).0)) in
       let of_lines : Member on_line.0 lines = on_line.1 in
       let found = find_first (MayFollow T) (λ u. int_le (arrival_at T r.trip r.alight +ℤ pos changing.0) (departure_at T u s.board)) on_line.0 s.trip
-      (pairs_of on_line.0 of_lines) on_line.2 (le_test _ _ changing.2) in
+      (pairs_of on_line.0 of_lines) on_line.2 (le-int_le _ _ changing.2) in
       let like : IsTripNoLater T found.0 s.trip = no_later T found.0 s.trip found.4 in
-      by_test at_r.0 s_rides s_on on_line.0 of_lines changing.0 changing.1 found.0 found.1 found.2 (test_le _ _ found.3) like (is_own_line_onward on_line.0 r.trip r.alight found.0 s.board) refl
+      by_test at_r.0 s_rides s_on on_line.0 of_lines changing.0 changing.1 found.0 found.1 found.2 (int_le-true _ _ found.3) like (is_own_line_onward on_line.0 r.trip r.alight found.0 s.board) refl
     where
       by_test : IsRide T r → IsRide T s → LeadsOn T s after target → (line : List ℕ) → Member line lines → (c : ℕ) → change T (alighting_stop T r) (boarding_stop T s) ≡ Some c → (u : ℕ) →
           earliest_trip T line s.board (arrival_at T r.trip r.alight +ℤ pos c) ≡ Some u → Member u line → (arrival_at T r.trip r.alight +ℤ pos c) ≤ℤ departure_at T u s.board →
           IsTripNoLater T u s.trip → (b : Bool) → b ≡ is_own_line_onward line r.trip r.alight u s.board →
-          SavesARide T asked origin target (before ++ r ∷ s ∷ after) ⊎ GoesByCandidate asked origin target before r s after
+          SavesARide T (change_in asked origin target before r s after) ⊎ GoesByCandidate asked origin target before r s after
       by_test r_rides s_rides s_on line of_lines c changes u first on_line in_time like true e =
-          let tests = both_true _ _ (sym e) in
-          let after_i : r.alight ≤ s.board = test_at_most _ _ tests.1 in
+          let tests = and_parts _ _ (sym e) in
+          let after_i : r.alight ≤ s.board = leb-true _ _ tests.1 in
           let own : IsTripNoLater T r.trip u = no_later T r.trip u (from_trip_follows (MayFollow T) line r.trip u (pairs_of line of_lines) tests.0) in
           let stay : Ride = record { trip = r.trip; board = r.board; alight = s.alight } in
           let ends : AlightsAs T s stay = record {
@@ -179,7 +159,7 @@ module _ (T : TimetableData) (lines : List (List ℕ)) (sound : IsSound T) (divi
 
   pub candidates_enough : (asked : ℤ) (origin target : ℕ) (before : List Ride) (r s : Ride) (after : List Ride) →
       Leads T origin (before ++ r ∷ s ∷ after) target → LeavesNoEarlier T asked origin (before ++ r ∷ s ∷ after) →
-      SavesARide T asked origin target (before ++ r ∷ s ∷ after) ⊎ GoesByHop T (candidates T lines) asked origin target before r s after
+      SavesARide T (change_in asked origin target before r s after) ⊎ GoesByHop T (candidates T lines) (change_in asked origin target before r s after)
   candidates_enough asked origin target before r s after leads leaves =
       elim (candidates_step asked origin target before r s after leads leaves) [
         | inl saves ↦ inl saves
@@ -214,13 +194,13 @@ module _ (T : TimetableData) (lines : List (List ℕ)) (divided : AreDividedInto
       by_parts c u changes first is =
           let found = find_found (λ u. int_le (arrival_at T t i +ℤ pos c) (departure_at T u j)) (x ∷ xs) u first in
           let like : IsTripNoLater T x u = first_no_later T (x ∷ xs) u pairs found.0 in
-          let tests = both_true (event_at T x j).board (nat_lt (j + 1) (length (events_of T x))) (both_true (stop_at T x j == q) (may_be_boarded T x j) (Member-filter_back (λ j. (stop_at T x j == q) && may_be_boarded T x j) j (numbers_below (length (events_of T x))) boarded).1).1 in
+          let tests = and_parts (event_at T x j).board (nat_lt (j + 1) (length (events_of T x))) (and_parts (stop_at T x j == q) (may_be_boarded T x j) (Member-filter_back (λ j. (stop_at T x j == q) && may_be_boarded T x j) j (numbers_below (length (events_of T x))) boarded).1).1 in
           subst (λ h. IsPossibleHop T t i h) is (record {
             later = later;
-            not_last = (let below : j + 1 < length (events_of T x) = test_below _ _ tests.1 in omega (arith, below, like.long));
+            not_last = (let below : j + 1 < length (events_of T x) = ltb-true _ _ tests.1 in omega (arith, below, like.long));
             alights = alights;
             boards = sym (like.at j).board ∙ tests.0;
-            in_time = and_some (λ secs. (arrival_at T t i +ℤ pos secs) ≤ℤ departure_at T u j) _ c (ap (change T (stop_at T t i)) (sym (like.at j).stop) ∙ changes) (test_le _ _ found.1);
+            in_time = and_some (λ secs. (arrival_at T t i +ℤ pos secs) ≤ℤ departure_at T u j) _ c (ap (change T (stop_at T t i)) (sym (like.at j).stop) ∙ changes) (int_le-true _ _ found.1);
           })
 
   pub candidates_possible : (t i : ℕ) (h : Hop) → Contains (candidates T lines t i) h → IsPossibleHop T t i h
@@ -229,16 +209,16 @@ module _ (T : TimetableData) (lines : List (List ℕ)) (divided : AreDividedInto
       by_test : (b : Bool) → b ≡ (nat_lt 0 i && (event_at T t i).alight) → Member h (cond b (flat_map (λ q. flat_map (λ line. filter_map (λ j. hop_onto T t i line j) (boarding_indexes T line q)) lines) (numbers_below (length T.stops))) []) → IsPossibleHop T t i h
       by_test false e k = absurd k
       by_test true e k =
-          let tests = both_true _ _ (sym e) in
+          let tests = and_parts _ _ (sym e) in
           let at_stop = Member-flat_map_back (λ q. flat_map (λ line. filter_map (λ j. hop_onto T t i line j) (boarding_indexes T line q)) lines) h (numbers_below (length T.stops)) k in
           let of_line = Member-flat_map_back (λ line. filter_map (λ j. hop_onto T t i line j) (boarding_indexes T line at_stop.0)) h lines at_stop.2 in
           let at_index = Member-filter_map_back (λ j. hop_onto T t i of_line.0 j) h (boarding_indexes T of_line.0 at_stop.0) of_line.2 in
-          hop_possible t i at_index.0 at_stop.0 of_line.0 h (test_below _ _ tests.0) tests.1
+          hop_possible t i at_index.0 at_stop.0 of_line.0 h (ltb-true _ _ tests.0) tests.1
           (All-contains (λ l. AllPairs (MayFollow T) l) lines of_line.0 divided.ordered (Contains-from_Member of_line.0 lines of_line.1)) at_index.1 at_index.2
 
 -- The candidates are sufficient.
 pub candidates_sufficient : (T : TimetableData) (lines : List (List ℕ)) → IsSound T → AreDividedInto T lines → AreSufficient T (candidates T lines)
 candidates_sufficient T lines sound divided = record {
   possible = candidates_possible T lines divided;
-  enough = candidates_enough T lines sound divided;
+  enough = λ c journey. candidates_enough T lines sound divided c.asked c.origin c.target c.before c.left c.boarded c.after journey.leads journey.leaves;
 }

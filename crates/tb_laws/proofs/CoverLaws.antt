@@ -2,15 +2,17 @@
 use Rattle.std.proofs.Common.{◌≡◌, ℕ, zero, suc, ◌<◌, ◌≤◌, ◌+◌, ◌⊎◌, inl, inr, List, [], ◌∷◌, ◌&&◌, Bool, true, false, refl, sym, ap, subst, arith, ℤ, pos, negsuc, ◌+ℤ◌, ◌-ℤ◌, ◌≤ℤ◌, ◌<ℤ◌}
 use Rattle.std.specs.Prelude.{int_le, nat_le, Contains}
 use Rattle.std.proofs.lemmas.Int.{ints}
+use Rattle.std.proofs.lemmas.Bool.{leb-true, le-leb, and_parts}
 use Rattle.tb_base.specs.declared.query.Value.{Value}
 use Rattle.tb_base.specs.TimetableData.{TimetableData}
 use Rattle.tb_base.specs.Soundness.{IsSound}
 use Rattle.tb_base.specs.Journeys.{Ride, IsRide, Leads, LeadsOn, LeavesNoEarlier, arrival, arrival_after, boarding_time, alighting_time}
 use Rattle.tb_base.specs.BestValues.{QueryData, IsAttained, IsNoWorse, IsBest, AreBestValues}
 use Rattle.tb_base.proofs.Ordered.{Member, Member-from_Contains, Contains-from_Member}
-use Rattle.tb_base.proofs.Members.{both_true}
 use Rattle.tb_laws.proofs.CandidateLaws.{some_and}
 use Rattle.tb_laws.proofs.UTurnLaws.{ride_onward}
+use Rattle.tb_base.proofs.NumberFacts.{≤ℤ-later, ≤ℤ-refl, int_le-true, le-int_le}
+use Rattle.tb_base.proofs.Values.{IsNoWorse-trans}
 
 module _ (T : TimetableData) (sound : IsSound T) where
   -- a journey arrives no earlier than its first departure
@@ -28,10 +30,7 @@ module _ (T : TimetableData) (sound : IsSound T) where
 
   -- nor before its first ride is left
   pub arrives_behind : (r : Ride) (rest : List Ride) (q : ℕ) → LeadsOn T r rest q → alighting_time T r ≤ℤ arrival_after T r rest q
-  arrives_behind r [] q on = walked _ _
-    where
-      walked : (a : ℤ) (n : ℕ) → a ≤ℤ (a +ℤ pos n)
-      walked a n = omega (arith, ints)
+  arrives_behind r [] q on = ≤ℤ-later _ _
   arrives_behind r (s ∷ rest) q on =
       let c = some_and (λ n. (alighting_time T r +ℤ pos n) ≤ℤ boarding_time T s) _ on.0 in
       chained (alighting_time T r) (boarding_time T s) (arrival_after T s rest q) c.0 c.2 (arrives_later s rest q on.1 on.2)
@@ -44,10 +43,7 @@ module _ (T : TimetableData) (sound : IsSound T) where
   attained_later Q w (j, has) = subst (λ a. Q.leave ≤ℤ a) (sym (ap (λ (v : Value). v.arrive) has.value)) (by_rides j.origin j.rides j.target has.journey.leads has.leaves)
     where
       by_rides : (o : ℕ) (rides : List Ride) (q : ℕ) → Leads T o rides q → LeavesNoEarlier T Q.leave o rides → Q.leave ≤ℤ arrival T Q.leave o rides q
-      by_rides o [] q leads leaves = walked Q.leave _
-        where
-          walked : (a : ℤ) (n : ℕ) → a ≤ℤ (a +ℤ pos n)
-          walked a n = omega (arith, ints)
+      by_rides o [] q leads leaves = ≤ℤ-later Q.leave _
       by_rides o (r ∷ rest) q leads leaves = before Q.leave (boarding_time T r) (arrival_after T r rest q) _ leaves (arrives_later r rest q leads.1 leads.2)
         where
           before : (a d e : ℤ) (n : ℕ) → a ≤ℤ (d -ℤ pos n) → d ≤ℤ e → a ≤ℤ e
@@ -76,12 +72,6 @@ module _ (T : TimetableData) (sound : IsSound T) where
       by_rides (inl e) (inr f) = inr (sums' _ _ _ _ f le.1)
       by_rides (inr e) f = inr (sums _ _ _ _ le.0 e)
 
-  IsNoWorse-trans : (u v w : Value) → IsNoWorse u v → IsNoWorse v w → IsNoWorse u w
-  IsNoWorse-trans u v w g h = (two _ _ _ g.0 h.0, omega (arith, g.1, h.1))
-    where
-      two : (a b c : ℤ) → a ≤ℤ b → b ≤ℤ c → a ≤ℤ c
-      two a b c g h = omega (arith, ints, g, h)
-
   -- it cannot be that no best value is no worse than an attained one
   pub some_best : (Q : QueryData) (n : ℕ) (w : Value) → IsAttained T Q w → (w.arrive +ℤ pos w.rides) <ℤ (Q.leave +ℤ pos n) → ((v : Value) → IsBest T Q v → IsNoWorse v w → ⊥) → ⊥
   some_best Q zero w attained small none = let late : Q.leave ≤ℤ w.arrive = attained_later Q w attained in impossible _ _ _ late small
@@ -89,11 +79,8 @@ module _ (T : TimetableData) (sound : IsSound T) where
       impossible : (a b : ℤ) (m : ℕ) → a ≤ℤ b → (b +ℤ pos m) <ℤ (a +ℤ pos 0) → ⊥
       impossible a b m g h = omega (arith, ints, g, h)
   some_best Q (suc n) w attained small none =
-      none w (record { attained = attained; undominated = λ u has le. by_case u has le (same_or_less u w le) (λ k. some_best Q n u has k (λ v best below. none v best (IsNoWorse-trans v u w below le))) }) (≤ℤ-same w.arrive, omega arith)
+      none w (record { attained = attained; undominated = λ u has le. by_case u has le (same_or_less u w le) (λ k. some_best Q n u has k (λ v best below. none v best (IsNoWorse-trans v u w below le))) }) (≤ℤ-refl w.arrive, omega arith)
     where
-      ≤ℤ-same : (a : ℤ) → a ≤ℤ a
-      ≤ℤ-same a = omega (arith, ints)
-
       by_case : (u : Value) → IsAttained T Q u → IsNoWorse u w → (u ≡ w) ⊎ ((u.arrive +ℤ pos u.rides) <ℤ (w.arrive +ℤ pos w.rides)) → ((u.arrive +ℤ pos u.rides) <ℤ (Q.leave +ℤ pos n) → ⊥) → u ≡ w
       by_case u has le (inl e) again = e
       by_case u has le (inr h) again = absurd (again (less _ _ _ n h small))
@@ -115,23 +102,11 @@ module _ (T : TimetableData) (sound : IsSound T) where
       tests v = int_le v.arrive w.arrive && nat_le v.rides w.rides
 
       no_worse : (v : Value) → (int_le v.arrive w.arrive && nat_le v.rides w.rides) ≡ true → IsNoWorse v w
-      no_worse v h = let p = both_true (int_le v.arrive w.arrive) (nat_le v.rides w.rides) h in (at_most _ _ p.0, below _ _ p.1)
-        where
-          at_most : (a b : ℤ) → int_le a b ≡ true → a ≤ℤ b
-          at_most a b h = grind (arith, ints, h)
-
-          below : (m n : ℕ) → nat_le m n ≡ true → m ≤ n
-          below m n h = grind arith
+      no_worse v h = let p = and_parts (int_le v.arrive w.arrive) (nat_le v.rides w.rides) h in (int_le-true _ _ p.0, leb-true _ _ p.1)
 
       worse : (v : Value) → (int_le v.arrive w.arrive && nat_le v.rides w.rides) ≡ false → IsNoWorse v w → ⊥
-      worse v h le = clash _ _ (at_most _ _ le.0) (below _ _ le.1) h
+      worse v h le = clash _ _ (le-int_le _ _ le.0) (le-leb _ _ le.1) h
         where
-          at_most : (a b : ℤ) → a ≤ℤ b → int_le a b ≡ true
-          at_most a b h = grind (arith, ints)
-
-          below : (m n : ℕ) → m ≤ n → nat_le m n ≡ true
-          below m n h = grind arith
-
           clash : (a b : Bool) → a ≡ true → b ≡ true → (a && b) ≡ false → ⊥
           clash a b g h k = cc
 

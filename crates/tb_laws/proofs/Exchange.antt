@@ -5,13 +5,20 @@ use Rattle.std.proofs.lemmas.Int.{ints}
 use Rattle.tb_base.specs.TimetableData.{TimetableData}
 use Rattle.tb_base.specs.Walking.{walk, change}
 use Rattle.tb_base.specs.Journeys.{Ride, IsRide, CanChange, LeadsOn, Leads, LeavesNoEarlier, leaving_time, arrival, arrival_after, walk_secs, boarding_stop, boarding_time, alighting_stop, alighting_time}
-use Rattle.tb_base.specs.Sufficiency.{DoesAsWell}
+use Rattle.tb_base.specs.Sufficiency.{ChangeIn, DoesAsWell}
+pub use Rattle.tb_base.proofs.NumberFacts.{≤ℤ-refl, ≤ℤ-trans}
 
-pub ≤ℤ-trans : (a b c : ℤ) → a ≤ℤ b → b ≤ℤ c → a ≤ℤ c
-≤ℤ-trans a b c p q = omega (arith, ints, p, q)
-
-pub ≤ℤ-refl : (a : ℤ) → a ≤ℤ a
-≤ℤ-refl a = omega (arith, ints)
+-- a change by its parts
+abbrev pub change_in : ℤ → ℕ → ℕ → List Ride → Ride → Ride → List Ride → ChangeIn
+change_in asked o q before r s after = record {
+  asked = asked;
+  origin = o;
+  target = q;
+  before = before;
+  left = r;
+  boarded = s;
+  after = after;
+}
 
 -- a number that is there, with what holds of it, where it is weakened
 pub IsSomeAnd-weaker : (P Q : ℕ → Type 0) → ((n : ℕ) → P n → Q n) → (o : Option ℕ) → IsSomeAnd o P → IsSomeAnd o Q

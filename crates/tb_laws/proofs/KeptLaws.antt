@@ -5,6 +5,7 @@ use Rattle.std.specs.List.{list_any}
 use Rattle.std.specs.Option.{option_map}
 use Rattle.std.proofs.lemmas.List.Elements.{All-contains}
 use Rattle.std.proofs.lemmas.List.{get_or_default}
+use Rattle.std.proofs.lemmas.Bool.{or_parts, and_from, eqb-true, eq-eqb, and_parts}
 use Rattle.tb_base.specs.declared.table.Event.{Event}
 use Rattle.tb_base.specs.declared.table.Path.{Path}
 use Rattle.tb_base.specs.declared.transfer.Hop.{Hop}
@@ -17,10 +18,12 @@ use Rattle.tb_base.specs.Transfers.{Alternative, alightings, alightings_by, numb
 use Rattle.tb_base.specs.Sufficiency.{IsPossibleHop, SavesARide, GoesByHop, AreSufficient}
 use Rattle.tb_base.proofs.Events.{MayBoard-inside, MayAlight-inside}
 use Rattle.tb_base.proofs.Ordered.{Member, Member-from_Contains, Contains-from_Member, AllPairs-head, AllPairs-tail}
-use Rattle.tb_base.proofs.Members.{AllPairs-append, AllPairs-cons, both_true, Member-append, Member-flat_map, Member-flat_map_back, Member-filter, Member-filter_back, Member-filter_map, Member-filter_map_back, Member-numbers_below, below_or_last, find_found}
+use Rattle.tb_base.proofs.Members.{AllPairs-append, AllPairs-cons, Member-flat_map, Member-flat_map_back, Member-filter, Member-filter_back, Member-filter_map, Member-filter_map_back, Member-numbers_below, find_found, Member-map, Member-map_back}
 use Rattle.tb_laws.proofs.Offers.{Offers, offered_before}
-use Rattle.tb_laws.proofs.Exchange.{≤ℤ-refl, Leads-at, replaced}
+use Rattle.tb_laws.proofs.Exchange.{change_in, ≤ℤ-refl, Leads-at, replaced}
 use Rattle.tb_laws.proofs.Triangles.{walk_secs-is}
+use Rattle.tb_base.proofs.NumberFacts.{below_or_last}
+use Rattle.tb_base.proofs.Walks.{leaving_sound}
 use Rattle.tb_laws.proofs.CandidateLaws.{some_and, and_some, stop_inside}
 use Rattle.tb_laws.proofs.UTurnLaws.{some, SavesARide-trans, GoesByHop-trans, candidates_without_u_turns_sufficient}
 
@@ -29,18 +32,14 @@ abbrev secs_by : TimetableData → Bool → ℕ → ℕ → Option ℕ
 secs_by T true = walk T
 secs_by T false = change T
 
-neither : (a b : Bool) → (a || b) ≡ false → (a ≡ false) × (b ≡ false)
-neither false b h = (refl, h)
-neither true b h = cc
-
 none_passes : (test : ℕ → Bool) (xs : List ℕ) → list_any test xs ≡ false → (x : ℕ) → Member x xs → test x ≡ false
 none_passes test [] h x k = absurd k
-none_passes test (y ∷ ys) h x (inl e) = ap test (sym e) ∙ (neither (test y) (list_any test ys) h).0
-none_passes test (y ∷ ys) h x (inr k) = none_passes test ys (neither (test y) (list_any test ys) h).1 x k
+none_passes test (y ∷ ys) h x (inl e) = ap test (sym e) ∙ (or_parts (test y) (list_any test ys) h).0
+none_passes test (y ∷ ys) h x (inr k) = none_passes test ys (or_parts (test y) (list_any test ys) h).1 x k
 
 not_soonest : (T : TimetableData) (on_foot : Bool) (earlier : List (List Event)) (events : List Event) (p : ℕ) → p < length T.stops → is_improvement T earlier events ≡ false → is_soonest (secs_by T on_foot) earlier events p ≡ false
 not_soonest T on_foot earlier events p inside h =
-    by_way on_foot (neither _ _ (none_passes (λ p. is_soonest (walk T) earlier events p || is_soonest (change T) earlier events p) (numbers_below (length T.stops)) h p (Member-numbers_below p (length T.stops) inside)))
+    by_way on_foot (or_parts _ _ (none_passes (λ p. is_soonest (walk T) earlier events p || is_soonest (change T) earlier events p) (numbers_below (length T.stops)) h p (Member-numbers_below p (length T.stops) inside)))
   where
     by_way : (b : Bool) → (is_soonest (walk T) earlier events p ≡ false) × (is_soonest (change T) earlier events p ≡ false) → is_soonest (secs_by T b) earlier events p ≡ false
     by_way true h = h.0
@@ -101,9 +100,9 @@ Member-numbers_down : (k n : ℕ) → k < n → Member k (numbers_down n)
 Member-numbers_down k zero h = absurd (omega arith)
 Member-numbers_down k (suc n) h = by_case (λ l. Member-numbers_down k n l) (below_or_last k n h)
   where
-    by_case : (k < n → Member k (numbers_down n)) → (k < n) ⊎ (n ≡ k) → Member k (n ∷ numbers_down n)
+    by_case : (k < n → Member k (numbers_down n)) → (k < n) ⊎ (k ≡ n) → Member k (n ∷ numbers_down n)
     by_case more (inl l) = inr (more l)
-    by_case more (inr e) = inl e
+    by_case more (inr e) = inl (sym e)
 
 numbers_down-below : (k n : ℕ) → Member k (numbers_down n) → k < n
 numbers_down-below k zero h = absurd h
@@ -124,16 +123,6 @@ Member-drop_back {X} n [] d x h = by_number n h
     by_number (suc n) h = absurd h
 Member-drop_back zero (y ∷ ys) d x h = let c = Contains-from_Member x (y ∷ ys) h in (c.0, omega arith, c.1, get_or_default (y ∷ ys) c.0 d x c.1 ∙ c.2)
 Member-drop_back (suc n) (y ∷ ys) d x h = let r = Member-drop_back n ys d x h in (suc r.0, omega (arith, r.1), omega (arith, r.2), r.3)
-
-Member-map : {X Y : Type 0} (f : X → Y) (x : X) (xs : List X) → Member x xs → Member (f x) (map f xs)
-Member-map f x [] h = absurd h
-Member-map f x (y ∷ ys) (inl e) = inl (ap f e)
-Member-map f x (y ∷ ys) (inr h) = inr (Member-map f x ys h)
-
-Member-map_back : {X Y : Type 0} (f : X → Y) (y : Y) (xs : List X) → Member y (map f xs) → (x : X) × Member x xs × (f x ≡ y)
-Member-map_back f y [] h = absurd h
-Member-map_back f y (x ∷ xs) (inl e) = (x, inl refl, e)
-Member-map_back f y (x ∷ xs) (inr h) = let r = Member-map_back f y xs h in (r.0, inr r.1, r.2)
 
 AllPairs-members : {X : Type 0} (R : X → X → Type 0) (xs : List X) → ((x y : X) → Member x xs → Member y xs → R x y) → AllPairs R xs
 AllPairs-members R xs f i j d before below = f (get_or xs i d) (get_or xs j d) (at i (omega (arith, before, below))) (at j below)
@@ -163,9 +152,9 @@ module _ (T : TimetableData) (lines : List (List ℕ)) (t : ℕ) where
 
       by_test : (b : Bool) → b ≡ (nat_lt 0 i && (event_at T t i).alight) → Member a (cond b (record { at = i; hop = None } ∷ map (λ h. record { at = i; hop = Some h }) (candidates_without_u_turns T lines t i)) []) → IsAlternative T lines t i a
       by_test false e h = absurd h
-      by_test true e (inl is) = let tests = both_true _ _ (sym e) in
+      by_test true e (inl is) = let tests = and_parts _ _ (sym e) in
           record { at = ap (λ (x : Alternative). x.at) (sym is); later = at_first i tests.0; alights = tests.1; hop = inl (ap (λ (x : Alternative). x.hop) (sym is)) }
-      by_test true e (inr h) = let tests = both_true _ _ (sym e) in
+      by_test true e (inr h) = let tests = and_parts _ _ (sym e) in
           let from = Member-map_back (λ h. record { at = i; hop = Some h }) a (candidates_without_u_turns T lines t i) h in
           record { at = ap (λ (x : Alternative). x.at) (sym from.2); later = at_first i tests.0; alights = tests.1; hop = inr (from.0, ap (λ (x : Alternative). x.hop) (sym from.2), from.1) }
 
@@ -189,38 +178,29 @@ module _ (T : TimetableData) (lines : List (List ℕ)) (t : ℕ) where
   alternatives-of_hop i h later alights member =
       Member-flat_map (alternatives_at T lines t) i _ (numbers_down (length (events_of T t))) (Member-numbers_down i (length (events_of T t)) (MayAlight-inside T t i alights).1)
       (subst (λ b. Member {X = Alternative} (record { at = i; hop = Some h }) (cond b (record { at = i; hop = None } ∷ map (λ h. record { at = i; hop = Some h }) (candidates_without_u_turns T lines t i)) []))
-      (sym (both (nat_lt 0 i) (event_at T t i).alight (below_first i later) alights)) (inr (Member-map (λ h. record { at = i; hop = Some h }) h (candidates_without_u_turns T lines t i) member)))
+      (sym (and_from (nat_lt 0 i) (event_at T t i).alight (below_first i later) alights)) (inr (Member-map (λ h. record { at = i; hop = Some h }) h (candidates_without_u_turns T lines t i) member)))
     where
       below_first : (b : ℕ) → 0 < b → nat_lt 0 b ≡ true
       below_first b h = grind arith
-
-      both : (a b : Bool) → a ≡ true → b ≡ true → (a && b) ≡ true
-      both a b g h = cc
 
 -- ---- a walk leads to a stop of the table
 
 found_inside : (n p q : ℕ) (row : List Path) → All (IsSoundPath n p) row → (s : ℕ) → option_map (λ (f : Path). f.secs) (find (λ f. f.to == q) row) ≡ Some s → q < n
 found_inside n p q row sound s h = by_option (find (λ f. f.to == q) row) refl h
   where
-    same : (a b : ℕ) → (a == b) ≡ true → a ≡ b
-    same a b h = grind arith
-
     by_option : (o : Option Path) → o ≡ find (λ f. f.to == q) row → option_map (λ (f : Path). f.secs) o ≡ Some s → q < n
     by_option None e h = cc
     by_option (Some f) e h =
         let found = find_found (λ (f : Path). f.to == q) row f (sym e) in
         let path : IsSoundPath n p f = All-contains (IsSoundPath n p) row f sound (Contains-from_Member f row found.0) in
-        subst (λ x. x < n) (same _ _ found.1) path.to
+        subst (λ x. x < n) (eqb-true _ _ found.1) path.to
 
 pub walk_inside : (T : TimetableData) → IsSound T → (p q s : ℕ) → p < length T.stops → walk T p q ≡ Some s → q < length T.stops
 walk_inside T sound p q s inside h = by_test (p == q) refl h
   where
-    same : (a b : ℕ) → (a == b) ≡ true → a ≡ b
-    same a b h = grind arith
-
-    by_test : (b : Bool) → b ≡ (p == q) → cond b (Some 0) (footpath_secs T p q) ≡ Some s → q < length T.stops
-    by_test true e h = subst (λ x. x < length T.stops) (same _ _ (sym e)) inside
-    by_test false e h = found_inside (length T.stops) p q (slice_index_or T.paths p []) (sound.paths p inside) s h
+    by_test : (b : Bool) → b ≡ (p == q) → cond b (Some 0) (footpath_secs T.footpaths p q) ≡ Some s → q < length T.stops
+    by_test true e h = subst (λ x. x < length T.stops) (eqb-true _ _ (sym e)) inside
+    by_test false e h = found_inside (length T.stops) p q (slice_index_or T.footpaths.paths p []) (leaving_sound T p sound inside) s h
 
 -- ---- the law
 
@@ -229,14 +209,11 @@ module _ (T : TimetableData) (lines : List (List ℕ)) (sound : IsSound T) (divi
   onward = candidates_without_u_turns_sufficient T lines sound divided
 
   abbrev KeptResult : ℤ → ℕ → ℕ → List Ride → Ride → Ride → List Ride → Type 0
-  KeptResult asked o q before r s after = SavesARide T asked o q (before ++ r ∷ s ∷ after) ⊎ GoesByHop T (kept_hops T lines) asked o q before r s after
+  KeptResult asked o q before r s after = SavesARide T (change_in asked o q before r s after) ⊎ GoesByHop T (kept_hops T lines) (change_in asked o q before r s after)
 
   kept_hops-member : (t i : ℕ) (a : Alternative) (h : Hop) → Member a (kept_alternatives T lines t) → a.at ≡ i → a.hop ≡ Some h → Member h (kept_hops T lines t i)
   kept_hops-member t i a h member at hop =
-      Member-filter_map (λ (a : Alternative). cond (a.at == i) a.hop None) a h (kept_alternatives T lines t) member (ap (λ b. cond b a.hop None) (same_test a.at i at) ∙ hop)
-    where
-      same_test : (a b : ℕ) → a ≡ b → (a == b) ≡ true
-      same_test a b h = grind arith
+      Member-filter_map (λ (a : Alternative). cond (a.at == i) a.hop None) a h (kept_alternatives T lines t) member (ap (λ b. cond b a.hop None) (eq-eqb a.at i at) ∙ hop)
 
   -- where another ride may end, to go on as well
   module _ (asked : ℤ) (o q : ℕ) (before : List Ride) (r s : Ride) (others : List Ride)
@@ -352,9 +329,9 @@ module _ (T : TimetableData) (lines : List (List ℕ)) (sound : IsSound T) (divi
           (λ x n changes in_time. ((and_some (λ secs. (alighting_time T x +ℤ pos secs) ≤ℤ boarding_time T z) _ n changes in_time, at_r.1.2.1, at_r.1.2.2), ≤ℤ-refl (arrival_after T z rest q))))
 
   kept_enough : (asked : ℤ) (o q : ℕ) (before : List Ride) (r s : Ride) (after : List Ride) → Leads T o (before ++ r ∷ s ∷ after) q → LeavesNoEarlier T asked o (before ++ r ∷ s ∷ after) → KeptResult asked o q before r s after
-  kept_enough asked o q before r s after leads leaves = by_case (onward.enough asked o q before r s after leads leaves)
+  kept_enough asked o q before r s after leads leaves = by_case (onward.enough (change_in asked o q before r s after) (record { leads = leads; leaves = leaves }))
     where
-      by_case : SavesARide T asked o q (before ++ r ∷ s ∷ after) ⊎ GoesByHop T (candidates_without_u_turns T lines) asked o q before r s after → KeptResult asked o q before r s after
+      by_case : SavesARide T (change_in asked o q before r s after) ⊎ GoesByHop T (candidates_without_u_turns T lines) (change_in asked o q before r s after) → KeptResult asked o q before r s after
       by_case (inl saves) = inl saves
       by_case (inr goes) = back (from_candidate asked o q before r' s' goes.others goes.in_set goes.as_well.leads goes.as_well.leaves)
         where
@@ -365,7 +342,7 @@ module _ (T : TimetableData) (lines : List (List ℕ)) (sound : IsSound T) (divi
           s' = record { trip = goes.hop.trip; board = goes.hop.at; alight = goes.until }
 
           back : KeptResult asked o q before r' s' goes.others → KeptResult asked o q before r s after
-          back (inl saves) = inl (SavesARide-trans T asked o q _ _ (omega (arith, goes.as_many, length-append before (r' ∷ s' ∷ goes.others), length-append before (r ∷ s ∷ after))) goes.as_well saves)
+          back (inl saves) = inl (SavesARide-trans T asked o q before r s after r' s' goes.others (omega (arith, goes.as_many, length-append before (r' ∷ s' ∷ goes.others), length-append before (r ∷ s ∷ after))) goes.as_well saves)
           back (inr hop) = inr (GoesByHop-trans T (kept_hops T lines) asked o q before r.trip r.board r.alight goes.at s s' after goes.others goes.as_many goes.as_well hop)
 
   kept_possible : (t i : ℕ) (h : Hop) → Contains (kept_hops T lines t i) h → IsPossibleHop T t i h
@@ -373,9 +350,6 @@ module _ (T : TimetableData) (lines : List (List ℕ)) (sound : IsSound T) (divi
       let found = Member-filter_map_back (λ (a : Alternative). cond (a.at == i) a.hop None) h (kept_alternatives T lines t) (Member-from_Contains h (kept_hops T lines t i) contains) in
       by_test (found.0) found.1 (found.0.at == i) refl found.2
     where
-      same : (a b : ℕ) → (a == b) ≡ true → a ≡ b
-      same a b h = grind arith
-
       by_test : (a : Alternative) → Member a (kept_alternatives T lines t) → (b : Bool) → b ≡ (a.at == i) → cond b a.hop None ≡ Some h → IsPossibleHop T t i h
       by_test a member false e is = cc
       by_test a member true e is = by_hop (alternatives-back T lines t a (improving_alternatives-member T t [] (alternatives T lines t) a member))
@@ -387,12 +361,12 @@ module _ (T : TimetableData) (lines : List (List ℕ)) (sound : IsSound T) (divi
               by_case (inl none) = cc
               by_case (inr (x, some_hop, member)) =
                   let hops : x ≡ h = cc in
-                  let here : a.at ≡ i = same _ _ (sym e) in
+                  let here : a.at ≡ i = eqb-true _ _ (sym e) in
                   subst (λ n. IsPossibleHop T t n h) here (subst (λ y. IsPossibleHop T t a.at y) hops (onward.possible t a.at x (Contains-from_Member x (candidates_without_u_turns T lines t a.at) member)))
 
 -- The kept transfers are sufficient.
 pub kept_hops_sufficient : (T : TimetableData) (lines : List (List ℕ)) → IsSound T → AreDividedInto T lines → AreSufficient T (kept_hops T lines)
 kept_hops_sufficient T lines sound divided = record {
   possible = kept_possible T lines sound divided;
-  enough = kept_enough T lines sound divided;
+  enough = λ c journey. kept_enough T lines sound divided c.asked c.origin c.target c.before c.left c.boarded c.after journey.leads journey.leaves;
 }

@@ -5,6 +5,7 @@ use Rattle.std.proofs.lemmas.Int.{ints}
 use Rattle.tb_base.specs.declared.table.Event.{Event}
 use Rattle.tb_laws.specs.Labels.{lesser, label}
 use Rattle.tb_base.specs.Transfers.{earliest_offer, is_sooner, is_soonest}
+use Rattle.tb_base.proofs.NumberFacts.{int_le-true, int_le-false}
 
 is_sooner-lesser : (x a b : Option ℤ) → is_sooner x (lesser a b) ≡ (is_sooner x a && is_sooner x b)
 is_sooner-lesser None a b = refl
@@ -22,15 +23,9 @@ is_sooner-lesser (Some x) (Some y) (Some z) = by_test (int_le y z) refl
     right : (x y z : ℤ) → z <ℤ y → int_lt x z ≡ (int_lt x y && int_lt x z)
     right x y z h = grind (arith, ints)
 
-    at_most : (a b : ℤ) → int_le a b ≡ true → a ≤ℤ b
-    at_most a b h = grind (arith, ints, h)
-
-    less : (a b : ℤ) → int_le a b ≡ false → b <ℤ a
-    less a b h = grind (arith, ints, h)
-
     by_test : (b : Bool) → b ≡ int_le y z → is_sooner (Some x) (cond b (Some y) (Some z)) ≡ (int_lt x y && int_lt x z)
-    by_test true e = left x y z (at_most y z (sym e))
-    by_test false e = right x y z (less y z (sym e))
+    by_test true e = left x y z (int_le-true y z (sym e))
+    by_test false e = right x y z (int_le-false y z (sym e))
 
 -- Some alternative is earlier, as the stay at the same event always is.
 pub is_soonest-label : (secs_to : ℕ → ℕ → Option ℕ) (es : List Event) (earlier : List (List Event)) (events : List Event) (p : ℕ) →

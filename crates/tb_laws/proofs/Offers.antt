@@ -1,15 +1,17 @@
 -- What alternatives offer at a stop, and which of them are kept.
-use Rattle.std.proofs.Common.{◌≡◌, ℕ, ◌⊎◌, inl, inr, List, [], ◌∷◌, ◌&&◌, Bool, true, false, refl, sym, ap, subst, ◌∙◌, arith, ℤ, pos, ◌+ℤ◌, ◌≤ℤ◌, Option, Some, None, fold}
-use Rattle.std.specs.Prelude.{int_lt, Contains}
+use Rattle.std.proofs.Common.{◌≡◌, ℕ, ◌⊎◌, inl, inr, List, [], ◌∷◌, ◌&&◌, Bool, true, false, refl, sym, ap, subst, ◌∙◌, ℤ, pos, ◌+ℤ◌, ◌≤ℤ◌, Option, Some, None, fold}
+use Rattle.std.specs.Prelude.{Contains}
 use Rattle.std.specs.List.{list_all}
 use Rattle.std.specs.Int.{int_min}
 use Rattle.std.specs.Option.{option_map}
-use Rattle.std.proofs.lemmas.Int.{ints, fold-int_min_bounds, fold-int_min_reached}
+use Rattle.std.proofs.lemmas.Int.{fold-int_min_bounds, fold-int_min_reached}
 use Rattle.std.proofs.lemmas.List.Elements.{All-contains}
 use Rattle.tb_base.specs.declared.table.Event.{Event}
 use Rattle.tb_base.specs.Transfers.{least, earliest_offer, is_sooner, is_soonest}
 use Rattle.tb_base.proofs.Ordered.{Member, Member-from_Contains, Contains-from_Member}
 use Rattle.tb_base.proofs.Members.{Member-filter_map, Member-filter_map_back}
+use Rattle.tb_base.proofs.Lists.{option_map-back}
+use Rattle.tb_base.proofs.NumberFacts.{≤ℤ-trans, ≤ℤ-same, int_lt-false}
 
 -- by these seconds one of the events is at stop p by the time
 pub record Offers (secs_to : ℕ → ℕ → Option ℕ) (p : ℕ) (events : List Event) (time : ℤ) : Type 0 where
@@ -32,35 +34,22 @@ least_member (x ∷ xs) m h = let is : fold int_min x xs ≡ m = cc in by_case (
     by_case (inl e) = inl (sym e)
     by_case (inr h) = inr (Member-from_Contains m xs h)
 
-option_map-back : {X Y : Type 0} (f : X → Y) (o : Option X) (y : Y) → option_map f o ≡ Some y → (x : X) × (o ≡ Some x) × (f x ≡ y)
-option_map-back f None y h = cc
-option_map-back f (Some x) y h = (x, refl, cc)
-
 module _ (secs_to : ℕ → ℕ → Option ℕ) (p : ℕ) where
   earliest_of_offer : (events : List Event) (time : ℤ) → Offers secs_to p events time → (m : ℤ) × (earliest_offer secs_to events p ≡ Some m) × (m ≤ℤ time)
   earliest_of_offer events time h =
       let e : Event = h.event in
       let is : option_map (λ secs. e.arr +ℤ pos secs) (secs_to e.stop p) ≡ Some (e.arr +ℤ pos h.secs) = ap (option_map (λ secs. e.arr +ℤ pos secs)) h.leads in
       let b = least_bound _ _ (Member-filter_map (λ (e : Event). option_map (λ secs. e.arr +ℤ pos secs) (secs_to e.stop p)) e _ events h.member is) in
-      (b.0, b.1, at_most _ _ _ b.2 h.in_time)
-    where
-      at_most : (a b c : ℤ) → a ≤ℤ b → b ≤ℤ c → a ≤ℤ c
-      at_most a b c g k = omega (arith, ints, g, k)
+      (b.0, b.1, ≤ℤ-trans _ _ _ b.2 h.in_time)
 
   offer_of_earliest : (events : List Event) (m : ℤ) → earliest_offer secs_to events p ≡ Some m → Offers secs_to p events m
   offer_of_earliest events m h =
       let found = Member-filter_map_back (λ (e : Event). option_map (λ secs. e.arr +ℤ pos secs) (secs_to e.stop p)) m events (least_member _ m h) in
       let part = option_map-back (λ secs. (found.0).arr +ℤ pos secs) (secs_to (found.0).stop p) m found.2 in
-      record { event = found.0; member = found.1; secs = part.0; leads = part.1; in_time = same part.2 }
-    where
-      same : {a b : ℤ} → a ≡ b → a ≤ℤ b
-      same e = omega (arith, ints, e)
+      record { event = found.0; member = found.1; secs = part.0; leads = part.1; in_time = ≤ℤ-same _ _ part.2 }
 
   pub Offers-later : (events : List Event) (m n : ℤ) → m ≤ℤ n → Offers secs_to p events m → Offers secs_to p events n
-  Offers-later events m n h o = record { event = o.event; member = o.member; secs = o.secs; leads = o.leads; in_time = at_most _ _ _ o.in_time h }
-    where
-      at_most : (a b c : ℤ) → a ≤ℤ b → b ≤ℤ c → a ≤ℤ c
-      at_most a b c g k = omega (arith, ints, g, k)
+  Offers-later events m n h o = record { event = o.event; member = o.member; secs = o.secs; leads = o.leads; in_time = ≤ℤ-trans _ _ _ o.in_time h }
 
   -- what is not sooner than every earlier one is offered by one of them
   pub offered_before : (earlier : List (List Event)) (events : List Event) (time : ℤ) → Offers secs_to p events time → is_soonest secs_to earlier events p ≡ false → (es : List Event) × Member es earlier × Offers secs_to p es time
@@ -81,10 +70,4 @@ module _ (secs_to : ℕ → ℕ → Option ℕ) (p : ℕ) where
 
       by_option : {es : List Event} (o : Option ℤ) → o ≡ earliest_offer secs_to es p → (m : ℤ) → m ≤ℤ time → is_sooner (Some m) o ≡ false → Offers secs_to p es time
       by_option None e m below h = cc
-      by_option {es} (Some n) e m below h = Offers-later es n time (at_most n m time (not_less m n h) below) (offer_of_earliest es n (sym e))
-        where
-          at_most : (a b c : ℤ) → a ≤ℤ b → b ≤ℤ c → a ≤ℤ c
-          at_most a b c g k = omega (arith, ints, g, k)
-
-          not_less : (a b : ℤ) → int_lt a b ≡ false → b ≤ℤ a
-          not_less a b h = grind (arith, ints, h)
+      by_option {es} (Some n) e m below h = Offers-later es n time (≤ℤ-trans n m time (int_lt-false m n h) below) (offer_of_earliest es n (sym e))

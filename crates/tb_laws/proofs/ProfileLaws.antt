@@ -12,12 +12,10 @@ use Rattle.tb_base.specs.BestValues.{QueryData, HasValue, IsAttained, IsNoWorse,
 use Rattle.tb_base.specs.Profiles.{WindowData, slot_of, IsOffered, IsSlotNoWorse, IsProfileSlot}
 use Rattle.tb_laws.proofs.Triangles.{walk_secs-is}
 use Rattle.tb_laws.proofs.CoverLaws.{attained_later, some_best, some_size}
+use Rattle.tb_base.proofs.NumberFacts.{cases_ltℤ, ≤ℤ-trans, ≤ℤ-same_back, ≤ℤ-same}
 
 at_or_later : (a b : ℤ) → a ≤ℤ b → (b ≡ a) ⊎ ((a +ℤ pos 1) ≤ℤ b)
 at_or_later a b h = grind (arith, ints)
-
-before_or_not : (a b : ℤ) → (a <ℤ b) ⊎ (b ≤ℤ a)
-before_or_not a b = grind (arith, ints)
 
 module _ (T : TimetableData) (sound : IsSound T) (W : WindowData) (time : ℤ) (v : Value) (some_ride : 0 < v.rides)
     (best : IsBest T (record { from = W.from; to = W.to; leave = time }) v)
@@ -41,11 +39,8 @@ module _ (T : TimetableData) (sound : IsSound T) (W : WindowData) (time : ℤ) (
   not_later : (w : Value) → IsAttained T later w → IsNoWorse w v → ⊥
   not_later w attained le =
       let n = some_size T sound later.leave w.arrive w.rides (attained_later T sound later w attained) in
-      some_best T sound later n.0 w attained n.1 (λ x x_best below. by_rides x x_best (two _ _ _ below.0 le.0, omega (arith, below.1, le.1)) x.rides refl)
+      some_best T sound later n.0 w attained n.1 (λ x x_best below. by_rides x x_best (≤ℤ-trans _ _ _ below.0 le.0, omega (arith, below.1, le.1)) x.rides refl)
     where
-      two : (a b c : ℤ) → a ≤ℤ b → b ≤ℤ c → a ≤ℤ c
-      two a b c g h = omega (arith, ints, g, h)
-
       on_foot : (x : Value) → (j : Journey) → HasValue T later j x → IsNoWorse x v → x.rides ≡ 0 → ⊥
       on_foot x j has below e = by_list j.origin j.rides j.target has.journey.origin has.journey.target has.journey.leads has.value
         where
@@ -79,7 +74,7 @@ module _ (T : TimetableData) (sound : IsSound T) (W : WindowData) (time : ℤ) (
     not_before = from_first;
     not_after = to_last;
     undominated = λ other is le. only other is le;
-    beats_walks = λ p q secs from to walks. beats p q secs from to walks (before_or_not v.arrive (time +ℤ pos secs));
+    beats_walks = λ p q secs from to walks. beats p q secs from to walks (cases_ltℤ v.arrive (time +ℤ pos secs));
   }
     where
       beats : (p q secs : ℕ) → Contains W.from p → Contains W.to q → walk T p q ≡ Some secs → (v.arrive <ℤ (time +ℤ pos secs)) ⊎ ((time +ℤ pos secs) ≤ℤ v.arrive) → v.arrive <ℤ (time +ℤ pos secs)
@@ -88,9 +83,6 @@ module _ (T : TimetableData) (sound : IsSound T) (W : WindowData) (time : ℤ) (
 
       same_slot : (l l' a a' : ℤ) (k k' : ℕ) → l ≡ l' → a ≡ a' → k ≡ k' → ◌≡◌ {A = Slot} (record { leave = l; arrive = a; rides = k }) (record { leave = l'; arrive = a'; rides = k' })
       same_slot l l' a a' k k' d e f = cc
-
-      less : {a b : ℤ} → a ≡ b → b ≤ℤ a
-      less e = omega (arith, ints, e)
 
       offered : (o : ℕ) (rides : List Ride) (q : ℕ) → IsJourney T W.from W.to (record { origin = o; rides = rides; target = q }) → LeavesNoEarlier T time o rides → v ≡ value_of T time (record { origin = o; rides = rides; target = q }) → IsOffered T W (record { leave = time; arrive = v.arrive; rides = v.rides })
       offered o [] q journey leaves value = absurd (let e : v.rides ≡ 0 = ap (λ (x : Value). x.rides) value in omega (arith, e, some_ride))
@@ -103,7 +95,7 @@ module _ (T : TimetableData) (sound : IsSound T) (W : WindowData) (time : ℤ) (
             rest = rest;
             target = q;
             journey = journey;
-            is = same_slot _ _ _ _ _ _ (sym (leaves_now o r rest q journey leaves (less a) (omega (arith, k)))) a k;
+            is = same_slot _ _ _ _ _ _ (sym (leaves_now o r rest q journey leaves (≤ℤ-same_back _ _ a) (omega (arith, k)))) a k;
           }
 
       only : (other : Slot) → IsOffered T W other → IsSlotNoWorse other (record { leave = time; arrive = v.arrive; rides = v.rides }) → other ≡ record { leave = time; arrive = v.arrive; rides = v.rides }
@@ -135,16 +127,13 @@ module _ (T : TimetableData) (W : WindowData) (slot : Slot) (is : IsProfileSlot 
       record { origin = is.offered.origin; rides = is.offered.first ∷ is.offered.rest; target = is.offered.target },
       record {
         journey = is.offered.journey;
-        leaves = at_most (ap (λ (s : Slot). s.leave) is.offered.is);
+        leaves = ≤ℤ-same _ _ (ap (λ (s : Slot). s.leave) is.offered.is);
         value = ap (λ (s : Slot). record { arrive = s.arrive; rides = s.rides }) is.offered.is;
       },
     );
     undominated = λ w (j, has) le. by_rides w le j.origin j.rides j.target has.journey has.leaves has.value;
   }
     where
-      at_most : {a b : ℤ} → a ≡ b → a ≤ℤ b
-      at_most e = omega (arith, ints, e)
-
       by_rides : (w : Value) → IsNoWorse w (record { arrive = slot.arrive; rides = slot.rides }) → (o : ℕ) (rides : List Ride) (q : ℕ) → IsJourney T W.from W.to (record { origin = o; rides = rides; target = q }) → LeavesNoEarlier T slot.leave o rides →
           w ≡ value_of T slot.leave (record { origin = o; rides = rides; target = q }) → w ≡ record { arrive = slot.arrive; rides = slot.rides }
       by_rides w le o [] q journey leaves value = absurd (foot (walk T o q) refl journey.leads)

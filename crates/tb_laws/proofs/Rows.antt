@@ -28,8 +28,10 @@ feed trips = record {
   stops = stop 65 ∷ stop 66 ∷ stop 67 ∷ stop 68 ∷ stop 69 ∷ [];
   stations = [];
   trips = trips;
-  change = Some 0 ∷ Some 0 ∷ Some 0 ∷ Some 0 ∷ Some 0 ∷ [];
-  paths = [] ∷ [] ∷ [] ∷ [] ∷ [] ∷ [];
+  footpaths = record {
+    change = Some 0 ∷ Some 0 ∷ Some 0 ∷ Some 0 ∷ Some 0 ∷ [];
+    paths = [] ∷ [] ∷ [] ∷ [] ∷ [] ∷ [];
+  };
 }
 
 -- feed U: U2 overtakes
@@ -117,8 +119,10 @@ feed_pqr secs at_q = record {
   stops = stop 80 ∷ stop 81 ∷ stop 82 ∷ [];
   stations = [];
   trips = trip (at 0 480 ∷ at 2 490 ∷ []) ∷ trip (at 2 490 ∷ at 1 491 ∷ []) ∷ [];
-  change = Some 0 ∷ Some at_q ∷ Some 0 ∷ [];
-  paths = [] ∷ [] ∷ (record { to = 1; secs = secs } ∷ []) ∷ [];
+  footpaths = record {
+    change = Some 0 ∷ Some at_q ∷ Some 0 ∷ [];
+    paths = [] ∷ [] ∷ (record { to = 1; secs = secs } ∷ []) ∷ [];
+  };
 }
 
 lines-pqr : fold (place_trip (feed_pqr 60 0)) [] (0 ∷ 1 ∷ []) ≡ (0 ∷ []) ∷ (1 ∷ []) ∷ []

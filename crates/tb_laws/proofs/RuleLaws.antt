@@ -1,5 +1,6 @@
 -- Legs keep all rules exactly where they spell a journey that leaves no earlier than asked.
 use Rattle.std.proofs.Common.{◌≡◌, ◌≢◌, ℕ, ◌<◌, ◌==◌, List, [], ◌∷◌, ◌++◌, length, Bool, true, false, cond, refl, sym, ap, subst, ◌∙◌, arith, ℤ, pos, ◌+ℤ◌, ◌-ℤ◌, ◌≤ℤ◌, Option, None, Some}
+use Rattle.std.proofs.lemmas.Bool.{eq-eqb, ne_eqb}
 use Rattle.std.proofs.lemmas.List.Elements.{All-contains}
 use Rattle.std.specs.Prelude.{All, Contains, IsSome, unwrap_or}
 use Rattle.std.proofs.lemmas.Int.{ints}
@@ -13,18 +14,18 @@ use Rattle.tb_base.specs.Soundness.{IsSound}
 use Rattle.tb_base.specs.Journeys.{Ride, Journey, IsRide, IsJourney, CanChange, Leads, LeadsOn, LeavesNoEarlier, leaving_time, walk_secs, boarding_stop, alighting_stop, boarding_time, alighting_time}
 use Rattle.tb_base.specs.BestValues.{QueryData, value_of}
 use Rattle.tb_base.specs.JourneyRules.{walk_legs, legs_after, legs_of, SpellJourney, KeepsRule, KeepAllRules}
-use Rattle.tb_laws.proofs.Triangles.{walk-same, walk-other, change-other, walk_secs-is, test_same, test_other}
+use Rattle.tb_laws.proofs.Triangles.{walk-same, walk-other, change-other, walk_secs-is}
 use Rattle.tb_base.proofs.Events.{MayBoard-inside, MayAlight-inside}
 use Rattle.tb_laws.proofs.CandidateLaws.{and_some, some_and, stop_inside}
 use Rattle.tb_laws.proofs.UTurnLaws.{some}
 use Rattle.tb_laws.proofs.KeptLaws.{walk_inside}
 
 walk_legs-same : (T : TimetableData) (p : ℕ) → walk_legs T p p ≡ []
-walk_legs-same T p = ap (λ b. cond b [] (WalkLeg p p (unwrap_or (walk T p p) 0) ∷ [])) (test_same p)
+walk_legs-same T p = ap (λ b. cond b [] (WalkLeg p p (unwrap_or (walk T p p) 0) ∷ [])) (eq-eqb p p refl)
 
-walk_legs-other : (T : TimetableData) (p q secs : ℕ) → p ≢ q → footpath_secs T p q ≡ Some secs → walk_legs T p q ≡ WalkLeg p q secs ∷ []
+walk_legs-other : (T : TimetableData) (p q secs : ℕ) → p ≢ q → footpath_secs T.footpaths p q ≡ Some secs → walk_legs T p q ≡ WalkLeg p q secs ∷ []
 walk_legs-other T p q secs apart path =
-    ap (λ b. cond b [] (WalkLeg p q (unwrap_or (walk T p q) 0) ∷ [])) (test_other p q apart)
+    ap (λ b. cond b [] (WalkLeg p q (unwrap_or (walk T p q) 0) ∷ [])) (ne_eqb p q apart)
     ∙ ap (λ o. WalkLeg p q (unwrap_or o 0) ∷ []) (walk-other T p q apart ∙ path)
 
 number_same : (a b : ℕ) → true ≡ (a == b) → a ≡ b
@@ -76,7 +77,7 @@ module _ (T : TimetableData) (Q : QueryData) where
       (rest_from_rules u c j (Some (RideLeg t b i)) legs keep.1 (λ e. subst (λ l. KeepsRule T Q (Some (RideLeg t b i)) earlier (RideLeg u c j) l WrongEnd) e (keep.0 WrongEnd)))
   rest_from_rules t b i earlier (WalkLeg p q secs ∷ []) keep ends =
       let from : stop_at T t i ≡ p = keep.0 Apart in
-      let path : footpath_secs T (stop_at T t i) q ≡ Some secs = subst (λ x. footpath_secs T x q ≡ Some secs) (sym from) (keep.0 NoWalk).1 in
+      let path : footpath_secs T.footpaths (stop_at T t i) q ≡ Some secs = subst (λ x. footpath_secs T.footpaths x q ≡ Some secs) (sym from) (keep.0 NoWalk).1 in
       let apart : stop_at T t i ≢ q = λ e. (keep.0 NoWalk).0 (sym from ∙ e) in
       record {
         rest = [];
@@ -89,7 +90,7 @@ module _ (T : TimetableData) (Q : QueryData) where
   rest_from_rules t b i earlier (WalkLeg p q secs ∷ RideLeg u c j ∷ legs) keep ends =
       let from : stop_at T t i ≡ p = keep.0 Apart in
       let to : q ≡ stop_at T u c = keep.1.0 Apart in
-      let path : footpath_secs T (stop_at T t i) (stop_at T u c) ≡ Some secs = subst (λ x. footpath_secs T x (stop_at T u c) ≡ Some secs) (sym from) (subst (λ y. footpath_secs T p y ≡ Some secs) to (keep.0 NoWalk).1) in
+      let path : footpath_secs T.footpaths (stop_at T t i) (stop_at T u c) ≡ Some secs = subst (λ x. footpath_secs T.footpaths x (stop_at T u c) ≡ Some secs) (sym from) (subst (λ y. footpath_secs T.footpaths p y ≡ Some secs) to (keep.0 NoWalk).1) in
       let apart : stop_at T t i ≢ stop_at T u c = λ e. (keep.0 NoWalk).0 (sym from ∙ (e ∙ sym to)) in
       let legs_are : WalkLeg p q secs ∷ [] ≡ walk_legs T (stop_at T t i) (stop_at T u c) =
       subst (λ x. WalkLeg x q secs ∷ [] ≡ walk_legs T (stop_at T t i) (stop_at T u c)) from (subst (λ y. WalkLeg (stop_at T t i) y secs ∷ [] ≡ walk_legs T (stop_at T t i) (stop_at T u c)) (sym to) (sym (walk_legs-other T _ _ secs apart path))) in
@@ -126,7 +127,7 @@ module _ (T : TimetableData) (Q : QueryData) where
   journey_from_rules (WalkLeg p q secs ∷ WalkLeg x y z ∷ legs) keep ends = absurd (keep.1.0 TwoWalks tt tt)
   journey_from_rules (WalkLeg p q secs ∷ RideLeg t b i ∷ legs) keep ends =
       let to : q ≡ stop_at T t b = keep.1.0 Apart in
-      let path : footpath_secs T p (stop_at T t b) ≡ Some secs = subst (λ y. footpath_secs T p y ≡ Some secs) to (keep.0 NoWalk).1 in
+      let path : footpath_secs T.footpaths p (stop_at T t b) ≡ Some secs = subst (λ y. footpath_secs T.footpaths p y ≡ Some secs) to (keep.0 NoWalk).1 in
       let apart : p ≢ stop_at T t b = λ e. (keep.0 NoWalk).0 (e ∙ sym to) in
       let legs_are : WalkLeg p q secs ∷ [] ≡ walk_legs T p (stop_at T t b) = subst (λ y. WalkLeg p y secs ∷ [] ≡ walk_legs T p (stop_at T t b)) (sym to) (sym (walk_legs-other T p (stop_at T t b) secs apart path)) in
       with_first p (record { trip = t; board = b; alight = i }) (WalkLeg p q secs ∷ []) legs (keep.0 WrongStart) legs_are (is_some_of _ secs (walk-other T _ _ apart ∙ path))
@@ -153,7 +154,7 @@ module _ (T : TimetableData) (Q : QueryData) (sound : IsSound T) where
   ride_keeps previous earlier after s ride two start early apart late end WrongEnd = end
 
   -- so does a walk, behind a ride or as the first leg
-  walk_keeps : (previous earlier : Option Leg) (after : List Leg) (p q secs : ℕ) → p < length T.stops → q < length T.stops → p ≢ q → footpath_secs T p q ≡ Some secs → KeepsRule T Q previous earlier (WalkLeg p q secs) after TwoWalks → KeepsRule T Q previous earlier (WalkLeg p q secs) after WrongStart →
+  walk_keeps : (previous earlier : Option Leg) (after : List Leg) (p q secs : ℕ) → p < length T.stops → q < length T.stops → p ≢ q → footpath_secs T.footpaths p q ≡ Some secs → KeepsRule T Q previous earlier (WalkLeg p q secs) after TwoWalks → KeepsRule T Q previous earlier (WalkLeg p q secs) after WrongStart →
       KeepsRule T Q previous earlier (WalkLeg p q secs) after TooEarly → KeepsRule T Q previous earlier (WalkLeg p q secs) after Apart → KeepsRule T Q previous earlier (WalkLeg p q secs) after TooLate → KeepsRule T Q previous earlier (WalkLeg p q secs) after WrongEnd → (rule : Rule) → KeepsRule T Q previous earlier (WalkLeg p q secs) after rule
   walk_keeps previous earlier after p q secs in_p in_q apart path two start early along late end BadNumber = (in_p, in_q)
   walk_keeps previous earlier after p q secs in_p in_q apart path two start early along late end TwoWalks = two
@@ -211,7 +212,7 @@ module _ (T : TimetableData) (Q : QueryData) (sound : IsSound T) where
           let in_q : boarding_stop T s < length T.stops = stop_inside T sound s.trip s.board there.0 there.1 in
           let c = some_and (λ n. (alighting_time T r +ℤ pos n) ≤ℤ boarding_time T s) _ on.0 in
           let apart : alighting_stop T r ≢ boarding_stop T s = number_other _ _ e in
-          let path : footpath_secs T (alighting_stop T r) (boarding_stop T s) ≡ Some c.0 = sym (change-other T _ _ apart) ∙ c.1 in
+          let path : footpath_secs T.footpaths (alighting_stop T r) (boarding_stop T s) ≡ Some c.0 = sym (change-other T _ _ apart) ∙ c.1 in
           let secs : unwrap_or (walk T (alighting_stop T r) (boarding_stop T s)) 0 ≡ c.0 = ap (λ o. unwrap_or o 0) (walk-other T _ _ apart ∙ path) in
           let walk_leg : Leg = WalkLeg (alighting_stop T r) (boarding_stop T s) (unwrap_or (walk T (alighting_stop T r) (boarding_stop T s)) 0) in
           let k = more (Some walk_leg) in (

@@ -17,9 +17,10 @@ use Rattle.tb_base.specs.Soundness.{IsSound}
 use Rattle.tb_laws.proofs.CoverLaws.{arrives_behind}
 use Rattle.tb_base.proofs.Events.{MayAlight-inside}
 use Rattle.tb_laws.proofs.Boarding.{reached_leads}
-use Rattle.tb_laws.proofs.Exchange.{≤ℤ-trans, AlightsAs, LeadsOn-alights, arrival_after-alights, Leads-at, arrival-behind}
+use Rattle.tb_laws.proofs.Exchange.{change_in, ≤ℤ-trans, AlightsAs, LeadsOn-alights, arrival_after-alights, Leads-at, arrival-behind}
 use Rattle.tb_laws.proofs.Triangles.{walk_secs-is}
 use Rattle.tb_laws.proofs.UTurnLaws.{some}
+use Rattle.tb_base.proofs.NumberFacts.{less_or_same, ≤ℤ-same_back}
 
 -- Where rides lead on in time for v, one does not leave the first of them late.
 abbrev IsNeverLate : TimetableData → List Value → Value → Type 0
@@ -79,9 +80,6 @@ module _ (T : TimetableData) (hops : ℕ → ℕ → List Hop) (Q : QueryData) (
   take_over n round s rest target c inside to rides on in_time all =
       by_case (less_or_same (segment_at segments c.by).round round c.by_then)
     where
-      less_or_same : (a b : ℕ) → a ≤ b → (a < b) ⊎ (a ≡ b)
-      less_or_same a b h = grind arith
-
       w : IsRide T (ride_to c.by s.alight) × AlightsAs T s (ride_to c.by s.alight)
       w = covering c.by s inside c.trip c.board rides
 
@@ -111,9 +109,6 @@ module _ (T : TimetableData) (hops : ℕ → ℕ → List Hop) (Q : QueryData) (
           from_end : (c' : IsCovered T segments n round (trip_of n) (segment_at segments n).end) → c'.by ≡ c.by → GoesWell round c.by
           from_end c' same = subst (λ m. GoesWell round m) same (by_round (less_or_same (segment_at segments c'.by).round round c'.by_then))
             where
-              less_or_same : (a b : ℕ) → a ≤ b → (a < b) ⊎ (a ≡ b)
-              less_or_same a b h = grind arith
-
               m_inside : c'.by < length segments
               m_inside = omega (arith, c'.within, inside)
 
@@ -146,13 +141,10 @@ module _ (T : TimetableData) (hops : ℕ → ℕ → List Hop) (Q : QueryData) (
           let inside : r.alight < length (events_of T r.trip) = (MayAlight-inside T r.trip r.alight leads.1.alights).1 in
           let c = searched.starts o r.trip r.board w.0 from leads.1.boards (omega (arith, inside, leads.1.onward)) w.1 (moved (boarding_time T r) w.0 leaves') in
           let e : v.rides ≡ suc (length rest) = ap (λ (w : Value). w.rides) value in
-          (c.by, take_over (length segments) 1 r rest q c c.within to leads.1 leads.2 (same (ap (λ (w : Value). w.arrive) value)) (omega (arith, e)))
+          (c.by, take_over (length segments) 1 r rest q c c.within to leads.1 leads.2 (≤ℤ-same_back _ _ (ap (λ (w : Value). w.arrive) value)) (omega (arith, e)))
         where
           moved : (d : ℤ) (n : ℕ) → Q.leave ≤ℤ (d -ℤ pos n) → (Q.leave +ℤ pos n) ≤ℤ d
           moved d n h = omega (arith, ints, h)
-
-          same : {a b : ℤ} → a ≡ b → b ≤ℤ a
-          same e = omega (arith, ints, e)
 
   module _ (sufficient : AreSufficient T hops) where
     -- a segment that goes on well and is not in the last round leads to one of the next round, or a segment before it goes on as well
@@ -167,7 +159,7 @@ module _ (T : TimetableData) (hops : ℕ → ℕ → List Hop) (Q : QueryData) (
 
         by_rest : (rest : List Ride) → LeadsOn T here rest well.target → round + length rest ≡ v.rides → arrival_after T here rest well.target ≤ℤ v.arrive → (k : ℕ) × GoesWell (suc round) k
         by_rest [] on all in_time = absurd (omega (arith, all, more))
-        by_rest (s ∷ rest) on all in_time = by_case (sufficient.enough Q.leave r.origin well.target r.before here s rest led.0 led.1)
+        by_rest (s ∷ rest) on all in_time = by_case (sufficient.enough (change_in Q.leave r.origin well.target r.before here s rest) (record { leads = led.0; leaves = led.1 }))
           where
             led : Leads T r.origin (r.before ++ here ∷ s ∷ rest) well.target × LeavesNoEarlier T Q.leave r.origin (r.before ++ here ∷ s ∷ rest)
             led = reached_leads T Q.from Q.leave (segment_at segments n).round (trip_of n) (board_of n) r well.alight (s ∷ rest) well.target well.rides on
@@ -178,7 +170,7 @@ module _ (T : TimetableData) (hops : ℕ → ℕ → List Hop) (Q : QueryData) (
             in_time' : arrival T Q.leave r.origin (r.before ++ here ∷ s ∷ rest) well.target ≤ℤ v.arrive
             in_time' = subst (λ a. a ≤ℤ v.arrive) (sym (arrival-behind T Q.leave r.origin r.before here (s ∷ rest) well.target)) in_time
 
-            by_case : SavesARide T Q.leave r.origin well.target (r.before ++ here ∷ s ∷ rest) ⊎ GoesByHop T hops Q.leave r.origin well.target r.before here s rest → (k : ℕ) × GoesWell (suc round) k
+            by_case : SavesARide T (change_in Q.leave r.origin well.target r.before here s rest) ⊎ GoesByHop T hops (change_in Q.leave r.origin well.target r.before here s rest) → (k : ℕ) × GoesWell (suc round) k
             by_case (inl saves) = absurd (no_fewer (record { origin = r.origin; rides = saves.new; target = well.target })
                 (record { origin = r.from; target = well.to; leads = saves.as_well.leads }) saves.as_well.leaves (omega (arith, saves.fewer, long)) (≤ℤ-trans _ _ _ saves.as_well.arrives in_time'))
             by_case (inr goes) = by_end (at_most_or_past goes.at (segment_at segments n).end)

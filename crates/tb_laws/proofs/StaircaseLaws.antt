@@ -1,14 +1,15 @@
 -- Attained values that form a staircase, with all best values among them, are the best values.
-use Rattle.std.proofs.Common.{◌≡◌, ℕ, ◌≤◌, ◌⊎◌, inl, inr, List, [], ◌∷◌, refl, sym, subst, ◌∙◌, arith, ℤ, pos, ◌+ℤ◌, ◌≤ℤ◌, ◌<ℤ◌}
+use Rattle.std.proofs.Common.{◌≡◌, ℕ, ◌≤◌, ◌⊎◌, inl, inr, List, [], ◌∷◌, sym, subst, ◌∙◌, arith, ℤ, pos, ◌+ℤ◌, ◌≤ℤ◌, ◌<ℤ◌}
 use Rattle.std.specs.Prelude.{Contains, All, AllPairs}
 use Rattle.std.proofs.lemmas.Int.{ints}
-use Rattle.std.proofs.lemmas.List.Elements.{All-contains, All-nil, All-cons}
+use Rattle.std.proofs.lemmas.List.Elements.{All-contains}
 use Rattle.tb_base.specs.declared.query.Value.{Value}
 use Rattle.tb_base.specs.TimetableData.{TimetableData}
 use Rattle.tb_base.specs.Soundness.{IsSound}
 use Rattle.tb_base.specs.BestValues.{QueryData, IsAttained, IsNoWorse, IsBest, IsStep, AreBestValues}
 use Rattle.tb_base.proofs.Ordered.{Member, Member-from_Contains, Contains-from_Member, AllPairs-head, AllPairs-tail}
 use Rattle.tb_laws.proofs.CoverLaws.{attained_later, same_or_less, some_best, some_size}
+use Rattle.tb_base.proofs.Members.{All-from_Member}
 
 -- two members of a list in some order are one, or stand one before the other
 members_in_order : {X : Type 0} (R : X → X → Type 0) (xs : List X) (x y : X) → AllPairs R xs → Member x xs → Member y xs → (x ≡ y) ⊎ (R x y ⊎ R y x)
@@ -17,10 +18,6 @@ members_in_order R (z ∷ zs) x y p (inl e) (inl f) = inl (sym e ∙ f)
 members_in_order R (z ∷ zs) x y p (inl e) (inr k) = inr (inl (subst (λ w. R w y) e (AllPairs-head R z zs p y (Contains-from_Member y zs k))))
 members_in_order R (z ∷ zs) x y p (inr h) (inl f) = inr (inr (subst (λ w. R w x) f (AllPairs-head R z zs p x (Contains-from_Member x zs h))))
 members_in_order R (z ∷ zs) x y p (inr h) (inr k) = members_in_order R zs x y (AllPairs-tail R z zs p) h k
-
-All-from_Member : {X : Type 0} (P : X → Type 0) (xs : List X) → ((x : X) → Member x xs → P x) → All P xs
-All-from_Member P [] f = All-nil P
-All-from_Member P (x ∷ xs) f = All-cons P x xs (f x (inl refl)) (All-from_Member P xs (λ y h. f y (inr h)))
 
 pub best_values_from_staircase : (T : TimetableData) (Q : QueryData) (vs : List Value) → IsSound T → All (IsAttained T Q) vs → ((v : Value) → IsBest T Q v → Contains vs v) → AllPairs IsStep vs → AreBestValues T Q vs
 best_values_from_staircase T Q vs sound attained complete stairs = record {

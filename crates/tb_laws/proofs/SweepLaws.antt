@@ -1,7 +1,7 @@
 -- What a search holds where it need not go on: a late arrival stays late, and attained values that hold all offers hold all attained ones.
-use Rattle.std.proofs.Common.{◌≡◌, ◌∙◌, ℕ, zero, suc, ◌<◌, ◌≤◌, ◌⊎◌, inl, inr, List, [], ◌∷◌, ◌&&◌, Bool, true, false, length, refl, sym, ap, subst, arith, ℤ, pos, ◌+ℤ◌, ◌≤ℤ◌}
+use Rattle.std.proofs.Common.{◌≡◌, ◌∙◌, ℕ, zero, suc, ◌⊎◌, inl, inr, List, [], ◌∷◌, ◌&&◌, Bool, true, false, length, refl, sym, ap, subst, arith, ℤ, pos, ◌+ℤ◌}
 use Rattle.std.specs.Prelude.{All, Contains, int_le, nat_le}
-use Rattle.std.proofs.lemmas.Int.{ints}
+use Rattle.std.proofs.lemmas.Bool.{leb-true, le-leb, and_parts}
 use Rattle.tb_base.specs.declared.transfer.Hop.{Hop}
 use Rattle.tb_base.specs.declared.query.Value.{Value}
 use Rattle.tb_base.specs.TimetableData.{TimetableData}
@@ -14,16 +14,13 @@ use Rattle.tb_base.specs.Search.{RoundSegment}
 use Rattle.tb_base.proofs.Ordered.{Member, Contains-from_Member, Member-from_Contains}
 use Rattle.tb_laws.specs.Pruning.{AreCoveredBy, HoldOffers, HoldWalks, IsLate, IsPrunedSearch}
 use Rattle.tb_laws.proofs.CoverLaws.{no_best_is_absurd}
-use Rattle.tb_base.proofs.Members.{both_true}
 use Rattle.tb_laws.proofs.SearchLaws.{pruned_value_found}
 use Rattle.tb_laws.proofs.Triangles.{walk_secs-is}
 use Rattle.tb_laws.proofs.UTurnLaws.{some}
+use Rattle.tb_base.proofs.NumberFacts.{≤ℤ-trans, int_le-true, le-int_le}
 
 pub late_still : (old values : List Value) (time : ℤ) (rides : ℕ) → AreCoveredBy old values → IsLate old time rides → IsLate values time rides
-late_still old values time rides cover (w, inside, le) = let v = cover w inside in (v.0, v.1, (through v.0.arrive w.arrive time v.2.0 le.0, omega (arith, v.2.1, le.1)))
-  where
-    through : (a b c : ℤ) → a ≤ℤ b → b ≤ℤ c → a ≤ℤ c
-    through a b c g h = omega (arith, ints, g, h)
+late_still old values time rides cover (w, inside, le) = let v = cover w inside in (v.0, v.1, (≤ℤ-trans v.0.arrive w.arrive time v.2.0 le.0, omega (arith, v.2.1, le.1)))
 
 -- Attained values that hold all that a search offers, and all walks, hold every attained value.
 module _ (T : TimetableData) (sound : IsSound T) (hops : ℕ → ℕ → List Hop) (sufficient : AreSufficient T hops) (Q : QueryData) (values : List Value) (segments : List RoundSegment) (searched : IsPrunedSearch T hops Q.from Q.leave values segments)
@@ -43,18 +40,6 @@ module _ (T : TimetableData) (sound : IsSound T) (hops : ℕ → ℕ → List Ho
       by_rides zero e = let j = best.attained.0 in on_foot j.origin j.rides j.target best.attained.1.journey.origin best.attained.1.journey.target best.attained.1.journey.leads best.attained.1.value (sym e)
       by_rides (suc k) e = offers v (pruned_value_found T hops Q values segments sound searched attained sufficient v best (omega (arith, e)))
 
-  at_most : (a b : ℤ) → int_le a b ≡ true → a ≤ℤ b
-  at_most a b h = grind (arith, ints, h)
-
-  below : (m n : ℕ) → nat_le m n ≡ true → m ≤ n
-  below m n h = grind (arith, h)
-
-  at_most-test : (a b : ℤ) → a ≤ℤ b → int_le a b ≡ true
-  at_most-test a b h = grind (arith, ints, h)
-
-  below-test : (m n : ℕ) → m ≤ n → nat_le m n ≡ true
-  below-test m n h = grind (arith, h)
-
   clash : (a b : Bool) → a ≡ true → b ≡ true → (a && b) ≡ false → ⊥
   clash a b g h k = cc
 
@@ -63,20 +48,17 @@ module _ (T : TimetableData) (sound : IsSound T) (hops : ℕ → ℕ → List Ho
   search_in w (x ∷ xs) = by_test (search_in w xs) (int_le x.arrive w.arrive && nat_le x.rides w.rides) refl
     where
       by_test : ((v : Value) × Member v xs × IsNoWorse v w) ⊎ ((v : Value) → Member v xs → IsNoWorse v w → ⊥) → (b : Bool) → b ≡ (int_le x.arrive w.arrive && nat_le x.rides w.rides) → ((v : Value) × Member v (x ∷ xs) × IsNoWorse v w) ⊎ ((v : Value) → Member v (x ∷ xs) → IsNoWorse v w → ⊥)
-      by_test more true e = (let p = both_true (int_le x.arrive w.arrive) (nat_le x.rides w.rides) (sym e) in inl (x, inl refl, (at_most _ _ p.0, below _ _ p.1)))
+      by_test more true e = (let p = and_parts (int_le x.arrive w.arrive) (nat_le x.rides w.rides) (sym e) in inl (x, inl refl, (int_le-true _ _ p.0, leb-true _ _ p.1)))
       by_test (inl found) false e = inl (found.0, inr found.1, found.2)
       by_test (inr none) false e = inr (λ v h le. in_list v h le)
         where
           in_list : (v : Value) → Member v (x ∷ xs) → IsNoWorse v w → ⊥
-          in_list v (inl f) le = (let here : IsNoWorse x w = subst (λ u. IsNoWorse u w) (sym f) le in clash _ _ (at_most-test _ _ here.0) (below-test _ _ here.1) (sym e))
+          in_list v (inl f) le = (let here : IsNoWorse x w = subst (λ u. IsNoWorse u w) (sym f) le in clash _ _ (le-int_le _ _ here.0) (le-leb _ _ here.1) (sym e))
           in_list v (inr k) le = none v k le
 
   -- so each attained value has one of the values that is no worse
   pub swept_values_cover : (w : Value) → IsAttained T Q w → IsLate values w.arrive w.rides
   swept_values_cover w has = elim (search_in w values) [
     | inl found ↦ (found.0, Contains-from_Member found.0 values found.1, found.2)
-    | inr none ↦ absurd (no_best_is_absurd T sound Q w has (λ v best le. (let h = held v best in none h.0 (Member-from_Contains h.0 values h.1) (through h.0.arrive v.arrive w.arrive h.2.0 le.0, omega (arith, h.2.1, le.1)))))
+    | inr none ↦ absurd (no_best_is_absurd T sound Q w has (λ v best le. (let h = held v best in none h.0 (Member-from_Contains h.0 values h.1) (≤ℤ-trans h.0.arrive v.arrive w.arrive h.2.0 le.0, omega (arith, h.2.1, le.1)))))
   ]
-    where
-      through : (a b c : ℤ) → a ≤ℤ b → b ≤ℤ c → a ≤ℤ c
-      through a b c g h = omega (arith, ints, g, h)

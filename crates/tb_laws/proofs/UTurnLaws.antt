@@ -3,6 +3,7 @@ use Rattle.std.proofs.Common.{◌≡◌, ℕ, zero, suc, ◌<◌, ◌≤◌, ◌
 use Rattle.std.specs.Prelude.{int_le, nat_lt, slice_index_or, IsSomeAnd, IsSome, is_some}
 use Rattle.std.specs.Option.{option_and_then}
 use Rattle.std.proofs.lemmas.Int.{ints}
+use Rattle.std.proofs.lemmas.Bool.{eqb-true, and_parts}
 use Rattle.tb_base.specs.declared.transfer.Hop.{Hop}
 use Rattle.tb_base.specs.TimetableData.{TimetableData, no_event, events_of, event_at, stop_at, arrival_at, departure_at, MayBoard, MayAlight}
 use Rattle.tb_base.specs.Walking.{walk, change, change_time}
@@ -13,10 +14,11 @@ use Rattle.tb_base.specs.Transfers.{candidates, candidates_without_u_turns, is_u
 use Rattle.tb_base.specs.Sufficiency.{DoesAsWell, SavesARide, GoesByHop, AreSufficient}
 use Rattle.tb_base.proofs.Events.{MayAlight-inside}
 use Rattle.tb_base.proofs.Ordered.{Member-from_Contains, Contains-from_Member}
-use Rattle.tb_base.proofs.Members.{both_true, Member-filter, Member-filter_back}
+use Rattle.tb_base.proofs.Members.{Member-filter, Member-filter_back}
 use Rattle.tb_laws.proofs.Triangles.{change-same, walk_secs-is, change-change, walk-change, change-walk, walk-walk}
-use Rattle.tb_laws.proofs.Exchange.{≤ℤ-refl, ≤ℤ-trans, AlightsAs, LeadsOn-alights, arrival_after-alights, Leads-at, replaced}
-use Rattle.tb_laws.proofs.CandidateLaws.{some_and, and_some, test_le, GoesByCandidate, candidates_step, candidates_possible}
+use Rattle.tb_laws.proofs.Exchange.{change_in, ≤ℤ-refl, ≤ℤ-trans, AlightsAs, LeadsOn-alights, arrival_after-alights, Leads-at, replaced}
+use Rattle.tb_laws.proofs.CandidateLaws.{some_and, and_some, GoesByCandidate, candidates_step, candidates_possible}
+use Rattle.tb_base.proofs.NumberFacts.{less_or_same, int_le-true}
 
 pub some : {X : Type 0} (o : Option X) → IsSome o → (n : X) × (o ≡ Some n)
 some None h = cc
@@ -25,9 +27,6 @@ some (Some n) h = (n, refl)
 some_there : (P : ℕ → Type 0) (o : Option ℕ) → IsSomeAnd o P → IsSome o
 some_there P None h = absurd h
 some_there P (Some n) h = refl
-
-same_number : (a b : ℕ) → (a == b) ≡ true → a ≡ b
-same_number a b h = grind arith
 
 pos_sum : (u s t : ℕ) (x : ℤ) → u ≤ s + t → (x +ℤ pos u) ≤ℤ ((x +ℤ pos s) +ℤ pos t)
 pos_sum u s t x h = omega (arith, ints, h)
@@ -46,19 +45,19 @@ in_time_secs a d None h = cc
 in_time_secs a d (Some n) h = (n, refl, by_test (int_le (a +ℤ pos n) d) refl h)
   where
     by_test : (b : Bool) → b ≡ int_le (a +ℤ pos n) d → is_some (cond b (Some n) None) ≡ true → (a +ℤ pos n) ≤ℤ d
-    by_test true e h = test_le _ _ (sym e)
+    by_test true e h = int_le-true _ _ (sym e)
     by_test false e h = cc
 
 u_turn_parts : (T : TimetableData) (t i : ℕ) (h : Hop) → is_u_turn T t i h ≡ true → IsUTurn T t i h
 u_turn_parts T t i h e =
     let before = event_at T t (i - 1) in
     let after = event_at T h.trip (h.at + 1) in
-    let last = both_true (nat_lt 0 i && (before.stop == after.stop) && before.alight && after.board) (is_some (option_and_then (λ secs. cond (int_le (before.arr +ℤ pos secs) after.dep) (Some secs) None) (change_time T before.stop))) e in
-    let marks = both_true (nat_lt 0 i && (before.stop == after.stop) && before.alight) after.board last.0 in
-    let first = both_true (nat_lt 0 i && (before.stop == after.stop)) before.alight marks.0 in
-    let same = both_true (nat_lt 0 i) (before.stop == after.stop) first.0 in
-    let found = in_time_secs before.arr after.dep (change_time T before.stop) last.1 in
-    let here : before.stop ≡ after.stop = same_number _ _ same.1 in
+    let last = and_parts (nat_lt 0 i && (before.stop == after.stop) && before.alight && after.board) (is_some (option_and_then (λ secs. cond (int_le (before.arr +ℤ pos secs) after.dep) (Some secs) None) (change_time T.footpaths before.stop))) e in
+    let marks = and_parts (nat_lt 0 i && (before.stop == after.stop) && before.alight) after.board last.0 in
+    let first = and_parts (nat_lt 0 i && (before.stop == after.stop)) before.alight marks.0 in
+    let same = and_parts (nat_lt 0 i) (before.stop == after.stop) first.0 in
+    let found = in_time_secs before.arr after.dep (change_time T.footpaths before.stop) last.1 in
+    let here : before.stop ≡ after.stop = eqb-true _ _ same.1 in
     record {
       stop = here;
       alights = first.1;
@@ -167,13 +166,15 @@ module _ (T : TimetableData) (sound : IsSound T) where
 pub DoesAsWell-trans : (T : TimetableData) (asked : ℤ) (o q : ℕ) (a b c : List Ride) → DoesAsWell T asked o q a b → DoesAsWell T asked o q b c → DoesAsWell T asked o q a c
 DoesAsWell-trans T asked o q a b c g h = record { leads = h.leads; leaves = h.leaves; arrives = ≤ℤ-trans _ _ _ h.arrives g.arrives }
 
-pub SavesARide-trans : (T : TimetableData) (asked : ℤ) (o q : ℕ) (a b : List Ride) → length b ≡ length a → DoesAsWell T asked o q a b → SavesARide T asked o q b → SavesARide T asked o q a
-SavesARide-trans T asked o q a b long g h = record { new = h.new; fewer = omega (arith, h.fewer, long); as_well = DoesAsWell-trans T asked o q a b h.new g h.as_well }
+pub SavesARide-trans : (T : TimetableData) (asked : ℤ) (o q : ℕ) (before : List Ride) (r s : Ride) (after : List Ride) (r' s' : Ride) (after' : List Ride) →
+    length (before ++ r' ∷ s' ∷ after') ≡ length (before ++ r ∷ s ∷ after) → DoesAsWell T asked o q (before ++ r ∷ s ∷ after) (before ++ r' ∷ s' ∷ after') →
+    SavesARide T (change_in asked o q before r' s' after') → SavesARide T (change_in asked o q before r s after)
+SavesARide-trans T asked o q before r s after r' s' after' long g h = record { new = h.new; fewer = omega (arith, h.fewer, long); as_well = DoesAsWell-trans T asked o q _ _ h.new g h.as_well }
 
 -- the ride r may end elsewhere on its trip, and the rides behind it may differ
 pub GoesByHop-trans : (T : TimetableData) (hops : ℕ → ℕ → List Hop) (asked : ℤ) (o q : ℕ) (before : List Ride) (t b i i' : ℕ) (s s' : Ride) (after after' : List Ride) → length after' ≡ length after →
     DoesAsWell T asked o q (before ++ record { trip = t; board = b; alight = i } ∷ s ∷ after) (before ++ record { trip = t; board = b; alight = i' } ∷ s' ∷ after') →
-    GoesByHop T hops asked o q before (record { trip = t; board = b; alight = i' }) s' after' → GoesByHop T hops asked o q before (record { trip = t; board = b; alight = i }) s after
+    GoesByHop T hops (change_in asked o q before (record { trip = t; board = b; alight = i' }) s' after') → GoesByHop T hops (change_in asked o q before (record { trip = t; board = b; alight = i }) s after)
 GoesByHop-trans T hops asked o q before t b i i' s s' after after' long g h = record {
   at = h.at;
   hop = h.hop;
@@ -186,15 +187,13 @@ GoesByHop-trans T hops asked o q before t b i i' s s' after after' long g h = re
 }
 
 -- n is at most m, so less or equal
-less_or_equal : (n m : ℕ) → n ≤ m → (n < m) ⊎ (n ≡ m)
-less_or_equal n m h = grind arith
 
 chain : (a b d e : ℤ) (n : ℕ) → a ≤ℤ b → (b +ℤ pos n) ≤ℤ d → d ≤ℤ e → a ≤ℤ e
 chain a b d e n g h k = omega (arith, ints, g, h, k)
 
 module _ (T : TimetableData) (lines : List (List ℕ)) (sound : IsSound T) (divided : AreDividedInto T lines) where
   abbrev Result : ℤ → ℕ → ℕ → List Ride → Ride → Ride → List Ride → Type 0
-  Result asked o q before r s after = SavesARide T asked o q (before ++ r ∷ s ∷ after) ⊎ GoesByHop T (candidates_without_u_turns T lines) asked o q before r s after
+  Result asked o q before r s after = SavesARide T (change_in asked o q before r s after) ⊎ GoesByHop T (candidates_without_u_turns T lines) (change_in asked o q before r s after)
 
   -- from t@i to u@j by a U-turn: it can be made one event earlier, or a ride or two can be left out
   u_turn_avoided : (asked : ℤ) (o q : ℕ) (before : List Ride) (r s : Ride) (after : List Ride) → IsUTurn T r.trip r.alight (record { trip = s.trip; at = s.board }) →
@@ -202,7 +201,7 @@ module _ (T : TimetableData) (lines : List (List ℕ)) (sound : IsSound T) (divi
       ((s' : Ride) → DoesAsWell T asked o q (before ++ r ∷ s ∷ after) (before ++ record { trip = r.trip; board = r.board; alight = r.alight - 1 } ∷ s' ∷ after) → Result asked o q before r s after) →
       Result asked o q before r s after
   u_turn_avoided asked o q before r s after turn leads leaves again =
-      by_case (less_or_equal r.board (r.alight - 1) (omega (arith, r_rides.onward))) (less_or_equal (s.board + 1) s.alight (omega (arith, s_rides.onward)))
+      by_case (less_or_same r.board (r.alight - 1) (omega (arith, r_rides.onward))) (less_or_same (s.board + 1) s.alight (omega (arith, s_rides.onward)))
     where
       at_r : IsRide T r × LeadsOn T r (s ∷ after) q
       at_r = Leads-at T o before r (s ∷ after) q leads
@@ -321,7 +320,7 @@ module _ (T : TimetableData) (lines : List (List ℕ)) (sound : IsSound T) (divi
       })
       with_next earlier goes true e = back (u_turn_avoided asked o q before r goes.next after (u_turn_parts T r.trip r.alight _ (sym e)) goes.as_well.leads goes.as_well.leaves
           (λ s' well. elim (earlier s' well.leads well.leaves) [
-            | inl saves ↦ inl (SavesARide-trans T asked o q _ _ (long s') well saves)
+            | inl saves ↦ inl (SavesARide-trans T asked o q before r goes.next after (record { trip = r.trip; board = r.board; alight = r.alight - 1 }) s' after (long s') well saves)
             | inr hop ↦ inr (GoesByHop-trans T (candidates_without_u_turns T lines) asked o q before r.trip r.board r.alight (r.alight - 1) goes.next s' after after refl well hop)
           ]))
         where
@@ -329,10 +328,10 @@ module _ (T : TimetableData) (lines : List (List ℕ)) (sound : IsSound T) (divi
           long s' = omega (arith, length-append before (record { trip = r.trip; board = r.board; alight = r.alight - 1 } ∷ s' ∷ after), length-append before (r ∷ goes.next ∷ after))
 
           back : Result asked o q before r goes.next after → Result asked o q before r s after
-          back (inl saves) = inl (SavesARide-trans T asked o q _ _ (omega (arith, length-append before (r ∷ goes.next ∷ after), length-append before (r ∷ s ∷ after))) goes.as_well saves)
+          back (inl saves) = inl (SavesARide-trans T asked o q before r s after r goes.next after (omega (arith, length-append before (r ∷ goes.next ∷ after), length-append before (r ∷ s ∷ after))) goes.as_well saves)
           back (inr hop) = inr (GoesByHop-trans T (candidates_without_u_turns T lines) asked o q before r.trip r.board r.alight r.alight s goes.next after after refl goes.as_well hop)
 
-      by_step : Earlier asked o q before r after → SavesARide T asked o q (before ++ r ∷ s ∷ after) ⊎ GoesByCandidate T lines sound divided asked o q before r s after → Result asked o q before r s after
+      by_step : Earlier asked o q before r after → SavesARide T (change_in asked o q before r s after) ⊎ GoesByCandidate T lines sound divided asked o q before r s after → Result asked o q before r s after
       by_step earlier (inl saves) = inl saves
       by_step earlier (inr goes) = with_next earlier goes (is_u_turn T r.trip r.alight (record { trip = goes.next.trip; at = goes.next.board })) refl
 
@@ -341,5 +340,5 @@ pub candidates_without_u_turns_sufficient : (T : TimetableData) (lines : List (L
 candidates_without_u_turns_sufficient T lines sound divided = record {
   possible = λ t i h c. candidates_possible T lines divided t i h (Contains-from_Member h (candidates T lines t i)
       (Member-filter_back (λ h. not (is_u_turn T t i h)) h (candidates T lines t i) (Member-from_Contains h (candidates_without_u_turns T lines t i) c)).0);
-  enough = λ asked o q before r s after leads leaves. onward_by T lines sound divided r.alight asked o q before r s after (omega arith) leads leaves;
+  enough = λ c journey. onward_by T lines sound divided c.left.alight c.asked c.origin c.target c.before c.left c.boarded c.after (omega arith) journey.leads journey.leaves;
 }

@@ -171,7 +171,7 @@ module _ (T : TimetableData) (t i q : ℕ) where
 above : (p to : ℕ) → p ≤ to → to ≢ p → p < to
 above p to h k = grind arith
 
-module _ (T : TimetableData) (lines : List (List ℕ)) (t i p n : ℕ) (fs : List Path) (is : p ≡ stop_at T t i) (row : get_or T.paths p [] ≡ fs) (inside : p < length T.stops)
+module _ (T : TimetableData) (lines : List (List ℕ)) (t i p n : ℕ) (fs : List Path) (is : p ≡ stop_at T t i) (row : get_or T.footpaths.paths p [] ≡ fs) (inside : p < length T.stops)
     (up : AllPairs (λ (f g : Path). f.to < g.to) fs) (sound : All (IsSoundPath (length T.stops) p) fs)
     (below : AllWithin (λ f. f.to < p) fs 0 n) (from : AllWithin (λ f. p ≤ f.to) fs n (length fs)) where
   abbrev stops : List ℕ
@@ -319,7 +319,7 @@ pub paths_more : {X Y : Type 0} (f : X → List Y) (xs : List X) (i : ℕ) (x : 
 paths_more f xs i x old before new below is e k =
     k ∙ ap (λ ys. ys ++ f x) e ∙ flat_map_more f old (take i xs) x ∙ ap (λ ys. old ++ flat_map f ys) (ap (λ y. take i xs ++ y ∷ []) is ∙ sym (take_more xs i x below))
 
-module _ (T : TimetableData) (lines : List (List ℕ)) (t i p n : ℕ) (fs : List Path) (is : p ≡ stop_at T t i) (row : slice_get T.paths p ≡ Some fs) (inside : p < length T.stops)
+module _ (T : TimetableData) (lines : List (List ℕ)) (t i p n : ℕ) (fs : List Path) (is : p ≡ stop_at T t i) (row : slice_get T.footpaths.paths p ≡ Some fs) (inside : p < length T.stops)
     (up : AllPairs (λ (f g : Path). f.to < g.to) fs) (sound : All (IsSoundPath (length T.stops) p) fs)
     (below : AllWithin (λ f. f.to < p) fs 0 n) (from : AllWithin (λ f. p ≤ f.to) fs n (length fs)) where
   -- the rows before the stop, at it and behind it
@@ -331,4 +331,4 @@ module _ (T : TimetableData) (lines : List (List ℕ)) (t i p n : ℕ) (fs : Lis
       ∙ append_assoc (old ++ flat_map (λ f. rows_at T lines t i f.to f.secs arr) (take n fs)) (own_rows T lines t i p arr) (flat_map (λ f. rows_at T lines t i f.to f.secs arr) (drop n fs))
       ∙ append_assoc old (flat_map (λ f. rows_at T lines t i f.to f.secs arr) (take n fs)) (own_rows T lines t i p arr ++ flat_map (λ f. rows_at T lines t i f.to f.secs arr) (drop n fs))
       ∙ ap (λ a. old ++ (flat_map (λ f. rows_at T lines t i f.to f.secs a) (take n fs) ++ (own_rows T lines t i p a ++ flat_map (λ f. rows_at T lines t i f.to f.secs a) (drop n fs)))) e
-      ∙ ap (λ ys. old ++ ys) (sym (event_rows T lines t i p n fs is (get_or_from_slice_get T.paths p fs [] row) inside up sound below from later alights))
+      ∙ ap (λ ys. old ++ ys) (sym (event_rows T lines t i p n fs is (get_or_from_slice_get T.footpaths.paths p fs [] row) inside up sound below from later alights))

@@ -53,4 +53,4 @@ rows_after T lines t i q arr (Some secs) = rows_at T lines t i q secs arr
 
 -- those at the stop itself, where it has a change time
 abbrev pub own_rows : TimetableData → List (List ℕ) → ℕ → ℕ → ℕ → ℤ → List Transfer
-own_rows T lines t i p arr = rows_after T lines t i p arr (change_time T p)
+own_rows T lines t i p arr = rows_after T lines t i p arr (change_time T.footpaths p)

@@ -3,7 +3,7 @@ use Rattle.std.proofs.Common.{◌≡◌, ◌∙◌, ℕ, zero, suc, ◌+◌, ◌
 use Rattle.std.specs.Prelude.{All, filter, nat_lt}
 use Rattle.std.proofs.lemmas.Bool.Decides.{nat_tests}
 use Rattle.std.proofs.lemmas.Grind.{get_or_default_zero}
-use Rattle.std.proofs.lemmas.List.{append-nil, append_assoc, get_or-map, get_or_append_left, length-map, map-append, take_more}
+use Rattle.std.proofs.lemmas.List.{append-nil, append_assoc, get_or-map, get_or_append_left, length-map, map-append, take_more, get_or_past}
 use Rattle.std.proofs.Math.Seq.{get_or-append_right}
 use Rattle.std.proofs.lemmas.List.Elements.{filter-append}
 use Rattle.tb_base.specs.declared.transfer.Hop.{Hop}
@@ -11,7 +11,6 @@ use Rattle.tb_base.specs.declared.transfer.Transfer.{Transfer}
 use Rattle.tb_base.specs.TimetableData.{TripData, TimetableData, events_of}
 use Rattle.tb_base.specs.OutSets.{AreRowsOf, hops_at, row_of}
 use Rattle.tb_base.specs.Transfers.{numbers_below}
-use Rattle.tb_base.proofs.Events.{get_or-past}
 use Rattle.tb_base.proofs.Listing.{from_events, hop_of}
 use Rattle.transfer_pack.specs.Packed.{AreBounds, FitsRuns, PackedHops, packed, runs_in}
 use Rattle.transfer_pack.proofs.Bounds.{bounds_more, runs_more}
@@ -111,10 +110,10 @@ packed_all T rows S same rows_of are t i = by_test (nat_lt i (length (events_of 
     trip_or_none = grind arith
 
     no_events : length T.trips ≤ t → length (events_of T t) ≡ 0
-    no_events h = ap (λ (x : TripData). length x.events) (get_or-past T.trips t (record { name = []; events = [] }) h)
+    no_events h = ap (λ (x : TripData). length x.events) (get_or_past T.trips t (record { name = []; events = [] }) h)
 
     no_row : length T.trips ≤ t → row_of rows t ≡ []
-    no_row h = get_or-past rows t [] (omega (arith, h, rows_of.long))
+    no_row h = get_or_past rows t [] (omega (arith, h, rows_of.long))
 
     by_test : (b : Bool) → b ≡ nat_lt i (length (events_of S.table t)) → packed S t i ≡ hops_at (row_of rows t) i
     by_test true e =

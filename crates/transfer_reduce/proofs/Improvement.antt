@@ -5,6 +5,7 @@ use Rattle.std.specs.List.{cons_option, list_any}
 use Rattle.std.specs.Option.{option_map}
 use Rattle.std.proofs.lemmas.Int.{ints}
 use Rattle.std.proofs.lemmas.List.Elements.{All-head, All-tail}
+use Rattle.std.proofs.lemmas.Bool.{cases_eq}
 use Rattle.tb_base.specs.declared.table.Event.{Event}
 use Rattle.tb_base.specs.Soundness.{IsSound}
 use Rattle.tb_base.specs.TimetableData.{TimetableData}
@@ -13,7 +14,7 @@ use Rattle.tb_base.specs.Walking.{change, walk}
 use Rattle.tb_base.proofs.Ordered.{Member}
 use Rattle.tb_laws.proofs.LabelLaws.{is_soonest-label}
 use Rattle.tb_base.proofs.Members.{Member-numbers_below}
-use Rattle.tb_laws.proofs.Triangles.{change-change, change-other, equal_or_not, walk-other, walk-same, walk-walk}
+use Rattle.tb_laws.proofs.Triangles.{change-change, change-other, walk-other, walk-same, walk-walk}
 use Rattle.tb_laws.specs.Labels.{label}
 use Rattle.transfer_reduce.proofs.Lesser.{IsOffered, earliest_sooner, label_below, label_offered, not_sooner-some, offer_by, some_not_sooner}
 use Rattle.transfer_reduce.proofs.Walks.{offer_by-walk, plus_zero, sooner_at}
@@ -65,7 +66,7 @@ module _ (T : TimetableData) (sound : IsSound T) where
   walk_follows = walk-walk T sound.law
 
   change_follows : FollowsWalks (change T)
-  change_follows p q r s t g h = by_case (equal_or_not p q)
+  change_follows p q r s t g h = by_case (cases_eq p q)
     where
       by_case : (p ≡ q) ⊎ (p ≢ q) → IsSomeAnd (change T p r) (λ u. u ≤ s + t)
       by_case (inl e) = subst (λ o. IsSomeAnd o (λ u. u ≤ s + t)) (sym (ap (λ x. change T x r) e ∙ h)) (let l : t ≤ s + t = omega arith in l)

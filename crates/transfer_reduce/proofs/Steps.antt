@@ -2,7 +2,7 @@
 use Rattle.std.proofs.Common.{◌≡◌, ◌∙◌, sym, ap, subst, refl, ℕ, zero, suc, ◌+◌, ◌<◌, ◌≤◌, ◌⊎◌, inl, inr, Bool, true, false, cond, ◌&&◌, List, [], ◌∷◌, ◌++◌, length, map, get_or, set, take, drop, ℤ, Option, None, arith, append_assoc}
 use Rattle.std.specs.Prelude.{All, filter, filter_map, flat_map, nat_lt, not}
 use Rattle.std.specs.List.{list_any}
-use Rattle.std.proofs.lemmas.Bool.{cases_lt}
+use Rattle.std.proofs.lemmas.Bool.{cases_lt, and_parts}
 use Rattle.std.proofs.lemmas.List.{append-nil, drop_more, drop-set-lt, get_or_past, take_more_set}
 use Rattle.std.proofs.lemmas.List.Elements.{All-drop, All-filter, All-nil}
 use Rattle.tb_base.specs.declared.table.Event.{Event}
@@ -13,7 +13,7 @@ use Rattle.tb_base.specs.TimetableData.{TripData, TimetableData, event_at, event
 use Rattle.tb_base.specs.Transfers.{Alternative, alightings, alternatives_at, boarding_indexes, candidates_without_u_turns, earliest_offer, hop_onto, improving_alternatives, is_improvement, is_u_turn, kept_alternatives, kept_hops, numbers_below, numbers_down, transfers_of}
 use Rattle.tb_base.specs.Walking.{walk}
 use Rattle.tb_base.proofs.Ordered.{Member}
-use Rattle.tb_base.proofs.Members.{Member-append, both_true}
+use Rattle.tb_base.proofs.Members.{Member-append}
 use Rattle.tb_laws.proofs.TransferLaws.{kept_transfers}
 use Rattle.tb_laws.specs.Labels.{label, lesser}
 use Rattle.transfer_reduce.specs.Reduced.{HasRowAt, Reduces, alternative_row, hop_from, row_of}
@@ -152,10 +152,10 @@ module _ (T : TimetableData) (sound : IsSound T) (lines : List (List ℕ)) (t : 
             done = done ∙ ap (λ xs. take kept rows ++ filter_map (alternative_row t) (improving_alternatives T t earlier (xs ++ before i))) (rows_with true e)
                 ∙ ap (λ ys. take kept rows ++ ys) (stays (is_improvement T earlier (event_at T t i ∷ [])) (improving_alternatives T t ((event_at T t i ∷ []) ∷ earlier) (map (hop_from i) (candidates_without_u_turns T lines t i) ++ before i)));
             shown = λ p k. lowered p (omega (arith, k, long))
-                ∙ (λ j. lesser ((ap (λ b. cond b (cond (event_at T t i).alight (offer_at T (event_at T t i) p) None) None) (both_true (nat_lt 0 i) (event_at T t i).alight (sym e)).0
-                ∙ ap (λ b. cond b (offer_at T (event_at T t i) p) None) (both_true (nat_lt 0 i) (event_at T t i).alight (sym e)).1 ∙ sym (offer_by-walk T (event_at T t i) p)) j) (shown p k j));
+                ∙ (λ j. lesser ((ap (λ b. cond b (cond (event_at T t i).alight (offer_at T (event_at T t i) p) None) None) (and_parts (nat_lt 0 i) (event_at T t i).alight (sym e)).0
+                ∙ ap (λ b. cond b (offer_at T (event_at T t i) p) None) (and_parts (nat_lt 0 i) (event_at T t i).alight (sym e)).1 ∙ sym (offer_by-walk T (event_at T t i) p)) j) (shown p k j));
             begun = inr (omega arith);
-            first = λ z. absurd (at_first i (both_true (nat_lt 0 i) (event_at T t i).alight (sym e)).0 z);
+            first = λ z. absurd (at_first i (and_parts (nat_lt 0 i) (event_at T t i).alight (sym e)).0 z);
           }
           by_mark false e = record {
             hops = [];

@@ -108,7 +108,7 @@ pub plus_zero : (x : ℤ) → (x +ℤ pos 0) ≡ x
 plus_zero x = omega (arith, ints)
 
 -- the own stop is lowered, and then those that footpaths lead to
-pub offered : (T : TimetableData) (e : Event) (paths : List Path) (old lowered : List (Option ℤ)) (p : ℕ) (new : Option ℤ) → slice_get T.paths e.stop ≡ Some paths → All (IsSoundPath (length T.stops) e.stop) paths → e.stop < length old
+pub offered : (T : TimetableData) (e : Event) (paths : List Path) (old lowered : List (Option ℤ)) (p : ℕ) (new : Option ℤ) → slice_get T.footpaths.paths e.stop ≡ Some paths → All (IsSoundPath (length T.stops) e.stop) paths → e.stop < length old
     → lowered ≡ set old e.stop (lesser (Some e.arr) (get_or old e.stop None)) → new ≡ lesser (path_offer e paths p) (get_or lowered p None) → new ≡ lesser (offer_at T e p) (get_or old p None)
 offered T e paths old lowered p new row sound inside low h = by_case (cases_eq p e.stop)
   where
@@ -121,7 +121,7 @@ offered T e paths old lowered p new row sound inside low h = by_case (cases_eq p
         ∙ ap (λ q. lesser (Some e.arr) (get_or old q None)) (sym s) ∙ ap (λ o. lesser o (get_or old p None)) (sym own)
     by_case (inr s) =
         let own : offer_at T e p ≡ path_offer e paths p =
-        ap (option_map (λ secs. e.arr +ℤ pos secs)) (walk-other T e.stop p (λ k. s (sym k)) ∙ ap (λ fs. option_map (λ (f : Path). f.secs) (find (λ f. f.to == p) fs)) (get_or_from_slice_get T.paths e.stop paths [] row))
+        ap (option_map (λ secs. e.arr +ℤ pos secs)) (walk-other T e.stop p (λ k. s (sym k)) ∙ ap (λ fs. option_map (λ (f : Path). f.secs) (find (λ f. f.to == p) fs)) (get_or_from_slice_get T.footpaths.paths e.stop paths [] row))
         ∙ map-map (λ secs. e.arr +ℤ pos secs) (find (λ f. f.to == p) paths) in
         h ∙ ap (λ xs. lesser (path_offer e paths p) (get_or xs p None)) low
         ∙ ap (lesser (path_offer e paths p)) (get_or-set_other old e.stop p (lesser (Some e.arr) (get_or old e.stop None)) None s) ∙ ap (λ o. lesser o (get_or old p None)) (sym own)

@@ -6,12 +6,13 @@ use Rattle.std.proofs.lemmas.List.{length-map}
 use Rattle.std.proofs.lemmas.List.Elements.{All-head, All-tail}
 use Rattle.tb_base.specs.declared.table.Path.{Path}
 use Rattle.tb_base.specs.declared.table.Stop.{Stop}
-use Rattle.tb_base.specs.Soundness.{IsSoundPath}
+use Rattle.tb_base.specs.Soundness.{IsSoundPath, IsSoundFootpaths}
 use Rattle.gtfs_rows.specs.StopsFile.{StopData}
 use Rattle.footpaths.specs.declared.law.LawFault.{LawFault}
 use Rattle.footpaths.specs.Stops.{stop_id, platforms}
-use Rattle.footpaths.specs.Footpaths.{PathsData}
-use Rattle.footpaths.specs.Law.{AreSoundPaths, AreInARow, IsFirstBreach, IsBreach, footpath}
+use Rattle.tb_base.specs.TimetableData.{FootpathData}
+use Rattle.footpaths.specs.Law.{AreInARow, IsFirstBreach, IsBreach}
+use Rattle.tb_base.specs.Walking.{footpath_secs}
 use Rattle.trip_table.specs.Answers.{IsAmong}
 use Rattle.trip_table.specs.Day.{platform_id}
 
@@ -30,7 +31,7 @@ none_past (r ∷ rows) zero h = absurd (omega arith)
 none_past (r ∷ rows) (suc p) h = none_past rows p (omega arith)
 
 -- both ends of a footpath are there
-pub ends : (P : PathsData) (p q s : ℕ) → AreSoundPaths P → footpath P p q ≡ Some s → (p < length P.change) × (q < length P.change)
+pub ends : (P : FootpathData) (p q s : ℕ) → IsSoundFootpaths P → footpath_secs P p q ≡ Some s → (p < length P.change) × (q < length P.change)
 ends P p q s sound e = by_test (nat_lt p (length P.change)) refl
   where
     by_test : (b : Bool) → nat_lt p (length P.change) ≡ b → (p < length P.change) × (q < length P.change)
@@ -39,14 +40,14 @@ ends P p q s sound e = by_test (nat_lt p (length P.change)) refl
         let past : length P.paths ≤ p = grind (arith, nat_tests, is, sound.rows) in
         absurd (let no : None ≡ Some s = sym (ap (λ (row : List Path). option_map (λ (f : Path). f.secs) (find (λ (f : Path). f.to == q) row)) (none_past P.paths p past)) ∙ e in cc)
 
-row_inside : (P : PathsData) (p q r s t : ℕ) → AreSoundPaths P → AreInARow P p q r s t → (p < length P.change) × (q < length P.change) × (r < length P.change)
+row_inside : (P : FootpathData) (p q r s t : ℕ) → IsSoundFootpaths P → AreInARow P p q r s t → (p < length P.change) × (q < length P.change) × (r < length P.change)
 row_inside P p q r s t sound row =
     let first = ends P p q s sound row.first in
     let second = ends P q r t sound row.second in
     (first.0, first.1, second.1)
 
 -- the three stops of a breach are among the stops
-pub breach_inside : (P : PathsData) (f : LawFault) → AreSoundPaths P → IsFirstBreach P f → IsAmong (length P.change) f
+pub breach_inside : (P : FootpathData) (f : LawFault) → IsSoundFootpaths P → IsFirstBreach P f → IsAmong (length P.change) f
 breach_inside P f sound first = by_breach first.p first.from.q first.from.over.r first.from.over.breach
   where
     by_breach : (p q r : ℕ) → IsBreach P p q r f → IsAmong (length P.change) f

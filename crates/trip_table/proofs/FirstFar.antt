@@ -6,8 +6,9 @@ use Rattle.gtfs_rows.specs.StopsFile.{StopData}
 use Rattle.gtfs_rows.specs.declared.fault.FeedFault.{FeedFault}
 use Rattle.gtfs_rows.specs.declared.fault.FeedFault.TheVariants as fault
 use Rattle.gtfs_rows.specs.declared.fault.Many.TheVariants as many
-use Rattle.footpaths.specs.Footpaths.{Changes, PathsData, paths_of}
-use Rattle.footpaths.specs.Law.{AreSoundPaths}
+use Rattle.footpaths.specs.Footpaths.{Changes, paths_of}
+use Rattle.tb_base.specs.TimetableData.{FootpathData}
+use Rattle.tb_base.specs.Soundness.{IsSoundFootpaths}
 use Rattle.foot_close.specs.Shortest.{closure_of}
 use Rattle.foot_close.specs.Closing.{IsNear, IsFirstFar, footpath_total}
 use Rattle.foot_close.proofs.ClosedLaws.{closure_has, closure_inside}
@@ -28,7 +29,7 @@ by_secs (Some s) = by_day s (cases_lt 86400 s)
 near_or_far : (closed : Changes) (p q : ℕ) → IsNear closed p q ⊎ IsFar closed p q
 near_or_far closed p q = by_secs (closed p q)
 
-module _ (P : PathsData) (sound : AreSoundPaths P) where
+module _ (P : FootpathData) (sound : IsSoundFootpaths P) where
   -- pairs of stops that aren't there aren't far
   near_past : (p q : ℕ) → (length P.change ≤ p) ⊎ (length P.change ≤ q) → IsNear (closure_of P) p q
   near_past p q past = by_change (closure_of P p q) refl past
@@ -49,7 +50,7 @@ module _ (P : PathsData) (sound : AreSoundPaths P) where
   pairs = first_bad (λ p. (q : ℕ) → IsNear (closure_of P) p q) FirstTo ends_from (length P.change) (λ p past q. near_past p q (inl past))
 
   by_pairs : (stops : List StopData) → footpath_total P (closure_of P) ≤ 2000000
-      → ((p q : ℕ) → IsNear (closure_of P) p q) ⊎ ((p : ℕ) × FirstTo p × ((a : ℕ) → a < p → (b : ℕ) → IsNear (closure_of P) a b)) → (r : Result PathsData FeedFault) × AreClosed stops P r
+      → ((p q : ℕ) → IsNear (closure_of P) p q) ⊎ ((p : ℕ) × FirstTo p × ((a : ℕ) → a < p → (b : ℕ) → IsNear (closure_of P) a b)) → (r : Result FootpathData FeedFault) × AreClosed stops P r
   by_pairs stops few (inl near) =
       let paths = paths_of (length P.change) (closure_of P) in
       (Ok paths, closure_has P (λ closed. (paths ≡ paths_of (length P.change) closed) × IsWithinLimits P closed) sound (refl, record { few = few; near = near }))
@@ -58,12 +59,12 @@ module _ (P : PathsData) (sound : AreSoundPaths P) where
       let first : IsFirstFar (closure_of P) p to.0 = record { far = to.1; earlier_start = λ a b less. earlier a less b; earlier_end = to.2 } in
       (Err f, closure_has P (λ closed. HasTooMany P closed f ⊎ HasFarPair stops P closed f) sound (inr (record { few = few; from = p; to = to.0; far = first; named = refl })))
 
-  by_total : (stops : List StopData) → (2000000 < footpath_total P (closure_of P)) ⊎ (footpath_total P (closure_of P) ≤ 2000000) → (r : Result PathsData FeedFault) × AreClosed stops P r
+  by_total : (stops : List StopData) → (2000000 < footpath_total P (closure_of P)) ⊎ (footpath_total P (closure_of P) ≤ 2000000) → (r : Result FootpathData FeedFault) × AreClosed stops P r
   by_total stops (inl over) =
       let f = fault.TooMany many.Footpaths 0 in
       (Err f, closure_has P (λ closed. HasTooMany P closed f ⊎ HasFarPair stops P closed f) sound (inl (record { total = over; named = refl })))
   by_total stops (inr few) = by_pairs stops few pairs
 
   -- something becomes of change times and footpaths that are to be closed
-  pub closing_given : (stops : List StopData) → (r : Result PathsData FeedFault) × AreClosed stops P r
+  pub closing_given : (stops : List StopData) → (r : Result FootpathData FeedFault) × AreClosed stops P r
   closing_given stops = by_total stops (cases_lt 2000000 (footpath_total P (closure_of P)))

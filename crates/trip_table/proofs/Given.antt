@@ -2,7 +2,7 @@
 use Rattle.std.proofs.Common.{◌≡◌, ◌∙◌, refl, ap, subst, ℕ, zero, suc, ◌≤◌, ◌⊎◌, List, [], ◌∷◌, length, inl, inr, Option, Some, None, Bool, true, false, arith}
 use Rattle.std.specs.Prelude.{Result, Ok, Err, IfSome, All, unwrap_or, option_to_list}
 use Rattle.std.proofs.lemmas.List.Elements.{All-nil}
-use Rattle.tb_base.specs.TimetableData.{TimetableData}
+use Rattle.tb_base.specs.TimetableData.{TimetableData, FootpathData}
 use Rattle.tb_base.specs.Walking.{KeepsFootpathLaw}
 use Rattle.gtfs_rows.specs.Steps.{and_then, prepend}
 use Rattle.gtfs_rows.specs.Columns.{row_limit}
@@ -17,8 +17,9 @@ use Rattle.footpaths.specs.declared.law.LawFault.{LawFault}
 use Rattle.footpaths.specs.declared.paths.Options.{Options}
 use Rattle.footpaths.specs.Stops.{platforms, wrong_stop, check_stops}
 use Rattle.footpaths.specs.Links.{TakesAtMostADay, wrong_transfer, check_transfers}
-use Rattle.footpaths.specs.Footpaths.{PathsData, changes}
-use Rattle.footpaths.specs.Law.{walking, AreSoundPaths, IsFirstBreach}
+use Rattle.footpaths.specs.Footpaths.{changes}
+use Rattle.footpaths.specs.Law.{IsFirstBreach}
+use Rattle.tb_base.specs.Soundness.{IsSoundFootpaths}
 use Rattle.footpaths.proofs.Sound.{secs_day, sound_paths}
 use Rattle.footpaths.proofs.StopPlaces.{length_kept}
 use Rattle.trip_table.specs.Feed.{Feed, check_unbuilt, sized, rows_in, file_rows, or_missing, required}
@@ -107,15 +108,15 @@ short feed stops transfers e =
     subst (λ (rows : List TransferData). All (λ r. TakesAtMostADay (TransferData.rule r)) rows) (first ∙ same) (short_option feed read.0 read.1)
 
 -- the change times and footpaths that are given are sound
-given_sound : (stops : List StopData) (options : Options) (transfers : List TransferData) (footpaths : PathsData) → options.change ≤ 86400 → IfSome options.station (λ secs. secs ≤ 86400) → length stops ≤ 100000
-    → All (λ r. TakesAtMostADay (TransferData.rule r)) transfers → given_footpaths stops options transfers ≡ Ok footpaths → AreSoundPaths footpaths
+given_sound : (stops : List StopData) (options : Options) (transfers : List TransferData) (footpaths : FootpathData) → options.change ≤ 86400 → IfSome options.station (λ secs. secs ≤ 86400) → length stops ≤ 100000
+    → All (λ r. TakesAtMostADay (TransferData.rule r)) transfers → given_footpaths stops options transfers ≡ Ok footpaths → IsSoundFootpaths footpaths
 unfolding given_footpaths
 given_sound stops options transfers footpaths h k few days e =
     let kept = length_kept (λ (s : StopData). is_platform s.kind) stops in
     let some : length (platforms stops) ≤ 100000 = omega (arith, few, kept) in
     sound_paths (changes stops transfers options) (length (platforms stops)) footpaths some (λ p q. secs_day stops options transfers p q h k days) e
 
-parts_sound : (feed : Feed) (day : ℕ) (options : Options) (parts : DayParts) → options.change ≤ 86400 → IfSome options.station (λ secs. secs ≤ 86400) → day_parts feed day options ≡ Ok parts → AreSoundPaths parts.footpaths
+parts_sound : (feed : Feed) (day : ℕ) (options : Options) (parts : DayParts) → options.change ≤ 86400 → IfSome options.station (λ secs. secs ≤ 86400) → day_parts feed day options ≡ Ok parts → IsSoundFootpaths parts.footpaths
 unfolding day_parts
 parts_sound feed day options parts h k e =
     let unbuilt = stepped (check_unbuilt feed file.Frequencies) _ parts e in
@@ -126,18 +127,18 @@ parts_sound feed day options parts h k e =
     let footpaths = stepped given _ parts trips.2 in
     let same = one_value (record { stops = rows.0.stops; footpaths = footpaths.0; trips = trips.0 }) parts footpaths.2 in
     let sound = given_sound rows.0.stops options transfers.0 footpaths.0 h k (few_stops feed rows.0.stops (stops_given feed rows.0 rows.1)) (short feed rows.0.stops transfers.0 transfers.1) footpaths.1 in
-    subst (λ (P : PathsData). AreSoundPaths P) (ap (λ (parts : DayParts). parts.footpaths) same) sound
+    subst (λ (P : FootpathData). IsSoundFootpaths P) (ap (λ (parts : DayParts). parts.footpaths) same) sound
 
 -- something becomes of sound change times and footpaths
-tested_given : (stops : List StopData) (P : PathsData) → KeepsFootpathLaw (walking P) ⊎ ((f : LawFault) × IsFirstBreach P f) → (r : Result PathsData FeedFault) × KeepTheLaw stops P r
+tested_given : (stops : List StopData) (P : FootpathData) → KeepsFootpathLaw P ⊎ ((f : LawFault) × IsFirstBreach P f) → (r : Result FootpathData FeedFault) × KeepTheLaw stops P r
 tested_given stops P (inl law) = (Ok P, (refl, law))
 tested_given stops P (inr (f, first)) = (Err (breach_fault stops f), (f, first, refl))
 
-settled_given : (close : Bool) (stops : List StopData) (P : PathsData) → AreSoundPaths P → (r : Result PathsData FeedFault) × AreClosedOrTested close stops P r
+settled_given : (close : Bool) (stops : List StopData) (P : FootpathData) → IsSoundFootpaths P → (r : Result FootpathData FeedFault) × AreClosedOrTested close stops P r
 settled_given true stops P sound = closing_given P sound stops
 settled_given false stops P sound = tested_given stops P (kept_or_breached P sound)
 
-parts_given : (close : Bool) (parts : DayParts) → ((r : Result PathsData FeedFault) × AreClosedOrTested close parts.stops parts.footpaths r) → (r : Result TimetableData FeedFault) × IsTimetableOfParts close parts r
+parts_given : (close : Bool) (parts : DayParts) → ((r : Result FootpathData FeedFault) × AreClosedOrTested close parts.stops parts.footpaths r) → (r : Result TimetableData FeedFault) × IsTimetableOfParts close parts r
 parts_given close parts (Ok footpaths, held) = (Ok (timetable parts footpaths), (footpaths, held, refl))
 parts_given close parts (Err f, held) = (Err f, held)
 

@@ -4,8 +4,9 @@ use Rattle.std.specs.Prelude.{Result, Ok, Err, IfSome, IsSomeAnd}
 use Rattle.gtfs_rows.specs.StopsFile.{StopData}
 use Rattle.gtfs_rows.specs.declared.fault.FeedFault.{FeedFault}
 use Rattle.gtfs_rows.specs.declared.fault.FeedFault.TheVariants as fault
-use Rattle.footpaths.specs.Footpaths.{Changes, PathsData, paths_of}
-use Rattle.footpaths.specs.Law.{change_between}
+use Rattle.footpaths.specs.Footpaths.{Changes, paths_of}
+use Rattle.tb_base.specs.TimetableData.{FootpathData}
+use Rattle.tb_base.specs.Walking.{change_between}
 use Rattle.foot_close.specs.Closure.{IsClosure}
 use Rattle.foot_close.specs.Closing.{ClosureHas, IsFirstFar}
 use Rattle.foot_close.proofs.Chains.{one_closure}
@@ -31,12 +32,12 @@ first_end : (closed : Changes) (p q b : ℕ) → IsFirstFar closed p q → IsFir
 first_end closed p q b first other = same q b (λ l. near_and_far (closed p q) (other.earlier_end q l) first.far) (λ l. near_and_far (closed p b) (first.earlier_end b l) other.far)
 
 -- a closure within the limits has no fault
-within : (stops : List StopData) (told : PathsData) (closed : Changes) (f : FeedFault) → IsWithinLimits told closed → HasTooMany told closed f ⊎ HasFarPair stops told closed f → ⊥
+within : (stops : List StopData) (told : FootpathData) (closed : Changes) (f : FeedFault) → IsWithinLimits told closed → HasTooMany told closed f ⊎ HasFarPair stops told closed f → ⊥
 within stops told closed f limits (inl x) = (let few = limits.few in let total = x.total in omega (arith, few, total))
 within stops told closed f limits (inr x) = near_and_far (closed x.from x.to) (limits.near x.from x.to) x.far.far
 
 -- and any other has one
-one_fault : (stops : List StopData) (told : PathsData) (closed : Changes) (f g : FeedFault) → HasTooMany told closed f ⊎ HasFarPair stops told closed f → HasTooMany told closed g ⊎ HasFarPair stops told closed g → f ≡ g
+one_fault : (stops : List StopData) (told : FootpathData) (closed : Changes) (f g : FeedFault) → HasTooMany told closed f ⊎ HasFarPair stops told closed f → HasTooMany told closed g ⊎ HasFarPair stops told closed g → f ≡ g
 one_fault stops told closed f g (inl x) (inl y) = x.named ∙ sym y.named
 one_fault stops told closed f g (inl x) (inr y) = absurd (let few = y.few in let total = x.total in omega (arith, few, total))
 one_fault stops told closed f g (inr x) (inl y) = absurd (let few = x.few in let total = y.total in omega (arith, few, total))
@@ -46,22 +47,22 @@ one_fault stops told closed f g (inr x) (inr y) =
     x.named ∙ (ap (λ p. fault.FarFootpath (platform_id stops p) (platform_id stops x.to)) start ∙ (ap (λ q. fault.FarFootpath (platform_id stops y.from) (platform_id stops q)) end ∙ sym y.named))
 
 -- what becomes of change times and footpaths with a closure
-abbrev IsClosedTo : List StopData → PathsData → Changes → Result PathsData FeedFault → Type 0
+abbrev IsClosedTo : List StopData → FootpathData → Changes → Result FootpathData FeedFault → Type 0
 IsClosedTo stops told closed (Ok paths) = (paths ≡ paths_of (length told.change) closed) × IsWithinLimits told closed
 IsClosedTo stops told closed (Err f) = HasTooMany told closed f ⊎ HasFarPair stops told closed f
 
-outcome : (stops : List StopData) (told : PathsData) (a : Result PathsData FeedFault) → AreClosed stops told a → ClosureHas told (λ closed. IsClosedTo stops told closed a)
+outcome : (stops : List StopData) (told : FootpathData) (a : Result FootpathData FeedFault) → AreClosed stops told a → ClosureHas told (λ closed. IsClosedTo stops told closed a)
 outcome stops told (Ok paths) h = h
 outcome stops told (Err f) h = h
 
-outcome_unique : (stops : List StopData) (told : PathsData) (closed : Changes) (a b : Result PathsData FeedFault) → IsClosedTo stops told closed a → IsClosedTo stops told closed b → a ≡ b
+outcome_unique : (stops : List StopData) (told : FootpathData) (closed : Changes) (a b : Result FootpathData FeedFault) → IsClosedTo stops told closed a → IsClosedTo stops told closed b → a ≡ b
 outcome_unique stops told closed (Ok a) (Ok b) (is, limits) (also, by) = ap Ok (is ∙ sym also)
 outcome_unique stops told closed (Ok a) (Err g) (is, limits) other = absurd (within stops told closed g limits other)
 outcome_unique stops told closed (Err f) (Ok b) other (is, limits) = absurd (within stops told closed f limits other)
 outcome_unique stops told closed (Err f) (Err g) one other = ap Err (one_fault stops told closed f g one other)
 
 -- there is one outcome of closing
-pub closing_unique : (stops : List StopData) (told : PathsData) (a b : Result PathsData FeedFault) → AreClosed stops told a → AreClosed stops told b → a ≡ b
+pub closing_unique : (stops : List StopData) (told : FootpathData) (a b : Result FootpathData FeedFault) → AreClosed stops told a → AreClosed stops told b → a ≡ b
 closing_unique stops told a b p q =
     let h = outcome stops told a p in
     let k = outcome stops told b q in

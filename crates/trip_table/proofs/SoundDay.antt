@@ -9,8 +9,8 @@ use Rattle.std.proofs.lemmas.List.FromFn.{get_or-range_with_len, length-range_wi
 use Rattle.std.proofs.lemmas.List.Kept.{AllPairs-cons, AllPairs-filter}
 use Rattle.std.proofs.lemmas.Slice.Eq.{bytes_eq-Decides}
 use Rattle.tb_base.specs.declared.table.Stop.{Stop}
-use Rattle.tb_base.specs.TimetableData.{TripData, StationData}
-use Rattle.tb_base.specs.Soundness.{IsSound, IsSoundPath, IsSoundStation, IsSoundTrip, place_names}
+use Rattle.tb_base.specs.TimetableData.{TripData, StationData, FootpathData}
+use Rattle.tb_base.specs.Soundness.{IsSound, IsSoundPath, IsSoundStation, IsSoundTrip, place_names, IsSoundFootpaths}
 use Rattle.tb_base.specs.Walking.{KeepsFootpathLaw}
 use Rattle.tb_base.proofs.Ordered.{AllPairs-tail}
 use Rattle.gtfs_rows.specs.StopsFile.{StopData, is_platform, is_station}
@@ -19,8 +19,7 @@ use Rattle.gtfs_rows.specs.declared.stops.Kind.TheVariants as kind
 use Rattle.footpaths.specs.Stops.{stop_id, has_stop_id, platforms, stations, station_of, check_stops}
 use Rattle.footpaths.proofs.StopRows.{new_id}
 use Rattle.footpaths.proofs.StopPlaces.{length_kept}
-use Rattle.footpaths.specs.Footpaths.{PathsData, is_number}
-use Rattle.footpaths.specs.Law.{AreSoundPaths, walking}
+use Rattle.footpaths.specs.Footpaths.{is_number}
 use Rattle.trip_table.specs.Day.{DayParts, station_stops, stations_from, timetable}
 
 AllPairs-append : {X : Type 0} (R : X → X → Type 0) (xs ys : List X) → AllPairs R xs → AllPairs R ys → All (λ x. All (R x) ys) xs → AllPairs R (xs ++ ys)
@@ -88,7 +87,7 @@ station_names : (stops : List StopData) (n : ℕ) (rows : List StopData) → map
 station_names stops n [] = refl
 station_names stops n (s ∷ rest) = ap (λ names. s.id ∷ names) (station_names stops (n + 1) rest)
 
-names_are : (day : DayParts) (paths : PathsData) → map stop_id (platforms day.stops ++ stations day.stops) ≡ place_names (timetable day paths)
+names_are : (day : DayParts) (paths : FootpathData) → map stop_id (platforms day.stops ++ stations day.stops) ≡ place_names (timetable day paths)
 unfolding stop_of
 names_are day paths =
     let stops = day.stops in
@@ -119,8 +118,8 @@ sound_stations stops n [] = All-nil (IsSoundStation (length (platforms stops)))
 sound_stations stops n (s ∷ rest) = All-cons (IsSoundStation (length (platforms stops))) (record { name = s.id; stops = station_stops stops n }) (stations_from stops (n + 1) rest) (sound_station stops n s.id) (sound_stations stops (n + 1) rest)
 
 -- the timetable of sound trips and paths is sound, where nothing is wrong with the stops
-pub sound_day : (day : DayParts) (paths : PathsData) → length day.stops ≤ 100000 → check_stops day.stops ≡ Ok day.stops → All (λ s. StopData.id s ≢ []) day.stops
-    → AreSoundPaths paths → length paths.change ≡ length (platforms day.stops) → KeepsFootpathLaw (walking paths)
+pub sound_day : (day : DayParts) (paths : FootpathData) → length day.stops ≤ 100000 → check_stops day.stops ≡ Ok day.stops → All (λ s. StopData.id s ≢ []) day.stops
+    → IsSoundFootpaths paths → length paths.change ≡ length (platforms day.stops) → KeepsFootpathLaw paths
     → length day.trips ≤ 500000 → sum_by (λ t. length (TripData.events t)) day.trips ≤ 10000000 → All (IsSoundTrip (length (platforms day.stops))) day.trips → IsSound (timetable day paths)
 unfolding stop_of
 sound_day day paths few checked named ways many law trip_count event_count sound =
@@ -132,24 +131,20 @@ sound_day day paths few checked named ways many law trip_count event_count sound
       stations = omega (arith, station_count stops 0 (stations stops), length_kept (λ s. is_station s.kind) stops);
       trips = trip_count;
       events = event_count;
-      footpaths = ways.footpaths;
       named = subst (λ names. All (λ n. n ≢ []) names) (names_are day paths)
           (All-map (λ n. n ≢ []) stop_id (platforms stops ++ stations stops)
           (All-append (λ s. StopData.id s ≢ []) (platforms stops) (stations stops) (All-filter (λ s. is_platform s.kind) (λ s. StopData.id s ≢ []) stops named) (All-filter (λ s. is_station s.kind) (λ s. StopData.id s ≢ []) stops named)));
       distinct = subst (λ names. AllPairs (λ m n. m ≢ n) names) (names_are day paths) (AllPairs-map (λ m n. m ≢ n) stop_id (platforms stops ++ stations stops) (places_differ stops checked));
       station = subst (λ n. All (IsSoundStation n) (stations_from stops 0 (stations stops))) (sym count) (sound_stations stops 0 (stations stops));
       trip = subst (λ n. All (IsSoundTrip n) day.trips) (sym count) sound;
-      change_rows = rows;
-      change_secs = ways.change_secs;
-      path_rows = ways.rows ∙ rows;
-      paths = λ p within. subst (λ n. All (IsSoundPath n p) (slice_index_or paths.paths p [])) rows (ways.paths p (omega (arith, within, rows)));
-      ascending = ways.ascending;
+      change_times = rows;
+      footpaths = ways;
       law = law;
     }
 
 -- the parts, by what each is made of, are those of the timetable
-pub parts_are : (day : DayParts) (paths : PathsData) (rows : List StopData) (names : List Stop) (places : List StationData) → rows ≡ day.stops → names ≡ map (λ s. record { name = StopData.id s }) (platforms rows)
-    → places ≡ stations_from day.stops 0 (stations day.stops) → record { stops = names; stations = places; trips = day.trips; change = paths.change; paths = paths.paths } ≡ timetable day paths
+pub parts_are : (day : DayParts) (paths : FootpathData) (rows : List StopData) (names : List Stop) (places : List StationData) → rows ≡ day.stops → names ≡ map (λ s. record { name = StopData.id s }) (platforms rows)
+    → places ≡ stations_from day.stops 0 (stations day.stops) → record { stops = names; stations = places; trips = day.trips; footpaths = paths } ≡ timetable day paths
 parts_are day paths rows names places r n p =
     let stops_are : names ≡ map (λ s. record { name = StopData.id s }) (platforms day.stops) = n ∙ ap (λ rows. map (λ s. record { name = StopData.id s }) (platforms rows)) r in
-    λ i. record { stops = stops_are i; stations = p i; trips = day.trips; change = paths.change; paths = paths.paths }
+    λ i. record { stops = stops_are i; stations = p i; trips = day.trips; footpaths = paths }

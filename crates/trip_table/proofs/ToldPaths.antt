@@ -16,7 +16,8 @@ use Rattle.gtfs_rows.specs.declared.fault.Spot.{Spot}
 use Rattle.footpaths.specs.declared.paths.Options.{Options}
 use Rattle.footpaths.specs.Stops.{has_stop_id, platforms}
 use Rattle.footpaths.specs.Links.{wrong_transfer, check_transfers}
-use Rattle.footpaths.specs.Footpaths.{PathsData, changes, footpaths, path_total, paths_of}
+use Rattle.footpaths.specs.Footpaths.{changes, footpaths, paths_of}
+use Rattle.tb_base.specs.TimetableData.{FootpathData, path_total}
 use Rattle.trip_table.specs.Day.{given_footpaths}
 use Rattle.trip_table.proofs.DayTrips.{unless_wrong-value}
 
@@ -52,7 +53,7 @@ counted (Err f) rows next k same other e = absurd (other (cc))
 counted (Ok good) rows next k same other e = let is : rows ≡ good = same good refl in (ap Ok (sym is), ap next is ∙ e)
 
 -- where there are footpaths the rows are good, and tell them
-pub told_good : (stops : List StopData) (options : Options) (rows : List TransferData) (paths : PathsData) → footpaths stops options rows ≡ Ok paths → (check_transfers stops rows ≡ Ok rows) × (given_footpaths stops options rows ≡ Ok paths)
+pub told_good : (stops : List StopData) (options : Options) (rows : List TransferData) (paths : FootpathData) → footpaths stops options rows ≡ Ok paths → (check_transfers stops rows ≡ Ok rows) × (given_footpaths stops options rows ≡ Ok paths)
 unfolding given_footpaths
 told_good stops options rows paths = passed (check_transfers stops rows) rows (given_footpaths stops options) paths (unless_wrong-value (wrong_after (wrong_transfer stops rows) [] rows) rows)
 
@@ -69,7 +70,7 @@ pub told_fault : (stops : List StopData) (options : Options) (rows : List Transf
 unfolding given_footpaths
 told_fault stops options rows f other e = by_checked (check_transfers stops rows) e
   where
-    by_count : (b : Bool) (paths : PathsData) (m : Many) → unless_wrong (fault_if b (fault.TooMany m 0) ∷ []) paths ≡ Err f → ⊥
+    by_count : (b : Bool) (paths : FootpathData) (m : Many) → unless_wrong (fault_if b (fault.TooMany m 0) ∷ []) paths ≡ Err f → ⊥
     by_count true paths m q = other m 0 (cc)
     by_count false paths m q = absurd (cc)
 
@@ -80,8 +81,8 @@ told_fault stops options rows f other e = by_checked (check_transfers stops rows
         absurd (by_count (nat_lt 2000000 (path_total paths)) paths many.Footpaths q)
 
 -- there is a change time for each platform
-pub change_count : (stops : List StopData) (options : Options) (rows : List TransferData) (paths : PathsData) → given_footpaths stops options rows ≡ Ok paths → length paths.change ≡ length (platforms stops)
+pub change_count : (stops : List StopData) (options : Options) (rows : List TransferData) (paths : FootpathData) → given_footpaths stops options rows ≡ Ok paths → length paths.change ≡ length (platforms stops)
 unfolding given_footpaths
 change_count stops options rows paths e =
     let given = changes stops rows options in
-    sym (ap (λ (p : PathsData). length p.change) (unless_wrong-value (fault_if (nat_lt 2000000 (path_total (paths_of (length (platforms stops)) given))) (fault.TooMany many.Footpaths 0) ∷ []) (paths_of (length (platforms stops)) given) paths e)) ∙ length-map-range_with_len (λ p. given p p) 0 (length (platforms stops))
+    sym (ap (λ (p : FootpathData). length p.change) (unless_wrong-value (fault_if (nat_lt 2000000 (path_total (paths_of (length (platforms stops)) given))) (fault.TooMany many.Footpaths 0) ∷ []) (paths_of (length (platforms stops)) given) paths e)) ∙ length-map-range_with_len (λ p. given p p) 0 (length (platforms stops))

@@ -1,11 +1,9 @@
 //! The timetable of trips over the stops of a feed.
 ghost use Rattle.std.specs.Prelude.{◌≡◌, ◌≤◌, ◌++◌, ◌∷◌, [], ℕ, IfOk, OnOk, All, length, map, sum_by};
-ghost use Rattle.tb_base.specs.TimetableData.{TripData};
-ghost use Rattle.tb_base.specs.Soundness.{IsSoundTrip};
+ghost use Rattle.tb_base.specs.TimetableData.{TripData, FootpathData};
+ghost use Rattle.tb_base.specs.Soundness.{IsSoundTrip, IsSoundFootpaths};
 ghost use Rattle.tb_base.specs.Walking.{KeepsFootpathLaw};
 ghost use Rattle.gtfs_rows.specs.StopsFile.{StopData, is_platform, is_station};
-ghost use Rattle.footpaths.specs.Footpaths.{PathsData};
-ghost use Rattle.footpaths.specs.Law.{AreSoundPaths, walking};
 ghost use Rattle.footpaths.specs.Stops.{platforms, stations};
 ghost use Rattle.trip_table.specs.Day.{stations_from, timetable};
 
@@ -81,9 +79,9 @@ pub(crate) fn assemble(
     paths: Paths,
     trips: Vec<Trip>,
 ) -> Result<Timetable, Memory>
-    requires paths { AreSoundPaths paths }
-    requires many { length (PathsData.change paths) ≡ length (platforms stops.now) }
-    requires law { KeepsFootpathLaw (walking paths) }
+    requires paths { IsSoundFootpaths paths }
+    requires many { length (FootpathData.change paths) ≡ length (platforms stops.now) }
+    requires law { KeepsFootpathLaw paths }
     requires trip_count { length trips.items ≤ 500000 }
     requires event_count { sum_by (λ t. length (TripData.events t)) trips.items ≤ 10000000 }
     requires sound { All (IsSoundTrip (length (platforms stops.now))) trips.items }

@@ -3,8 +3,8 @@ ghost use Rattle.std.specs.Prelude.{◌≡◌, ◌<◌, IfOk, length};
 ghost use Rattle.tb_base.specs.Walking.{KeepsFootpathLaw};
 ghost use Rattle.gtfs_rows.specs.declared.fault.FeedFault.TheVariants as fault;
 ghost use Rattle.footpaths.specs.Stops.{platforms};
-ghost use Rattle.footpaths.specs.Footpaths.{PathsData};
-ghost use Rattle.footpaths.specs.Law.{AreSoundPaths, walking};
+ghost use Rattle.tb_base.specs.TimetableData.{FootpathData};
+ghost use Rattle.tb_base.specs.Soundness.{IsSoundFootpaths};
 ghost use Rattle.foot_close.specs.Closing.{IsCloseRefused};
 ghost use Rattle.trip_table.specs.Answers.{GivesRows, IsRowsFault, AreThere};
 ghost use Rattle.trip_table.specs.Day.{platform_id, AreClosed, AreClosedOrTested};
@@ -36,7 +36,7 @@ fn far_fault(alloc: Global, rows: &[StopRow], from: StopNo, to: StopNo) -> Resul
 // What is wrong with the feed where its footpaths can't be closed.
 fn refusal(alloc: Global, rows: &[StopRow], fault: CloseFault) -> RowsFault
     requires { AreThere (length (platforms rows.now)) fault }
-    ensures { (told : PathsData) → IsCloseRefused told fault →
+    ensures { (told : FootpathData) → IsCloseRefused told fault →
         IsRowsFault (AreClosed rows.now told) result }
 {
     match fault {
@@ -52,13 +52,13 @@ fn refusal(alloc: Global, rows: &[StopRow], fault: CloseFault) -> RowsFault
 // Change times and footpaths closed over chains; else the fault that there would be too many footpaths, or else the first
 // two stops that are more than a day apart.
 fn closed(alloc: Global, stops: &StopRows, paths: Paths) -> Result<Paths, RowsFault>
-    requires sound { AreSoundPaths paths }
-    requires many { length (PathsData.change paths) ≡ length (platforms stops.now) }
+    requires sound { IsSoundFootpaths paths }
+    requires many { length (FootpathData.change paths) ≡ length (platforms stops.now) }
     ensures told { GivesRows (AreClosed stops.now paths) result }
-    ensures sound { IfOk result AreSoundPaths }
+    ensures sound { IfOk result IsSoundFootpaths }
     ensures many { IfOk result
-        (λ paths. length (PathsData.change paths) ≡ length (platforms stops.now)) }
-    ensures law { IfOk result (λ paths. KeepsFootpathLaw (walking paths)) }
+        (λ paths. length (FootpathData.change paths) ≡ length (platforms stops.now)) }
+    ensures law { IfOk result (λ paths. KeepsFootpathLaw paths) }
 {
     closed_keeps_law();
     match close(alloc, paths) {
@@ -75,13 +75,13 @@ pub(crate) fn settled(
     paths: Paths,
     close: bool,
 ) -> Result<Paths, RowsFault>
-    requires sound { AreSoundPaths paths }
-    requires many { length (PathsData.change paths) ≡ length (platforms stops.now) }
+    requires sound { IsSoundFootpaths paths }
+    requires many { length (FootpathData.change paths) ≡ length (platforms stops.now) }
     ensures told { GivesRows (AreClosedOrTested close stops.now paths) result }
-    ensures sound { IfOk result AreSoundPaths }
+    ensures sound { IfOk result IsSoundFootpaths }
     ensures many { IfOk result
-        (λ paths. length (PathsData.change paths) ≡ length (platforms stops.now)) }
-    ensures law { IfOk result (λ paths. KeepsFootpathLaw (walking paths)) }
+        (λ paths. length (FootpathData.change paths) ≡ length (platforms stops.now)) }
+    ensures law { IfOk result (λ paths. KeepsFootpathLaw paths) }
 {
     if close {
         return closed(alloc, stops, paths);

@@ -1,10 +1,9 @@
 //! The timetable of a day.
 ghost use Rattle.std.specs.Prelude.{◌≡◌, ◌⊎◌, ◌<◌, ◌≤◌, ◌-◌, ◌^◌, IfSome, IsSome, Ok, Err, Result, length};
-ghost use Rattle.tb_base.specs.TimetableData.{TimetableData};
+ghost use Rattle.tb_base.specs.TimetableData.{TimetableData, FootpathData};
 ghost use Rattle.gtfs_rows.specs.declared.fault.FeedFault.{FeedFault};
 ghost use Rattle.footpaths.specs.Stops.{platforms};
-ghost use Rattle.footpaths.specs.Footpaths.{PathsData};
-ghost use Rattle.footpaths.specs.Law.{AreSoundPaths};
+ghost use Rattle.tb_base.specs.Soundness.{IsSoundFootpaths};
 ghost use Rattle.trip_table.specs.Answers.{Gives, GivesRows, IsCounted, Leaves, feed_of};
 ghost use Rattle.trip_table.specs.Day.{parts_on, IsTimetableOf, IsTimetableOfParts, Then};
 
@@ -33,10 +32,10 @@ fn timetable_of(
     day: &Day,
     close: bool,
 ) -> Result<Timetable, RowsFault>
-    requires sound { IfSome told AreSoundPaths }
+    requires sound { IfSome told IsSoundFootpaths }
     requires many { IfSome told
-        (λ paths. length (PathsData.change paths) ≡ length (platforms rows.now.stops)) }
-    ensures { (counted : Result PathsData FeedFault) → IsCounted counted told →
+        (λ paths. length (FootpathData.change paths) ≡ length (platforms rows.now.stops)) }
+    ensures { (counted : Result FootpathData FeedFault) → IsCounted counted told →
         GivesRows (Then (parts_on rows.now day.now counted) (IsTimetableOfParts close)) result }
 {
     let trips = match trips_on(alloc, rows, day) {

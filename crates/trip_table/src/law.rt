@@ -3,8 +3,8 @@ ghost use Rattle.std.specs.Prelude.{◌≡◌, ◌<◌, IfOk, List, length, map}
 ghost use Rattle.tb_base.specs.Walking.{KeepsFootpathLaw};
 ghost use Rattle.gtfs_rows.specs.StopsFile.{StopData};
 ghost use Rattle.footpaths.specs.Stops.{platforms};
-ghost use Rattle.footpaths.specs.Footpaths.{PathsData};
-ghost use Rattle.footpaths.specs.Law.{AreSoundPaths, walking};
+ghost use Rattle.tb_base.specs.TimetableData.{FootpathData};
+ghost use Rattle.tb_base.specs.Soundness.{IsSoundFootpaths};
 ghost use Rattle.trip_table.specs.Answers.{GivesRows, IsAmong};
 ghost use Rattle.trip_table.specs.Day.{breach_fault, platform_id, KeepTheLaw};
 
@@ -50,13 +50,13 @@ fn breach_fault(alloc: Global, rows: &[StopRow], breach: LawFault) -> Result<Fee
 
 /// Change times and footpaths as they are, where they keep the law; else the first breach.
 pub fn tested(alloc: Global, stops: &StopRows, paths: Paths) -> Result<Paths, RowsFault>
-    requires sound { AreSoundPaths paths }
-    requires many { length (PathsData.change paths) ≡ length (platforms stops.now) }
+    requires sound { IsSoundFootpaths paths }
+    requires many { length (FootpathData.change paths) ≡ length (platforms stops.now) }
     ensures told { GivesRows (KeepTheLaw stops.now paths) result }
-    ensures sound { IfOk result AreSoundPaths }
+    ensures sound { IfOk result IsSoundFootpaths }
     ensures many { IfOk result
-        (λ paths. length (PathsData.change paths) ≡ length (platforms stops.now)) }
-    ensures law { IfOk result (λ paths. KeepsFootpathLaw (walking paths)) }
+        (λ paths. length (FootpathData.change paths) ≡ length (platforms stops.now)) }
+    ensures law { IfOk result (λ paths. KeepsFootpathLaw paths) }
 {
     let Err(breach) = test_law(&paths) else {
         return Ok(paths);

@@ -5,8 +5,8 @@ ghost use Rattle.gtfs_rows.specs.Refused as refusal;
 ghost use Rattle.gtfs_rows.specs.TransfersFile.{TransferData};
 ghost use Rattle.footpaths.specs.Links.{TakesAtMostADay, check_transfers};
 ghost use Rattle.footpaths.specs.Stops.{platforms};
-ghost use Rattle.footpaths.specs.Footpaths.{PathsData};
-ghost use Rattle.footpaths.specs.Law.{AreSoundPaths};
+ghost use Rattle.tb_base.specs.TimetableData.{FootpathData};
+ghost use Rattle.tb_base.specs.Soundness.{IsSoundFootpaths};
 ghost use Rattle.trip_table.specs.Answers.{IsCounted, IsRefused, Leaves, feed_of};
 ghost use Rattle.trip_table.specs.Day.{given_footpaths};
 ghost use Rattle.trip_table.specs.References.{transfer_rows_of, transfers_of};
@@ -54,10 +54,10 @@ fn given_footpaths(
         (λ told. (check_transfers stops.now rows.now ≡ Ok rows.now)
         × IsCounted (given_footpaths stops.now options.now rows.now) told)
         (refusal.IsRefused (check_transfers stops.now rows.now)) }
-    ensures sound { IfOk result (λ told. IfSome told AreSoundPaths) }
+    ensures sound { IfOk result (λ told. IfSome told IsSoundFootpaths) }
     ensures many { IfOk result
         (λ told.
-        IfSome told (λ paths. length (PathsData.change paths) ≡ length (platforms stops.now))) }
+        IfSome told (λ paths. length (FootpathData.change paths) ≡ length (platforms stops.now))) }
 {
     match build_paths(alloc, rows, stops, options) {
         Ok(paths) => Ok(Some(paths)),
@@ -91,10 +91,10 @@ pub fn read_paths<F: Folder>(
         × (transfers_of (feed_of (F.files folder.old) dir.now) stops.now ≡ Ok rows)
         × IsCounted (given_footpaths stops.now options.now rows) told)
         (IsRefused (transfers_of (feed_of (F.files folder.old) dir.now) stops.now)) }
-    ensures sound { IfOk result (λ told. IfSome told AreSoundPaths) }
+    ensures sound { IfOk result (λ told. IfSome told IsSoundFootpaths) }
     ensures many { IfOk result
         (λ told.
-        IfSome told (λ paths. length (PathsData.change paths) ≡ length (platforms stops.now))) }
+        IfSome told (λ paths. length (FootpathData.change paths) ≡ length (platforms stops.now))) }
     ensures leaves { Leaves (F.files folder.old) (F.files folder.new) (F.faults folder.old)
         (F.faults folder.new) result }
 {

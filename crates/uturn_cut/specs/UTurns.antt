@@ -13,4 +13,4 @@ is_u_turn_row T r = is_u_turn T r.trip r.at (record { trip = r.to_trip; at = r.t
 
 -- from the arrival of the first event one can change, within its stop, to the departure of the second
 abbrev pub can_change_within : TimetableData → Event → Event → Bool
-can_change_within T before after = is_some (option_and_then (λ secs. if int_le (before.arr +ℤ pos secs) after.dep then Some secs else None) (change_time T before.stop))
+can_change_within T before after = is_some (option_and_then (λ secs. if int_le (before.arr +ℤ pos secs) after.dep then Some secs else None) (change_time T.footpaths before.stop))

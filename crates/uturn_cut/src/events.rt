@@ -30,7 +30,7 @@ fn event_at(table: &Timetable, trip: TripNo, at: usize) -> Event
 
 // The change time of a stop, where it has one.
 fn change_time(table: &Timetable, stop: StopNo) -> Option<u32>
-    ensures time { result ≡ change_time table.now stop }
+    ensures time { result ≡ change_time table.now.footpaths stop }
     ensures at_most_a_day { IfSome result (λ secs. secs ≤ 86400) }
 {
     table.soundness();

@@ -1,6 +1,7 @@
 use Rattle.std.proofs.Common.{rules, ◌≡◌, ◌∙◌, ◌<◌, ap, ◌+◌, length, true, arith}
 use Rattle.std.specs.Prelude.{filter_map, is_ok}
-use Rattle.footpaths.specs.Footpaths.{PathsData, paths_from}
+use Rattle.footpaths.specs.Footpaths.{paths_from}
+use Rattle.tb_base.specs.TimetableData.{FootpathData}
 use Rattle.foot_close.specs.Shortest.{closure_of}
 use Rattle.foot_close.specs.Tables.{path_of, reached_from}
 use Rattle.foot_close.specs.Closing.{footpath_total}
@@ -16,7 +17,7 @@ returns-then-total-gt2000000 c =
     let P = c.args.given.now in
     let from = c.loop-from.from in
     let others : c.other_stops.result ≡ length (paths_from (length P.change) (closure_of P) from) = c.other_stops.ensures ∙ (ap (λ rs. length (filter_map (path_of from) rs)) (c.deref.ensures.value ∙ c.in_ok-row.ensures.reached) ∙ ap length (row_paths P from)) in
-    let many = ap (λ (x : PathsData). length x.change) c.given.view_is in
+    let many = ap (λ (x : FootpathData). length x.change) c.given.view_is in
     let inside : from < length P.change = omega (arith, many, c.len-count.ensures, c.loop-from-test.true) in
     closure_has P (λ closed. 2000000 < footpath_total P closed) c.requires (omega (arith, c.if-total-gt2000000.true, c.from-total.ensures, others, c.loop-from.invariant.total, total_more P from, total_part P (from + 1) (omega (arith, inside))))
 

@@ -10,15 +10,15 @@ use Rattle.footpaths.proofs.law.test_from.Goals as goal
 pub test_over-requires-clause-first : goal.test_over-requires-clause-first
 test_over-requires-clause-first c =
     let P = c.args.paths.now in
-    let lt = rw c.row-first-items.ensures at c.loop-first-test.true in
-    let at = rw c.row-first-items.ensures at c.first-item.is in
+    let lt = rw c.leaving-first-items.ensures at c.loop-first-test.true in
+    let at = rw c.leaving-first-items.ensures at c.first-item.is in
     at_row (get_or P.paths c.args.p []) c.loop-first.first-index c.first-item.result (c.requires.sound.ascending c.args.p [] c.requires.from) lt at
 
 pub returns-in_err-test_over : goal.returns-in_err-test_over
 returns-in_err-test_over c =
     let P = c.args.paths.now in
-    let lt = rw c.row-first-items.ensures at c.loop-first-test.true in
-    let at = rw c.row-first-items.ensures at c.first-item.is in
+    let lt = rw c.leaving-first-items.ensures at c.loop-first-test.true in
+    let at = rw c.leaving-first-items.ensures at c.first-item.is in
     let p = err_from_is_err_and c.from_residual.result c.from_residual.ensures.1 in
     rw (p.1, p.2) (record {
       q = c.first-item.result.to;
@@ -32,8 +32,8 @@ loop-first-preserved c =
     let row = get_or P.paths c.args.p [] in
     let i = c.loop-first.first-index in
     let f = c.first-item.result in
-    let lt = rw c.row-first-items.ensures at c.loop-first-test.true in
-    let at = rw c.row-first-items.ensures at c.first-item.is in
+    let lt = rw c.leaving-first-items.ensures at c.loop-first-test.true in
+    let at = rw c.leaving-first-items.ensures at c.first-item.is in
     λ j d r h.
     elim (cases_lt j i) [
       | inl b ↦ c.loop-first.invariant j d r b
@@ -47,5 +47,5 @@ loop-first-preserved c =
 pub returns : goal.returns
 returns c =
     let P = c.args.paths.now in
-    let end = rw c.row-first-items.ensures at c.loop-first-test.false in
+    let end = rw c.leaving-first-items.ensures at c.loop-first-test.false in
     good_from P c.args.p (λ j d r h. c.loop-first.invariant j d r (omega (arith, h, end)))

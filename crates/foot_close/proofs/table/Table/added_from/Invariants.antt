@@ -1,6 +1,6 @@
 use Rattle.std.proofs.Common.{◌≡◌, ◌≤◌, Some, take}
 use Rattle.std.specs.Prelude.{count_by}
-use Rattle.footpaths.specs.Law.{change_between}
+use Rattle.tb_base.specs.Walking.{change_between}
 use Rattle.foot_close.specs.Closing.{is_added}
 use Rattle.foot_close.specs.Tables.{reached_from}
 use Rattle.foot_close.specs.declared.search.Reached.{Reached}

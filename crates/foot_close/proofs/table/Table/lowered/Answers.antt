@@ -1,7 +1,7 @@
 use Rattle.std.proofs.Common.{length, arith}
 use Rattle.std.specs.Prelude.{count_by}
 use Rattle.footpaths.specs.Footpaths.{numbers}
-use Rattle.footpaths.specs.Law.{change_between}
+use Rattle.tb_base.specs.Walking.{change_between}
 use Rattle.foot_close.specs.Shortest.{closure_of}
 use Rattle.foot_close.specs.Closing.{is_lowered}
 use Rattle.foot_close.proofs.TableLaws.{sum_numbers_more, count_numbers}

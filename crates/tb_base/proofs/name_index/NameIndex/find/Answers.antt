@@ -1,6 +1,6 @@
 use Rattle.std.proofs.Common.{◌∙◌, sym}
 use Rattle.std.specs.Prelude.{bytes_eq}
-use Rattle.tb_base.proofs.NamePlaces.{position-map}
+use Rattle.tb_base.proofs.Lists.{position-map}
 use Rattle.tb_base.proofs.name_index.NameIndex.find.Goals as goal
 
 pub returns-clause-place : goal.returns-clause-place

@@ -3,7 +3,7 @@ use Rattle.std.specs.Prelude.{map, length, sum_by}
 use Rattle.std.proofs.lemmas.List.Folds.{fold-map}
 use Rattle.tb_base.specs.declared.table.Path.{Path}
 use Rattle.tb_base.specs.TimetableData.{TripData}
-use Rattle.tb_base.proofs.Placed.{AllPairs-left, AllPairs-right}
+use Rattle.tb_base.proofs.Lists.{AllPairs-left, AllPairs-right}
 use Rattle.tb_base.proofs.timetable.Timetable.new.Goals as goal
 
 pub of_stops-requires : goal.of_stops-requires
