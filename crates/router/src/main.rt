@@ -51,7 +51,7 @@ fn main(rt: HostRuntime) -> ExitCode {
     };
     let mut folder = HostFolder::new(&rt);
     let mut script = MemSource::new(Vec::new(rt.alloc()), Vec::new(rt.alloc()));
-    let mut out = OutSink::new(&rt);
+    let mut out = OutSink::new(rt.stdout());
     let status = route(
         &rt,
         rt.alloc(),

@@ -4,7 +4,7 @@ use Rattle.std.specs.Prelude.{IfSome, IsSome}
 use Rattle.std.proofs.lemmas.List.{take-append-drop, drop-drop, nil_from_length}
 use Rattle.std.proofs.lemmas.Grind.{common_steps}
 use Rattle.std.proofs.Math.Seq.{take-append-add}
-use Rattle.std.specs.Io.KnownBytes.{Appends}
+use Rattle.std.specs.Io.KnownBytes.{Appends, Consumes}
 use Rattle.tb_io.specs.Files.{FileList, file_at, IsPiece}
 
 -- the bytes are the file's first ones
@@ -43,6 +43,12 @@ appends_more (Some old) None new xs ys p q = absurd p
 appends_more (Some old) (Some bs) None xs ys p q = q
 appends_more (Some old) (Some bs) (Some cs) xs ys p q = q ∙ ap (λ zs. zs ++ ys) p ∙ append_assoc old xs ys
 
+pub consumes_more : (old mid new : Option (List ℕ)) (xs ys : List ℕ) → Consumes old mid xs → Consumes mid new ys → Consumes old new (xs ++ ys)
+consumes_more None mid new xs ys p q = tt
+consumes_more (Some old) None new xs ys p q = absurd p
+consumes_more (Some old) (Some bs) None xs ys p q = q
+consumes_more (Some old) (Some bs) (Some cs) xs ys p q = p ∙ ap (λ zs. xs ++ zs) q ∙ sym (append_assoc xs ys cs)
+
 pub take_both : (at n : ℕ) (bytes : List ℕ) → at ≤ length bytes → take (at + n) bytes ≡ take at bytes ++ take n (drop at bytes)
 take_both at n bytes h =
     let l : length (take at bytes) ≡ at = grind (arith, common_steps) in
@@ -51,10 +57,10 @@ take_both at n bytes h =
     (take-append-add (take at bytes) (drop at bytes) n))
 
 -- the first bytes of what is unread, and then what is unread after them; none are read only at the end or for no room
-pub consumes_front : (bytes rest buf : List ℕ) (at n : ℕ) → rest ≡ drop at bytes → n ≡ min (length rest) (length buf) → take n buf ≡ take n rest →
+pub consumes_front : (bytes rest buf : List ℕ) (at most n : ℕ) → 0 < most → rest ≡ drop at bytes → n ≡ min most (min (length rest) (length buf)) → take n buf ≡ take n rest →
     (drop at bytes ≡ take n buf ++ drop (at + n) bytes) × (n ≡ 0 → 0 < length buf → drop (at + n) bytes ≡ [])
-consumes_front bytes rest buf at n is least same = (
+consumes_front bytes rest buf at most n some is least same = (
   subst (λ r. drop at bytes ≡ take n buf ++ r) (drop-drop n at bytes)
       (rw same (subst (λ (r : List ℕ). drop at bytes ≡ take n r ++ drop n (drop at bytes)) (sym is) (sym (take-append-drop n (drop at bytes))))),
-  λ none room. nil_from_length (drop (at + n) bytes) (let lens : length rest ≡ length (drop at bytes) = ap length is in grind (arith, common_steps, none, room, least, lens)),
+  λ none room. nil_from_length (drop (at + n) bytes) (let lens : length rest ≡ length (drop at bytes) = ap length is in grind (arith, common_steps, some, none, room, least, lens)),
 )

@@ -1,9 +1,10 @@
 //! The outside: folders of files, sources and sinks of bytes, which count their faults.
 //!
-//! The layers above read a whole file by `take_file` and write a whole text by `put_all`. Each gives all the bytes, or a
-//! fault at which the object's count of faults rose. An object either tells its contents, as those in memory do, and then
-//! contracts say which bytes were moved; or it tells nothing, as those over the real machine, and then the counts alone
-//! speak. Nothing here reads or writes but through the object that is handed in.
+//! The layers above read a whole file by `take_file`, a whole script by `take_source`, and write a
+//! whole text by `put_all`. Each gives all the bytes, or a fault at which the object's count of
+//! faults rose. An object either tells its contents, as those in memory do, and then contracts say
+//! which bytes were moved; or it tells nothing, as those over the real machine, and then the counts
+//! alone speak. Nothing here reads or writes but through the object that is handed in.
 #![tactic(auto)]
 
 ghost use Rattle.std.specs.Prelude.{◌≡◌, ◌↔◌, ◌+◌, ◌-◌, ◌^◌, ◌<◌, ◌≤◌, ℕ, List, Option, Some, None, IsTrue, IsSome, IfOk, IfSome, OnOk, IsErrOf, option_map, length, take, drop, map, vec_len};
@@ -17,10 +18,10 @@ mod mem;
 mod put;
 mod take;
 
-pub use host::{HostFolder, OutSink};
+pub use host::{HostFolder, InSource, OutSink};
 pub use mem::{MemFolder, MemSink, MemSource};
 pub use put::{Put, put_all};
-pub use take::{Taken, take_file};
+pub use take::{Taken, take_file, take_source};
 
 /// The outside failed.
 #[derive(Debug, Clone, Copy, PartialEq, Eq)]
@@ -34,7 +35,8 @@ pub trait Folder {
 
     /// Whether the path is one of the folder's files.
     fn has(&mut self, path: &str) -> Result<bool, Failed>
-        ensures told { IfOk result (λ there. IfSome (files self.old) (λ fs. IsTrue there ↔ IsSome (file_at fs path.now))) }
+        ensures told { IfOk result (λ there.
+            IfSome (files self.old) (λ fs. IsTrue there ↔ IsSome (file_at fs path.now))) }
         ensures same { files self.new ≡ files self.old }
         ensures cause { HasCause (faults self.old) (faults self.new) result };
 
@@ -42,7 +44,8 @@ pub trait Folder {
     fn read(&mut self, path: &str, from: u64, buf: &mut [u8]) -> Result<usize, Failed>
         requires { IfSome (files self.old) (λ fs. IsSome (file_at fs path.now)) }
         ensures bound { ReadsAtMost result buf.new }
-        ensures told { IfOk result (λ n. IfSome (files self.old) (λ fs. IfSome (file_at fs path.now) (λ file. IsPiece file from n buf.new))) }
+        ensures told { IfOk result (λ n. IfSome (files self.old) (λ fs.
+            IfSome (file_at fs path.now) (λ file. IsPiece file from n buf.new))) }
         ensures same { files self.new ≡ files self.old }
         ensures cause { HasCause (faults self.old) (faults self.new) result };
 }

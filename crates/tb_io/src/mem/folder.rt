@@ -1,5 +1,5 @@
 //! A folder in memory.
-ghost use Rattle.std.specs.Prelude.{◌≡◌, ◌↔◌, ◌≤◌, Some, length, option_map, IfOk, IfSome, IsErr, IsSome, IsTrue};
+ghost use Rattle.std.specs.Prelude.{◌≡◌, ◌↔◌, ◌-◌, ◌^◌, ◌<◌, ◌≤◌, Some, length, option_map, IfOk, IfSome, IsErr, IsSome, IsTrue};
 ghost use Rattle.std.specs.Io.{ReadsAtMost};
 ghost use Rattle.tb_io.specs.Calls.{fails_next, after_call, no_calls};
 ghost use Rattle.tb_io.specs.Causes.{HasCause};
@@ -15,24 +15,51 @@ use std::marker::Model;
 #[derive(Drop)]
 pub struct MemFolder {
     files: Vec<(String, Vec<u8>)>,
+    piece: usize,
     calls: Calls,
 }
 
 impl Model for MemFolder {
+    ghost use Rattle.std.specs.Prelude.{◌<◌};
+    ghost use Rattle.tb_io.specs.Stored.{FolderData, stored_files};
+
     ghost Value = { FolderData };
 
-    ghost view = { λ f. record { files = stored_files f.files.items; calls = f.calls } };
+    ghost view = { λ f.
+        record { files = stored_files f.files.items; piece = f.piece; calls = f.calls } };
+
+    ghost invariant = { λ f. 0 < f.piece };
 }
 
 impl MemFolder {
-    /// A folder with these files, by their paths, that fails at the calls with these numbers, counted from 0.
-    /// Of two files with one path the first counts.
+    /// A folder with these files, by their paths, that fails at the calls with these numbers,
+    /// counted from 0. Of two files with one path the first counts.
     pub fn new(files: Vec<(String, Vec<u8>)>, fails: Vec<u64>) -> MemFolder
-        ensures { result ≡ record { files = stored_files files.items; calls = no_calls fails.items } }
+        ensures files { result.files ≡ stored_files files.items }
+        ensures piece { result.piece ≡ 2 ^ 64 - 1 }
+        ensures calls { result.calls ≡ no_calls fails.items }
     {
         MemFolder {
             files,
+            piece: usize::MAX,
             calls: Calls::new(fails),
+        }
+    }
+
+    /// The same folder, of which one reading gives at most so many bytes. No memory is taken.
+    pub fn with_piece(self, most: usize) -> MemFolder
+        requires { 0 < most }
+        ensures { result ≡ record { files = self.files; piece = most; calls = self.calls } }
+    {
+        let MemFolder {
+            files,
+            piece: _,
+            calls,
+        } = self;
+        MemFolder {
+            files,
+            piece: most,
+            calls,
         }
     }
 
@@ -41,6 +68,7 @@ impl MemFolder {
         ensures fails { result ≡ fails_next self.old.calls }
         ensures calls { self.new.calls ≡ after_call self.old.calls (fails_next self.old.calls) }
         ensures files { self.new.files ≡ self.old.files }
+        ensures piece { self.new.piece ≡ self.old.piece }
     {
         let failed = self.calls.fails_next();
         self.calls.count(failed);
@@ -60,15 +88,17 @@ fn find<'a>(files: &'a [(String, Vec<u8>)], path: &str) -> Option<&'a [u8]>
     None
 }
 
-// Copies a piece of a file, and says how many bytes it has.
-fn copy_piece(file: &[u8], from: u64, buf: &mut [u8]) -> usize
+// Copies a piece of a file, of at most so many bytes, and says how many it has.
+fn copy_piece(file: &[u8], from: u64, most: usize, buf: &mut [u8]) -> usize
+    requires { 0 < most }
+    ensures most { result ≤ most }
     ensures bound { result ≤ length buf.new }
     ensures piece { IsPiece file.now from result buf.new }
 {
     if from >= file.len() as u64 {
         return 0;
     }
-    copy_front(&file[from as usize..], buf)
+    copy_front(&file[from as usize..], most, buf)
 }
 
 impl Folder for MemFolder {
@@ -77,11 +107,13 @@ impl Folder for MemFolder {
     ghost faults = { λ f. f.calls.faults };
 
     fn has(&mut self, path: &str) -> Result<bool, Failed>
-        ensures told { IfOk result (λ there. IsTrue there ↔ IsSome (file_at self.old.files path.now)) }
+        ensures told { IfOk result (λ there.
+            IsTrue there ↔ IsSome (file_at self.old.files path.now)) }
         ensures same { self.new.files ≡ self.old.files }
         ensures cause { HasCause self.old.calls.faults self.new.calls.faults result }
         ensures fails { IsErr result ↔ IsTrue (fails_next self.old.calls) }
         ensures calls { self.new.calls ≡ after_call self.old.calls (fails_next self.old.calls) }
+        ensures pieces { self.new.piece ≡ self.old.piece }
     {
         if self.call_fails() {
             return Err(Failed);
@@ -92,11 +124,14 @@ impl Folder for MemFolder {
     fn read(&mut self, path: &str, from: u64, buf: &mut [u8]) -> Result<usize, Failed>
         requires { IsSome (file_at self.old.files path.now) }
         ensures bound { ReadsAtMost result buf.new }
-        ensures told { IfOk result (λ n. IfSome (file_at self.old.files path.now) (λ file. IsPiece file from n buf.new)) }
+        ensures told { IfOk result (λ n.
+            IfSome (file_at self.old.files path.now) (λ file. IsPiece file from n buf.new)) }
         ensures same { self.new.files ≡ self.old.files }
         ensures cause { HasCause self.old.calls.faults self.new.calls.faults result }
         ensures fails { IsErr result ↔ IsTrue (fails_next self.old.calls) }
         ensures calls { self.new.calls ≡ after_call self.old.calls (fails_next self.old.calls) }
+        ensures most { IfOk result (λ n. n ≤ self.old.piece) }
+        ensures pieces { self.new.piece ≡ self.old.piece }
     {
         if self.call_fails() {
             return Err(Failed);
@@ -104,6 +139,6 @@ impl Folder for MemFolder {
         let Some(file) = find(self.files.as_slice(), path) else {
             unreachable!()
         };
-        Ok(copy_piece(file, from, buf))
+        Ok(copy_piece(file, from, self.piece, buf))
     }
 }

@@ -1,5 +1,4 @@
 use Rattle.std.proofs.Common.{◌≡◌, ◌≤◌, ◌+◌, arith, rules, length, List, ℕ, true, vec_len, take, ◌++◌}
-use Rattle.std.specs.Result.{is_ok}
 use Rattle.std.proofs.lemmas.Grind.{common_steps}
 use Rattle.tb_io.specs.Files.{IsPiece}
 use Rattle.tb_io.proofs.Pieces.{IsFront, AtPath, at_path-both, front_more}
@@ -14,8 +13,7 @@ loop-turn-preserved g c = record {
   faults = grind (arith, common_steps);
   there = search rules;
   front =
-      let good : is_ok c.extend_from_slice.result ≡ true = search rules in
-      let items = rw good at c.extend_from_slice.ensures.items in
+      let items = c.in_ok-add_piece-in-Ok-read.ensures.added in
       let same : vec_len c.loop-turn.bytes ≡ length c.loop-turn.bytes.items = grind (arith, common_steps) in
       let told = rw (c.loop-turn.invariant.files, c.len-from.ensures, same) at c.in-Ok-read.ensures.told in
       let short : c.in-Ok-read.count ≤ length c.read.new.buf = grind (arith, common_steps) in

@@ -11,5 +11,5 @@ returns-then-failed-clause-cause c = rw (← c.self.view_is) (call_failed _ c.se
 pub returns-clause-bytes : goal.returns-clause-bytes
 returns-clause-bytes c =
     rw (← c.self.view_is)
-    (consumes_front c.self.inside.bytes.items _ c.copy_front-count.new.buf c.self.inside.at c.copy_front-count.result
+    (consumes_front c.self.inside.bytes.items _ c.copy_front-count.new.buf c.self.inside.at c.self.inside.piece c.copy_front-count.result (grind (arith, common_steps))
     (rw c.deref.ensures.value (take_rest c.self.inside.bytes.items c.self.inside.at)) c.copy_front-count.ensures.count c.copy_front-count.ensures.copied)
