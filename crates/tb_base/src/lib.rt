@@ -21,6 +21,7 @@ mod rule;
 mod table;
 mod timetable;
 mod transfer;
+mod words;
 
 pub use gate::{Gate, IdleGate, Work};
 pub use memory::Memory;
@@ -33,3 +34,4 @@ pub use rule::{Rule, RuleBroken};
 pub use table::{Event, Name, Parts, Path, Station, Stop, Trip};
 pub use timetable::Timetable;
 pub use transfer::{Hop, Transfer};
+pub use words::line_words;
