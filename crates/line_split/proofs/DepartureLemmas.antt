@@ -11,7 +11,8 @@ use Rattle.tb_base.specs.TimetableData.{TimetableData, departure_at}
 use Rattle.tb_base.specs.Transfers.{numbers_below, earliest_trip}
 use Rattle.tb_base.specs.Lines.{AreDividedInto}
 use Rattle.tb_base.proofs.LineFacts.{MayFollow, no_later}
-use Rattle.line_split.specs.LinesOf.{departures_at, line_departures, line_events}
+use Rattle.line_split.specs.Layout.{AreLaidOut, LinesLayout, departures_at, line_departures}
+use Rattle.line_split.specs.LinesOf.{line_events}
 use Rattle.line_split.proofs.CallLemmas.{numbers_below-more}
 
 -- ---- a part of a list
@@ -129,6 +130,11 @@ start_at T lines starts l x e h is = is ∙ ap (λ xs. get_or xs l x) e ∙ get_
   where
     zero_more : (n : ℕ) → 0 + n ≡ n
     zero_more n = omega arith
+
+-- the run of a line at an index, where lines are laid out
+pub run_in : (T : TimetableData) (L : LinesLayout) (l i x count : ℕ) → AreLaidOut T L → l < length L.lines → i < length (line_events T (get_or L.lines l [])) →
+    x ≡ get_or L.starts l x → count ≡ length (get_or L.lines l []) → IsRun T L.lines l i x count L.departures
+run_in T L l i x count are h k is n = run_of T L.lines l i x count L.departures h k (start_at T L.lines L.starts l x are.starts h is) n are.departures
 
 -- along a line departures do not fall
 pub run_ascends : (T : TimetableData) (lines : List (List ℕ)) (l i : ℕ) → AreDividedInto T lines → l < length lines → AllPairs (λ x y. x ≤ℤ y) (departures_at T (get_or lines l []) i)

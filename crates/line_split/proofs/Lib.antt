@@ -8,3 +8,4 @@ pub mod CallLemmas
 pub mod DepartureLemmas
 pub mod PlaceLemmas
 pub mod Counts
+pub mod CallTotals

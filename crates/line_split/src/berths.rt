@@ -7,7 +7,7 @@ ghost use Rattle.line_split.specs.Calls.{calls_of};
 
 use super::events::events_of;
 use super::lines::Berth;
-use super::rows::Rows;
+use super::nested::Nested;
 use std::alloc::Global;
 use tb_base::{Event, LineNo, Memory, Timetable, TripNo};
 
@@ -25,15 +25,15 @@ pub(crate) fn first_of(trips: &[TripNo]) -> TripNo
 pub(crate) fn berths_of(
     alloc: Global,
     table: &Timetable,
-    lines: &Rows<TripNo>,
-) -> Result<Rows<Berth>, Memory>
+    lines: &Nested<TripNo>,
+) -> Result<Nested<Berth>, Memory>
     requires { length lines.now < 2 ^ 32 }
     ensures length { IfOk result (λ berths. length berths ≡ length table.now.stops) }
     ensures berths { IfOk result (λ berths. (q : ℕ) → q < length table.now.stops →
         slice_index_or berths q [] ≡ berths_at table.now lines.now q) }
 {
     table.soundness();
-    let mut berths = Rows::with_rows(alloc, table.stop_count() as usize)?;
+    let mut berths = Nested::with_rows(alloc, table.stop_count() as usize)?;
     for line in 0..lines.len() {
         let events = events_of(table, first_of(lines.row(line)));
         add_calls(&mut berths, LineNo(line as u32), events)?;
@@ -42,7 +42,7 @@ pub(crate) fn berths_of(
 }
 
 // Adds the calls of a line with these events.
-fn add_calls(berths: &mut Rows<Berth>, line: LineNo, events: &[Event]) -> Result<(), Memory>
+fn add_calls(berths: &mut Nested<Berth>, line: LineNo, events: &[Event]) -> Result<(), Memory>
     requires fits { length events.now < 2 ^ 32 }
     requires stops { All (λ e. e.stop < length berths.old) events.now }
     ensures length { OnOk result (length berths.new ≡ length berths.old) }

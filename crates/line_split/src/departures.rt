@@ -1,12 +1,12 @@
 //! The departures of all lines, one after another.
-ghost use Rattle.std.specs.Prelude.{◌≡◌, ◌++◌, OnOk, IfOk, length, map, flat_map, take};
+ghost use Rattle.std.specs.Prelude.{◌≡◌, ◌++◌, OnOk, IfOk, length, map, flat_map};
 ghost use Rattle.std.specs.List.{range_with_len};
 ghost use Rattle.tb_base.specs.TimetableData.{departure_at};
-ghost use Rattle.line_split.specs.LinesOf.{departures_at, line_departures};
+ghost use Rattle.line_split.specs.Layout.{departures_at, line_departures, start_of};
 
 use super::berths::first_of;
 use super::events::events_of;
-use super::rows::Rows;
+use super::nested::Nested;
 use std::alloc::Global;
 use tb_base::{Memory, Sec, Timetable, TripNo};
 
@@ -14,10 +14,10 @@ use tb_base::{Memory, Sec, Timetable, TripNo};
 pub(crate) fn departures_of(
     alloc: Global,
     table: &Timetable,
-    lines: &Rows<TripNo>,
+    lines: &Nested<TripNo>,
 ) -> Result<(Vec<usize>, Vec<Sec>), Memory>
     ensures starts { IfOk result (λ all. all.0.items
-        ≡ map (λ l. length (flat_map (line_departures table.now) (take l lines.now))) (range_with_len 0 (length lines.now))) }
+        ≡ map (start_of table.now lines.now) (range_with_len 0 (length lines.now))) }
     ensures departures { IfOk result (λ all. all.1.items ≡ flat_map (line_departures table.now) lines.now) }
 {
     let mut starts = Vec::new(alloc);

@@ -14,7 +14,7 @@ pub(crate) fn events_of(table: &Timetable, trip: TripNo) -> &[Event]
     ensures { result.now ≡ events_of table.now trip }
 {
     if trip.index() < table.trip_count() as usize {
-        table.trip(trip).events.as_slice()
+        table.events(trip)
     } else {
         &[]
     }

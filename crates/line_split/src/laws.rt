@@ -2,12 +2,10 @@
 ghost use Rattle.std.specs.Prelude.{◌≡◌, ℕ, List};
 ghost use Rattle.tb_base.specs.TimetableData.{TimetableData};
 ghost use Rattle.tb_base.specs.Lines.{AreDividedInto, AreLines, IsTripOrder};
-ghost use Rattle.line_split.specs.LinesData.{LinesData};
-ghost use Rattle.line_split.specs.LinesOf.{AreLinesOf};
 
 /// The lines of a timetable are all its trips, each once, and along a line stops and marks are the same and no time falls.
 pub fn lines_divide()
-    ensures { (T : TimetableData) (lines : LinesData) → AreLinesOf T lines → AreDividedInto T lines.lines }
+    ensures { (T : TimetableData) (lines : List (List ℕ)) → AreLines T lines → AreDividedInto T lines }
 {}
 
 /// The order of the trips is one list.

@@ -1,23 +1,22 @@
 //! The lines of a timetable, as Trip-Based Public Transit Routing (Witt, ESA 2015) has them: trips with one sequence of stops and of
 //! boarding and alighting marks, none of which overtakes another.
 //!
-//! `split` makes the lines. The layer above is promised that they are the lines of the timetable (`AreLinesOf`), and finds in them
+//! `split` makes the lines. The layer above is promised that they are the lines of the timetable (`Lines::soundness`), and finds in them
 //! without taking memory: the line of a trip and its place there, the trips of a line, where lines call at a stop, and the first
 //! trip of a line that departs at an index no earlier than a time, by one binary search along a run of departures.
 #![tactic(auto)]
 
-ghost use Rattle.std.specs.Prelude.{IfOk};
-ghost use Rattle.line_split.specs.LinesOf.{AreLinesOf};
+ghost use Rattle.std.specs.Prelude.{◌≡◌, IfOk};
 
 mod berths;
 mod departures;
 mod events;
 pub mod laws;
 mod lines;
+mod nested;
 mod order;
 mod place;
 mod places;
-mod rows;
 
 use berths::berths_of;
 use departures::departures_of;
@@ -31,7 +30,7 @@ use tb_base::{Memory, Timetable};
 /// The lines of a timetable: trips of one pattern of stops and marks, none of which overtakes another. Each trip, in the order of
 /// all times and then of the numbers, joins the first line whose last trip is nowhere later, else it opens the next line.
 pub fn split(alloc: Global, table: &Timetable) -> Result<Lines, Memory>
-    ensures { IfOk result (λ lines. AreLinesOf table.now lines) }
+    ensures { IfOk result (λ lines. lines.table ≡ table.now) }
 {
     table.soundness();
     let order = trip_order(alloc, table)?;
@@ -39,5 +38,5 @@ pub fn split(alloc: Global, table: &Timetable) -> Result<Lines, Memory>
     let places = places_of(alloc, table.trip_count(), &lines)?;
     let berths = berths_of(alloc, table, &lines)?;
     let (starts, departures) = departures_of(alloc, table, &lines)?;
-    Ok(Lines::new(lines, places, berths, starts, departures))
+    Ok(Lines::new(table, lines, places, berths, starts, departures))
 }

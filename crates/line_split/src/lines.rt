@@ -1,8 +1,11 @@
-ghost use Rattle.std.specs.Prelude.{◌≡◌, ◌<◌, ◌≤◌, ◌≤ℤ◌, ◌<ℤ◌, ◌^◌, ◌+◌, take, drop, Some, [], AllPairs, length, slice_get, slice_index_or};
+ghost use Rattle.std.specs.Prelude.{◌≡◌, ◌<◌, ◌≤◌, ◌≤ℤ◌, ◌<ℤ◌, ◌+◌, ◌*◌, take, drop, [], AllPairs, length, slice_index_or};
 ghost use Rattle.std.specs.List.{AllWithin};
 
-use super::rows::Rows;
+use super::berths::first_of;
+use super::events::events_of;
+use super::nested::Nested;
 use std::marker::Model;
+use std::snapshot::Snapshot;
 use tb_base::{LineNo, Sec, StopNo, Timetable, TripNo};
 
 /// A place where a line calls: an index of its trips.
@@ -12,61 +15,76 @@ pub struct Berth {
     pub at: u32,
 }
 
-/// The lines of a timetable.
+/// The lines of a timetable. They remember for contracts of which timetable they are; that takes no room.
 #[derive(Drop)]
 pub struct Lines {
-    lines: Rows<TripNo>,
+    table: Snapshot<Timetable>,
+    lines: Nested<TripNo>,
     places: Vec<(LineNo, u32)>,
-    berths: Rows<Berth>,
+    berths: Nested<Berth>,
     starts: Vec<usize>,
     departures: Vec<Sec>,
 }
 
 impl Model for Lines {
-    ghost use Rattle.std.specs.Prelude.{◌<◌, ◌^◌, length};
     ghost use Rattle.line_split.specs.LinesData.{LinesData};
+    ghost use Rattle.line_split.specs.Layout.{AreLaidOut};
 
     ghost Value = { LinesData };
 
-    ghost view = { λ l. record {
+    ghost view = { λ l. record { table = l.table.value; lines = l.lines } };
+
+    ghost invariant = { λ l. AreLaidOut l.table.value (record {
       lines = l.lines;
       places = l.places.items;
       berths = l.berths;
       starts = l.starts.items;
       departures = l.departures.items;
-    } };
-
-    ghost invariant = { λ l. length l.lines < 2 ^ 32 };
+    }) };
 }
 
 impl Lines {
-    ghost use Rattle.tb_base.specs.Transfers.{earliest_trip};
-    ghost use Rattle.line_split.specs.LinesOf.{AreLinesOf, line_events, departures_at};
+    ghost use Rattle.tb_base.specs.Lines.{AreDividedInto, AreLines};
+    ghost use Rattle.tb_base.specs.TimetableData.{TimetableData};
+    ghost use Rattle.tb_base.specs.Transfers.{earliest_trip, may_be_boarded};
+    ghost use Rattle.line_split.specs.Layout.{AreLaidOut, departures_at};
+    ghost use Rattle.line_split.specs.LinesOf.{StandsAt, berths_at, line_events};
 
     // The lines with these parts.
     pub(crate) fn new(
-        lines: Rows<TripNo>,
+        table: &Timetable,
+        lines: Nested<TripNo>,
         places: Vec<(LineNo, u32)>,
-        berths: Rows<Berth>,
+        berths: Nested<Berth>,
         starts: Vec<usize>,
         departures: Vec<Sec>,
     ) -> Lines
-        requires { length lines < 2 ^ 32 }
-        ensures { result ≡ record {
+        requires { AreLaidOut table.now (record {
           lines = lines;
           places = places.items;
           berths = berths;
           starts = starts.items;
           departures = departures.items;
-        } }
+        }) }
+        ensures { result ≡ record { table = table.now; lines = lines } }
     {
         Lines {
+            table: Snapshot::of(table),
             lines,
             places,
             berths,
             starts,
             departures,
         }
+    }
+
+    /// What lines always keep: they are the lines of their timetable, and these are all its trips, each once, with the same stops
+    /// and marks and no falling time along a line. Does nothing.
+    pub fn soundness(&self)
+        ensures lines { AreLines self.now.table self.now.lines }
+        ensures divided { AreDividedInto self.now.table self.now.lines }
+    {
+        let _lines = &self.lines;
     }
 
     /// How many lines there are.
@@ -78,8 +96,8 @@ impl Lines {
 
     /// The line of a trip, and the trip's place in it, counted from 0.
     pub fn of(&self, trip: TripNo) -> (LineNo, u32)
-        requires { trip < length self.now.places }
-        ensures { slice_get self.now.places trip ≡ Some result }
+        requires { trip < length self.now.table.trips }
+        ensures { StandsAt self.now.lines trip result }
     {
         self.places[trip.index()]
     }
@@ -92,35 +110,56 @@ impl Lines {
         self.lines.row(line.index())
     }
 
+    /// The first trip of a line.
+    pub fn first(&self, line: LineNo) -> TripNo
+        requires { line < length self.now.lines }
+        ensures { result ≡ slice_index_or (slice_index_or self.now.lines line []) 0 0 }
+    {
+        first_of(self.lines.row(line.index()))
+    }
+
+    /// Whether a line may be boarded at an index: boarding is allowed there, and it is not the line's last index.
+    /// The lines are those of the timetable.
+    pub fn may_be_boarded(&self, table: &Timetable, line: LineNo, at: u32) -> bool
+        requires table { self.now.table ≡ table.now }
+        requires line { line < length self.now.lines }
+        ensures { result ≡ may_be_boarded table.now
+            (slice_index_or (slice_index_or self.now.lines line []) 0 0) at }
+    {
+        let events = events_of(table, self.first(line));
+        let at = at as usize;
+        at < events.len() && events[at].board && at + 1 < events.len()
+    }
+
     /// Where lines call at a stop: every index of every line there, by line, then by index.
     pub fn at(&self, stop: StopNo) -> &[Berth]
-        requires { stop < length self.now.berths }
-        ensures { result.now ≡ slice_index_or self.now.berths stop [] }
+        requires { stop < length self.now.table.stops }
+        ensures { result.now ≡ berths_at self.now.table self.now.lines stop }
     {
         self.berths.row(stop.index())
     }
 
     // The departures of a line's trips at one index, in the order of the trips.
-    fn departures_at(&self, table: &Timetable, line: LineNo, at: u32) -> &[Sec]
-        requires lines { AreLinesOf table.now self.now }
+    fn departures_at(&self, line: LineNo, at: u32) -> &[Sec]
         requires line { line < length self.now.lines }
-        requires at { at < length (line_events table.now (slice_index_or self.now.lines line [])) }
-        ensures { result.now ≡ departures_at table.now (slice_index_or self.now.lines line []) at }
+        requires at { at < length (line_events self.now.table (slice_index_or self.now.lines line [])) }
+        ensures { result.now ≡ departures_at self.now.table (slice_index_or self.now.lines line []) at }
     {
         let departures = self.departures.as_slice();
         let count = self.lines.row(line.index()).len();
-        let from = self.starts[line.index()] + at as usize * count;
-        run(departures, from, count)
+        run(departures, self.starts[line.index()], at as usize, count)
     }
 
     /// The line's first trip that departs at an index no earlier than the time, in seconds.
+    /// The lines are those of the timetable.
     pub fn earliest(&self, table: &Timetable, line: LineNo, at: u32, time: Sec) -> Option<TripNo>
-        requires lines { AreLinesOf table.now self.now }
+        requires table { self.now.table ≡ table.now }
         requires line { line < length self.now.lines }
         requires at { at < length (line_events table.now (slice_index_or self.now.lines line [])) }
         ensures { result ≡ earliest_trip table.now (slice_index_or self.now.lines line []) at time }
     {
-        let place = first_from(self.departures_at(table, line, at), time);
+        self.soundness();
+        let place = first_from(self.departures_at(line, at), time);
         let trips = self.lines.row(line.index());
         if place < trips.len() {
             Some(trips[place])
@@ -130,11 +169,12 @@ impl Lines {
     }
 }
 
-// So many departures from a place on.
-fn run(departures: &[Sec], from: usize, count: usize) -> &[Sec]
-    requires { from + count ≤ length departures.now }
-    ensures { result.now ≡ take count (drop from departures.now) }
+// The run of so many departures at an index, where runs of one length begin at a place.
+fn run(departures: &[Sec], start: usize, at: usize, count: usize) -> &[Sec]
+    requires { start + at * count + count ≤ length departures.now }
+    ensures { result.now ≡ take count (drop (start + at * count) departures.now) }
 {
+    let from = start + at * count;
     &departures[from..from + count]
 }
 

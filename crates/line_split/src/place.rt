@@ -6,7 +6,7 @@ ghost use Rattle.line_split.specs.Patterns.{bucket_of};
 ghost use Rattle.line_split.specs.Buckets.{last_of, AreBucketed};
 
 use super::events::{events_of, may_follow, pattern_hash};
-use super::rows::Rows;
+use super::nested::Nested;
 use std::alloc::Global;
 use tb_base::{Event, Memory, Timetable, TripNo};
 
@@ -15,13 +15,13 @@ pub(crate) fn place_trips(
     alloc: Global,
     table: &Timetable,
     order: &[TripNo],
-) -> Result<Rows<TripNo>, Memory>
+) -> Result<Nested<TripNo>, Memory>
     ensures placed { IfOk result (λ lines. lines ≡ fold (place_trip table.now) [] order.now) }
     ensures count { IfOk result (λ lines. length lines ≤ length order.now) }
     ensures rows { IfOk result (λ lines. All (λ line. length line ≤ length order.now) lines) }
 {
-    let mut lines = Rows::new(alloc);
-    let mut buckets = Rows::with_rows(alloc, order.len())?;
+    let mut lines = Nested::new(alloc);
+    let mut buckets = Nested::with_rows(alloc, order.len())?;
     for trip in order {
         place(alloc, table, &mut lines, &mut buckets, *trip)?;
     }
@@ -32,8 +32,8 @@ pub(crate) fn place_trips(
 fn place(
     alloc: Global,
     table: &Timetable,
-    lines: &mut Rows<TripNo>,
-    buckets: &mut Rows<usize>,
+    lines: &mut Nested<TripNo>,
+    buckets: &mut Nested<usize>,
     trip: TripNo,
 ) -> Result<(), Memory>
     requires room { 0 < length buckets.old }
@@ -75,7 +75,7 @@ fn last_of(trips: &[TripNo]) -> TripNo
 // The first of these lines that a trip with the events may join.
 fn first_line(
     table: &Timetable,
-    lines: &Rows<TripNo>,
+    lines: &Nested<TripNo>,
     among: &[usize],
     events: &[Event],
 ) -> Option<usize>

@@ -3,7 +3,7 @@ ghost use Rattle.std.specs.Prelude.{◌≡◌, ◌<◌, ◌^◌, ℕ, [], All, I
 ghost use Rattle.line_split.specs.LinesOf.{StandsAt};
 ghost use Rattle.line_split.specs.Places.{NotesLine};
 
-use super::rows::Rows;
+use super::nested::Nested;
 use std::alloc::Global;
 use tb_base::{LineNo, Memory, TripNo};
 
@@ -11,7 +11,7 @@ use tb_base::{LineNo, Memory, TripNo};
 pub(crate) fn places_of(
     alloc: Global,
     count: u32,
-    lines: &Rows<TripNo>,
+    lines: &Nested<TripNo>,
 ) -> Result<Vec<(LineNo, u32)>, Memory>
     requires fits { length lines.now < 2 ^ 32 }
     requires rows { All (λ line. length line < 2 ^ 32) lines.now }

@@ -14,14 +14,10 @@ use Rattle.tb_base.specs.Lines.{AreDividedInto, AreLines}
 use Rattle.tb_base.specs.Soundness.{IsSound}
 use Rattle.tb_base.specs.Transfers.{Alternative, alternatives, alternatives_at, alightings, boarding_indexes, candidates, candidates_without_u_turns, hop_onto, improving_alternatives, is_improvement, is_u_turn, kept_alternatives, kept_hops, may_be_boarded, numbers_below, numbers_down, transfers_of}
 use Rattle.tb_laws.proofs.TransferLaws.{kept_transfers}
-use Rattle.segment_queue.specs.Scans.{LineIndex, indices_at, line_indices_at}
-use Rattle.segment_queue.proofs.LineViews.{indices_le_events}
-use Rattle.segment_queue.proofs.Totals.{all_events}
+use Rattle.line_split.specs.LinesData.{LinesData}
+use Rattle.line_split.specs.LinesOf.{calls_at}
+use Rattle.line_split.proofs.CallTotals.{all_events, calls_le_events, length-numbers_below}
 use Rattle.reduce_workers.specs.Reductions.{count_from, rows_from}
-
-pub length-numbers_below : (n : ℕ) → length (numbers_below n) ≡ n
-length-numbers_below zero = refl
-length-numbers_below (suc n) = omega (arith, length-append (numbers_below n) (n ∷ []), length-numbers_below n)
 
 length-numbers_down : (n : ℕ) → length (numbers_down n) ≡ n
 length-numbers_down zero = refl
@@ -52,35 +48,30 @@ flat_map_le : {X Y : Type 0} (f : X → List Y) (c : ℕ) (xs : List X) → ((x 
 flat_map_le f c [] each = omega arith
 flat_map_le f c (x ∷ xs) each = omega (arith, length-append (f x) (flat_map f xs), each x, flat_map_le f c xs each, suc-mul (length xs) c)
 
-boarding_le : (T : TimetableData) (line : List ℕ) (q : ℕ) → length (boarding_indexes T line q) ≤ length (indices_at T q line)
+boarding_le : (T : TimetableData) (line : List ℕ) (q : ℕ) → length (boarding_indexes T line q) ≤ length (calls_at T line q)
 boarding_le T [] q = omega arith
-boarding_le T (u ∷ us) q =
-    omega (
-      arith,
-      both_le (λ j. stop_at T u j == q) (may_be_boarded T u) (numbers_below (length (events_of T u))),
-      lengths (filter (λ j. stop_at T u j == q) (numbers_below (length (events_of T u)))),
-    )
-  where
-    lengths : (js : List ℕ) → length {A = LineIndex} (map (λ j. record { line = u ∷ us; at = j }) js) ≡ length js
-    lengths js = length-map js (λ j. record { line = u ∷ us; at = j })
+boarding_le T (u ∷ us) q = both_le (λ j. stop_at T u j == q) (may_be_boarded T u) (numbers_below (length (events_of T u)))
+
+abbrev calls_of_all : TimetableData → List (List ℕ) → ℕ → List ℕ
+calls_of_all T lines q = flat_map (λ line. calls_at T line q) lines
 
 abbrev hops_onto : TimetableData → ℕ → ℕ → ℕ → List ℕ → List Hop
 hops_onto T t i q line = filter_map (λ j. hop_onto T t i line j) (boarding_indexes T line q)
 
-onto_stop_le : (T : TimetableData) (t i q : ℕ) (lines : List (List ℕ)) → length (flat_map (hops_onto T t i q) lines) ≤ length (line_indices_at T lines q)
+onto_stop_le : (T : TimetableData) (t i q : ℕ) (lines : List (List ℕ)) → length (flat_map (hops_onto T t i q) lines) ≤ length (calls_of_all T lines q)
 onto_stop_le T t i q [] = omega arith
 onto_stop_le T t i q (line ∷ lines) =
     omega (
       arith,
       length-append (hops_onto T t i q line) (flat_map (hops_onto T t i q) lines),
-      length-append (indices_at T q line) (line_indices_at T lines q),
+      length-append (calls_at T line q) (calls_of_all T lines q),
       filter_map_le (λ j. hop_onto T t i line j) (boarding_indexes T line q),
       boarding_le T line q,
       onto_stop_le T t i q lines,
     )
 
--- an event has at most as many candidates as there are stops, times line indices at one
-module _ (T : TimetableData) (lines : List (List ℕ)) (c : ℕ) (each : (q : ℕ) → length (line_indices_at T lines q) ≤ c) where
+-- an event has at most as many candidates as there are stops, times calls at one
+module _ (T : TimetableData) (lines : List (List ℕ)) (c : ℕ) (each : (q : ℕ) → length (calls_of_all T lines q) ≤ c) where
   candidates_le : (t i : ℕ) → length (candidates T lines t i) ≤ length T.stops * c
   candidates_le t i = by_test (nat_lt 0 i && (event_at T t i).alight)
     where
@@ -192,9 +183,12 @@ rows_more T hops a n m = ap (map (λ t. transfers_of T (hops t) t)) (range_split
 abbrev pub most : ℕ
 most = 10000000000010000000
 
-module _ (T : TimetableData) (lines : List (List ℕ)) (sound : IsSound T) (are : AreLines T lines) (divided : AreDividedInto T lines) where
-  at_stop : (q : ℕ) → length (line_indices_at T lines q) ≤ 10000000
-  at_stop q = omega (arith, indices_le_events T lines q are divided, sound.events)
+module _ (T : TimetableData) (L : LinesData) (own : L.table ≡ T) (sound : IsSound T) (are : AreLines L.table L.lines) (divided : AreDividedInto L.table L.lines) where
+  abbrev lines : List (List ℕ)
+  lines = L.lines
+
+  at_stop : (q : ℕ) → length (calls_of_all T lines q) ≤ 10000000
+  at_stop q = omega (arith, calls_le_events T lines q (subst (λ (U : TimetableData). AreLines U L.lines) own are) (subst (λ (U : TimetableData). AreDividedInto U L.lines) own divided), sound.events)
 
   stops_le : length T.stops * 10000000 ≤ 1000000000000
   stops_le = omega (arith, sound.stops)
@@ -202,11 +196,11 @@ module _ (T : TimetableData) (lines : List (List ℕ)) (sound : IsSound T) (are 
   within : (hops : ℕ → ℕ → List Hop) → ((t : ℕ) → length (transfers_of T (hops t) t) ≤ length (events_of T t) * 1000000000001) → (a n : ℕ) → a + n ≤ length T.trips → count_from T hops a n ≤ most
   within hops each a n inside = omega (arith, count_le T hops 1000000000001 each a n, some_events T a n inside, sound.events)
 
-  pub generated_most : (a n : ℕ) → a + n ≤ length T.trips → count_from T (candidates T lines) a n ≤ most
+  pub generated_most : (a n : ℕ) → a + n ≤ length T.trips → count_from T (candidates T L.lines) a n ≤ most
   generated_most = within (candidates T lines) (λ t. transfers_le T (candidates T lines t) 1000000000001 t (λ i. omega (arith, candidates_le T lines 10000000 at_stop t i, stops_le)))
 
-  pub uncut_most : (a n : ℕ) → a + n ≤ length T.trips → count_from T (candidates_without_u_turns T lines) a n ≤ most
+  pub uncut_most : (a n : ℕ) → a + n ≤ length T.trips → count_from T (candidates_without_u_turns T L.lines) a n ≤ most
   uncut_most = within (candidates_without_u_turns T lines) (λ t. transfers_le T (candidates_without_u_turns T lines t) 1000000000001 t (λ i. omega (arith, uncut_le T lines 10000000 at_stop t i, stops_le)))
 
-  pub kept_most : (a n : ℕ) → a + n ≤ length T.trips → count_from T (kept_hops T lines) a n ≤ most
+  pub kept_most : (a n : ℕ) → a + n ≤ length T.trips → count_from T (kept_hops T L.lines) a n ≤ most
   kept_most = within (kept_hops T lines) (λ t. kept_le T lines 1000000000000 t (λ i. omega (arith, uncut_le T lines 10000000 at_stop t i, stops_le)))

@@ -15,9 +15,8 @@ use Rattle.tb_base.specs.Sufficiency.{AreSufficient}
 use Rattle.tb_base.specs.Transfers.{kept_hops, numbers_down, transfers_of}
 use Rattle.tb_base.proofs.Events.{MayAlight-inside, MayBoard-inside}
 use Rattle.tb_base.proofs.Ordered.{Member, Contains-from_Member}
-use Rattle.tb_base.proofs.Members.{Member-flat_map_back}
+use Rattle.tb_base.proofs.Members.{All-from_Member, Member-flat_map_back}
 use Rattle.tb_laws.proofs.KeptLaws.{kept_hops_sufficient}
-use Rattle.segment_queue.proofs.Distinct.{all_by_member}
 use Rattle.transfer_pack.specs.Packed.{PackedHops, packed}
 use Rattle.reduce_workers.specs.Reductions.{rows_from}
 
@@ -105,7 +104,7 @@ module _ (T : TimetableData) (hops : ℕ → ℕ → List Hop) (enough : AreSuff
   pub are_rows : AreRowsOf T (rows_from T hops 0 (length T.trips))
   are_rows = record {
     long = length-all_rows T hops (length T.trips);
-    own = λ t h. subst (All (IsTransferOf T t)) (sym (row_at T hops (length T.trips) t h)) (all_by_member (IsTransferOf T t) (transfers_of T (hops t) t) (own_transfer t));
+    own = λ t h. subst (All (IsTransferOf T t)) (sym (row_at T hops (length T.trips) t h)) (All-from_Member (IsTransferOf T t) (transfers_of T (hops t) t) (own_transfer t));
   }
     where
       own_transfer : (t : ℕ) (r : Transfer) → Member r (transfers_of T (hops t) t) → IsTransferOf T t r

@@ -1,6 +1,5 @@
 //! The reduction in pieces of 64 trips.
 ghost use Rattle.std.specs.Prelude.{◌≡◌, ◌<◌, IfOk, length};
-ghost use Rattle.line_split.specs.LinesOf.{AreLinesOf};
 ghost use Rattle.reduce_workers.specs.Reductions.{piece_count, piece_reduced};
 
 use super::reduced::Reduced;
@@ -31,7 +30,7 @@ pub fn reduce_piece(
     labels: &mut Labels,
     piece: u32,
 ) -> Result<Reduced, Memory>
-    requires lines { AreLinesOf table.now lines.now }
+    requires lines { lines.now.table ≡ table.now }
     requires labels { length labels.old ≡ length table.now.stops }
     requires piece { piece < piece_count (length table.now.trips) }
     ensures labels { length labels.new ≡ length labels.old }

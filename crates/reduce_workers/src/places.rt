@@ -1,6 +1,5 @@
 //! What the workers bring, put to its place by the numbers of the pieces.
 ghost use Rattle.std.specs.Prelude.{◌≡◌, ℕ, ◌<◌, All, IfOk, None, Some, length, map, slice_index_or, vec_len};
-ghost use Rattle.line_split.specs.LinesOf.{AreLinesOf};
 ghost use Rattle.reduce_workers.specs.Reductions.{ReducedData, piece_count, piece_reduced, reduced};
 ghost use Rattle.reduce_workers.specs.Claim.{times};
 ghost use Rattle.reduce_workers.specs.Seats.{IsDone};
@@ -81,7 +80,7 @@ pub(crate) fn join_pieces(
     lines: &Lines,
     mut slots: Vec<Option<Reduced>>,
 ) -> Result<Reduced, Memory>
-    requires lines { AreLinesOf table.now lines.now }
+    requires lines { lines.now.table ≡ table.now }
     requires long { vec_len slots ≡ piece_count (length table.now.trips) }
     requires each { (n : ℕ) → n < vec_len slots →
         slice_index_or slots.items n None ≡ Some (piece_reduced table.now lines.now.lines n) }

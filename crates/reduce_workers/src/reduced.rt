@@ -4,7 +4,6 @@ ghost use Rattle.tb_base.specs.OutSets.{AreRowsOf};
 ghost use Rattle.tb_base.specs.Lines.{AreDividedInto};
 ghost use Rattle.tb_base.specs.Sufficiency.{AreSufficient};
 ghost use Rattle.tb_base.specs.Transfers.{kept_hops};
-ghost use Rattle.line_split.specs.LinesOf.{AreLinesOf};
 ghost use Rattle.transfer_pack.specs.Packed.{packed};
 ghost use Rattle.reduce_workers.specs.Reductions.{reduced, reduced_from};
 
@@ -57,7 +56,7 @@ impl Reduced {
 
     /// Adds what the reduction makes of the trips that come next: no list is copied. Refused only for want of memory.
     pub fn append(&mut self, table: &Timetable, lines: &Lines, more: Reduced) -> Result<(), Memory>
-        requires lines { AreLinesOf table.now lines.now }
+        requires lines { lines.now.table ≡ table.now }
         requires before { self.old ≡ reduced_from table.now lines.now.lines 0 self.old.trips }
         requires more { more ≡ reduced_from table.now lines.now.lines self.old.trips more.trips }
         requires within { self.old.trips + more.trips ≤ length table.now.trips }
@@ -65,8 +64,8 @@ impl Reduced {
             (self.new ≡ reduced_from table.now lines.now.lines 0 (self.old.trips + more.trips)) }
         ensures refused { OnErr result (self.new ≡ self.old) }
     {
-        line_split::laws::lines_divide();
         table.soundness();
+        lines.soundness();
         let Reduced {
             mut rows,
             generated,

@@ -1,7 +1,6 @@
 //! The reduction, trip by trip.
 ghost use Rattle.std.specs.Prelude.{◌≡◌, ◌+◌, ◌-◌, ◌<◌, ◌≤◌, IfOk, OnOk, length};
 ghost use Rattle.tb_base.specs.Transfers.{candidates, candidates_without_u_turns, kept_hops, transfers_of};
-ghost use Rattle.line_split.specs.LinesOf.{AreLinesOf};
 ghost use Rattle.reduce_workers.specs.Reductions.{reduced, reduced_from};
 
 use super::laws;
@@ -29,7 +28,7 @@ fn reduce_trip(
     labels: &mut Labels,
     trip: TripNo,
 ) -> Result<TripReduced, Memory>
-    requires lines { AreLinesOf table.now lines.now }
+    requires lines { lines.now.table ≡ table.now }
     requires labels { length labels.old ≡ length table.now.stops }
     requires trip { trip < length table.now.trips }
     ensures labels { length labels.new ≡ length labels.old }
@@ -64,7 +63,7 @@ impl Reduced {
         labels: &mut Labels,
         trip: TripNo,
     ) -> Result<(), Memory>
-        requires lines { AreLinesOf table.now lines.now }
+        requires lines { lines.now.table ≡ table.now }
         requires labels { length labels.old ≡ length table.now.stops }
         requires trip { trip < length table.now.trips }
         requires trips { self.old.trips ≤ trip }
@@ -75,8 +74,8 @@ impl Reduced {
         ensures after { OnOk result (self.new
             ≡ reduced_from table.now lines.now.lines (trip - self.old.trips) (self.old.trips + 1)) }
     {
-        line_split::laws::lines_divide();
         table.soundness();
+        lines.soundness();
         let more = reduce_trip(alloc, table, lines, labels, trip)?;
         self.generated += more.generated as u64;
         self.after_uturn += more.after_uturn as u64;
@@ -98,7 +97,7 @@ pub(crate) fn reduce_from(
     first: u32,
     count: u32,
 ) -> Result<Reduced, Memory>
-    requires lines { AreLinesOf table.now lines.now }
+    requires lines { lines.now.table ≡ table.now }
     requires labels { length labels.old ≡ length table.now.stops }
     requires within { first + count ≤ length table.now.trips }
     ensures labels { length labels.new ≡ length labels.old }

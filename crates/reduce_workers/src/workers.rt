@@ -1,7 +1,6 @@
 //! The reduction by several workers. The result is that of a single one.
 ghost use Rattle.std.specs.Prelude.{◌≡◌, ◌<◌, ◌≤◌, [], IfOk, length};
 ghost use Rattle.tb_base.specs.OutSets.{AreRowsOf};
-ghost use Rattle.line_split.specs.LinesOf.{AreLinesOf};
 ghost use Rattle.reduce_workers.specs.Reductions.{piece_count, piece_reduced, reduced};
 ghost use Rattle.reduce_workers.specs.Seats.{IsOpen};
 ghost use Rattle.reduce_workers.specs.Work.{Worked};
@@ -27,7 +26,7 @@ fn reduce_drawn<G: Gate>(
     claim: &Claim,
     mut seat: ClaimSeat,
 ) -> Result<Brought, Memory>
-    requires lines { AreLinesOf table.now lines.now }
+    requires lines { lines.now.table ≡ table.now }
     requires pieces { claim.now.pieces ≡ piece_count (length table.now.trips) }
     requires seat { IsOpen claim.now [] seat }
     ensures { IfOk result (Worked claim.now (piece_reduced table.now lines.now.lines)) }
@@ -58,17 +57,17 @@ pub fn reduce_all<G: Gate, R: Threads + Sync>(
 ) -> Result<Reduced, Memory>
     requires some { 0 < workers }
     requires most { workers ≤ 64 }
-    requires lines { AreLinesOf table.now lines.now }
+    requires lines { lines.now.table ≡ table.now }
     ensures reduced { IfOk result (λ r. r ≡ reduced table.now lines.now.lines) }
     ensures rows { IfOk result (λ r. AreRowsOf table.now r.rows) }
 {
-    line_split::laws::lines_divide();
     crate::laws::kept_rows();
     table.soundness();
+    lines.soundness();
     let (claim, seats) = Claim::new(alloc, piece_count(table), workers)?;
     let shared = &claim;
     let worker = |seat: ClaimSeat| -> Result<Brought, Memory>
-        requires lines { AreLinesOf table.now lines.now }
+        requires lines { lines.now.table ≡ table.now }
         requires pieces { shared.now.pieces ≡ piece_count (length table.now.trips) }
         requires seat { IsOpen shared.now [] seat }
         ensures { IfOk result

@@ -10,16 +10,15 @@ use Rattle.std.proofs.lemmas.List.Concat.{flat_map-append}
 use Rattle.tb_base.specs.declared.table.Path.{Path}
 use Rattle.tb_base.specs.declared.transfer.Transfer.{Transfer}
 use Rattle.tb_base.specs.Soundness.{IsSoundPath}
+use Rattle.tb_base.specs.Lines.{AreDividedInto}
 use Rattle.tb_base.specs.TimetableData.{TimetableData, events_of, event_at, stop_at, arrival_at, departure_at}
 use Rattle.tb_base.specs.Transfers.{candidates, boarding_indexes, earliest_trip, hop_onto, is_own_line_onward, may_be_boarded, numbers_below, numbers_down}
 use Rattle.tb_base.specs.Walking.{change}
 use Rattle.tb_base.proofs.Ordered.{Member, Contains-from_Member}
 use Rattle.tb_base.proofs.Members.{find_found, Member-filter_back, Member-flat_map_back}
-use Rattle.line_split.proofs.LineLaws.{lines_divide}
 use Rattle.tb_laws.proofs.Triangles.{change-same, change-other}
 use Rattle.line_split.specs.declared.lines.Berth.{Berth}
-use Rattle.line_split.specs.LinesData.{LinesData}
-use Rattle.line_split.specs.LinesOf.{AreLinesOf, StandsAt, berths_at, calls_at, line_events}
+use Rattle.line_split.specs.LinesOf.{StandsAt, berths_at, calls_at, line_events}
 use Rattle.transfer_make.specs.ByBerth.{IsBerth, hop_at, own_rows, row_by, row_of, rows_after, rows_at}
 use Rattle.transfer_make.proofs.OwnLine.{own_line, stands_among, placed_at}
 use Rattle.transfer_make.proofs.Sparse.{numbers_below-range, flat_map-sparse, stops_between, targets, find-own, find-none, Member-from_at}
@@ -249,15 +248,13 @@ event_none T lines t i h =
 
 -- ---- what is known of a trip that is found on a line
 
-pub found_trip : (T : TimetableData) (L : LinesData) → AreLinesOf T L → (n j : ℕ) (time : ℤ) (u : ℕ) → earliest_trip T (get_or L.lines n []) j time ≡ Some u →
-    (u < length L.places) × ((t i l p : ℕ) → StandsAt L.lines t (l, p) → is_own_line_onward (get_or L.lines n []) t i u j ≡ ((n == l) && nat_le i j && nat_le p (get_or L.places u (0, 0)).1))
-found_trip T L are n j time u h =
-    let divided = lines_divide T L.lines are.lines in
-    let member = (find_found (λ u. int_le time (departure_at T u j)) (get_or L.lines n []) u h).0 in
-    let there = placed_at (get_or L.lines n []) u member in
-    let among = stands_among L.lines n there.0 u there.1 in
-    let inside : u < length T.trips = All-contains (λ t. t < length T.trips) (concat L.lines) u divided.trips (Contains-from_Member u (concat L.lines) among) in
-    (omega (arith, inside, are.trips), λ t i l p stands. own_line T L.lines divided t i u j l p n there.0 (get_or L.places u (0, 0)) stands (are.places u inside) there.1)
+pub found_trip : (T : TimetableData) (lines : List (List ℕ)) → AreDividedInto T lines → (n j : ℕ) (time : ℤ) (u : ℕ) → earliest_trip T (get_or lines n []) j time ≡ Some u →
+    (u < length T.trips) × ((t i l p : ℕ) (place : ℕ × ℕ) → StandsAt lines t (l, p) → StandsAt lines u place → is_own_line_onward (get_or lines n []) t i u j ≡ ((n == l) && nat_le i j && nat_le p place.1))
+found_trip T lines divided n j time u h =
+    let member = (find_found (λ u. int_le time (departure_at T u j)) (get_or lines n []) u h).0 in
+    let there = placed_at (get_or lines n []) u member in
+    let among = stands_among lines n there.0 u there.1 in
+    (All-contains (λ t. t < length T.trips) (concat lines) u divided.trips (Contains-from_Member u (concat lines) among), λ t i l p place stands found. own_line T lines divided t i u j l p n there.0 place stands found there.1)
 
 -- ---- where lines call
 

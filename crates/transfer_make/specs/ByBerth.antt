@@ -7,19 +7,18 @@ use Rattle.tb_base.specs.TimetableData.{TimetableData, events_of, arrival_at}
 use Rattle.tb_base.specs.Transfers.{earliest_trip, is_own_line_onward, may_be_boarded}
 use Rattle.tb_base.specs.Walking.{change_time}
 use Rattle.line_split.specs.declared.lines.Berth.{Berth}
-use Rattle.line_split.specs.LinesData.{LinesData}
 use Rattle.line_split.specs.LinesOf.{StandsAt, berths_at, line_events}
 use Rattle.transfer_make.specs.declared.alighting.Alighting.{Alighting}
 
 -- an event past the first one of a trip, with its arrival and the place of its trip
-pub record IsAlighting (T : TimetableData) (L : LinesData) (a : Alighting) : Type 0 where
+pub record IsAlighting (T : TimetableData) (lines : List (List ℕ)) (a : Alighting) : Type 0 where
   pub trip : a.trip < length T.trips
   pub event : a.at < length (events_of T a.trip)
   pub later : 0 < a.at
   pub arr : a.arr ≡ arrival_at T a.trip a.at
   pub earliest : negsuc 86399 ≤ℤ a.arr
   pub latest : a.arr ≤ℤ pos 359999
-  pub placed : StandsAt L.lines a.trip (a.line, a.place)
+  pub placed : StandsAt lines a.trip (a.line, a.place)
 
 -- an index of one of the lines
 pub record IsBerth (T : TimetableData) (lines : List (List ℕ)) (b : Berth) : Type 0 where

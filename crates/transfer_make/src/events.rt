@@ -3,7 +3,6 @@ ghost use Rattle.std.specs.Prelude.{◌≡◌, ◌<◌, ◌≤◌, ◌++◌, ℕ
 ghost use Rattle.std.specs.List.{AllWithin};
 ghost use Rattle.tb_base.specs.TimetableData.{events_of, stop_at, MayAlight};
 ghost use Rattle.tb_base.specs.Transfers.{candidates};
-ghost use Rattle.line_split.specs.LinesOf.{AreLinesOf};
 ghost use Rattle.transfer_make.specs.ByBerth.{IsAlighting, own_rows, row_of, rows_at};
 
 use super::alighting::Alighting;
@@ -19,8 +18,8 @@ fn add_paths(
     from: &Alighting,
     paths: &[Path],
 ) -> Result<(), Memory>
-    requires lines { AreLinesOf table.now lines.now }
-    requires from { IsAlighting table.now lines.now from.now }
+    requires lines { lines.now.table ≡ table.now }
+    requires from { IsAlighting table.now lines.now.lines from.now }
     requires paths { All (λ f. (f.to < length table.now.stops) × (f.secs ≤ 86400)) paths.now }
     ensures { OnOk result (rows.new.items ≡ rows.old.items
         ++ flat_map (λ f. rows_at table.now lines.now.lines from.now.trip from.now.at f.to f.secs from.now.arr) paths.now) }
@@ -39,8 +38,8 @@ fn add_own(
     from: &Alighting,
     stop: StopNo,
 ) -> Result<(), Memory>
-    requires lines { AreLinesOf table.now lines.now }
-    requires from { IsAlighting table.now lines.now from.now }
+    requires lines { lines.now.table ≡ table.now }
+    requires from { IsAlighting table.now lines.now.lines from.now }
     requires stop { stop < length table.now.stops }
     ensures { OnOk result (rows.new.items ≡ rows.old.items ++ own_rows table.now lines.now.lines from.now.trip from.now.at stop from.now.arr) }
 {
@@ -68,8 +67,8 @@ fn add_alighting(
     from: &Alighting,
     stop: StopNo,
 ) -> Result<(), Memory>
-    requires lines { AreLinesOf table.now lines.now }
-    requires from { IsAlighting table.now lines.now from.now }
+    requires lines { lines.now.table ≡ table.now }
+    requires from { IsAlighting table.now lines.now.lines from.now }
     requires stop { stop ≡ stop_at table.now from.now.trip from.now.at }
     requires alights { MayAlight table.now from.now.trip from.now.at }
     ensures { OnOk result (rows.new.items ≡ rows.old.items
@@ -91,7 +90,7 @@ pub(crate) fn add_event(
     trip: TripNo,
     at: usize,
 ) -> Result<(), Memory>
-    requires lines { AreLinesOf table.now lines.now }
+    requires lines { lines.now.table ≡ table.now }
     requires trip { trip < length table.now.trips }
     requires at { at < length (events_of table.now trip) }
     ensures { OnOk result (rows.new.items ≡ rows.old.items ++ map (row_of trip at) (candidates table.now lines.now.lines trip at)) }

@@ -7,7 +7,6 @@
 
 ghost use Rattle.std.specs.Prelude.{◌≡◌, ◌<◌, IfOk, length};
 ghost use Rattle.tb_base.specs.Transfers.{candidates, transfers_of};
-ghost use Rattle.line_split.specs.LinesOf.{AreLinesOf};
 
 mod alighting;
 mod events;
@@ -26,7 +25,7 @@ pub fn make(
     lines: &Lines,
     trip: TripNo,
 ) -> Result<Vec<Transfer>, Memory>
-    requires lines { AreLinesOf table.now lines.now }
+    requires lines { lines.now.table ≡ table.now }
     requires trip { trip < length table.now.trips }
     ensures { IfOk result (λ rows. rows.items ≡ transfers_of table.now (candidates table.now lines.now.lines trip) trip) }
 {

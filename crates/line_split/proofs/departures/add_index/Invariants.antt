@@ -1,5 +1,5 @@
 use Rattle.std.proofs.Common.{◌≡◌, ◌++◌, take}
-use Rattle.line_split.specs.LinesOf.{departures_at}
+use Rattle.line_split.specs.Layout.{departures_at}
 use Rattle.line_split.proofs.departures.add_index.Given as goal
 
 abbrev pub invariant-loop-trip : goal.invariant-loop-trip

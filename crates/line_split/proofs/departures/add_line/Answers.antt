@@ -1,4 +1,4 @@
-use Rattle.line_split.specs.LinesOf.{departures_at}
+use Rattle.line_split.specs.Layout.{departures_at}
 use Rattle.line_split.proofs.DepartureLemmas.{runs_more}
 use Rattle.line_split.proofs.departures.add_line.Goals as goal
 

@@ -1,6 +1,6 @@
 use Rattle.std.proofs.Common.{◌≡◌, ◌∙◌, ◌<◌, ap, length, ◌++◌, arith}
 use Rattle.std.proofs.lemmas.Grind.{common_steps}
-use Rattle.line_split.specs.LinesOf.{line_departures}
+use Rattle.line_split.specs.Layout.{line_departures}
 use Rattle.line_split.proofs.DepartureLemmas.{lines_more, starts_more}
 use Rattle.line_split.proofs.departures.departures_of.Goals as goal
 

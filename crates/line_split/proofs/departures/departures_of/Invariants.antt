@@ -1,6 +1,6 @@
 use Rattle.std.proofs.Common.{◌≡◌, length, map, flat_map, take}
 use Rattle.std.specs.List.{range_with_len}
-use Rattle.line_split.specs.LinesOf.{line_departures}
+use Rattle.line_split.specs.Layout.{line_departures}
 use Rattle.line_split.proofs.departures.departures_of.Given as goal
 
 abbrev pub invariant-loop-line : goal.invariant-loop-line

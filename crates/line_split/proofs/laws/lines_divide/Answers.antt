@@ -2,4 +2,4 @@ use Rattle.line_split.proofs.LineLaws.{lines_divide}
 use Rattle.line_split.proofs.laws.lines_divide.Goals as goal
 
 pub returns : goal.returns
-returns c = λ T lines are. lines_divide T lines.lines are.lines
+returns c = lines_divide

@@ -1,10 +1,8 @@
-use Rattle.std.proofs.Common.{◌∙◌, ap, subst, arith, rules}
+use Rattle.std.proofs.Common.{◌∙◌, ap, arith, rules}
 use Rattle.std.specs.Int.{w32}
 use Rattle.std.specs.Prelude.{FitsSigned}
 use Rattle.std.proofs.lemmas.Int.{ints, to_z-of_z}
-use Rattle.std.proofs.lemmas.Option.{get_or_from_slice_get}
 use Rattle.tb_base.specs.declared.table.Event.{Event}
-use Rattle.line_split.specs.LinesOf.{StandsAt}
 use Rattle.transfer_make.proofs.events.add_event.Goals as goal
 
 pub add_alighting-requires-clause-from : goal.add_alighting-requires-clause-from
@@ -13,7 +11,6 @@ add_alighting-requires-clause-from c =
     let fits : FitsSigned w32 c.event-event.result.arr = search rules in
     let same = to_z-of_z w32 c.event-event.result.arr fits in
     let sound = e.sound in
-    let place = get_or_from_slice_get c.args.lines.now.places c.args.trip c.of-line.result (0, 0) c.of-line.ensures in
     record {
       trip = c.requires.trip;
       event = c.requires.at;
@@ -21,5 +18,5 @@ add_alighting-requires-clause-from c =
       arr = same ∙ ap (λ (x : Event). x.arr) e.event;
       earliest = rw same sound.earliest;
       latest = rw same (omega (arith, ints, sound.waits, sound.latest));
-      placed = subst (λ p. StandsAt c.args.lines.now.lines c.args.trip p) place (c.requires.lines.places c.args.trip c.requires.trip);
+      placed = c.of-line.ensures;
     }

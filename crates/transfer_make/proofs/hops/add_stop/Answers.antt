@@ -1,5 +1,6 @@
-use Rattle.std.proofs.Common.{◌≡◌, ◌∙◌, sym, subst, pos, ◌+ℤ◌}
+use Rattle.std.proofs.Common.{◌≡◌, ◌∙◌, sym, ap, subst, pos, ◌+ℤ◌}
 use Rattle.std.specs.Prelude.{All}
+use Rattle.tb_base.specs.TimetableData.{TimetableData}
 use Rattle.line_split.specs.LinesOf.{berths_at}
 use Rattle.transfer_make.specs.ByBerth.{IsBerth, row_by}
 use Rattle.transfer_make.proofs.ByBerth.{berths_inside, rows_more}
@@ -9,7 +10,7 @@ pub add_berth-requires-clause-berth : goal.add_berth-requires-clause-berth
 add_berth-requires-clause-berth c =
     let T = c.args.table.now in
     let lines = c.args.lines.now.lines in
-    let items : c.at-berth-items.result.now ≡ berths_at c.args.table.now c.args.lines.now.lines c.args.stop = c.at-berth-items.ensures ∙ c.requires.lines.berths c.args.stop c.requires.stop in
+    let items : c.at-berth-items.result.now ≡ berths_at c.args.table.now c.args.lines.now.lines c.args.stop = c.at-berth-items.ensures ∙ ap (λ (T : TimetableData). berths_at T c.args.lines.now.lines c.args.stop) c.requires.lines in
     subst (IsBerth T lines) (sym c.berth-item.is) (subst (λ bs. All (IsBerth T lines) bs) (sym items) (berths_inside T lines c.args.stop) c.loop-berth.berth-index c.berth-item.result c.loop-berth-test.true)
 
 pub loop-berth-preserved : goal.loop-berth-preserved

@@ -12,7 +12,7 @@ overflow_add-self c =
     let lines = c.args.lines.now.lines in
     let n = c.args.self.now.trips in
     let before = ap (λ (r : ReducedData). r.generated) (c.self.view_is ∙ c.requires.before) in
-    let few = generated_most T lines c.soundness.ensures c.requires.lines.lines (c.lines_divide.ensures T c.args.lines.now c.requires.lines) (c.args.trip - n) (n + 1) (omega (arith, c.requires.trip, c.requires.trips)) in
+    let few = generated_most T c.args.lines.now c.requires.lines c.soundness.ensures c.soundness-2.ensures.lines c.soundness-2.ensures.divided (c.args.trip - n) (n + 1) (omega (arith, c.requires.trip, c.requires.trips)) in
     let more = one_more_count T (candidates T lines) (c.args.trip - n) n c.args.trip (omega (arith, c.requires.trips)) in
     omega (arith, before, c.in_ok-more.ensures.generated, more, few)
 
@@ -22,7 +22,7 @@ overflow_add-self-2 c =
     let lines = c.args.lines.now.lines in
     let n = c.args.self.now.trips in
     let before = ap (λ (r : ReducedData). r.after_uturn) (c.self.view_is ∙ c.requires.before) in
-    let few = uncut_most T lines c.soundness.ensures c.requires.lines.lines (c.lines_divide.ensures T c.args.lines.now c.requires.lines) (c.args.trip - n) (n + 1) (omega (arith, c.requires.trip, c.requires.trips)) in
+    let few = uncut_most T c.args.lines.now c.requires.lines c.soundness.ensures c.soundness-2.ensures.lines c.soundness-2.ensures.divided (c.args.trip - n) (n + 1) (omega (arith, c.requires.trip, c.requires.trips)) in
     let more = one_more_count T (candidates_without_u_turns T lines) (c.args.trip - n) n c.args.trip (omega (arith, c.requires.trips)) in
     omega (arith, before, c.in_ok-more.ensures.after_uturn, more, few)
 
@@ -32,7 +32,7 @@ overflow_add-self-3 c =
     let lines = c.args.lines.now.lines in
     let n = c.args.self.now.trips in
     let before = ap (λ (r : ReducedData). r.kept) (c.self.view_is ∙ c.requires.before) in
-    let few = kept_most T lines c.soundness.ensures c.requires.lines.lines (c.lines_divide.ensures T c.args.lines.now c.requires.lines) (c.args.trip - n) (n + 1) (omega (arith, c.requires.trip, c.requires.trips)) in
+    let few = kept_most T c.args.lines.now c.requires.lines c.soundness.ensures c.soundness-2.ensures.lines c.soundness-2.ensures.divided (c.args.trip - n) (n + 1) (omega (arith, c.requires.trip, c.requires.trips)) in
     let more = one_more_count T (kept_hops T lines) (c.args.trip - n) n c.args.trip (omega (arith, c.requires.trips)) in
     let same : vec_len c.in_ok-more.more.rows ≡ length c.in_ok-more.more.rows.items = grind (arith, common_steps) in
     omega (arith, before, c.len.ensures, same, ap length c.in_ok-more.ensures.rows, more, few)

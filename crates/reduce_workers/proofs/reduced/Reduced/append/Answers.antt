@@ -13,7 +13,7 @@ overflow_add-self c =
     let m = c.args.more.trips in
     let before = ap (λ (r : ReducedData). r.generated) (c.self.view_is ∙ c.requires.before) in
     let more = ap (λ (r : ReducedData). r.generated) (same_trips T lines _ n m (0 + n) m (c.more.view_is ∙ c.requires.more) (omega arith) refl) in
-    let few = generated_most T lines c.soundness.ensures c.requires.lines.lines (c.lines_divide.ensures T c.args.lines.now c.requires.lines) 0 (n + m) (omega (arith, c.requires.within)) in
+    let few = generated_most T c.args.lines.now c.requires.lines c.soundness.ensures c.soundness-2.ensures.lines c.soundness-2.ensures.divided 0 (n + m) (omega (arith, c.requires.within)) in
     omega (arith, before, more, count_more T (candidates T lines) 0 n m, few)
 
 pub overflow_add-self-2 : goal.overflow_add-self-2
@@ -24,7 +24,7 @@ overflow_add-self-2 c =
     let m = c.args.more.trips in
     let before = ap (λ (r : ReducedData). r.after_uturn) (c.self.view_is ∙ c.requires.before) in
     let more = ap (λ (r : ReducedData). r.after_uturn) (same_trips T lines _ n m (0 + n) m (c.more.view_is ∙ c.requires.more) (omega arith) refl) in
-    let few = uncut_most T lines c.soundness.ensures c.requires.lines.lines (c.lines_divide.ensures T c.args.lines.now c.requires.lines) 0 (n + m) (omega (arith, c.requires.within)) in
+    let few = uncut_most T c.args.lines.now c.requires.lines c.soundness.ensures c.soundness-2.ensures.lines c.soundness-2.ensures.divided 0 (n + m) (omega (arith, c.requires.within)) in
     omega (arith, before, more, count_more T (candidates_without_u_turns T lines) 0 n m, few)
 
 pub overflow_add-self-3 : goal.overflow_add-self-3
@@ -35,7 +35,7 @@ overflow_add-self-3 c =
     let m = c.args.more.trips in
     let before = ap (λ (r : ReducedData). r.kept) (c.self.view_is ∙ c.requires.before) in
     let more = ap (λ (r : ReducedData). r.kept) (same_trips T lines _ n m (0 + n) m (c.more.view_is ∙ c.requires.more) (omega arith) refl) in
-    let few = kept_most T lines c.soundness.ensures c.requires.lines.lines (c.lines_divide.ensures T c.args.lines.now c.requires.lines) 0 (n + m) (omega (arith, c.requires.within)) in
+    let few = kept_most T c.args.lines.now c.requires.lines c.soundness.ensures c.soundness-2.ensures.lines c.soundness-2.ensures.divided 0 (n + m) (omega (arith, c.requires.within)) in
     omega (arith, before, more, count_more T (kept_hops T lines) 0 n m, few)
 
 pub returns-clause-added : goal.returns-clause-added

@@ -1,5 +1,5 @@
 use Rattle.std.proofs.Common.{◌≡◌, replicate, []}
-use Rattle.line_split.proofs.rows.Rows.with_rows.Given as goal
+use Rattle.line_split.proofs.nested.Nested.with_rows.Given as goal
 
 abbrev pub invariant-loop-row : goal.invariant-loop-row
 invariant-loop-row g l = l.rows ≡ replicate l._row []

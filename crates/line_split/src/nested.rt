@@ -7,11 +7,11 @@ use tb_base::Memory;
 
 /// Rows of items.
 #[derive(Drop)]
-pub(crate) struct Rows<T> {
+pub(crate) struct Nested<T> {
     rows: Vec<Vec<T>>,
 }
 
-impl<T> Model for Rows<T> {
+impl<T> Model for Nested<T> {
     ghost use Rattle.std.specs.Prelude.{List, map};
 
     ghost Value = { List (List T) };
@@ -19,21 +19,21 @@ impl<T> Model for Rows<T> {
     ghost view = { λ p. map (λ v. v.items) p.rows.items };
 }
 
-impl<T: Drop> Rows<T> {
+impl<T: Drop> Nested<T> {
     /// No row.
-    pub(crate) fn new(alloc: Global) -> Rows<T>
+    pub(crate) fn new(alloc: Global) -> Nested<T>
         ensures { result ≡ [] }
     {
-        Rows {
+        Nested {
             rows: Vec::new(alloc),
         }
     }
 
     /// So many rows without an item.
-    pub(crate) fn with_rows(alloc: Global, count: usize) -> Result<Rows<T>, Memory>
+    pub(crate) fn with_rows(alloc: Global, count: usize) -> Result<Nested<T>, Memory>
         ensures { IfOk result (λ rows. rows ≡ replicate count []) }
     {
-        let mut rows = Rows::new(alloc);
+        let mut rows = Nested::new(alloc);
         for _row in 0..count {
             rows.open(alloc)?;
         }

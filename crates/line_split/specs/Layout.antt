@@ -1,0 +1,44 @@
+-- How the lines of a timetable are laid out, for each thing that is looked up.
+use Rattle.std.specs.Prelude.{◌≡◌, ℕ, ◌<◌, ◌^◌, List, [], length, map, flat_map, take, ℤ, slice_index_or}
+use Rattle.std.specs.List.{range_with_len}
+use Rattle.tb_base.specs.TimetableData.{TimetableData, departure_at}
+use Rattle.tb_base.specs.Lines.{AreLines}
+use Rattle.tb_base.specs.Transfers.{numbers_below}
+use Rattle.line_split.specs.declared.lines.Berth.{Berth}
+use Rattle.line_split.specs.LinesOf.{StandsAt, berths_at, line_events}
+
+-- The trips of each line; for each trip its line and its place in it; for each stop where lines
+-- call; and the departures, line after line and within a line index after index, with the place
+-- where each line's begin.
+pub record LinesLayout : Type 0 where
+  pub lines : List (List ℕ)
+  pub places : List (ℕ × ℕ)
+  pub berths : List (List Berth)
+  pub starts : List ℕ
+  pub departures : List ℤ
+
+-- the departures of a line's trips at index j
+abbrev pub departures_at : TimetableData → List ℕ → ℕ → List ℤ
+departures_at T line j = map (λ u. departure_at T u j) line
+
+-- the departures of a line, index after index
+abbrev pub line_departures : TimetableData → List ℕ → List ℤ
+line_departures T line =
+    flat_map (departures_at T line) (numbers_below (length (line_events T line)))
+
+-- how many departures the first l lines have
+abbrev pub start_of : TimetableData → List (List ℕ) → ℕ → ℕ
+start_of T lines l = length (flat_map (line_departures T) (take l lines))
+
+-- the lines of a timetable, with all that is looked up in them
+pub record AreLaidOut (T : TimetableData) (L : LinesLayout) : Type 0 where
+  pub lines : AreLines T L.lines
+  pub fits : length L.lines < 2 ^ 32
+  pub trips : length L.places ≡ length T.trips
+  pub places : (t : ℕ) → t < length T.trips →
+      StandsAt L.lines t (slice_index_or L.places t (0, 0))
+  pub stops : length L.berths ≡ length T.stops
+  pub berths : (q : ℕ) → q < length T.stops →
+      slice_index_or L.berths q [] ≡ berths_at T L.lines q
+  pub starts : L.starts ≡ map (start_of T L.lines) (range_with_len 0 (length L.lines))
+  pub departures : L.departures ≡ flat_map (line_departures T) L.lines
