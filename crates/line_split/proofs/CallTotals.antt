@@ -2,14 +2,15 @@
 use Rattle.std.proofs.Common.{◌≡◌, ◌≢◌, ◌∙◌, ℕ, zero, suc, ◌+◌, ◌<◌, ◌≤◌, ◌==◌, inl, inr, Bool, List, [], ◌∷◌, ◌++◌, true, false, cond, length, take, get_or, refl, sym, ap, subst, arith, add-one, length-append}
 use Rattle.std.specs.Prelude.{All, AllPairs, flat_map, fold, sum_by}
 use Rattle.std.specs.List.{concat}
-use Rattle.std.proofs.lemmas.List.{take_all}
-use Rattle.std.proofs.lemmas.List.Sums.{count_by-le-length, length-filter, sum_by-append, sum_by-cons, sum_by_push, sum_by_more}
+use Rattle.std.proofs.lemmas.List.{length_push, take_all}
+use Rattle.std.proofs.lemmas.List.Sums.{sum_by-append, sum_by-cons, sum_by_push, sum_by_more}
 use Rattle.std.proofs.lemmas.List.Elements.{All-cons, All-contains, All-head, All-nil, All-tail}
 use Rattle.tb_base.specs.TimetableData.{TimetableData, TripData, event_total, events_of, stop_at}
-use Rattle.tb_base.specs.Lines.{AreDividedInto, AreLines, last_trip, may_follow, place_trip}
+use Rattle.tb_base.specs.Lines.{AreDividedInto, AreLines, may_join, place_trip}
 use Rattle.tb_base.specs.Transfers.{numbers_below}
 use Rattle.tb_base.proofs.Ordered.{Member, Contains-from_Member, AllPairs-head, AllPairs-tail}
 use Rattle.tb_base.proofs.Members.{Member-append, Member-left, Member-right, Member-numbers_below}
+use Rattle.tb_base.proofs.Lists.{length-filter_le, length-numbers_below}
 use Rattle.line_split.specs.LinesOf.{calls_at}
 
 -- ---- each line has a trip
@@ -19,14 +20,13 @@ IsNonempty line = 0 < length line
 
 place_nonempty : (T : TimetableData) (lines : List (List ℕ)) (t : ℕ) → All IsNonempty lines → All IsNonempty (place_trip T lines t)
 place_nonempty T [] t all = All-cons IsNonempty (t ∷ []) [] (omega arith) (All-nil IsNonempty)
-place_nonempty T ([] ∷ ls) t all = absurd (let h : IsNonempty [] = All-head IsNonempty [] ls all in omega (arith, h))
-place_nonempty T ((u ∷ us) ∷ ls) t all =
-    elim (may_follow (events_of T (last_trip u us)) (events_of T t)) as (λ b. All IsNonempty (cond b (((u ∷ us) ++ t ∷ []) ∷ ls) ((u ∷ us) ∷ place_trip T ls t))) [
-      | true ↦ All-cons IsNonempty ((u ∷ us) ++ t ∷ []) ls (omega arith) (All-tail IsNonempty (u ∷ us) ls all)
-      | false ↦ All-cons IsNonempty (u ∷ us) (place_trip T ls t) (omega arith) (place_nonempty T ls t (All-tail IsNonempty (u ∷ us) ls all))
+place_nonempty T (line ∷ ls) t all =
+    elim (may_join T line t) as (λ b. All IsNonempty (cond b ((line ++ t ∷ []) ∷ ls) (line ∷ place_trip T ls t))) [
+      | true ↦ All-cons IsNonempty (line ++ t ∷ []) ls (omega (arith, length_push line t)) (All-tail IsNonempty line ls all)
+      | false ↦ All-cons IsNonempty line (place_trip T ls t) (All-head IsNonempty line ls all) (place_nonempty T ls t (All-tail IsNonempty line ls all))
     ]
 
-fold_nonempty : (T : TimetableData) (lines : List (List ℕ)) (order : List ℕ) → All IsNonempty lines → All IsNonempty (fold (place_trip T) lines order)
+pub fold_nonempty : (T : TimetableData) (lines : List (List ℕ)) (order : List ℕ) → All IsNonempty lines → All IsNonempty (fold (place_trip T) lines order)
 fold_nonempty T lines [] all = all
 fold_nonempty T lines (t ∷ ts) all = fold_nonempty T (place_trip T lines t) ts (place_nonempty T lines t all)
 
@@ -76,10 +76,6 @@ distinct_sum f (x ∷ xs) ys distinct inside =
 abbrev event_count : TimetableData → ℕ → ℕ
 event_count T t = length (events_of T t)
 
-pub length-numbers_below : (n : ℕ) → length (numbers_below n) ≡ n
-length-numbers_below zero = refl
-length-numbers_below (suc n) = omega (arith, length-append (numbers_below n) (n ∷ []), length-numbers_below n)
-
 first_le : (T : TimetableData) (line : List ℕ) → 0 < length line → event_count T (get_or line 0 0) ≤ sum_by (event_count T) line
 first_le T [] h = absurd (omega (arith, h))
 first_le T (x ∷ xs) h = omega (arith, sum_by-cons (event_count T) x xs)
@@ -92,8 +88,7 @@ calls_le T q (line ∷ lines) all =
     omega (
       arith,
       length-append (calls_at T line q) (flat_map (λ line. calls_at T line q) lines),
-      length-filter test (numbers_below (event_count T first)),
-      count_by-le-length test (numbers_below (event_count T first)),
+      length-filter_le test (numbers_below (event_count T first)),
       length-numbers_below (event_count T first),
       first_le T line (All-head IsNonempty line lines all),
       calls_le T q lines (All-tail IsNonempty line lines all),

@@ -3,31 +3,32 @@ use Rattle.std.proofs.Common.{◌≡◌, ◌∙◌, sym, ap, subst, refl, ℕ, s
 use Rattle.std.specs.Prelude.{All}
 use Rattle.std.specs.List.{concat}
 use Rattle.std.proofs.lemmas.List.{length_push}
-use Rattle.std.proofs.lemmas.List.Elements.{All-nil, All-cons, All-contains}
+use Rattle.std.proofs.lemmas.List.Elements.{All-nil, All-cons, All-contains, All-head, All-tail}
 use Rattle.tb_base.specs.TimetableData.{TimetableData, events_of}
-use Rattle.tb_base.specs.Lines.{may_follow, place_trip, last_trip, AreDividedInto}
+use Rattle.tb_base.specs.Lines.{may_join, place_trip, AreDividedInto}
 use Rattle.tb_base.proofs.Ordered.{Member, Member-from_Contains, Contains-from_Member}
 use Rattle.tb_base.proofs.Members.{Member-left, Member-right}
 use Rattle.tb_base.proofs.LineFacts.{line_of}
 use Rattle.line_split.specs.LinesOf.{StandsAt}
+use Rattle.line_split.proofs.CallTotals.{IsNonempty}
 
 module _ (T : TimetableData) where
   place_trip-total : (lines : List (List ℕ)) (t : ℕ) → length (concat (place_trip T lines t)) ≡ length (concat lines) + 1
   place_trip-total [] t = refl
-  place_trip-total ([] ∷ lines) t = place_trip-total lines t
-  place_trip-total ((u ∷ us) ∷ lines) t = by_test (place_trip-total lines t) (may_follow (events_of T (last_trip u us)) (events_of T t))
+  place_trip-total (line ∷ lines) t = by_test (place_trip-total lines t) (may_join T line t)
     where
-      by_test : length (concat (place_trip T lines t)) ≡ length (concat lines) + 1 → (b : Bool) → length (concat (cond b (((u ∷ us) ++ t ∷ []) ∷ lines) ((u ∷ us) ∷ place_trip T lines t))) ≡ length ((u ∷ us) ++ concat lines) + 1
-      by_test more true = omega (arith, length-append ((u ∷ us) ++ t ∷ []) (concat lines), length_push (u ∷ us) t, length-append (u ∷ us) (concat lines))
-      by_test more false = omega (arith, length-append (u ∷ us) (concat (place_trip T lines t)), length-append (u ∷ us) (concat lines), more)
+      by_test : length (concat (place_trip T lines t)) ≡ length (concat lines) + 1 → (b : Bool) → length (concat (cond b ((line ++ t ∷ []) ∷ lines) (line ∷ place_trip T lines t))) ≡ length (line ++ concat lines) + 1
+      by_test more true = omega (arith, length-append (line ++ t ∷ []) (concat lines), length_push line t, length-append line (concat lines))
+      by_test more false = omega (arith, length-append line (concat (place_trip T lines t)), length-append line (concat lines), more)
 
   pub placed-total : (order : List ℕ) (lines : List (List ℕ)) → length (concat (fold (place_trip T) lines order)) ≡ length (concat lines) + length order
   placed-total [] lines = omega arith
   placed-total (t ∷ ts) lines = omega (arith, placed-total ts (place_trip T lines t), place_trip-total lines t)
 
-pub filled-count : (lines : List (List ℕ)) → ((k : ℕ) → k < length lines → 0 < length (get_or lines k [])) → length lines ≤ length (concat lines)
+pub filled-count : (lines : List (List ℕ)) → All IsNonempty lines → length lines ≤ length (concat lines)
 filled-count [] full = omega arith
-filled-count (line ∷ lines) full = omega (arith, full 0 (omega arith), filled-count lines (λ k h. full (suc k) (omega arith)), length-append line (concat lines))
+filled-count (line ∷ lines) full =
+    omega (arith, All-head IsNonempty line lines full, filled-count lines (All-tail IsNonempty line lines full), length-append line (concat lines))
 
 pub row-count : (lines : List (List ℕ)) (n : ℕ) → length (concat lines) ≤ n → All (λ line. length line ≤ n) lines
 row-count [] n h = All-nil (λ line. length line ≤ n)

@@ -14,6 +14,7 @@ use Rattle.tb_base.proofs.LineFacts.{MayFollow, no_later}
 use Rattle.line_split.specs.Layout.{AreLaidOut, LinesLayout, departures_at, line_departures}
 use Rattle.line_split.specs.LinesOf.{line_events}
 use Rattle.line_split.proofs.CallLemmas.{numbers_below-more}
+use Rattle.tb_base.proofs.NumberFacts.{below_or_last, lt-int_lt, int_lt-true, int_lt-false, le-int_le, zero_more}
 
 -- ---- a part of a list
 
@@ -35,11 +36,8 @@ record BelowSplit (n i : ℕ) : Type 0 where
 
 below_split : (n i : ℕ) → i < n → BelowSplit n i
 below_split zero i h = absurd (omega arith)
-below_split (suc n) i h = by_case (λ k. below_split n i k) (same_or_below i n h)
+below_split (suc n) i h = by_case (λ k. below_split n i k) (below_or_last i n h)
   where
-    same_or_below : (i n : ℕ) → i < suc n → (i < n) ⊎ (i ≡ n)
-    same_or_below i n h = grind arith
-
     by_case : (i < n → BelowSplit n i) → (i < n) ⊎ (i ≡ n) → BelowSplit (suc n) i
     by_case more (inl k) = let r : BelowSplit n i = more k in record { rest = r.rest ++ n ∷ []; is = ap (λ xs. xs ++ n ∷ []) r.is ∙ append_assoc (numbers_below i) (i ∷ r.rest) (n ∷ []) }
     by_case more (inr e) = record { rest = []; is = ap (λ k. numbers_below k ++ k ∷ []) (sym e) }
@@ -81,15 +79,6 @@ run_of T lines l i start count departures h k s n e =
 
 -- ---- the first departure in time
 
-lt_true : (a b : ℤ) → a <ℤ b → int_lt a b ≡ true
-lt_true a b h = grind (arith, ints)
-
-true_lt : (a b : ℤ) → int_lt a b ≡ true → a <ℤ b
-true_lt a b h = grind (arith, ints, h)
-
-false_le : (a b : ℤ) → int_lt a b ≡ false → b ≤ℤ a
-false_le a b h = grind (arith, ints, h)
-
 pub partitioned : (xs : List ℤ) (time : ℤ) → AllPairs (λ x y. x ≤ℤ y) xs → IsPartitionedBy (λ x. int_lt x time) xs
 partitioned xs time up i j d h k t = by_case (same_or_before i j h)
   where
@@ -100,22 +89,19 @@ partitioned xs time up i j d h k t = by_case (same_or_before i j h)
     below a b c g h = omega (arith, ints, g, h)
 
     by_case : (i < j) ⊎ (j ≡ i) → int_lt (get_or xs i d) time ≡ true
-    by_case (inl before) = lt_true (get_or xs i d) time (below (get_or xs i d) (get_or xs j d) time (up i j d before k) (true_lt (get_or xs j d) time t))
+    by_case (inl before) = lt-int_lt (get_or xs i d) time (below (get_or xs i d) (get_or xs j d) time (up i j d before k) (int_lt-true (get_or xs j d) time t))
     by_case (inr e) = subst (λ n. int_lt (get_or xs n d) time ≡ true) e t
 
 pub all_earlier : (xs : List ℤ) (time : ℤ) (n : ℕ) → AllWithin (λ x. int_lt x time ≡ true) xs 0 n → AllWithin (λ x. x <ℤ time) xs 0 n
-all_earlier xs time n h k d low high = true_lt (get_or xs k d) time (h k d low high)
+all_earlier xs time n h k d low high = int_lt-true (get_or xs k d) time (h k d low high)
 
 pub all_from : (xs : List ℤ) (time : ℤ) (n : ℕ) → AllWithin (λ x. int_lt x time ≡ false) xs n (length xs) → AllWithin (λ x. time ≤ℤ x) xs n (length xs)
-all_from xs time n h k d low high = false_le (get_or xs k d) time (h k d low high)
+all_from xs time n h k d low high = int_lt-false (get_or xs k d) time (h k d low high)
 
 pub earliest_at : (T : TimetableData) (line : List ℕ) (at : ℕ) (time : ℤ) (place : ℕ) → AllWithin (λ x. x <ℤ time) (departures_at T line at) 0 place →
     AllWithin (λ x. time ≤ℤ x) (departures_at T line at) place (length (departures_at T line at)) → earliest_trip T line at time ≡ slice_get line place
 earliest_at T [] at time place g h = refl
-earliest_at T (u ∷ us) at time zero g h = ap (λ b. cond b (Some u) (earliest_trip T us at time)) (in_time time (departure_at T u at) (h 0 time (omega arith) (omega arith)))
-  where
-    in_time : (a b : ℤ) → a ≤ℤ b → int_le a b ≡ true
-    in_time a b h = grind (arith, ints)
+earliest_at T (u ∷ us) at time zero g h = ap (λ b. cond b (Some u) (earliest_trip T us at time)) (le-int_le time (departure_at T u at) (h 0 time (omega arith) (omega arith)))
 earliest_at T (u ∷ us) at time (suc place) g h =
     ap (λ b. cond b (Some u) (earliest_trip T us at time)) (too_early time (departure_at T u at) (g 0 time (omega arith) (omega arith)))
     ∙ earliest_at T us at time place (λ k d low high. g (suc k) d (omega arith) (omega arith)) (λ k d low high. h (suc k) d (omega arith) (omega arith))
@@ -127,9 +113,6 @@ earliest_at T (u ∷ us) at time (suc place) g h =
 pub start_at : (T : TimetableData) (lines : List (List ℕ)) (starts : List ℕ) (l x : ℕ) → starts ≡ map (λ k. length (flat_map (line_departures T) (take k lines))) (range_with_len 0 (length lines)) → l < length lines
     → x ≡ get_or starts l x → x ≡ length (flat_map (line_departures T) (take l lines))
 start_at T lines starts l x e h is = is ∙ ap (λ xs. get_or xs l x) e ∙ get_or-map-range_with_len (λ k. length (flat_map (line_departures T) (take k lines))) 0 (length lines) l l x h (zero_more l)
-  where
-    zero_more : (n : ℕ) → 0 + n ≡ n
-    zero_more n = omega arith
 
 -- the run of a line at an index, where lines are laid out
 pub run_in : (T : TimetableData) (L : LinesLayout) (l i x count : ℕ) → AreLaidOut T L → l < length L.lines → i < length (line_events T (get_or L.lines l [])) →
@@ -159,9 +142,6 @@ pub starts_more : (T : TimetableData) (lines : List (List ℕ)) (n x : ℕ) (old
     → x ≡ length (flat_map (line_departures T) (take n lines)) → new ≡ map (λ k. length (flat_map (line_departures T) (take k lines))) (range_with_len 0 (n + 1))
 starts_more T lines n x old new e h is =
     h ∙ (λ i. e i ++ is i ∷ []) ∙ sym (map-range_with_len_more (λ k. length (flat_map (line_departures T) (take k lines))) 0 n n (zero_more n))
-  where
-    zero_more : (n : ℕ) → 0 + n ≡ n
-    zero_more n = omega arith
 
 -- what a search along the departures found is the line's first trip in time
 pub found_at : (T : TimetableData) (line row : List ℕ) (at place : ℕ) (time asked : ℤ) (departures : List ℤ) → asked ≡ time → departures ≡ departures_at T line at → row ≡ line →
@@ -171,8 +151,3 @@ found_at T line row at place time asked departures t e r g h =
     (subst (λ ds. AllWithin (λ x. x <ℤ time) ds 0 place) e (subst (λ s. AllWithin (λ x. x <ℤ s) departures 0 place) t g))
     (subst (λ ds. AllWithin (λ x. time ≤ℤ x) ds place (length ds)) e (subst (λ s. AllWithin (λ x. s ≤ℤ x) departures place (length departures)) t h))
     ∙ ap (λ xs. slice_get xs place) (sym r)
-
-pub slice_get-past : {X : Type 0} (xs : List X) (i : ℕ) → length xs ≤ i → slice_get xs i ≡ None
-slice_get-past [] i h = refl
-slice_get-past (x ∷ xs) zero h = absurd (omega arith)
-slice_get-past (x ∷ xs) (suc i) h = slice_get-past xs i (omega arith)

@@ -5,18 +5,16 @@ use Rattle.std.proofs.lemmas.Bool.{cases_eq}
 use Rattle.std.proofs.lemmas.Option.{slice_get-get_or}
 use Rattle.line_split.specs.Places.{IsNoted, NotesLine}
 use Rattle.line_split.specs.LinesOf.{StandsAt}
+use Rattle.tb_base.proofs.NumberFacts.{below_or_at}
 
 pub notes_none : (line : ℕ) (trips : List ℕ) (old : List (ℕ × ℕ)) → NotesLine line trips 0 old old
 notes_none line trips old = record { long = refl; noted = λ k h. absurd (omega (arith, h)); others = λ t. inl refl }
-
-below_or_last : (k n : ℕ) → k < n + 1 → (k < n) ⊎ (k ≡ n)
-below_or_last k n h = grind arith
 
 pub notes_more : (line : ℕ) (trips : List ℕ) (i t : ℕ) (old before new : List (ℕ × ℕ)) → i < length trips → t ≡ get_or trips i 0 → t < length before → new ≡ set before t (line, i)
     → NotesLine line trips i old before → NotesLine line trips (i + 1) old new
 notes_more line trips i t old before new h is inside e notes = record {
   long = rw e (length-set before t (line, i) ∙ notes.long);
-  noted = λ k below. noted k (below_or_last k i below);
+  noted = λ k below. noted k (below_or_at k i below);
   others = λ u. others u (cases_eq u t);
 }
   where
@@ -53,7 +51,7 @@ noted_stands lines line t place h = ap (λ l. slice_get (get_or lines l []) plac
 pub places_more : (lines : List (List ℕ)) (line : ℕ) (old new : List (ℕ × ℕ)) → NotesLine line (get_or lines line []) (length (get_or lines line [])) old new
     → ((i k : ℕ) → i < line → k < length (get_or lines i []) → StandsAt lines (get_or (get_or lines i []) k 0) (get_or old (get_or (get_or lines i []) k 0) (0, 0)))
     → (i k : ℕ) → i < line + 1 → k < length (get_or lines i []) → StandsAt lines (get_or (get_or lines i []) k 0) (get_or new (get_or (get_or lines i []) k 0) (0, 0))
-places_more lines line old new notes before i k h inside = by_case (below_or_last i line h)
+places_more lines line old new notes before i k h inside = by_case (below_or_at i line h)
   where
     by_case : (i < line) ⊎ (i ≡ line) → StandsAt lines (get_or (get_or lines i []) k 0) (get_or new (get_or (get_or lines i []) k 0) (0, 0))
     by_case (inl below) = elim (notes.others (get_or (get_or lines i []) k 0)) [

@@ -10,38 +10,31 @@ use Rattle.tb_base.specs.TimetableData.{TimetableData, events_of}
 use Rattle.tb_base.specs.Lines.{may_follow, place_trip, last_trip}
 use Rattle.tb_base.proofs.Ordered.{Member, Member-from_Contains, Contains-from_Member, AllPairs-head, AllPairs-tail}
 use Rattle.tb_base.proofs.Members.{find_found}
+use Rattle.tb_base.proofs.NumberFacts.{below_or_at}
 use Rattle.tb_base.proofs.LineFacts.{event_no_later}
 use Rattle.line_split.specs.Patterns.{mix, marks_of, bucket_of}
-use Rattle.line_split.specs.Buckets.{last_of, AreBucketed}
+use Rattle.line_split.specs.Buckets.{AreBucketed}
 
 -- whether a trip with these events may join line l
 abbrev pub joins : TimetableData → List (List ℕ) → List Event → ℕ → Bool
-joins T lines events l = may_follow (events_of T (last_of (get_or lines l []))) events
+joins T lines events l = may_follow (events_of T (last_trip (get_or lines l []))) events
 
 -- ---- placing by the first line that may be joined
 
-abbrev AreFilled : List (List ℕ) → Type 0
-AreFilled lines = (k : ℕ) → k < length lines → 0 < length (get_or lines k [])
-
-filled_tail : (line : List ℕ) (lines : List (List ℕ)) → AreFilled (line ∷ lines) → AreFilled lines
-filled_tail line lines full k h = full (suc k) (omega arith)
-
 module _ (T : TimetableData) (t : ℕ) where
-  place_trip-at : (lines : List (List ℕ)) (l : ℕ) → l < length lines → AreFilled lines → ((k : ℕ) → k < l → joins T lines (events_of T t) k ≡ false) → joins T lines (events_of T t) l ≡ true →
+  place_trip-at : (lines : List (List ℕ)) (l : ℕ) → l < length lines → ((k : ℕ) → k < l → joins T lines (events_of T t) k ≡ false) → joins T lines (events_of T t) l ≡ true →
       place_trip T lines t ≡ set lines l (get_or lines l [] ++ t ∷ [])
-  place_trip-at [] l h full before here = absurd (omega arith)
-  place_trip-at ([] ∷ lines) l h full before here = absurd (omega (arith, full 0 (omega arith)))
-  place_trip-at ((u ∷ us) ∷ lines) zero h full before here = ap (λ b. cond b (((u ∷ us) ++ t ∷ []) ∷ lines) ((u ∷ us) ∷ place_trip T lines t)) here
-  place_trip-at ((u ∷ us) ∷ lines) (suc l) h full before here =
-      ap (λ b. cond b (((u ∷ us) ++ t ∷ []) ∷ lines) ((u ∷ us) ∷ place_trip T lines t)) (before 0 (omega arith))
-      ∙ ap (λ (ls : List (List ℕ)). (u ∷ us) ∷ ls) (place_trip-at lines l (omega arith) (filled_tail (u ∷ us) lines full) (λ k below. before (suc k) (omega arith)) here)
+  place_trip-at [] l h before here = absurd (omega arith)
+  place_trip-at (line ∷ lines) zero h before here = ap (λ b. cond b ((line ++ t ∷ []) ∷ lines) (line ∷ place_trip T lines t)) here
+  place_trip-at (line ∷ lines) (suc l) h before here =
+      ap (λ b. cond b ((line ++ t ∷ []) ∷ lines) (line ∷ place_trip T lines t)) (before 0 (omega arith))
+      ∙ ap (λ (ls : List (List ℕ)). line ∷ ls) (place_trip-at lines l (omega arith) (λ k below. before (suc k) (omega arith)) here)
 
-  place_trip-behind : (lines : List (List ℕ)) → AreFilled lines → ((k : ℕ) → k < length lines → joins T lines (events_of T t) k ≡ false) → place_trip T lines t ≡ lines ++ (t ∷ []) ∷ []
-  place_trip-behind [] full none = refl
-  place_trip-behind ([] ∷ lines) full none = absurd (omega (arith, full 0 (omega arith)))
-  place_trip-behind ((u ∷ us) ∷ lines) full none =
-      ap (λ b. cond b (((u ∷ us) ++ t ∷ []) ∷ lines) ((u ∷ us) ∷ place_trip T lines t)) (none 0 (omega arith))
-      ∙ ap (λ (ls : List (List ℕ)). (u ∷ us) ∷ ls) (place_trip-behind lines (filled_tail (u ∷ us) lines full) (λ k below. none (suc k) (omega arith)))
+  place_trip-behind : (lines : List (List ℕ)) → ((k : ℕ) → k < length lines → joins T lines (events_of T t) k ≡ false) → place_trip T lines t ≡ lines ++ (t ∷ []) ∷ []
+  place_trip-behind [] none = refl
+  place_trip-behind (line ∷ lines) none =
+      ap (λ b. cond b ((line ++ t ∷ []) ∷ lines) (line ∷ place_trip T lines t)) (none 0 (omega arith))
+      ∙ ap (λ (ls : List (List ℕ)). line ∷ ls) (place_trip-behind lines (λ k below. none (suc k) (omega arith)))
 
 -- ---- trips of one pattern have one hash
 
@@ -91,7 +84,7 @@ module _ (T : TimetableData) (lines buckets : List (List ℕ)) (are : AreBuckete
 
   joined_inside : (k : ℕ) → k < length lines → joins T lines (events_of T t) k ≡ true → Member k own_bucket
   joined_inside k h j =
-      let e = same_bucket (length buckets) (events_of T (last_of (get_or lines k []))) (events_of T t) j in
+      let e = same_bucket (length buckets) (events_of T (last_trip (get_or lines k []))) (events_of T t) j in
       Member-from_Contains k own_bucket (subst (λ b. Contains (get_or buckets b []) k) e (are.there k h))
 
   not_joined : (k : ℕ) → k < length lines → (Member k own_bucket → joins T lines (events_of T t) k ≡ false) → joins T lines (events_of T t) k ≡ false
@@ -114,32 +107,18 @@ module _ (T : TimetableData) (lines buckets : List (List ℕ)) (are : AreBuckete
   pub placed_on : (l : ℕ) → find (joins T lines (events_of T t)) own_bucket ≡ Some l → place_trip T lines t ≡ set lines l (get_or lines l [] ++ t ∷ [])
   placed_on l h =
       let found = found_inside l h in
-      place_trip-at T t lines l found.0 are.nonempty
+      place_trip-at T t lines l found.0
       (λ k below. not_joined k (omega (arith, below, found.0)) (λ m. find-first (joins T lines (events_of T t)) own_bucket (are.ascending (bucket_of (length buckets) (events_of T t))) l h k m below)) found.1
 
   pub placed_behind : find (joins T lines (events_of T t)) own_bucket ≡ None → place_trip T lines t ≡ lines ++ (t ∷ []) ∷ []
-  placed_behind h = place_trip-behind T t lines are.nonempty (λ k below. not_joined k below (find-none (joins T lines (events_of T t)) own_bucket h k))
+  placed_behind h = place_trip-behind T t lines (λ k below. not_joined k below (find-none (joins T lines (events_of T t)) own_bucket h k))
 
 -- ---- the last trip of a line
 
-last_trip-push : (u : ℕ) (us : List ℕ) (t : ℕ) → last_trip u (us ++ t ∷ []) ≡ t
-last_trip-push u [] t = refl
-last_trip-push u (v ∷ vs) t = last_trip-push v vs t
-
-last_of-push : (us : List ℕ) (t : ℕ) → last_of (us ++ t ∷ []) ≡ t
-last_of-push [] t = refl
-last_of-push (u ∷ us) t = last_trip-push u us t
-
-pub last_of-is : (us : List ℕ) (d : ℕ) → 0 < length us → get_or us (length us - 1) d ≡ last_of us
-last_of-is [] d h = absurd (omega arith)
-last_of-is (u ∷ us) d h = rw (one_less (length us)) (last_trip-is u us)
-  where
-    one_less : (n : ℕ) → suc n - 1 ≡ n
-    one_less n = omega arith
-
-    last_trip-is : (u : ℕ) (us : List ℕ) → get_or (u ∷ us) (length us) d ≡ last_trip u us
-    last_trip-is u [] = refl
-    last_trip-is u (v ∷ vs) = last_trip-is v vs
+last_trip-push : (line : List ℕ) (t : ℕ) → last_trip (line ++ t ∷ []) ≡ t
+last_trip-push line t =
+    let long : length line ≡ length (line ++ t ∷ []) - 1 = omega (arith, length_push line t) in
+    get_or_push line t 0 (length (line ++ t ∷ []) - 1) long
 
 -- ---- the buckets stay right
 
@@ -150,7 +129,6 @@ extended lines l t = set lines l (get_or lines l [] ++ t ∷ [])
 module _ (T : TimetableData) (lines buckets : List (List ℕ)) (are : AreBucketed T lines buckets) (t : ℕ) where
   pub bucketed_on : (l : ℕ) → l < length lines → joins T lines (events_of T t) l ≡ true → AreBucketed T (set lines l (get_or lines l [] ++ t ∷ [])) buckets
   bucketed_on l h j = record {
-    nonempty = λ k below. filled k (omega (arith, below, length-set lines l (get_or lines l [] ++ t ∷ []))) (cases_eq k l);
     known = λ b. subst (λ n. All (λ k. k < n) (get_or buckets b [])) (sym (length-set lines l (get_or lines l [] ++ t ∷ []))) (are.known b);
     ascending = are.ascending;
     there = λ k below. stands k (omega (arith, below, length-set lines l (get_or lines l [] ++ t ∷ []))) (cases_eq k l);
@@ -159,17 +137,13 @@ module _ (T : TimetableData) (lines buckets : List (List ℕ)) (are : AreBuckete
       at_l : get_or (extended lines l t) l [] ≡ get_or lines l [] ++ t ∷ []
       at_l = get_or-set_same lines l (get_or lines l [] ++ t ∷ []) [] h
 
-      filled : (k : ℕ) → k < length lines → (k ≡ l) ⊎ (k ≢ l) → 0 < length (get_or (extended lines l t) k [])
-      filled k below (inl e) = rw (e, at_l) (omega (arith, length_push (get_or lines l []) t))
-      filled k below (inr e) = rw (get_or-set_other lines l k (get_or lines l [] ++ t ∷ []) [] e) (are.nonempty k below)
-
-      stands : (k : ℕ) → k < length lines → (k ≡ l) ⊎ (k ≢ l) → Contains (get_or buckets (bucket_of (length buckets) (events_of T (last_of (get_or (extended lines l t) k [])))) []) k
+      stands : (k : ℕ) → k < length lines → (k ≡ l) ⊎ (k ≢ l) → Contains (get_or buckets (bucket_of (length buckets) (events_of T (last_trip (get_or (extended lines l t) k [])))) []) k
       stands k below (inl e) =
-          let last : last_of (get_or (extended lines l t) k []) ≡ t = ap (λ i. last_of (get_or (extended lines l t) i [])) e ∙ ap last_of at_l ∙ last_of-push (get_or lines l []) t in
-          let old : Contains (get_or buckets (bucket_of (length buckets) (events_of T (last_of (get_or lines l [])))) []) k = subst (λ i. Contains (get_or buckets (bucket_of (length buckets) (events_of T (last_of (get_or lines i [])))) []) k) e (are.there k below) in
-          subst (λ u. Contains (get_or buckets (bucket_of (length buckets) (events_of T u)) []) k) (sym last) (subst (λ b. Contains (get_or buckets b []) k) (same_bucket (length buckets) (events_of T (last_of (get_or lines l []))) (events_of T t) j) old)
+          let last : last_trip (get_or (extended lines l t) k []) ≡ t = ap (λ i. last_trip (get_or (extended lines l t) i [])) e ∙ ap last_trip at_l ∙ last_trip-push (get_or lines l []) t in
+          let old : Contains (get_or buckets (bucket_of (length buckets) (events_of T (last_trip (get_or lines l [])))) []) k = subst (λ i. Contains (get_or buckets (bucket_of (length buckets) (events_of T (last_trip (get_or lines i [])))) []) k) e (are.there k below) in
+          subst (λ u. Contains (get_or buckets (bucket_of (length buckets) (events_of T u)) []) k) (sym last) (subst (λ b. Contains (get_or buckets b []) k) (same_bucket (length buckets) (events_of T (last_trip (get_or lines l []))) (events_of T t) j) old)
       stands k below (inr e) =
-          subst (λ row. Contains (get_or buckets (bucket_of (length buckets) (events_of T (last_of row))) []) k) (sym (get_or-set_other lines l k (get_or lines l [] ++ t ∷ []) [] e)) (are.there k below)
+          subst (λ row. Contains (get_or buckets (bucket_of (length buckets) (events_of T (last_trip row))) []) k) (sym (get_or-set_other lines l k (get_or lines l [] ++ t ∷ []) [] e)) (are.there k below)
 
   abbrev own : ℕ
   own = bucket_of (length buckets) (events_of T t)
@@ -180,16 +154,12 @@ module _ (T : TimetableData) (lines buckets : List (List ℕ)) (are : AreBuckete
   pub more_buckets-is : (bucket n : ℕ) (new : List (List ℕ)) → bucket ≡ bucket_of (length buckets) (events_of T t) → n ≡ length lines → new ≡ set buckets bucket (get_or buckets bucket [] ++ n ∷ []) → new ≡ more_buckets
   more_buckets-is bucket n new e k h = h ∙ (λ i. set buckets (e i) (get_or buckets (e i) [] ++ k i ∷ []))
 
-  below_or_new : (k n : ℕ) → k < n + 1 → (k < n) ⊎ (k ≡ n)
-  below_or_new k n h = grind arith
-
   pub bucketed_behind : bucket_of (length buckets) (events_of T t) < length buckets → AreBucketed T (lines ++ (t ∷ []) ∷ []) more_buckets
   bucketed_behind h = record {
-    nonempty = λ k below. filled k (below_or_new k (length lines) (omega (arith, below, length_push lines (t ∷ []))));
     known = λ b. subst (λ n. All (λ k. k < n) (get_or more_buckets b [])) (sym (length_push lines (t ∷ []))) (all_known b (cases_eq b own));
     ascending = λ b. up b (cases_eq b own);
-    there = λ k below. subst (λ n. Contains (get_or more_buckets (bucket_of n (events_of T (last_of (get_or (lines ++ (t ∷ []) ∷ []) k [])))) []) k) (sym (length-set buckets own (get_or buckets own [] ++ length lines ∷ [])))
-        (stands k (below_or_new k (length lines) (omega (arith, below, length_push lines (t ∷ [])))));
+    there = λ k below. subst (λ n. Contains (get_or more_buckets (bucket_of n (events_of T (last_trip (get_or (lines ++ (t ∷ []) ∷ []) k [])))) []) k) (sym (length-set buckets own (get_or buckets own [] ++ length lines ∷ [])))
+        (stands k (below_or_at k (length lines) (omega (arith, below, length_push lines (t ∷ [])))));
   }
     where
       at_own : get_or more_buckets own [] ≡ get_or buckets own [] ++ length lines ∷ []
@@ -200,10 +170,6 @@ module _ (T : TimetableData) (lines buckets : List (List ℕ)) (are : AreBuckete
 
       new_line : get_or (lines ++ (t ∷ []) ∷ []) (length lines) [] ≡ t ∷ []
       new_line = get_or_push lines (t ∷ []) [] (length lines) refl
-
-      filled : (k : ℕ) → (k < length lines) ⊎ (k ≡ length lines) → 0 < length (get_or (lines ++ (t ∷ []) ∷ []) k [])
-      filled k (inl below) = rw (get_or_append_left lines ((t ∷ []) ∷ []) [] k below) (are.nonempty k below)
-      filled k (inr e) = rw (e, new_line) (omega arith)
 
       wider : (b : ℕ) → All (λ k. k < length lines + 1) (get_or buckets b [])
       wider b = All-weaker (λ k. k < length lines) (λ k. k < length lines + 1) (λ k l. omega (arith, l)) (get_or buckets b []) (are.known b)
@@ -220,19 +186,18 @@ module _ (T : TimetableData) (lines buckets : List (List ℕ)) (are : AreBuckete
       kept b k m (inl e) = rw (e, at_own) (Contains-append_left (get_or buckets own []) (length lines ∷ []) k (subst (λ x. Contains (get_or buckets x []) k) e m))
       kept b k m (inr e) = rw (at_other b e) m
 
-      stands : (k : ℕ) → (k < length lines) ⊎ (k ≡ length lines) → Contains (get_or more_buckets (bucket_of (length buckets) (events_of T (last_of (get_or (lines ++ (t ∷ []) ∷ []) k [])))) []) k
+      stands : (k : ℕ) → (k < length lines) ⊎ (k ≡ length lines) → Contains (get_or more_buckets (bucket_of (length buckets) (events_of T (last_trip (get_or (lines ++ (t ∷ []) ∷ []) k [])))) []) k
       stands k (inl below) =
-          let b : ℕ = bucket_of (length buckets) (events_of T (last_of (get_or lines k []))) in
-          subst (λ row. Contains (get_or more_buckets (bucket_of (length buckets) (events_of T (last_of row))) []) k) (sym (get_or_append_left lines ((t ∷ []) ∷ []) [] k below)) (kept b k (are.there k below) (cases_eq b own))
+          let b : ℕ = bucket_of (length buckets) (events_of T (last_trip (get_or lines k []))) in
+          subst (λ row. Contains (get_or more_buckets (bucket_of (length buckets) (events_of T (last_trip row))) []) k) (sym (get_or_append_left lines ((t ∷ []) ∷ []) [] k below)) (kept b k (are.there k below) (cases_eq b own))
       stands k (inr e) =
           let row : get_or (lines ++ (t ∷ []) ∷ []) k [] ≡ t ∷ [] = ap (λ i. get_or (lines ++ (t ∷ []) ∷ []) i []) e ∙ new_line in
-          subst (λ row. Contains (get_or more_buckets (bucket_of (length buckets) (events_of T (last_of row))) []) k) (sym row)
+          subst (λ row. Contains (get_or more_buckets (bucket_of (length buckets) (events_of T (last_trip row))) []) k) (sym row)
           (subst (λ xs. Contains xs k) (sym at_own) (subst (λ i. Contains (get_or buckets own [] ++ length lines ∷ []) i) (sym e) (Contains-push (get_or buckets own []) (length lines))))
 
 -- no line and no trip so far
 pub bucketed_none : (T : TimetableData) (buckets : List (List ℕ)) → ((b : ℕ) → get_or buckets b [] ≡ []) → AreBucketed T [] buckets
 bucketed_none T buckets empty = record {
-  nonempty = λ k below. absurd (omega (arith, below));
   known = λ b. rw (empty b) (λ k d below. absurd (omega (arith, below)));
   ascending = λ b. rw (empty b) (λ i j d before below. absurd (omega (arith, below)));
   there = λ k below. absurd (omega (arith, below));

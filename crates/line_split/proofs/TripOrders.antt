@@ -13,10 +13,8 @@ use Rattle.std.proofs.lemmas.List.Sorted.{ranks_by, sorted_far, All-permutation,
 use Rattle.tb_base.specs.TimetableData.{TimetableData, events_of}
 use Rattle.tb_base.specs.Lines.{times_of, TripPrecedes, IsTripOrder}
 use Rattle.line_split.proofs.OrderLaws.{TripPrecedes-total}
-
-pub range_more : (a n : ℕ) → range_with_len a (suc n) ≡ range_with_len a n ++ (a + n) ∷ []
-range_more a zero = let e : a ≡ a + 0 = omega arith in ap (λ (k : ℕ). k ∷ []) e
-range_more a (suc n) = let e : a + 1 + n ≡ a + suc n = omega arith in ap (λ (ks : List ℕ). a ∷ ks) (range_more (a + 1) n ∙ ap (λ (k : ℕ). range_with_len (a + 1) n ++ k ∷ []) e)
+use Rattle.tb_base.proofs.NumberFacts.{zero_more}
+use Rattle.tb_base.proofs.Lists.{range_more}
 
 pub range_one_more : (n : ℕ) → range_with_len 0 (n + 1) ≡ range_with_len 0 n ++ n ∷ []
 range_one_more n = let e : n + 1 ≡ suc n = omega arith in let z : 0 + n ≡ n = omega arith in
@@ -79,13 +77,10 @@ pub sorted_is_order : (T : TimetableData) (order : List ℕ) → IsPermutation (
 sorted_is_order T order p up = record {
   trips = All-permutation (λ t. t < length T.trips) (range_with_len 0 (length T.trips)) order p
       (All-from_get_or (λ t. t < length T.trips) (range_with_len 0 (length T.trips)) 0 (λ i h. let l : i < length T.trips = omega (arith, h, length-range_with_len 0 (length T.trips)) in omega (arith, get_or-range_with_len 0 (length T.trips) i 0 l)));
-  complete = λ t h. Contains-permutation (range_with_len 0 (length T.trips)) order t p (t, omega (arith, length-range_with_len 0 (length T.trips)), get_or-range_with_len 0 (length T.trips) t t h ∙ plain t);
+  complete = λ t h. Contains-permutation (range_with_len 0 (length T.trips)) order t p (t, omega (arith, length-range_with_len 0 (length T.trips)), get_or-range_with_len 0 (length T.trips) t t h ∙ zero_more t);
   ordered = λ i j d h k. by_case i j d h k (TripPrecedes-total T (get_or order i d) (get_or order j d) (different (length T.trips) order p i j d h k));
 }
   where
-    plain : (t : ℕ) → 0 + t ≡ t
-    plain t = omega arith
-
     by_case : (i j d : ℕ) → i < j → j < length order → TripPrecedes T (get_or order i d) (get_or order j d) ⊎ TripPrecedes T (get_or order j d) (get_or order i d) → TripPrecedes T (get_or order i d) (get_or order j d)
     by_case i j d h k (inl before) = before
     by_case i j d h k (inr after) = absurd (false≢true (sym (sorted_far (precedes T) (precedes-ranks T) order up i j d (omega arith) k) ∙ after))

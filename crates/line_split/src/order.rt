@@ -1,10 +1,7 @@
 //! The order in which trips are placed.
 ghost use Rattle.std.specs.Prelude.{◌≡◌, IfOk, length};
 ghost use Rattle.std.specs.List.{range_with_len};
-ghost use Rattle.std.specs.Ordering.{nat_cmp, int_cmp, ordering_then};
-ghost use Rattle.std.specs.Cmp.Lexicographic.{slice_cmp};
-ghost use Rattle.tb_base.specs.TimetableData.{events_of};
-ghost use Rattle.tb_base.specs.Lines.{times_of, IsTripOrder};
+ghost use Rattle.tb_base.specs.Lines.{compare_trips, IsTripOrder};
 
 use super::events::{compare_times, events_of};
 use std::alloc::Global;
@@ -35,8 +32,7 @@ fn all_trips(alloc: Global, count: u32) -> Result<Vec<TripNo>, Memory>
 
 // How two trips compare: by their times, then by their numbers.
 fn compare_trips(table: &Timetable, t: TripNo, u: TripNo) -> Ordering
-    ensures { result ≡ ordering_then
-        (slice_cmp int_cmp (times_of (events_of table.now t)) (times_of (events_of table.now u))) (nat_cmp t u) }
+    ensures { result ≡ compare_trips table.now t u }
 {
     compare_times(events_of(table, t), events_of(table, u)).then(t.index().cmp(&u.index()))
 }

@@ -1,9 +1,9 @@
 //! Trips are placed on lines, one after another.
 ghost use Rattle.std.specs.Prelude.{◌≡◌, ◌<◌, ◌≤◌, ℕ, [], IfOk, OnOk, All, find, fold, length, slice_index_or};
 ghost use Rattle.tb_base.specs.TimetableData.{events_of};
-ghost use Rattle.tb_base.specs.Lines.{may_follow, place_trip};
+ghost use Rattle.tb_base.specs.Lines.{last_trip, may_follow, place_trip};
 ghost use Rattle.line_split.specs.Patterns.{bucket_of};
-ghost use Rattle.line_split.specs.Buckets.{last_of, AreBucketed};
+ghost use Rattle.line_split.specs.Buckets.{AreBucketed};
 
 use super::events::{events_of, may_follow, pattern_hash};
 use super::nested::Nested;
@@ -63,8 +63,8 @@ fn bucket_of(events: &[Event], count: usize) -> usize
 }
 
 // The last trip of a line.
-fn last_of(trips: &[TripNo]) -> TripNo
-    ensures { result ≡ last_of trips.now }
+fn last_trip(trips: &[TripNo]) -> TripNo
+    ensures { result ≡ last_trip trips.now }
 {
     if trips.is_empty() {
         return TripNo(0);
@@ -81,10 +81,10 @@ fn first_line(
 ) -> Option<usize>
     requires { All (λ l. l < length lines.now) among.now }
     ensures { result ≡ find (λ l.
-        may_follow (events_of table.now (last_of (slice_index_or lines.now l []))) events.now) among.now }
+        may_follow (events_of table.now (last_trip (slice_index_or lines.now l []))) events.now) among.now }
 {
     for line in among {
-        if may_follow(events_of(table, last_of(lines.row(*line))), events) {
+        if may_follow(events_of(table, last_trip(lines.row(*line))), events) {
             return Some(*line);
         }
     }

@@ -5,7 +5,7 @@ use Rattle.std.specs.List.{cons_option, range_with_len}
 use Rattle.std.specs.Option.{option_map}
 use Rattle.std.proofs.Math.Nat.{add-mul, suc-mul}
 use Rattle.std.proofs.lemmas.List.{length-map, map-append}
-use Rattle.std.proofs.lemmas.List.Sums.{count_by-le-length, length-filter, sum_by-append, sum_by-cons}
+use Rattle.std.proofs.lemmas.List.Sums.{sum_by-append, sum_by-cons}
 use Rattle.tb_base.specs.declared.transfer.Hop.{Hop}
 use Rattle.tb_base.specs.declared.transfer.Transfer.{Transfer}
 use Rattle.tb_base.specs.declared.table.Event.{Event}
@@ -13,18 +13,16 @@ use Rattle.tb_base.specs.TimetableData.{TimetableData, event_at, event_total, ev
 use Rattle.tb_base.specs.Lines.{AreDividedInto, AreLines}
 use Rattle.tb_base.specs.Soundness.{IsSound}
 use Rattle.tb_base.specs.Transfers.{Alternative, alternatives, alternatives_at, alightings, boarding_indexes, candidates, candidates_without_u_turns, hop_onto, improving_alternatives, is_improvement, is_u_turn, kept_alternatives, kept_hops, may_be_boarded, numbers_below, numbers_down, transfers_of}
+use Rattle.tb_base.proofs.Lists.{length-filter_le, length-numbers_below, numbers_below-range}
 use Rattle.tb_laws.proofs.TransferLaws.{kept_transfers}
 use Rattle.line_split.specs.LinesData.{LinesData}
 use Rattle.line_split.specs.LinesOf.{calls_at}
-use Rattle.line_split.proofs.CallTotals.{all_events, calls_le_events, length-numbers_below}
+use Rattle.line_split.proofs.CallTotals.{all_events, calls_le_events}
 use Rattle.reduce_workers.specs.Reductions.{count_from, rows_from}
 
 length-numbers_down : (n : ℕ) → length (numbers_down n) ≡ n
 length-numbers_down zero = refl
 length-numbers_down (suc n) = ap suc (length-numbers_down n)
-
-filter_le : {X : Type 0} (test : X → Bool) (xs : List X) → length (filter test xs) ≤ length xs
-filter_le test xs = omega (arith, length-filter test xs, count_by-le-length test xs)
 
 filter_map_le : {X Y : Type 0} (f : X → Option Y) (xs : List X) → length (filter_map f xs) ≤ length xs
 filter_map_le f [] = omega arith
@@ -85,7 +83,7 @@ module _ (T : TimetableData) (lines : List (List ℕ)) (c : ℕ) (each : (q : �
       by_test false = omega arith
 
   uncut_le : (t i : ℕ) → length (candidates_without_u_turns T lines t i) ≤ length T.stops * c
-  uncut_le t i = omega (arith, filter_le (λ h. not (is_u_turn T t i h)) (candidates T lines t i), candidates_le t i)
+  uncut_le t i = omega (arith, length-filter_le (λ h. not (is_u_turn T t i h)) (candidates T lines t i), candidates_le t i)
 
 -- a trip has at most so many transfers for each of its events
 transfers_le : (T : TimetableData) (hops : ℕ → List Hop) (c t : ℕ) → ((i : ℕ) → length (hops i) ≤ c) → length (transfers_of T hops t) ≤ length (events_of T t) * c
@@ -136,12 +134,6 @@ range_split a (suc n) m =
     let next : a + 1 + n ≡ a + suc n = omega arith in
     ap (range_with_len a) on ∙ ap (λ xs. a ∷ xs) (range_split (a + 1) n m) ∙ ap (λ b. a ∷ (range_with_len (a + 1) n ++ range_with_len b m)) next
 
-below_as_range : (n : ℕ) → numbers_below n ≡ range_with_len 0 n
-below_as_range zero = refl
-below_as_range (suc n) =
-    let here : n ≡ 0 + n = omega arith in
-    ap (λ xs. xs ++ n ∷ []) (below_as_range n) ∙ ap (λ k. range_with_len 0 n ++ k ∷ []) here ∙ sym (range_split 0 n 1) ∙ ap (range_with_len 0) (add-one n)
-
 sum_split : (f : ℕ → ℕ) (a n m : ℕ) → sum_by f (range_with_len a (n + m)) ≡ sum_by f (range_with_len a n) + sum_by f (range_with_len (a + n) m)
 sum_split f a n m = ap (sum_by f) (range_split a n m) ∙ sum_by-append f (range_with_len a n) (range_with_len (a + n) m)
 
@@ -156,7 +148,7 @@ part_le f a n m h =
 
 some_events : (T : TimetableData) (a n : ℕ) → a + n ≤ length T.trips → sum_by (λ t. length (events_of T t)) (range_with_len a n) ≤ event_total T
 some_events T a n inside =
-    omega (arith, part_le (λ t. length (events_of T t)) a n (length T.trips) inside, ap (sum_by (λ t. length (events_of T t))) (below_as_range (length T.trips)), all_events T)
+    omega (arith, part_le (λ t. length (events_of T t)) a n (length T.trips) inside, ap (sum_by (λ t. length (events_of T t))) (numbers_below-range (length T.trips)), all_events T)
 
 -- the trips have at most so many transfers for each of their events
 count_le : (T : TimetableData) (hops : ℕ → ℕ → List Hop) (c : ℕ) → ((t : ℕ) → length (transfers_of T (hops t) t) ≤ length (events_of T t) * c) → (a n : ℕ)

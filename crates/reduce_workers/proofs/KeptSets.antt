@@ -5,6 +5,7 @@ use Rattle.std.proofs.lemmas.Bool.Decides.{nat_tests}
 use Rattle.std.proofs.lemmas.List.{append-nil, map-append, get_or_past}
 use Rattle.std.proofs.lemmas.List.FromFn.{get_or-map-range_with_len, length-map-range_with_len}
 use Rattle.std.proofs.lemmas.List.Elements.{filter-append}
+use Rattle.std.proofs.lemmas.Bool.{cases_lt}
 use Rattle.tb_base.specs.declared.transfer.Hop.{Hop}
 use Rattle.tb_base.specs.declared.transfer.Transfer.{Transfer}
 use Rattle.tb_base.specs.TimetableData.{TimetableData, events_of}
@@ -15,7 +16,7 @@ use Rattle.tb_base.specs.Sufficiency.{AreSufficient}
 use Rattle.tb_base.specs.Transfers.{kept_hops, numbers_down, transfers_of}
 use Rattle.tb_base.proofs.Events.{MayAlight-inside, MayBoard-inside}
 use Rattle.tb_base.proofs.Ordered.{Member, Contains-from_Member}
-use Rattle.tb_base.proofs.Members.{All-from_Member, Member-flat_map_back}
+use Rattle.tb_base.proofs.Members.{All-from_Member, Member-flat_map_back, Member-map_back}
 use Rattle.tb_laws.proofs.KeptLaws.{kept_hops_sufficient}
 use Rattle.transfer_pack.specs.Packed.{PackedHops, packed}
 use Rattle.reduce_workers.specs.Reductions.{rows_from}
@@ -69,17 +70,9 @@ length-all_rows T hops n = length-map-range_with_len (λ t. transfers_of T (hops
 row_at : (T : TimetableData) (hops : ℕ → ℕ → List Hop) (n t : ℕ) → t < n → row_of (rows_from T hops 0 n) t ≡ transfers_of T (hops t) t
 row_at T hops n t h = get_or-map-range_with_len (λ t. transfers_of T (hops t) t) 0 n t t [] h (omega arith)
 
-map_back : {X Y : Type 0} (f : X → Y) (y : Y) (xs : List X) → Member y (map f xs) → (x : X) × Member x xs × (f x ≡ y)
-map_back f y [] h = absurd h
-map_back f y (x ∷ xs) (inl e) = (x, inl refl, e)
-map_back {X} {Y} f y (x ∷ xs) (inr h) = let r : (z : X) × Member z xs × (f z ≡ y) = map_back f y xs h in (r.0, inr r.1, r.2)
-
 none : {X : Type 0} (xs : List X) → ((x : X) → Member x xs → ⊥) → xs ≡ []
 none [] empty = refl
 none (x ∷ xs) empty = absurd (empty x (inl refl))
-
-inside_or_past : (i n : ℕ) → (i < n) ⊎ (n ≤ i)
-inside_or_past i n = grind arith
 
 module _ (T : TimetableData) (hops : ℕ → ℕ → List Hop) (enough : AreSufficient T hops) where
   no_such_event : (t i : ℕ) → ((t < length T.trips) → (i < length (events_of T t)) → ⊥) → hops t i ≡ []
@@ -88,14 +81,14 @@ module _ (T : TimetableData) (hops : ℕ → ℕ → List Hop) (enough : AreSuff
 
   -- the set of these transfers has exactly the hops
   pub hops_of_rows : (t i : ℕ) → hops_at (row_of (rows_from T hops 0 (length T.trips)) t) i ≡ hops t i
-  hops_of_rows t i = by_trip (inside_or_past t (length T.trips))
+  hops_of_rows t i = by_trip (cases_lt t (length T.trips))
     where
       by_event : (i < length (events_of T t)) ⊎ (length (events_of T t) ≤ i) → hops_at (transfers_of T (hops t) t) i ≡ hops t i
       by_event (inl k) = inside (hops t) t i (length (events_of T t)) k
       by_event (inr k) = past (hops t) t i (length (events_of T t)) k ∙ sym (no_such_event t i (λ a b. omega (arith, b, k)))
 
       by_trip : (t < length T.trips) ⊎ (length T.trips ≤ t) → hops_at (row_of (rows_from T hops 0 (length T.trips)) t) i ≡ hops t i
-      by_trip (inl k) = ap (λ row. hops_at row i) (row_at T hops (length T.trips) t k) ∙ by_event (inside_or_past i (length (events_of T t)))
+      by_trip (inl k) = ap (λ row. hops_at row i) (row_at T hops (length T.trips) t k) ∙ by_event (cases_lt i (length (events_of T t)))
       by_trip (inr k) =
           let within : length (rows_from T hops 0 (length T.trips)) ≤ t = omega (arith, k, length-all_rows T hops (length T.trips)) in
           ap (λ row. hops_at row i) (get_or_past (rows_from T hops 0 (length T.trips)) t [] within) ∙ sym (no_such_event t i (λ a b. omega (arith, a, k)))
@@ -111,7 +104,7 @@ module _ (T : TimetableData) (hops : ℕ → ℕ → List Hop) (enough : AreSuff
       own_transfer t r m =
           let at : (i : ℕ) × Member i (numbers_down (length (events_of T t))) × Member r (map (transfer_by t i) (hops t i))
           = Member-flat_map_back (λ i. map (transfer_by t i) (hops t i)) r (numbers_down (length (events_of T t))) m in
-          let by : (h : Hop) × Member h (hops t at.0) × (transfer_by t at.0 h ≡ r) = map_back (transfer_by t at.0) r (hops t at.0) at.2 in
+          let by : (h : Hop) × Member h (hops t at.0) × (transfer_by t at.0 h ≡ r) = Member-map_back (transfer_by t at.0) r (hops t at.0) at.2 in
           let hop = enough.possible t at.0 by.0 (Contains-from_Member by.0 (hops t at.0) by.1) in
           subst (IsTransferOf T t) by.2 (record {
             trip = refl;

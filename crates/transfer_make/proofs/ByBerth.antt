@@ -7,6 +7,7 @@ use Rattle.std.proofs.lemmas.List.{flat_map_more, take_more, take_all, take_rest
 use Rattle.std.proofs.lemmas.Option.{get_or_from_slice_get}
 use Rattle.std.proofs.lemmas.List.Elements.{filter_map-append, All-contains, All-cons, All-nil}
 use Rattle.std.proofs.lemmas.List.Concat.{flat_map-append}
+use Rattle.std.proofs.lemmas.Bool.{eqb-true, and_from}
 use Rattle.tb_base.specs.declared.table.Path.{Path}
 use Rattle.tb_base.specs.declared.transfer.Transfer.{Transfer}
 use Rattle.tb_base.specs.Soundness.{IsSoundPath}
@@ -15,19 +16,16 @@ use Rattle.tb_base.specs.TimetableData.{TimetableData, events_of, event_at, stop
 use Rattle.tb_base.specs.Transfers.{candidates, boarding_indexes, earliest_trip, hop_onto, is_own_line_onward, may_be_boarded, numbers_below, numbers_down}
 use Rattle.tb_base.specs.Walking.{change}
 use Rattle.tb_base.proofs.Ordered.{Member, Contains-from_Member}
-use Rattle.tb_base.proofs.Members.{find_found, Member-filter_back, Member-flat_map_back}
+use Rattle.tb_base.proofs.Members.{All-from_Member, find_found, Member-filter_back, Member-flat_map_back, Member-numbers_below_back, Member-concat_at}
 use Rattle.tb_laws.proofs.Triangles.{change-same, change-other}
 use Rattle.line_split.specs.declared.lines.Berth.{Berth}
 use Rattle.line_split.specs.LinesOf.{StandsAt, berths_at, calls_at, line_events}
 use Rattle.transfer_make.specs.ByBerth.{IsBerth, hop_at, own_rows, row_by, row_of, rows_after, rows_at}
-use Rattle.transfer_make.proofs.OwnLine.{own_line, stands_among, placed_at}
-use Rattle.transfer_make.proofs.Sparse.{numbers_below-range, flat_map-sparse, stops_between, targets, find-own, find-none, Member-from_at}
+use Rattle.transfer_make.proofs.OwnLine.{own_line, placed_at}
+use Rattle.transfer_make.proofs.Sparse.{flat_map-sparse, stops_between, targets, find-own, find-none, Member-from_at}
+use Rattle.tb_base.proofs.Lists.{map-flat_map, numbers_below-range}
 
 -- ---- lists
-
-map-flat_map : {X Y Z : Type 0} (g : Y → Z) (f : X → List Y) (xs : List X) → map g (flat_map f xs) ≡ flat_map (λ x. map g (f x)) xs
-map-flat_map g f [] = refl
-map-flat_map g f (x ∷ xs) = map-append g (f x) (flat_map f xs) ∙ ap (λ ys. map g (f x) ++ ys) (map-flat_map g f xs)
 
 flat_map-same : {X Y : Type 0} (f g : X → List Y) (xs : List X) → ((x : X) → Member x xs → f x ≡ g x) → flat_map f xs ≡ flat_map g xs
 flat_map-same f g [] h = refl
@@ -87,9 +85,6 @@ same_row t i j own (Some u) = by_test (own u)
     by_test true = refl
     by_test false = refl
 
-same_number : (a b : ℕ) → (a == b) ≡ true → a ≡ b
-same_number a b h = grind arith
-
 module _ (T : TimetableData) (t i q : ℕ) where
   -- where one can change to q
   indexes_rows : (secs x : ℕ) (xs : List ℕ) → change T (stop_at T t i) q ≡ Some secs → (ns : List ℕ) →
@@ -100,7 +95,7 @@ module _ (T : TimetableData) (t i q : ℕ) where
     where
       here : (stop_at T x n == q) ≡ true → hop_onto T t i (x ∷ xs) n ≡ option_and_then (λ u. cond (is_own_line_onward (x ∷ xs) t i u n) None (Some (record { trip = u; at = n }))) (earliest_trip T (x ∷ xs) n (arrival_at T t i +ℤ pos secs))
       here e = ap (option_and_then (λ secs. option_and_then (λ u. cond (is_own_line_onward (x ∷ xs) t i u n) None (Some (record { trip = u; at = n }))) (earliest_trip T (x ∷ xs) n (arrival_at T t i +ℤ pos secs))))
-          (ap (change T (stop_at T t i)) (same_number (stop_at T x n) q e) ∙ changes)
+          (ap (change T (stop_at T t i)) (eqb-true (stop_at T x n) q e) ∙ changes)
 
       by_tests : map (row_of t i) (filter_map (λ j. hop_onto T t i (x ∷ xs) j) (filter (λ j. (stop_at T x j == q) && may_be_boarded T x j) ns)) ≡ filter_map (row_on T t i (arrival_at T t i +ℤ pos secs) (x ∷ xs)) (filter (λ j. stop_at T x j == q) ns)
           → (a : Bool) → a ≡ (stop_at T x n == q) → (b : Bool) → b ≡ may_be_boarded T x n →
@@ -139,7 +134,7 @@ module _ (T : TimetableData) (t i q : ℕ) where
           → (a : Bool) → a ≡ (stop_at T x n == q) → (b : Bool) → filter_map (λ j. hop_onto T t i (x ∷ xs) j) (cond (a && b) (n ∷ filter (λ j. (stop_at T x j == q) && may_be_boarded T x j) ns) (filter (λ j. (stop_at T x j == q) && may_be_boarded T x j) ns)) ≡ []
       by_tests more true e true =
           ap (λ o. cons_option (option_and_then (λ secs. option_and_then (λ u. cond (is_own_line_onward (x ∷ xs) t i u n) None (Some (record { trip = u; at = n }))) (earliest_trip T (x ∷ xs) n (arrival_at T t i +ℤ pos secs))) o)
-          (filter_map (λ j. hop_onto T t i (x ∷ xs) j) (filter (λ j. (stop_at T x j == q) && may_be_boarded T x j) ns))) (ap (change T (stop_at T t i)) (same_number (stop_at T x n) q (sym e)) ∙ none) ∙ more
+          (filter_map (λ j. hop_onto T t i (x ∷ xs) j) (filter (λ j. (stop_at T x j == q) && may_be_boarded T x j) ns))) (ap (change T (stop_at T t i)) (eqb-true (stop_at T x n) q (sym e)) ∙ none) ∙ more
       by_tests more true e false = more
       by_tests more false e b = more
 
@@ -216,7 +211,7 @@ module _ (T : TimetableData) (lines : List (List ℕ)) (t i p n : ℕ) (fs : Lis
   pub event_rows : (0 < i) → (event_at T t i).alight ≡ true → map (row_of t i) (candidates T lines t i)
       ≡ flat_map (λ f. rows_at T lines t i f.to f.secs (arrival_at T t i)) (take n fs) ++ (own_rows T lines t i p (arrival_at T t i) ++ flat_map (λ f. rows_at T lines t i f.to f.secs (arrival_at T t i)) (drop n fs))
   event_rows later alights =
-      ap (λ b. map (row_of t i) (cond b (flat_map (λ q. flat_map (λ line. filter_map (λ j. hop_onto T t i line j) (boarding_indexes T line q)) lines) (numbers_below (length T.stops))) [])) (both (nat_lt 0 i) (event_at T t i).alight (first i later) alights)
+      ap (λ b. map (row_of t i) (cond b (flat_map (λ q. flat_map (λ line. filter_map (λ j. hop_onto T t i line j) (boarding_indexes T line q)) lines) (numbers_below (length T.stops))) [])) (and_from (nat_lt 0 i) (event_at T t i).alight (first i later) alights)
       ∙ map-flat_map (row_of t i) (λ q. flat_map (λ line. filter_map (λ j. hop_onto T t i line j) (boarding_indexes T line q)) lines) (numbers_below (length T.stops))
       ∙ flat_map-same (λ q. map (row_of t i) (flat_map (λ line. filter_map (λ j. hop_onto T t i line j) (boarding_indexes T line q)) lines)) rows_to (numbers_below (length T.stops))
       (λ q m. stop_rows T t i q lines (change T p q) (ap (λ s. change T s q) (sym is)))
@@ -224,9 +219,6 @@ module _ (T : TimetableData) (lines : List (List ℕ)) (t i p n : ℕ) (fs : Lis
       ∙ flat_map-append rows_to (targets (take n fs)) (p ∷ targets (drop n fs))
       ∙ (λ k. targets_rows (take n fs) (taken n fs) k ++ (rows_after T lines t i p (arrival_at T t i) (change-same T p k) ++ targets_rows (drop n fs) (dropped n fs) k))
     where
-      both : (a b : Bool) → a ≡ true → b ≡ true → (a && b) ≡ true
-      both a b g h = cc
-
       first : (i : ℕ) → 0 < i → nat_lt 0 i ≡ true
       first i h = grind arith
 
@@ -253,32 +245,14 @@ pub found_trip : (T : TimetableData) (lines : List (List ℕ)) → AreDividedInt
 found_trip T lines divided n j time u h =
     let member = (find_found (λ u. int_le time (departure_at T u j)) (get_or lines n []) u h).0 in
     let there = placed_at (get_or lines n []) u member in
-    let among = stands_among lines n there.0 u there.1 in
+    let among = Member-concat_at lines n there.0 u there.1 in
     (All-contains (λ t. t < length T.trips) (concat lines) u divided.trips (Contains-from_Member u (concat lines) among), λ t i l p place stands found. own_line T lines divided t i u j l p n there.0 place stands found there.1)
 
 -- ---- where lines call
 
 pub berths_inside : (T : TimetableData) (lines : List (List ℕ)) (q : ℕ) → All (IsBerth T lines) (berths_at T lines q)
-berths_inside T lines q = from_members (berths_at T lines q) (λ b m. inside b m)
+berths_inside T lines q = All-from_Member (IsBerth T lines) (berths_at T lines q) (λ b m. inside b m)
   where
-    from_members : (bs : List Berth) → ((b : Berth) → Member b bs → IsBerth T lines b) → All (IsBerth T lines) bs
-    from_members [] f = All-nil (IsBerth T lines)
-    from_members (b ∷ bs) f = All-cons (IsBerth T lines) b bs (f b (inl refl)) (from_members bs (λ c m. f c (inr m)))
-
-    below : (k n : ℕ) → Member k (numbers_below n) → k < n
-    below k zero m = absurd m
-    below k (suc n) m = by_case (λ l. below k n l) (parts (numbers_below n) m)
-      where
-        parts : (xs : List ℕ) → Member k (xs ++ n ∷ []) → Member k xs ⊎ (n ≡ k)
-        parts [] (inl e) = inr e
-        parts [] (inr m) = absurd m
-        parts (x ∷ xs) (inl e) = inl (inl e)
-        parts (x ∷ xs) (inr m) = elim (parts xs m) [ inl l ↦ inl (inr l) | inr e ↦ inr e ]
-
-        by_case : (Member k (numbers_below n) → k < n) → Member k (numbers_below n) ⊎ (n ≡ k) → k < suc n
-        by_case more (inl l) = let h : k < n = more l in omega (arith, h)
-        by_case more (inr e) = omega (arith, e)
-
     mapped : (l : ℕ) (js : List ℕ) (b : Berth) → Member b (map (λ j. record { line = l; at = j }) js) → (b.line ≡ l) × Member b.at js
     mapped l [] b m = absurd m
     mapped l (j ∷ js) b (inl e) = (ap (λ (c : Berth). c.line) (sym e), inl (ap (λ (c : Berth). c.at) e))
@@ -290,8 +264,8 @@ berths_inside T lines q = from_members (berths_at T lines q) (λ b m. inside b m
         let at = mapped on.0 (calls_at T (get_or lines on.0 []) q) b on.2 in
         let index = (Member-filter_back (λ j. stop_at T (get_or (get_or lines on.0 []) 0 0) j == q) b.at (numbers_below (length (line_events T (get_or lines on.0 [])))) at.1).0 in
         record {
-          line = let h : on.0 < length lines = below on.0 (length lines) on.1 in omega (arith, h, at.0);
-          at = subst (λ l. b.at < length (line_events T (get_or lines l []))) (sym at.0) (below b.at (length (line_events T (get_or lines on.0 []))) index);
+          line = let h : on.0 < length lines = Member-numbers_below_back on.0 (length lines) on.1 in omega (arith, h, at.0);
+          at = subst (λ l. b.at < length (line_events T (get_or lines l []))) (sym at.0) (Member-numbers_below_back b.at (length (line_events T (get_or lines on.0 []))) index);
         }
 
 -- ---- a trip, from its last event down

@@ -5,15 +5,12 @@ use Rattle.std.specs.List.Sorted.{IsPartitionedBy}
 use Rattle.std.specs.List.{range_with_len, AllWithin}
 use Rattle.std.proofs.lemmas.List.{take-append-drop, map-append}
 use Rattle.std.proofs.lemmas.List.Elements.{All-head, All-tail}
+use Rattle.std.proofs.lemmas.Bool.{eqb-true, eq-eqb, ltb-true, lt-ltb, ltb-false}
 use Rattle.tb_base.specs.declared.table.Path.{Path}
 use Rattle.tb_base.specs.Transfers.{numbers_below}
 use Rattle.tb_base.proofs.Ordered.{Member, Contains-from_Member, AllPairs-head, AllPairs-tail}
 use Rattle.tb_base.proofs.Members.{Member-left, Member-right, Member-append}
-use Rattle.line_split.proofs.TripOrders.{range_more}
-
-pub numbers_below-range : (n : ℕ) → numbers_below n ≡ range_with_len 0 n
-numbers_below-range zero = refl
-numbers_below-range (suc n) = let z : n ≡ 0 + n = omega arith in (λ i. numbers_below-range n i ++ z i ∷ []) ∙ sym (range_more 0 n)
+use Rattle.tb_base.proofs.NumberFacts.{lt-eqb}
 
 -- numbers from a on and below b, in ascending order
 abbrev pub Between : ℕ → ℕ → List ℕ → Type 0
@@ -81,29 +78,20 @@ stops_between a b p (suc n) (f ∷ fs) up low high from inside before behind = (
       (λ k d low below. before (suc k) d (omega arith) (omega (arith, below))) (λ k d low below. behind (suc k) d (omega (arith, low)) (omega (arith, below))),
 )
 
-same_number : (a b : ℕ) → (a == b) ≡ true → a ≡ b
-same_number a b h = grind arith
-
 find-other : (q : ℕ) (fs : List Path) → (Member q (targets fs) → ⊥) → find (λ f. f.to == q) fs ≡ None
 find-other q [] out = refl
 find-other q (f ∷ fs) out = by_test (find-other q fs (λ m. out (inr m))) (f.to == q) refl
   where
     by_test : find (λ f. f.to == q) fs ≡ None → (b : Bool) → b ≡ (f.to == q) → cond b (Some f) (find (λ f. f.to == q) fs) ≡ None
-    by_test rest true e = absurd (out (inl (same_number f.to q (sym e))))
+    by_test rest true e = absurd (out (inl (eqb-true f.to q (sym e))))
     by_test rest false e = rest
 
 pub find-own : (fs : List Path) (g : Path) → Ascend fs → Member g fs → find (λ f. f.to == g.to) fs ≡ Some g
 find-own [] g up m = absurd m
-find-own (f ∷ fs) g up (inl e) = let t : (f.to == g.to) ≡ true = same_test f.to g.to (ap (λ (h : Path). h.to) e) in ap (λ b. cond b (Some f) (find (λ h. h.to == g.to) fs)) t ∙ ap (λ h. Some h) e
-  where
-    same_test : (a b : ℕ) → a ≡ b → (a == b) ≡ true
-    same_test a b h = grind arith
+find-own (f ∷ fs) g up (inl e) = let t : (f.to == g.to) ≡ true = eq-eqb f.to g.to (ap (λ (h : Path). h.to) e) in ap (λ b. cond b (Some f) (find (λ h. h.to == g.to) fs)) t ∙ ap (λ h. Some h) e
 find-own (f ∷ fs) g up (inr m) =
-    let t : (f.to == g.to) ≡ false = less_test f.to g.to (AllPairs-head (λ (f g : Path). f.to < g.to) f fs up g (Contains-from_Member g fs m)) in
+    let t : (f.to == g.to) ≡ false = lt-eqb f.to g.to (AllPairs-head (λ (f g : Path). f.to < g.to) f fs up g (Contains-from_Member g fs m)) in
     ap (λ b. cond b (Some f) (find (λ h. h.to == g.to) fs)) t ∙ find-own fs g (AllPairs-tail (λ (f g : Path). f.to < g.to) f fs up) m
-  where
-    less_test : (a b : ℕ) → a < b → (a == b) ≡ false
-    less_test a b h = grind arith
 
 -- a stop that is none of these has no footpath
 pub find-none : (n q p : ℕ) (fs : List Path) → (Member q (targets (take n fs) ++ p ∷ targets (drop n fs)) → ⊥) → find (λ f. f.to == q) fs ≡ None
@@ -121,15 +109,6 @@ Member-from_at q p xs ys e = Member-right q xs (p ∷ ys) (inl e)
 
 -- ---- footpaths to lesser and to greater numbers
 
-true_lt : (a b : ℕ) → nat_lt a b ≡ true → a < b
-true_lt a b h = grind arith
-
-lt_true : (a b : ℕ) → a < b → nat_lt a b ≡ true
-lt_true a b h = grind arith
-
-false_le : (a b : ℕ) → nat_lt a b ≡ false → b ≤ a
-false_le a b h = grind arith
-
 pub partitioned : (fs : List Path) (p : ℕ) → AllPairs (λ (f g : Path). f.to < g.to) fs → IsPartitionedBy (λ f. nat_lt f.to p) fs
 partitioned fs p up i j d h k t = by_case (same_or_before i j h)
   where
@@ -137,11 +116,11 @@ partitioned fs p up i j d h k t = by_case (same_or_before i j h)
     same_or_before i j h = grind arith
 
     by_case : (i < j) ⊎ (j ≡ i) → nat_lt (get_or fs i d).to p ≡ true
-    by_case (inl before) = lt_true (get_or fs i d).to p (let a : (get_or fs i d).to < (get_or fs j d).to = up i j d before k in let b : (get_or fs j d).to < p = true_lt (get_or fs j d).to p t in omega (arith, a, b))
+    by_case (inl before) = lt-ltb (get_or fs i d).to p (let a : (get_or fs i d).to < (get_or fs j d).to = up i j d before k in let b : (get_or fs j d).to < p = ltb-true (get_or fs j d).to p t in omega (arith, a, b))
     by_case (inr e) = subst (λ n. nat_lt (get_or fs n d).to p ≡ true) e t
 
 pub all_below : (fs : List Path) (p n : ℕ) → AllWithin (λ f. nat_lt f.to p ≡ true) fs 0 n → AllWithin (λ f. f.to < p) fs 0 n
-all_below fs p n h k d low high = true_lt (get_or fs k d).to p (h k d low high)
+all_below fs p n h k d low high = ltb-true (get_or fs k d).to p (h k d low high)
 
 pub all_from : (fs : List Path) (p n : ℕ) → AllWithin (λ f. nat_lt f.to p ≡ false) fs n (length fs) → AllWithin (λ f. p ≤ f.to) fs n (length fs)
-all_from fs p n h k d low high = false_le (get_or fs k d).to p (h k d low high)
+all_from fs p n h k d low high = ltb-false (get_or fs k d).to p (h k d low high)

@@ -14,6 +14,8 @@ use Rattle.tb_base.specs.Transfers.{numbers_below}
 use Rattle.tb_base.proofs.Listing.{from_events, hop_of}
 use Rattle.transfer_pack.specs.Packed.{AreBounds, FitsRuns, PackedHops, packed, runs_in}
 use Rattle.transfer_pack.proofs.Bounds.{bounds_more, runs_more}
+use Rattle.tb_base.proofs.Lists.{length-numbers_below}
+use Rattle.tb_base.proofs.NumberFacts.{below_or_last}
 
 -- the hops from an event, and those of one more transfer
 pub hops_more : (row : List Transfer) (k i : ℕ) (r : Transfer) → k < length row → r ≡ get_or row k r → hops_at (take (k + 1) row) i ≡ hops_at (take k row) i ++ map hop_of (filter (λ q. q.at == i) (r ∷ []))
@@ -30,13 +32,6 @@ pub hops_elsewhere : (row : List Transfer) (k i : ℕ) (r : Transfer) → k < le
 hops_elsewhere row k i r inside at other =
     let test : (r.at == i) ≡ false = grind (arith, nat_tests, other) in
     hops_more row k i r inside at ∙ ap (λ b. hops_at (take k row) i ++ map hop_of (cond b (r ∷ []) [])) test ∙ append-nil (hops_at (take k row) i)
-
-length-numbers_below : (n : ℕ) → length (numbers_below n) ≡ n
-length-numbers_below zero = refl
-length-numbers_below (suc n) = omega (arith, length-append (numbers_below n) (n ∷ []), length-numbers_below n)
-
-below_or_last : (t n : ℕ) → t < suc n → (t < n) ⊎ (t ≡ n)
-below_or_last t n h = grind arith
 
 at_end : {X : Type 0} (ys : List X) (y d : X) → get_or (ys ++ y ∷ []) (length ys) d ≡ y
 at_end [] y d = refl

@@ -18,6 +18,7 @@ use Rattle.tb_laws.proofs.Triangles.{change-change, change-other, walk-other, wa
 use Rattle.tb_laws.specs.Labels.{label}
 use Rattle.transfer_reduce.proofs.Lesser.{IsOffered, earliest_sooner, label_below, label_offered, not_sooner-some, offer_by, some_not_sooner}
 use Rattle.transfer_reduce.proofs.Walks.{offer_by-walk, plus_zero, sooner_at}
+use Rattle.tb_base.proofs.Lists.{option_map-back}
 
 -- ---- some element passes
 
@@ -72,10 +73,6 @@ module _ (T : TimetableData) (sound : IsSound T) where
       by_case (inl e) = subst (λ o. IsSomeAnd o (λ u. u ≤ s + t)) (sym (ap (λ x. change T x r) e ∙ h)) (let l : t ≤ s + t = omega arith in l)
       by_case (inr d) = change-change T sound.law p q r s t (change-other T p q d ∙ (sym (walk-other T p q d) ∙ g)) h
 
-  back : (f : ℕ → ℤ) (o : Option ℕ) (y : ℤ) → option_map f o ≡ Some y → (n : ℕ) × (o ≡ Some n) × (f n ≡ y)
-  back f None y h = cc
-  back f (Some n) y h = (n, refl, cc)
-
   -- an event that is no sooner at its own stop is no sooner anywhere
   not_sooner : (secs_to : ℕ → ℕ → Option ℕ) → FollowsWalks secs_to → (ess : List (List Event)) (e : Event) → is_sooner (Some e.arr) (label (walk T) ess e.stop) ≡ false → (p : ℕ) →
       is_sooner (offer_by secs_to e p) (label secs_to ess p) ≡ false
@@ -93,7 +90,7 @@ module _ (T : TimetableData) (sound : IsSound T) where
       by_secs (Some t) w None k below = absurd below
       by_secs (Some t) w (Some y) k below =
           let r : IsOffered (walk T) ess e.stop y = label_offered (walk T) ess e.stop y (sym k) in
-          let way = back (λ n. r.event.arr +ℤ pos n) (walk T r.event.stop e.stop) y (sym (offer_by-walk T r.event e.stop) ∙ r.offer) in
+          let way = option_map-back (λ n. r.event.arr +ℤ pos n) (walk T r.event.stop e.stop) y (sym (offer_by-walk T r.event e.stop) ∙ r.offer) in
           some_not_sooner (e.arr +ℤ pos t) (label secs_to ess p)
           (label_below secs_to ess p r.events r.event (e.arr +ℤ pos t) r.among r.member
           (offered_in r.event.arr e.arr (secs_to r.event.stop p) way.0 t y way.2 below (follows r.event.stop e.stop p way.0 t way.1 (sym w))))

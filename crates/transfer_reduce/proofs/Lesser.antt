@@ -9,6 +9,7 @@ use Rattle.tb_base.specs.declared.table.Event.{Event}
 use Rattle.tb_base.specs.Transfers.{earliest_offer, is_sooner, least}
 use Rattle.tb_base.proofs.Ordered.{Member}
 use Rattle.tb_laws.specs.Labels.{lesser, label}
+use Rattle.tb_base.proofs.NumberFacts.{≤ℤ-antisym, le-int_le, int_lt-false, ≤ℤ-trans, ≤ℤ-refl}
 
 pub ≤ℤ-cases : (x y : ℤ) → (x ≤ℤ y) ⊎ (y ≤ℤ x)
 ≤ℤ-cases x y = by_test (int_le x y) refl
@@ -23,20 +24,8 @@ pub ≤ℤ-cases : (x y : ℤ) → (x ≤ℤ y) ⊎ (y ≤ℤ x)
     by_test true e = inl (yes (sym e))
     by_test false e = inr (no (sym e))
 
-pub ≤ℤ-trans : (x y z : ℤ) → x ≤ℤ y → y ≤ℤ z → x ≤ℤ z
-≤ℤ-trans x y z g h = omega (arith, ints, g, h)
-
-pub ≤ℤ-refl : (x : ℤ) → x ≤ℤ x
-≤ℤ-refl x = omega (arith, ints)
-
-≤ℤ-antisym : (x y : ℤ) → x ≤ℤ y → y ≤ℤ x → x ≡ y
-≤ℤ-antisym x y g h = omega (arith, ints, g, h)
-
 pub lesser-left : (x y : ℤ) → x ≤ℤ y → lesser (Some x) (Some y) ≡ Some x
-lesser-left x y h = ap (λ b. cond b (Some x) (Some y)) (test x y h)
-  where
-    test : (x y : ℤ) → x ≤ℤ y → int_le x y ≡ true
-    test x y h = grind (arith, ints)
+lesser-left x y h = ap (λ b. cond b (Some x) (Some y)) (le-int_le x y h)
 
 pub lesser-right : (x y : ℤ) → y ≤ℤ x → lesser (Some x) (Some y) ≡ Some y
 lesser-right x y h = by_case (≤ℤ-cases x y)
@@ -94,18 +83,12 @@ lesser-below_right a b x h = subst (λ o. IsSomeAnd o (λ y. y ≤ℤ x)) (lesse
 pub not_sooner-lesser : (a b : Option ℤ) → is_sooner a b ≡ false → lesser a b ≡ b
 not_sooner-lesser None b h = refl
 not_sooner-lesser (Some x) None h = cc
-not_sooner-lesser (Some x) (Some y) h = lesser-right x y (at_most x y h)
-  where
-    at_most : (x y : ℤ) → int_lt x y ≡ false → y ≤ℤ x
-    at_most x y h = grind (arith, ints, h)
+not_sooner-lesser (Some x) (Some y) h = lesser-right x y (int_lt-false x y h)
 
 -- what is not sooner comes no earlier than some time
 pub not_sooner-some : (x : ℤ) (b : Option ℤ) → is_sooner (Some x) b ≡ false → IsSomeAnd b (λ y. y ≤ℤ x)
 not_sooner-some x None h = cc
-not_sooner-some x (Some y) h = at_most x y h
-  where
-    at_most : (x y : ℤ) → int_lt x y ≡ false → y ≤ℤ x
-    at_most x y h = grind (arith, ints, h)
+not_sooner-some x (Some y) h = int_lt-false x y h
 
 pub some_not_sooner : (x : ℤ) (b : Option ℤ) → IsSomeAnd b (λ y. y ≤ℤ x) → is_sooner (Some x) b ≡ false
 some_not_sooner x None h = absurd h

@@ -3,7 +3,7 @@ use Rattle.std.proofs.Common.{◌≡◌, ◌≢◌, ◌∙◌, sym, ap, subst, r
 use Rattle.std.specs.Prelude.{All, AllPairs, filter, int_lt, IsSomeAnd, slice_get}
 use Rattle.std.specs.List.{cons_option, list_any}
 use Rattle.std.specs.Option.{option_map}
-use Rattle.std.proofs.lemmas.Bool.{cases_eq}
+use Rattle.std.proofs.lemmas.Bool.{cases_eq, ne_eqb, eq-eqb, or_parts}
 use Rattle.std.proofs.lemmas.Int.{ints}
 use Rattle.std.proofs.lemmas.List.{append-nil, get_or_default, get_or-take, length-take, map-set, take_more}
 use Rattle.std.proofs.lemmas.List.Elements.{All-head, All-tail, filter_more}
@@ -20,16 +20,15 @@ use Rattle.tb_laws.specs.Labels.{lesser}
 use Rattle.transfer_reduce.specs.declared.labels.Label.{Label}
 use Rattle.transfer_reduce.specs.Stamped.{shown}
 use Rattle.transfer_reduce.specs.Walked.{AreWalked, offer_at, offer_if, path_offer}
-use Rattle.transfer_reduce.proofs.Lesser.{≤ℤ-trans, lesser-assoc, lesser-below_left, lesser-below_right, lesser-comm, lesser-is, lesser-left, not_sooner-lesser, not_sooner-some, some_not_sooner, offer_by, earliest_offer-cons, earliest_offer-snoc}
+use Rattle.transfer_reduce.proofs.Lesser.{lesser-assoc, lesser-below_left, lesser-below_right, lesser-comm, lesser-is, lesser-left, not_sooner-lesser, not_sooner-some, some_not_sooner, offer_by, earliest_offer-cons, earliest_offer-snoc}
+use Rattle.tb_base.proofs.NumberFacts.{lt-eqb, ≤ℤ-plus, ≤ℤ-trans}
+use Rattle.tb_base.proofs.Lists.{option_map-back}
 
 -- ---- labels
 
 pub shown_none : (stamp : ℕ) (xs : List Label) → All (λ e. e.stamp < stamp) xs → map (shown stamp) xs ≡ replicate (length xs) None
 shown_none stamp [] h = refl
-shown_none stamp (x ∷ xs) h = (λ i. (ap (λ b. cond b (Some x.time) None) (other x.stamp stamp (All-head (λ (e : Label). e.stamp < stamp) x xs h))) i ∷ shown_none stamp xs (All-tail (λ (e : Label). e.stamp < stamp) x xs h) i)
-  where
-    other : (a b : ℕ) → a < b → (a == b) ≡ false
-    other a b h = grind arith
+shown_none stamp (x ∷ xs) h = (λ i. (ap (λ b. cond b (Some x.time) None) (lt-eqb x.stamp stamp (All-head (λ (e : Label). e.stamp < stamp) x xs h))) i ∷ shown_none stamp xs (All-tail (λ (e : Label). e.stamp < stamp) x xs h) i)
 
 pub sooner-lesser : (x : ℤ) (b : Option ℤ) → is_sooner (Some x) b ≡ true → lesser (Some x) b ≡ Some x
 sooner-lesser x None h = refl
@@ -42,10 +41,7 @@ sooner-lesser x (Some y) h = lesser-left x y (at_most x y h)
 
 find-none : (t : ℕ) (xs : List Path) → ((j : ℕ) (d : Path) → j < length xs → (get_or xs j d).to ≢ t) → find (λ f. f.to == t) xs ≡ None
 find-none t [] h = refl
-find-none t (f ∷ fs) h = ap (λ b. cond b (Some f) (find (λ g. g.to == t) fs)) (other f.to t (h 0 f (omega arith))) ∙ find-none t fs (λ j d k. h (suc j) d (omega (arith, k)))
-  where
-    other : (a b : ℕ) → (a ≡ b → ⊥) → (a == b) ≡ false
-    other a b h = grind arith
+find-none t (f ∷ fs) h = ap (λ b. cond b (Some f) (find (λ g. g.to == t) fs)) (ne_eqb f.to t (h 0 f (omega arith))) ∙ find-none t fs (λ j d k. h (suc j) d (omega (arith, k)))
 
 find-snoc_none : (test : Path → Bool) (xs : List Path) (y : Path) → find test xs ≡ None → find test (xs ++ y ∷ []) ≡ cond (test y) (Some y) None
 find-snoc_none test [] y h = refl
@@ -78,7 +74,7 @@ path_more e paths k f old before new p below is up h long inside inv = by_case (
 
     by_case : (p ≡ f.to) ⊎ (p ≢ f.to) → get_or new p None ≡ lesser (path_offer e (take (k + 1) paths) p) (get_or old p None)
     by_case (inl s) =
-        let test : (f.to == p) ≡ true = same f.to p (sym s) in
+        let test : (f.to == p) ≡ true = eq-eqb f.to p (sym s) in
         let none : find (λ g. g.to == p) (take k paths) ≡ None = ap (λ t. find (λ g. g.to == t) (take k paths)) s ∙ none_before in
         let found : find (λ g. g.to == p) (take (k + 1) paths) ≡ Some f = ap (find (λ g. g.to == p)) taken ∙ find-snoc_none (λ g. g.to == p) (take k paths) f none ∙ ap (λ b. cond b (Some f) None) test in
         let here : get_or new p None ≡ lesser (Some (e.arr +ℤ pos f.secs)) (get_or before p None) =
@@ -86,17 +82,11 @@ path_more e paths k f old before new p below is up h long inside inv = by_case (
         ∙ get_or-set_same before p (lesser (Some (e.arr +ℤ pos f.secs)) (get_or before p None)) None (omega (arith, inside, long)) in
         here ∙ ap (lesser (Some (e.arr +ℤ pos f.secs))) (inv ∙ ap (λ o. lesser (option_map (λ g. e.arr +ℤ pos g.secs) o) (get_or old p None)) none)
         ∙ ap (λ o. lesser (option_map (λ g. e.arr +ℤ pos g.secs) o) (get_or old p None)) (sym found)
-      where
-        same : (a b : ℕ) → a ≡ b → (a == b) ≡ true
-        same a b h = grind arith
     by_case (inr s) =
-        let test : (f.to == p) ≡ false = other f.to p (λ k. s (sym k)) in
+        let test : (f.to == p) ≡ false = ne_eqb f.to p (λ k. s (sym k)) in
         let found : find (λ g. g.to == p) (take (k + 1) paths) ≡ find (λ g. g.to == p) (take k paths) = ap (find (λ g. g.to == p)) taken ∙ find-snoc_other (λ g. g.to == p) (take k paths) f test in
         ap (λ xs. get_or xs p None) h ∙ get_or-set_other before f.to p (lesser (Some (e.arr +ℤ pos f.secs)) (get_or before f.to None)) None s ∙ inv
         ∙ ap (λ o. lesser (option_map (λ g. e.arr +ℤ pos g.secs) o) (get_or old p None)) (sym found)
-      where
-        other : (a b : ℕ) → (a ≡ b → ⊥) → (a == b) ≡ false
-        other a b h = grind arith
 
 -- ---- one event
 
@@ -135,11 +125,8 @@ absorbed T labels walked e h p = by_walk (walk T e.stop p) refl (get_or labels e
     by_walk (Some secs) w None k below = absurd below
     by_walk (Some secs) w (Some y) k below =
         let there : IsSomeAnd (get_or labels p None) (λ z. z ≤ℤ (y +ℤ pos secs)) = walked.on_foot e.stop p secs y (sym k) (sym w) in
-        not_sooner-lesser (Some (e.arr +ℤ pos secs)) (get_or labels p None) (some_not_sooner (e.arr +ℤ pos secs) (get_or labels p None) (later (get_or labels p None) (y +ℤ pos secs) (e.arr +ℤ pos secs) (plus y e.arr secs below) there))
+        not_sooner-lesser (Some (e.arr +ℤ pos secs)) (get_or labels p None) (some_not_sooner (e.arr +ℤ pos secs) (get_or labels p None) (later (get_or labels p None) (y +ℤ pos secs) (e.arr +ℤ pos secs) (≤ℤ-plus y e.arr secs below) there))
       where
-        plus : (y x : ℤ) (n : ℕ) → y ≤ℤ x → (y +ℤ pos n) ≤ℤ (x +ℤ pos n)
-        plus y x n h = omega (arith, ints, h)
-
         later : (o : Option ℤ) (x y : ℤ) → x ≤ℤ y → IsSomeAnd o (λ z. z ≤ℤ x) → IsSomeAnd o (λ z. z ≤ℤ y)
         later None x y h k = k
         later (Some z) x y h k = ≤ℤ-trans z x y k h
@@ -154,10 +141,6 @@ walked_more T sound e old new long same walked h = record { on_foot = on_foot }
     some_inside (y ∷ ys) zero x h = omega arith
     some_inside (y ∷ ys) (suc p) x h = let k : p < length ys = some_inside ys p x h in omega (arith, k)
 
-    back : (f : ℕ → ℤ) (o : Option ℕ) (y : ℤ) → option_map f o ≡ Some y → (n : ℕ) × (o ≡ Some n) × (f n ≡ y)
-    back f None y h = cc
-    back f (Some n) y h = (n, refl, cc)
-
     two : (a x y : ℤ) (s t u : ℕ) → (a +ℤ pos s) ≡ x → u ≤ s + t → y ≡ (a +ℤ pos u) → y ≤ℤ (x +ℤ pos t)
     two a x y s t u g h k = omega (arith, ints, g, h, k)
 
@@ -170,12 +153,12 @@ walked_more T sound e old new long same walked h = record { on_foot = on_foot }
       where
         by_case : (offer_at T e p ≡ Some time) ⊎ (get_or old p None ≡ Some time) → IsSomeAnd (lesser (offer_at T e q) (get_or old q None)) (λ y. y ≤ℤ (time +ℤ pos secs))
         by_case (inl k) =
-            let first = back (λ n. e.arr +ℤ pos n) (walk T e.stop p) time k in
+            let first = option_map-back (λ n. e.arr +ℤ pos n) (walk T e.stop p) time k in
             lesser-below_left (offer_at T e q) (get_or old q None) (time +ℤ pos secs) (on (walk T e.stop q) (walk-walk T sound.law e.stop p q first.0 secs first.1 w))
           where
-            on : (o : Option ℕ) → IsSomeAnd o (λ u. u ≤ (back (λ n. e.arr +ℤ pos n) (walk T e.stop p) time k).0 + secs) → IsSomeAnd (option_map (λ n. e.arr +ℤ pos n) o) (λ y. y ≤ℤ (time +ℤ pos secs))
+            on : (o : Option ℕ) → IsSomeAnd o (λ u. u ≤ (option_map-back (λ n. e.arr +ℤ pos n) (walk T e.stop p) time k).0 + secs) → IsSomeAnd (option_map (λ n. e.arr +ℤ pos n) o) (λ y. y ≤ℤ (time +ℤ pos secs))
             on None k = k
-            on (Some u) m = two e.arr time (e.arr +ℤ pos u) (back (λ n. e.arr +ℤ pos n) (walk T e.stop p) time k).0 secs u (back (λ n. e.arr +ℤ pos n) (walk T e.stop p) time k).2 m refl
+            on (Some u) m = two e.arr time (e.arr +ℤ pos u) (option_map-back (λ n. e.arr +ℤ pos n) (walk T e.stop p) time k).0 secs u (option_map-back (λ n. e.arr +ℤ pos n) (walk T e.stop p) time k).2 m refl
         by_case (inr k) = lesser-below_right (offer_at T e q) (get_or old q None) (time +ℤ pos secs) (walked.on_foot p q secs time k w)
 
 pub walked_none : (T : TimetableData) (labels : List (Option ℤ)) → ((p : ℕ) → get_or labels p None ≡ None) → AreWalked T labels
@@ -200,10 +183,6 @@ offer_by-walk T e p = by_option (walk T e.stop p)
     by_option : (o : Option ℕ) → least (cons_option (option_map (λ secs. e.arr +ℤ pos secs) o) []) ≡ option_map (λ secs. e.arr +ℤ pos secs) o
     by_option None = refl
     by_option (Some secs) = refl
-
-or_parts : (a b : Bool) → (a || b) ≡ false → (a ≡ false) × (b ≡ false)
-or_parts false b h = (refl, h)
-or_parts true b h = cc
 
 -- events of which none is sooner at its stop lower nothing
 pub all_absorbed : (T : TimetableData) (labels : List (Option ℤ)) → AreWalked T labels → (es : List Event) → list_any (sooner_at labels) es ≡ false → (p : ℕ) → lesser (earliest_offer (walk T) es p) (get_or labels p None) ≡ get_or labels p None

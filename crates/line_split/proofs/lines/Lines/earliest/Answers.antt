@@ -1,10 +1,10 @@
 use Rattle.std.proofs.Common.{◌∙◌, sym, ap, arith, ◌<◌, ◌≤◌, length, [], get_or, Some}
 use Rattle.std.proofs.lemmas.Int.{to_z-of_z}
 use Rattle.std.specs.Int.{w32}
-use Rattle.std.proofs.lemmas.Option.{slice_get-get_or}
+use Rattle.std.proofs.lemmas.Option.{slice_get-get_or, slice_get_past}
 use Rattle.tb_base.specs.Transfers.{earliest_trip}
 use Rattle.line_split.specs.LinesData.{LinesData}
-use Rattle.line_split.proofs.DepartureLemmas.{run_ascends, found_at, slice_get-past}
+use Rattle.line_split.proofs.DepartureLemmas.{run_ascends, found_at}
 use Rattle.line_split.proofs.lines.Lines.earliest.Goals as goal
 
 pub departures_at-requires-clause-at : goal.departures_at-requires-clause-at
@@ -31,4 +31,4 @@ returns-else-place-trips c =
     let found = found_at now.table line c.row-trips.result.now c.args.at c.first_from-place.result c.args.time _ c.departures_at.result.now
     (to_z-of_z w32 c.args.time c.ranges.time) c.departures_at.ensures row c.first_from-place.ensures.earlier c.first_from-place.ensures.from in
     let past : length c.row-trips.result.now ≤ c.first_from-place.result = omega arith in
-    sym (ap (λ T. earliest_trip T line c.args.at c.args.time) (sym c.requires.table) ∙ found ∙ slice_get-past c.row-trips.result.now c.first_from-place.result past)
+    sym (ap (λ T. earliest_trip T line c.args.at c.args.time) (sym c.requires.table) ∙ found ∙ slice_get_past c.row-trips.result.now c.first_from-place.result past)

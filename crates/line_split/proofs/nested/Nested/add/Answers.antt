@@ -1,6 +1,6 @@
 use Rattle.std.proofs.Common.{◌<◌, length, arith}
 use Rattle.std.proofs.lemmas.Grind.{common_steps}
-use Rattle.line_split.proofs.RowLemmas.{row_added}
+use Rattle.tb_base.proofs.Lists.{row_added}
 use Rattle.line_split.proofs.nested.Nested.add.Goals as goal
 
 pub returns : goal.returns
