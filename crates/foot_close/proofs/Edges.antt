@@ -2,7 +2,7 @@
 use Rattle.std.proofs.Common.{◌≡◌, sym, ap, subst, refl, ℕ, ◌<◌, ◌≤◌, List, [], ◌∷◌, ◌++◌, length, get_or, true, Option, Some, None, find, arith, inl, inr}
 use Rattle.std.specs.Prelude.{◌==◌, Contains, All, IfSome}
 use Rattle.std.specs.Option.{option_map}
-use Rattle.std.proofs.lemmas.Bool.{cases_Bool, cases_lt}
+use Rattle.std.proofs.lemmas.Bool.{cases_Bool, cases_lt, eq-eqb}
 use Rattle.std.proofs.lemmas.Bool.Decides.{nat_tests}
 use Rattle.std.proofs.lemmas.List.{get_or_past}
 use Rattle.std.proofs.lemmas.List.Elements.{Contains-append_left, Contains-append_right, Contains-append_cases, All-contains}
@@ -32,11 +32,8 @@ own_inside q r w o e f =
     subst (λ (o : Option ℕ). Contains (own_row q o) (record { to = r; secs = w })) (sym f)
     (subst (λ x. Contains {X = Path} (record { to = q; secs = w } ∷ []) (record { to = x; secs = w })) e (Contains-from_Member (record { to = q; secs = w }) (record { to = q; secs = w } ∷ []) (inl refl)))
 
-same_test : (p q : ℕ) → p ≡ q → (p == q) ≡ true
-same_test p q e = grind (arith, nat_tests, e)
-
 own_between : (P : FootpathData) (q r : ℕ) (o : Option ℕ) → q ≡ r → get_or P.change q None ≡ o → change_between P q r ≡ o
-own_between P q r o e own = rw (same_test q r e) own
+own_between P q r o e own = rw (eq-eqb q r e) own
 
 pub row_secs : (P : FootpathData) (q : ℕ) (f : Path) → IsSoundFootpaths P → q < length P.change → Contains (get_or P.paths q []) f → change_between P q f.to ≡ Some f.secs
 row_secs P q f sound inside h =

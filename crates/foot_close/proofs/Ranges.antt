@@ -121,14 +121,6 @@ far_range f (suc k) a = by_secs (far_range f k (a + 1)) (f a) refl
       | inr n ↦ (let l : s ≤ 86400 = grind (arith, nat_tests, n) in rw (e, n) (on (rw e l) _ rest))
     ]
 
--- a search of a list from a place on
-pub find_on : {X : Type 0} (p : X → Bool) (xs : List X) (i : ℕ) (x : X) → i < length xs → x ≡ get_or xs i x → p x ≡ false → find p (drop i xs) ≡ find p (drop (i + 1) xs)
-find_on p xs i x h at fails =
-    let parts : drop i xs ≡ get_or xs i x ∷ drop (suc i) xs = drop-cons xs i x h in
-    let one : suc i ≡ i + 1 = omega arith in
-    let fails_there : p (get_or xs i x) ≡ false = ap p (sym at) ∙ fails in
-    ap (find p) parts ∙ ap (λ b. cond b (Some (get_or xs i x)) (find p (drop (suc i) xs))) fails_there ∙ ap (λ k. find p (drop k xs)) one
-
 pub find_here : {X : Type 0} (p : X → Bool) (xs : List X) (i : ℕ) (x : X) → i < length xs → x ≡ get_or xs i x → p x ≡ true → find p (drop i xs) ≡ Some x
 find_here p xs i x h at passes =
     let parts : drop i xs ≡ get_or xs i x ∷ drop (suc i) xs = drop-cons xs i x h in

@@ -36,19 +36,6 @@ one_only f g h = elim (Member-from_Contains g (f ∷ []) h) [ inl e ↦ e | inr 
 one_inside : {X : Type 0} (x : X) → Contains (x ∷ []) x
 one_inside x = Contains-from_Member x (x ∷ []) (inl refl)
 
-pub relaxed_none : (secs : ℕ) (s : SearchData) → IsBounded s.marks → IsRelaxed [] secs s s
-relaxed_none secs s bounded = record {
-  many = refl;
-  more = [];
-  grows = sym (append-nil s.waiting);
-  lowers = λ q t e. same_most (mark s.marks q) t e;
-  each = λ q t e. inl e;
-  relaxed = λ f h. absurd (Member-from_Contains f [] h);
-  bounded = bounded;
-  count = omega arith;
-  cost = omega arith;
-}
-
 -- two rows, one after the other
 pub relaxed_both : (first second : List Path) (secs : ℕ) (old mid new : SearchData) → IsRelaxed first secs old mid → IsRelaxed second secs mid new → IsRelaxed (first ++ second) secs old new
 relaxed_both first second secs old mid new h k = record {

@@ -41,13 +41,13 @@ fn is_held(secs: u64, mark: Option<u64>) -> bool
 /// The least seconds so far to each stop, the stops that got them, and both in order; a stop stands
 /// there once for each time that its seconds fell.
 #[derive(Drop)]
-pub struct Search {
+pub struct ChainSearch {
     marks: Vec<Option<u64>>,
     lowered: Vec<u32>,
     waiting: Vec<Reached>,
 }
 
-impl Model for Search {
+impl Model for ChainSearch {
     ghost use Rattle.std.specs.Prelude.{◌<◌, All, length};
     ghost use Rattle.foot_close.specs.declared.search.Reached.{Reached};
     ghost use Rattle.foot_close.specs.Searching.{SearchData, IsCovered};
@@ -64,13 +64,13 @@ impl Model for Search {
         × All (λ r. Reached.stop r < length s.marks.items) s.waiting.items };
 }
 
-impl Search {
+impl ChainSearch {
     /// No stop is reached.
-    pub fn new(alloc: Global, count: usize) -> Result<Search, Memory>
+    pub fn new(alloc: Global, count: usize) -> Result<ChainSearch, Memory>
         ensures { IfOk result (λ search. IsFresh count search) }
     {
         let marks = vec![in alloc; None; count]?;
-        Ok(Search {
+        Ok(ChainSearch {
             marks,
             lowered: Vec::new(alloc),
             waiting: Vec::new(alloc),

@@ -8,7 +8,7 @@ ghost use Rattle.foot_close.specs.Tables.{path_of, IsTable};
 ghost use Rattle.foot_close.specs.Closing.{footpath_total, IsCloseRefused};
 
 use crate::CloseFault;
-use crate::search::{Reached, Search};
+use crate::search::{ChainSearch, Reached};
 use footpaths::Paths;
 use std::alloc::Global;
 use std::marker::Model;
@@ -54,7 +54,7 @@ fn reach_all(alloc: Global, given: &Paths) -> Result<Vec<Vec<Reached>>, CloseFau
         (λ rows. IsTable given.now (map (λ row. row.items) rows.items)) (IsCloseRefused given.now) }
 {
     let count = given.change.len();
-    let mut search = Search::new(alloc, count)?;
+    let mut search = ChainSearch::new(alloc, count)?;
     let mut rows: Vec<Vec<Reached>> = Vec::new(alloc);
     let mut total: u64 = 0;
     for from in 0..count as u32 {

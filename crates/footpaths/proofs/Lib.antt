@@ -1,7 +1,7 @@
 pub mod StopRows
 pub mod StopPlaces
 pub mod TransferRows
-pub mod MarkLaws
+pub mod BestRuleLaws
 pub mod NetworkLaws
 pub mod VerdictLaws
 pub mod NumberLists

@@ -15,7 +15,8 @@ use Rattle.footpaths.specs.declared.found.Link.{Link}
 use Rattle.footpaths.specs.Stops.{has_stop_id, platforms, stations, parent_station, station_of}
 use Rattle.footpaths.specs.Footpaths.{is_number, numbers}
 use Rattle.footpaths.specs.Network.{platform_key, station_key, platform_keys, station_keys, parent_keys, HasLinkEnds, IsEnd}
-use Rattle.footpaths.proofs.StopPlaces.{length_kept, place_below}
+use Rattle.footpaths.proofs.StopPlaces.{place_below}
+use Rattle.tb_base.proofs.Lists.{length-filter_le}
 
 at_most : (o : Option ℕ) (n : ℕ) → IfSome o (λ k. k < n) → unwrap_or o n ≤ n
 at_most None n h = omega arith
@@ -23,7 +24,7 @@ at_most (Some k) n h = omega arith
 
 station_below_by : (stops : List StopData) (o : Option StopData) → IfSome (option_and_then (parent_station stops) o) (λ k. k < length stops)
 station_below_by stops None = tt
-station_below_by stops (Some s) = place_below (has_stop_id s.parent) (stations stops) (length stops) (parent_station stops s) refl (length_kept (λ s. is_station s.kind) stops)
+station_below_by stops (Some s) = place_below (has_stop_id s.parent) (stations stops) (length stops) (parent_station stops s) refl (length-filter_le (λ s. is_station s.kind) stops)
 
 -- the number of a station is below the number of rows
 pub station_below : (stops : List StopData) (p : ℕ) → IfSome (station_of stops p) (λ k. k < length stops)
@@ -33,7 +34,7 @@ pub parent_keys_within : (stops : List StopData) → All (λ key. key ≤ length
 parent_keys_within stops = All-map (λ key. key ≤ length stops) (λ p. unwrap_or (station_of stops p) (length stops)) (numbers (length (platforms stops))) (λ k d h. at_most (station_of stops _) (length stops) (station_below stops _))
 
 platform_key_le : (stops : List StopData) (to : Found) → IsEnd stops to → platform_key (length stops) to ≤ length stops
-platform_key_le stops (found.Platform n) h = omega (arith, length_kept (λ s. is_platform s.kind) stops)
+platform_key_le stops (found.Platform n) h = omega (arith, length-filter_le (λ s. is_platform s.kind) stops)
 platform_key_le stops (found.Station k) h = omega arith
 platform_key_le stops found.Other h = omega arith
 

@@ -1,8 +1,7 @@
 -- The rows that lead to a platform, and what they say of the ways to it.
 use Rattle.std.proofs.Common.{◌≡◌, ◌≢◌, ◌∙◌, sym, ap, refl, ℕ, ◌+◌, ◌<◌, List, [], ◌∷◌, length, map, fold, get_or, set, cond, Bool, true, false, ◌&&◌, ◌||◌, Option, Some, None, arith, inl, inr}
 use Rattle.std.specs.Prelude.{◌==◌, filter, is_some, unwrap_or}
-use Rattle.std.specs.Option.{option_or}
-use Rattle.std.proofs.lemmas.Bool.{cases_Bool}
+use Rattle.std.proofs.lemmas.Bool.{cases_Bool, ne_eqb}
 use Rattle.std.proofs.lemmas.Bool.Decides.{nat_tests}
 use Rattle.std.proofs.lemmas.List.{length-map, get_or-map, get_or-set_same, get_or-set_other}
 use Rattle.groups.specs.Places.{places_of}
@@ -12,26 +11,19 @@ use Rattle.footpaths.specs.declared.found.Found.{Found}
 use Rattle.footpaths.specs.declared.found.Found.TheVariants as found
 use Rattle.footpaths.specs.declared.found.Link.{Link}
 use Rattle.footpaths.specs.Stops.{platforms, station_of}
-use Rattle.footpaths.specs.Footpaths.{takes_in, fits, rank, said, is_number, longest}
-use Rattle.footpaths.specs.Marks.{better, slot, marked, marked_by, ruled, verdict_secs}
+use Rattle.footpaths.specs.Footpaths.{Rule, Unsaid, Forbidden, Takes, takes_in, fits, rank, rule_of, longer, said, first_said, secs_of}
+use Rattle.footpaths.specs.BestRules.{better, slot, marked, marked_by, ruled, verdict_secs}
 use Rattle.footpaths.specs.Network.{link_at, platform_key, station_key, platform_keys, station_keys, HasPlaces}
 use Rattle.footpaths.proofs.VerdictLaws.{fold_ruled, said_from, said_split, verdict_is}
-use Rattle.footpaths.proofs.StopPlaces.{length_kept}
+use Rattle.tb_base.proofs.Lists.{length-filter_le}
 use Rattle.footpaths.proofs.NetworkLaws.{station_below}
-use Rattle.footpaths.specs.declared.marks.Verdict.{Verdict}
-
-differ : (a b : ℕ) → a ≢ b → (a == b) ≡ false
-differ a b h =
-    elim (cases_Bool (a == b)) [
-      | inl t ↦ absurd (h (grind (arith, nat_tests, t)))
-      | inr f ↦ f
-    ]
+use Rattle.footpaths.specs.declared.best_rules.Verdict.{Verdict}
 
 eq_swapped : (a b : ℕ) → (a == b) ≡ (b == a)
 eq_swapped a b =
     elim (cases_Bool (b == a)) [
       | inl t ↦ let s : b ≡ a = grind (arith, nat_tests, t) in let e : (a == b) ≡ true = grind (arith, nat_tests, s) in e ∙ sym t
-      | inr f ↦ differ a b (λ s. absurd (let t : (b == a) ≡ true = grind (arith, nat_tests, s) in let c : false ≡ true = sym f ∙ t in cc)) ∙ sym f
+      | inr f ↦ ne_eqb a b (λ s. absurd (let t : (b == a) ≡ true = grind (arith, nat_tests, s) in let c : false ≡ true = sym f ∙ t in cc)) ∙ sym f
     ]
 
 -- a row leads to a platform, or to its station
@@ -48,11 +40,11 @@ or_false false b e = sym e
 
 takes_in_by : (stops : List StopData) (to : Found) (none q : ℕ) (o : Option ℕ) → q < none → station_of stops q ≡ o → ((k : ℕ) → o ≡ Some k → k < none) → (l : Link) → l.to ≡ to → takes_in stops to q ≡ (to_platform none q l || to_station none o l)
 takes_in_by stops (found.Platform n) none q None h s below l e = rw e (or_false (n == q) false refl)
-takes_in_by stops (found.Platform n) none q (Some k) h s below l e = rw e (or_false (n == q) (none == k) (differ none k (λ x. absurd (let b : k < none = below k refl in omega arith))))
-takes_in_by stops (found.Station j) none q None h s below l e = rw (e, s, differ none q (λ x. absurd (omega arith))) refl
-takes_in_by stops (found.Station j) none q (Some k) h s below l e = rw (e, s, differ none q (λ x. absurd (omega arith))) (eq_swapped k j)
-takes_in_by stops found.Other none q None h s below l e = rw (e, differ none q (λ x. absurd (omega arith))) refl
-takes_in_by stops found.Other none q (Some k) h s below l e = rw (e, differ none q (λ x. absurd (omega arith)), differ none k (λ x. absurd (let b : k < none = below k refl in omega arith))) refl
+takes_in_by stops (found.Platform n) none q (Some k) h s below l e = rw e (or_false (n == q) (none == k) (ne_eqb none k (λ x. absurd (let b : k < none = below k refl in omega arith))))
+takes_in_by stops (found.Station j) none q None h s below l e = rw (e, s, ne_eqb none q (λ x. absurd (omega arith))) refl
+takes_in_by stops (found.Station j) none q (Some k) h s below l e = rw (e, s, ne_eqb none q (λ x. absurd (omega arith))) (eq_swapped k j)
+takes_in_by stops found.Other none q None h s below l e = rw (e, ne_eqb none q (λ x. absurd (omega arith))) refl
+takes_in_by stops found.Other none q (Some k) h s below l e = rw (e, ne_eqb none q (λ x. absurd (omega arith)), ne_eqb none k (λ x. absurd (let b : k < none = below k refl in omega arith))) refl
 
 apart_by : (to : Found) (none q : ℕ) (o : Option ℕ) → q < none → ((k : ℕ) → o ≡ Some k → k < none) → (l : Link) → l.to ≡ to → (to_platform none q l && to_station none o l) ≡ false
 apart_by to none q None h below l e = and_false (to_platform none q l)
@@ -60,13 +52,13 @@ apart_by to none q None h below l e = and_false (to_platform none q l)
     and_false : (a : Bool) → (a && false) ≡ false
     and_false true = refl
     and_false false = refl
-apart_by (found.Platform n) none q (Some k) h below l e = rw (e, differ none k (λ x. absurd (let b : k < none = below k refl in omega arith))) (and_false (n == q))
+apart_by (found.Platform n) none q (Some k) h below l e = rw (e, ne_eqb none k (λ x. absurd (let b : k < none = below k refl in omega arith))) (and_false (n == q))
   where
     and_false : (a : Bool) → (a && false) ≡ false
     and_false true = refl
     and_false false = refl
-apart_by (found.Station j) none q (Some k) h below l e = rw (e, differ none q (λ x. absurd (omega arith))) refl
-apart_by found.Other none q (Some k) h below l e = rw (e, differ none q (λ x. absurd (omega arith))) refl
+apart_by (found.Station j) none q (Some k) h below l e = rw (e, ne_eqb none q (λ x. absurd (omega arith))) refl
+apart_by found.Other none q (Some k) h below l e = rw (e, ne_eqb none q (λ x. absurd (omega arith))) refl
 
 regroup : (a b r c : Bool) → b ≡ c → ((a && b) && r) ≡ ((a && r) && c)
 regroup true true r c e = rw (← e) (and_true r)
@@ -85,14 +77,14 @@ regroup false b r c e = refl
 pub rows_rule : (stops : List StopData) (links : List Link) (none p q : ℕ) (o : Option ℕ) → q < none → station_of stops q ≡ o → ((k : ℕ) → o ≡ Some k → k < none)
     → fold (marked_by stops p) (fold (marked_by stops p) None (filter (to_platform none q) links)) (filter (to_station none o) links) ≡ ruled (said stops links p q 0) (said stops links p q 1) (said stops links p q 2)
 rows_rule stops links none p q o h s below =
-    let first = fold_ruled stops p (filter (to_platform none q) links) None None None in
+    let first = fold_ruled stops p (filter (to_platform none q) links) Unsaid Unsaid Unsaid in
     let later = fold_ruled stops p (filter (to_station none o) links) (said_from stops p 0 (filter (to_platform none q) links)) (said_from stops p 1 (filter (to_platform none q) links)) (said_from stops p 2 (filter (to_platform none q) links)) in
-    let split : (k : ℕ) → longer_both k ≡ said stops links p q k = (λ k. said_split (λ l. takes_in stops l.from p && (rank l == k)) (to_platform none q) (to_station none o) (λ l. fits stops p q l && (rank l == k)) (λ l. Link.secs l) links
+    let split : (k : ℕ) → longer_both k ≡ said stops links p q k = (λ k. said_split (λ l. takes_in stops l.from p && (rank l == k)) (to_platform none q) (to_station none o) (λ l. fits stops p q l && (rank l == k)) (λ l. rule_of (Link.secs l)) links
     (λ l. regroup (takes_in stops l.from p) (takes_in stops l.to q) (rank l == k) _ (takes_in_by stops l.to none q o h s below l refl)) (λ l. apart_by l.to none q o h below l refl)) in
     ap (λ v. fold (marked_by stops p) v (filter (to_station none o) links)) first ∙ later ∙ rw (split 0, split 1, split 2) refl
   where
-    longer_both : ℕ → Option (Option ℕ)
-    longer_both k = Rattle.footpaths.specs.Footpaths.longer_said (said_from stops p k (filter (to_platform none q) links)) (said_from stops p k (filter (to_station none o) links))
+    longer_both : ℕ → Rule
+    longer_both k = longer (said_from stops p k (filter (to_platform none q) links)) (said_from stops p k (filter (to_station none o) links))
 
 -- the rows at the places of a key
 pub platform_rows : (none q : ℕ) (links : List Link) → map (link_at links) (places_of (platform_keys none links) q) ≡ filter (to_platform none q) links
@@ -116,7 +108,7 @@ station_is_below stops q k s = rw s at (station_below stops q)
 pub one_rule : (stops : List StopData) (links : List Link) (p q : ℕ) (old new : Option Verdict) (places : List ℕ) → q < length (platforms stops) → station_of stops q ≡ None → places ≡ places_of (platform_keys (length stops) links) q → old ≡ None
     → new ≡ fold (marked_by stops p) old (map (link_at links) places) → new ≡ ruled (said stops links p q 0) (said stops links p q 1) (said stops links p q 2)
 one_rule stops links p q old new places h s at clear is =
-    let within : q < length stops = omega (arith, h, length_kept (λ s. is_platform s.kind) stops) in
+    let within : q < length stops = omega (arith, h, length-filter_le (λ s. is_platform s.kind) stops) in
     let first : new ≡ fold (marked_by stops p) None (filter (to_platform (length stops) q) links) = is ∙ ap (λ v. fold (marked_by stops p) v (map (link_at links) places)) clear ∙ ap (λ ps. fold (marked_by stops p) None (map (link_at links) ps)) at ∙ ap (fold (marked_by stops p) None) (platform_rows (length stops) q links) in
     let rule = rows_rule stops links (length stops) p q None within s (λ k e. cc) in
     first ∙ rw (no_station_rows (length stops) links) at rule
@@ -125,7 +117,7 @@ one_rule stops links p q old new places h s at clear is =
 pub both_rule : (stops : List StopData) (links : List Link) (p q k : ℕ) (old first new : Option Verdict) (places later : List ℕ) → q < length (platforms stops) → station_of stops q ≡ Some k → places ≡ places_of (platform_keys (length stops) links) q → later ≡ places_of (station_keys (length stops) links) k → old ≡ None
     → first ≡ fold (marked_by stops p) old (map (link_at links) places) → new ≡ fold (marked_by stops p) first (map (link_at links) later) → new ≡ ruled (said stops links p q 0) (said stops links p q 1) (said stops links p q 2)
 both_rule stops links p q k old first new places later h s at to clear is then =
-    let within : q < length stops = omega (arith, h, length_kept (λ s. is_platform s.kind) stops) in
+    let within : q < length stops = omega (arith, h, length-filter_le (λ s. is_platform s.kind) stops) in
     let one : first ≡ fold (marked_by stops p) None (filter (to_platform (length stops) q) links) = is ∙ ap (λ v. fold (marked_by stops p) v (map (link_at links) places)) clear ∙ ap (λ ps. fold (marked_by stops p) None (map (link_at links) ps)) at ∙ ap (fold (marked_by stops p) None) (platform_rows (length stops) q links) in
     let two : new ≡ fold (marked_by stops p) (fold (marked_by stops p) None (filter (to_platform (length stops) q) links)) (filter (to_station (length stops) (Some k)) links) = then ∙ ap (λ v. fold (marked_by stops p) v (map (link_at links) later)) one ∙ ap (λ ps. fold (marked_by stops p) (fold (marked_by stops p) None (filter (to_platform (length stops) q) links)) (map (link_at links) ps)) to ∙ ap (fold (marked_by stops p) (fold (marked_by stops p) None (filter (to_platform (length stops) q) links))) (station_rows (length stops) k links) in
     two ∙ rows_rule stops links (length stops) p q (Some k) within s (λ j e. let b = station_is_below stops q k s in let same : k ≡ j = cc in omega arith)
@@ -133,7 +125,7 @@ both_rule stops links p q k old first new places later h s at to clear is then =
 -- the places of a stop and of a station are there
 pub platform_places : (stops : List StopData) (keys : List ℕ) (groups : List (List ℕ)) (q : ℕ) → HasPlaces keys (length stops) groups → q < length (platforms stops) → (q < length groups) × (get_or groups q [] ≡ places_of keys q)
 platform_places stops keys groups q h below =
-    let within : q < length stops + 1 = omega (arith, below, length_kept (λ s. is_platform s.kind) stops) in
+    let within : q < length stops + 1 = omega (arith, below, length-filter_le (λ s. is_platform s.kind) stops) in
     (omega (arith, h.many), h.each q within)
 
 pub station_places : (stops : List StopData) (keys : List ℕ) (groups : List (List ℕ)) (q k : ℕ) → HasPlaces keys (length stops) groups → station_of stops q ≡ Some k → (k < length groups) × (get_or groups k [] ≡ places_of keys k)
@@ -154,14 +146,24 @@ mark_at old new m p r s h e =
           rw f (ap (λ slots. slot slots p) e ∙ get_or-set_other old m p (Some (better (slot old m) r s)) None other)
     ]
 
-near_by : (near : Bool) (station : Option ℕ) → cond (near && is_some station) station None ≡ cond near station None
-near_by true None = refl
-near_by true (Some s) = refl
-near_by false station = refl
+near_by : (own near : Bool) (change : ℕ) (station : Option ℕ) → secs_of (cond own (Takes change) (cond (near && is_some station) (rule_of station) Unsaid)) ≡ secs_of (cond own (Takes change) (cond near (rule_of station) Unsaid))
+near_by true near change station = refl
+near_by false true change None = refl
+near_by false true change (Some s) = refl
+near_by false false change station = refl
+
+first_secs : (a x y : Rule) → secs_of x ≡ secs_of y → secs_of (first_said a x) ≡ secs_of (first_said a y)
+first_secs Unsaid x y e = e
+first_secs Forbidden x y e = refl
+first_secs (Takes secs) x y e = refl
 
 -- the seconds at a platform after the rows and the defaults
-pub last_rule : (a b c : Option (Option ℕ)) (own near : Bool) (change : ℕ) (station : Option ℕ) (first then last : Option Verdict) → first ≡ ruled a b c → then ≡ marked own first 3 (Some change) → last ≡ marked (near && is_some station) then 4 station
-    → verdict_secs last ≡ unwrap_or (option_or a (option_or b c)) (cond own (Some change) (cond near station None))
+pub last_rule : (a b c : Rule) (own near : Bool) (change : ℕ) (station : Option ℕ) (first then last : Option Verdict) → first ≡ ruled a b c → then ≡ marked own first 3 (Some change) → last ≡ marked (near && is_some station) then 4 station
+    → verdict_secs last ≡ secs_of (first_said a (first_said b (first_said c (cond own (Takes change) (cond near (rule_of station) Unsaid)))))
 last_rule a b c own near change station first then last e f g =
+    let defaults : Bool → Rule = λ here. cond own (Takes change) (cond here (rule_of station) Unsaid) in
     ap verdict_secs (g ∙ ap (λ v. marked (near && is_some station) v 4 station) (f ∙ ap (λ v. marked own v 3 (Some change)) e))
-    ∙ verdict_is a b c own (near && is_some station) change station ∙ ap (λ x. unwrap_or (option_or a (option_or b c)) (cond own (Some change) x)) (near_by near station)
+    ∙ verdict_is a b c own (near && is_some station) change station
+    ∙ first_secs a (first_said b (first_said c (defaults (near && is_some station)))) (first_said b (first_said c (defaults near)))
+    (first_secs b (first_said c (defaults (near && is_some station))) (first_said c (defaults near))
+    (first_secs c (defaults (near && is_some station)) (defaults near) (near_by own near change station)))

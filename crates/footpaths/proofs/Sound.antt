@@ -1,7 +1,6 @@
 -- Change times and footpaths of platforms are sound, the law aside.
 use Rattle.std.proofs.Common.{◌≡◌, ◌∙◌, sym, ap, subst, refl, ℕ, zero, suc, ◌+◌, ◌<◌, ◌≤◌, List, [], ◌∷◌, length, map, get_or, Bool, true, false, ◌&&◌, cond, Option, Some, None, arith, inl, inr}
-use Rattle.std.specs.Prelude.{◌==◌, All, AllPairs, IfSome, filter, filter_map, nat_lt, unwrap_or, option_map, Ok}
-use Rattle.std.specs.Option.{option_or}
+use Rattle.std.specs.Prelude.{◌==◌, All, AllPairs, IfSome, filter, filter_map, nat_lt, option_map, Ok}
 use Rattle.std.specs.List.{range_with_len}
 use Rattle.std.proofs.lemmas.Bool.{cases_Bool}
 use Rattle.std.proofs.lemmas.Bool.Decides.{nat_tests}
@@ -18,38 +17,35 @@ use Rattle.footpaths.specs.declared.found.Link.{Link}
 use Rattle.footpaths.specs.declared.paths.Options.{Options}
 use Rattle.footpaths.specs.Stops.{station_of}
 use Rattle.footpaths.specs.Links.{secs_by, link_of, links_of, TakesAtMostADay}
-use Rattle.footpaths.specs.Footpaths.{Changes, longer, longer_said, longest, said, unsaid, fits, rank, have_one_station, secs_between, path_to, paths_from, paths_of, numbers, check_count}
+use Rattle.footpaths.specs.Footpaths.{Changes, Rule, Unsaid, Forbidden, Takes, rule_of, longer, longest, first_said, secs_of, said, default_rule, fits, rank, have_one_station, secs_between, path_to, paths_from, paths_of, numbers, check_count}
 use Rattle.tb_base.specs.TimetableData.{FootpathData, path_total}
 
 abbrev IsDay : Option ℕ → Type 0
 IsDay o = IfSome o (λ secs. secs ≤ 86400)
 
-abbrev AreDays : Option (Option ℕ) → Type 0
-AreDays o = IfSome o IsDay
+longer_day : (a b : Rule) → IsDay (secs_of a) → IsDay (secs_of b) → IsDay (secs_of (longer a b))
+longer_day Unsaid b h k = k
+longer_day Forbidden b h k = tt
+longer_day (Takes a) Unsaid h k = h
+longer_day (Takes a) Forbidden h k = tt
+longer_day (Takes a) (Takes b) h k = omega arith
 
-longer_day : (a b : Option ℕ) → IsDay a → IsDay b → IsDay (longer a b)
-longer_day None b h k = tt
-longer_day (Some a) None h k = tt
-longer_day (Some a) (Some b) h k = omega arith
-
-said_day : (a b : Option (Option ℕ)) → AreDays a → AreDays b → AreDays (longer_said a b)
-said_day None b h k = k
-said_day (Some a) None h k = h
-said_day (Some a) (Some b) h k = longer_day a b h k
-
-longest_day : (xs : List (Option ℕ)) → All IsDay xs → AreDays (longest xs)
+longest_day : (rules : List Rule) → All (λ r. IsDay (secs_of r)) rules → IsDay (secs_of (longest rules))
 longest_day [] h = tt
-longest_day (x ∷ xs) h = said_day (Some x) (longest xs) (All-head IsDay x xs h) (longest_day xs (All-tail IsDay x xs h))
+longest_day (r ∷ rules) h = longer_day r (longest rules) (All-head (λ r. IsDay (secs_of r)) r rules h) (longest_day rules (All-tail (λ r. IsDay (secs_of r)) r rules h))
 
-chosen_day : (a b c : Option (Option ℕ)) (d : Option ℕ) → AreDays a → AreDays b → AreDays c → IsDay d → IsDay (unwrap_or (option_or a (option_or b c)) d)
-chosen_day (Some a) b c d h k l m = h
-chosen_day None (Some b) c d h k l m = k
-chosen_day None None (Some c) d h k l m = l
-chosen_day None None None d h k l m = m
+first_day : (a b : Rule) → IsDay (secs_of a) → IsDay (secs_of b) → IsDay (secs_of (first_said a b))
+first_day Unsaid b h k = k
+first_day Forbidden b h k = tt
+first_day (Takes a) b h k = h
 
-default_day : (own near : Bool) (change : ℕ) (station : Option ℕ) → change ≤ 86400 → IsDay station → IsDay (cond own (Some change) (cond near station None))
+rule_of_day : (secs : Option ℕ) → IsDay secs → IsDay (secs_of (rule_of secs))
+rule_of_day None h = tt
+rule_of_day (Some secs) h = h
+
+default_day : (own near : Bool) (change : ℕ) (station : Option ℕ) → change ≤ 86400 → IsDay station → IsDay (secs_of (cond own (Takes change) (cond near (rule_of station) Unsaid)))
 default_day true near change station h k = h
-default_day false true change station h k = k
+default_day false true change station h k = rule_of_day station k
 default_day false false change station h k = tt
 
 rule_day : (change : ℕ) (r : PathRule) → change ≤ 86400 → TakesAtMostADay r → IsDay (secs_by change r)
@@ -62,10 +58,11 @@ pub secs_day : (stops : List StopData) (options : Options) (rows : List Transfer
     → IfSome (secs_between stops options (links_of stops options.change rows) p q) (λ secs. secs ≤ 86400)
 secs_day stops options rows p q h k days =
     let links = links_of stops options.change rows in
-    let each : All (λ l. IsDay (Link.secs l)) links = All-map (λ l. IsDay (Link.secs l)) (link_of stops options.change) rows (λ i d below. rule_day options.change _ h (days i d below)) in
-    let of_rank : (r : ℕ) → AreDays (said stops links p q r) = (λ r. longest_day _ (All-map IsDay (λ l. Link.secs l) (filter (λ l. fits stops p q l && (rank l == r)) links) (All-filter (λ l. fits stops p q l && (rank l == r)) (λ l. IsDay (Link.secs l)) links each))) in
-    chosen_day (said stops links p q 0) (said stops links p q 1) (said stops links p q 2) (unsaid stops options p q) (of_rank 0) (of_rank 1) (of_rank 2)
-    (default_day (p == q) (have_one_station (station_of stops q) (station_of stops p)) options.change options.station h k)
+    let each : All (λ l. IsDay (secs_of (rule_of (Link.secs l)))) links = All-map (λ l. IsDay (secs_of (rule_of (Link.secs l)))) (link_of stops options.change) rows (λ i d below. rule_of_day _ (rule_day options.change _ h (days i d below))) in
+    let of_rank : (r : ℕ) → IsDay (secs_of (said stops links p q r)) = (λ r. longest_day _ (All-map (λ w. IsDay (secs_of w)) (λ l. rule_of (Link.secs l)) (filter (λ l. fits stops p q l && (rank l == r)) links)
+    (All-filter (λ l. fits stops p q l && (rank l == r)) (λ l. IsDay (secs_of (rule_of (Link.secs l)))) links each))) in
+    let default : IsDay (secs_of (default_rule stops options p q)) = default_day (p == q) (have_one_station (station_of stops q) (station_of stops p)) options.change options.station h k in
+    first_day _ _ (of_rank 0) (first_day _ _ (of_rank 1) (first_day _ _ (of_rank 2) default))
 
 -- a footpath that is given is sound, and leads to its stop
 path_is : (n p q : ℕ) (o : Option ℕ) (f : Path) → path_to p q o ≡ Some f → IfSome o (λ secs. secs ≤ 86400) → q < n → IsSoundPath n p f × (f.to ≡ q)

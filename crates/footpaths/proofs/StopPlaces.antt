@@ -6,15 +6,12 @@ use Rattle.std.specs.List.{list_any}
 use Rattle.std.proofs.lemmas.List.{take_more, map-append, length-map, append-nil}
 use Rattle.std.proofs.lemmas.List.Elements.{filter-append}
 use Rattle.std.proofs.lemmas.List.Quantifiers.{position-Some}
-use Rattle.names.proofs.Places.{list_any-over_map, position-map}
+use Rattle.std.proofs.lemmas.Bool.{or_parts}
 use Rattle.gtfs_rows.specs.StopsFile.{StopData, is_platform, is_station}
 use Rattle.footpaths.specs.declared.found.Found.TheVariants as found
 use Rattle.footpaths.specs.Stops.{stop_id, has_stop_id, platforms, stations, find_stop, check_stops}
 use Rattle.footpaths.proofs.StopRows.{new_id}
-
-either_false : (a b : Bool) → (a || b) ≡ false → (a ≡ false) × (b ≡ false)
-either_false true b e = cc
-either_false false b e = (refl, e)
+use Rattle.tb_base.proofs.Lists.{length-filter_le, list_any-over_map, position-map}
 
 none_kept_by : {X : Type 0} (p : X → Bool) (x : X) (kept : List X) (k : Bool) → p x ≡ false → list_any p kept ≡ false → list_any p (cond k (x ∷ kept) kept) ≡ false
 none_kept_by p x kept true a e = rw a e
@@ -23,19 +20,10 @@ none_kept_by p x kept false a e = e
 -- what no item passes, no kept item passes
 pub none_kept : {X : Type 0} (p t : X → Bool) (xs : List X) → list_any p xs ≡ false → list_any p (filter t xs) ≡ false
 none_kept p t [] e = refl
-none_kept p t (x ∷ xs) e = let h = either_false (p x) (list_any p xs) e in none_kept_by p x (filter t xs) (t x) h.0 (none_kept p t xs h.1)
-
-length_by : {X : Type 0} (x : X) (kept : List X) (k : Bool) (n : ℕ) → length kept ≤ n → length (cond k (x ∷ kept) kept) ≤ suc n
-length_by x kept true n h = omega arith
-length_by x kept false n h = omega arith
-
--- a filter keeps no more than there is
-pub length_kept : {X : Type 0} (t : X → Bool) (xs : List X) → length (filter t xs) ≤ length xs
-length_kept t [] = omega arith
-length_kept t (x ∷ xs) = length_by x (filter t xs) (t x) (length xs) (length_kept t xs)
+none_kept p t (x ∷ xs) e = let h = or_parts (p x) (list_any p xs) e in none_kept_by p x (filter t xs) (t x) h.0 (none_kept p t xs h.1)
 
 pub few_ids : (ids : List (List ℕ)) (t : StopData → Bool) (stops : List StopData) (n : ℕ) → ids ≡ map stop_id (filter t stops) → length stops ≤ n → length ids ≤ n
-few_ids ids t stops n e h = omega (arith, ap length e, length-map (filter t stops) stop_id, length_kept t stops)
+few_ids ids t stops n e h = omega (arith, ap length e, length-map (filter t stops) stop_id, length-filter_le t stops)
 
 pub filter_more : {X : Type 0} (t : X → Bool) (xs : List X) (i : ℕ) (x : X) → i < length xs → x ≡ get_or xs i x → filter t (take (i + 1) xs) ≡ filter t (take i xs) ++ filter t (x ∷ [])
 filter_more t xs i x h at = ap (filter t) (take_more xs i x h ∙ ap (λ y. take i xs ++ y ∷ []) (sym at)) ∙ filter-append t (take i xs) (x ∷ [])

@@ -3,7 +3,7 @@ use Rattle.std.proofs.Common.{◌≡◌, ◌∙◌, sym, ap, refl, ℕ, zero, su
 use Rattle.std.specs.Prelude.{bytes_eq, Ok, Err}
 use Rattle.std.specs.List.{list_any}
 use Rattle.std.proofs.lemmas.List.{map_more, get_or_default}
-use Rattle.names.proofs.Places.{list_any-over_map}
+use Rattle.tb_base.proofs.Lists.{list_any-over_map}
 use Rattle.gtfs_rows.specs.StopsFile.{StopData}
 use Rattle.gtfs_rows.specs.declared.fault.FeedFile.TheVariants as file
 use Rattle.gtfs_rows.specs.declared.fault.FeedFault.{FeedFault}

@@ -7,7 +7,8 @@ use Rattle.std.proofs.lemmas.List.{map_more, take_more}
 use Rattle.std.proofs.lemmas.List.Elements.{All-push, All-head, All-tail}
 use Rattle.std.proofs.lemmas.List.Quantifiers.{position-Some}
 use Rattle.std.proofs.lemmas.Slice.Eq.{bytes_eq-Decides}
-use Rattle.names.proofs.Places.{list_any-over_map}
+use Rattle.std.proofs.lemmas.Bool.{and_from, and_parts}
+use Rattle.tb_base.proofs.Lists.{list_any-over_map}
 use Rattle.names.proofs.Found.{found}
 use Rattle.gtfs_rows.specs.StopsFile.{StopData}
 use Rattle.gtfs_rows.specs.TransfersFile.{TransferData}
@@ -44,18 +45,10 @@ same_place stops a b h k e =
 digits_same : (a b c d : ℕ) → b < 100000 → d < 100000 → a * 100000 + b ≡ c * 100000 + d → (a ≡ c) × (b ≡ d)
 digits_same a b c d h k e = (omega arith, omega arith)
 
-and_true : (a b : Bool) → a ≡ true → b ≡ true → (a && b) ≡ true
-and_true true b p q = q
-and_true false b p q = cc
-
 same_bool : (a b : Bool) → (a ≡ true → b ≡ true) → (b ≡ true → a ≡ true) → a ≡ b
 same_bool true b f g = sym (f refl)
 same_bool false true f g = g refl
 same_bool false false f g = refl
-
-and_parts : (a b : Bool) → (a && b) ≡ true → (a ≡ true) × (b ≡ true)
-and_parts true b e = (refl, e)
-and_parts false b e = cc
 
 -- two rows have one number exactly where they go between the same two stops
 same_number : (stops : List StopData) (r e : TransferData) → length stops ≤ 100000 → HasEnds stops r → HasEnds stops e → nat_eq (pair_number stops r) (pair_number stops e) ≡ (bytes_eq r.from e.from && bytes_eq r.to e.to)
@@ -64,7 +57,7 @@ same_number stops r e few h k =
     (λ t.
     let n : pair_number stops r ≡ pair_number stops e = grind (arith, nat_tests, t) in
     let d = digits_same (place_of stops r.from) (place_of stops r.to) (place_of stops e.from) (place_of stops e.to) (place-lt stops r.to 100000 few h.target) (place-lt stops e.to 100000 few k.target) n in
-    and_true _ _ ((bytes_eq-Decides r.from e.from).1 (same_place stops r.from e.from h.origin k.origin d.0)) ((bytes_eq-Decides r.to e.to).1 (same_place stops r.to e.to h.target k.target d.1)))
+    and_from _ _ ((bytes_eq-Decides r.from e.from).1 (same_place stops r.from e.from h.origin k.origin d.0)) ((bytes_eq-Decides r.to e.to).1 (same_place stops r.to e.to h.target k.target d.1)))
     (λ t.
     let p = and_parts _ _ t in
     let a : r.from ≡ e.from = (bytes_eq-Decides r.from e.from).0 p.0 in
@@ -100,11 +93,6 @@ pub transfer_twice : (stops : List StopData) (rows : List TransferData) (i : ℕ
 transfer_twice stops rows i r seen fresh few h at there ends e f y =
     let yes : list_any (λ e. bytes_eq r.from e.from && bytes_eq r.to e.to) (take i rows) ≡ true = sym (seen_before stops rows i r seen few there ends e) ∙ from_not fresh _ f ∙ ap not y in
     rw (next_row (wrong_transfer stops rows) rows i r h at, there.origin, there.target, yes) refl
-
-pub transfer_lacks : (stops : List StopData) (rows : List TransferData) (i : ℕ) (r : TransferData) (f : PathsFault) → i < length rows → r ≡ get_or rows i r → LacksEnd stops r f
-    → IsPathsRefused (unless_wrong (wrong_after (wrong_transfer stops rows) (take i rows) (drop i rows)) rows) f
-transfer_lacks stops rows i r f h at (inl a) = rw (a.0, next_row (wrong_transfer stops rows) rows i r h at, a.1) refl
-transfer_lacks stops rows i r f h at (inr a) = rw (a.0, next_row (wrong_transfer stops rows) rows i r h at, a.1, a.2) refl
 
 pub ends_more : (stops : List StopData) (rows : List TransferData) (i : ℕ) (r : TransferData) → All (HasEnds stops) (take i rows) → i < length rows → r ≡ get_or rows i r → HasEnds stops r → All (HasEnds stops) (take (i + 1) rows)
 ends_more stops rows i r h k at there =

@@ -1,6 +1,5 @@
 -- Changes and footpaths between platforms, by the rows of transfers.txt.
-use Rattle.std.specs.Prelude.{ℕ, ◌+◌, ◌==◌, ◌&&◌, List, [], ◌∷◌, length, map, max, filter, filter_map, nat_lt, Bool, false, Option, Some, None, unwrap_or, option_map, Result, if◌then◌else◌}
-use Rattle.std.specs.Option.{option_or}
+use Rattle.std.specs.Prelude.{ℕ, ◌+◌, ◌==◌, ◌&&◌, List, [], ◌∷◌, length, map, max, filter, filter_map, nat_lt, Bool, false, Option, Some, None, option_map, Result, if◌then◌else◌}
 use Rattle.std.specs.List.{range_with_len}
 use Rattle.tb_base.specs.declared.table.Path.{Path}
 use Rattle.tb_base.specs.TimetableData.{FootpathData, path_total}
@@ -41,26 +40,45 @@ stations_in found.Other = 0
 abbrev pub rank : Link → ℕ
 rank l = stations_in l.from + stations_in l.to
 
--- of two the longer: a way that is forbidden is longer than all
-abbrev pub longer : Option ℕ → Option ℕ → Option ℕ
-longer None b = None
-longer (Some a) None = None
-longer (Some a) (Some b) = Some (max a b)
+-- what is said of the way between two platforms: nothing, that it is forbidden, or its seconds
+pub data Rule : Type 0 where
+  Unsaid : Rule
+  Forbidden : Rule
+  Takes : ℕ → Rule
 
--- of two that may be there the longer
-abbrev pub longer_said : Option (Option ℕ) → Option (Option ℕ) → Option (Option ℕ)
-longer_said None b = b
-longer_said (Some a) None = Some a
-longer_said (Some a) (Some b) = Some (longer a b)
+-- what a row says, by its seconds, where it has any
+abbrev pub rule_of : Option ℕ → Rule
+rule_of None = Forbidden
+rule_of (Some secs) = Takes secs
 
-abbrev pub longest : List (Option ℕ) → Option (Option ℕ)
-longest [] = None
-longest (x ∷ xs) = longer_said (Some x) (longest xs)
+-- of two rules the longer: a way that is forbidden is longer than all
+abbrev pub longer : Rule → Rule → Rule
+longer Unsaid b = b
+longer Forbidden b = Forbidden
+longer (Takes a) Unsaid = Takes a
+longer (Takes a) Forbidden = Forbidden
+longer (Takes a) (Takes b) = Takes (max a b)
+
+abbrev pub longest : List Rule → Rule
+longest [] = Unsaid
+longest (r ∷ rules) = longer r (longest rules)
 
 -- what the fitting rows of a rank say of a pair
-abbrev pub said : List StopData → List Link → ℕ → ℕ → ℕ → Option (Option ℕ)
+abbrev pub said : List StopData → List Link → ℕ → ℕ → ℕ → Rule
 said stops links p q k =
-    longest (map (λ l. Link.secs l) (filter (λ l. fits stops p q l && (rank l == k)) links))
+    longest (map (λ l. rule_of (Link.secs l)) (filter (λ l. fits stops p q l && (rank l == k)) links))
+
+-- of two rules the first that says anything
+abbrev pub first_said : Rule → Rule → Rule
+first_said Unsaid b = b
+first_said Forbidden b = Forbidden
+first_said (Takes secs) b = Takes secs
+
+-- the seconds that a way takes by a rule, where there is one
+abbrev pub secs_of : Rule → Option ℕ
+secs_of Unsaid = None
+secs_of Forbidden = None
+secs_of (Takes secs) = Some secs
 
 -- two platforms have one station
 abbrev pub have_one_station : Option ℕ → Option ℕ → Bool
@@ -68,18 +86,18 @@ have_one_station None b = false
 have_one_station (Some k) b = is_number k b
 
 -- what holds where no row fits
-abbrev pub unsaid : List StopData → Options → ℕ → ℕ → Option ℕ
-unsaid stops options p q =
-    if p == q then Some options.change
-    else if have_one_station (station_of stops q) (station_of stops p) then options.station
-    else None
+abbrev pub default_rule : List StopData → Options → ℕ → ℕ → Rule
+default_rule stops options p q =
+    if p == q then Takes options.change
+    else if have_one_station (station_of stops q) (station_of stops p) then rule_of options.station
+    else Unsaid
 
 -- The seconds from one platform to another: the fitting rows of the lowest rank decide.
 abbrev pub secs_between : List StopData → Options → List Link → ℕ → ℕ → Option ℕ
 secs_between stops options links p q =
-    unwrap_or (option_or (said stops links p q 0)
-    (option_or (said stops links p q 1) (said stops links p q 2)))
-    (unsaid stops options p q)
+    secs_of (first_said (said stops links p q 0)
+    (first_said (said stops links p q 1)
+    (first_said (said stops links p q 2) (default_rule stops options p q))))
 
 -- changes: the seconds from one stop to another, by their numbers
 abbrev pub Changes : Type 0

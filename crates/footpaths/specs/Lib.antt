@@ -1,6 +1,6 @@
 pub mod Stops
 pub mod Links
 pub mod Footpaths
-pub mod Marks
+pub mod BestRules
 pub mod Network
 pub mod Law

@@ -7,10 +7,10 @@ ghost use Rattle.footpaths.specs.Stops.{platforms};
 ghost use Rattle.footpaths.specs.Links.{TakesAtMostADay, IsPathsRefused};
 ghost use Rattle.footpaths.specs.Footpaths.{footpaths, path_to, paths_of, check_count, secs_between};
 ghost use Rattle.tb_base.specs.Soundness.{IsSoundFootpaths};
-ghost use Rattle.footpaths.specs.Marks.{slot, verdict_secs};
+ghost use Rattle.footpaths.specs.BestRules.{slot, verdict_secs};
 
+use crate::best_rules::{BestRules, Verdict};
 use crate::links::links_of;
-use crate::marks::{Marks, Verdict};
 use crate::network::Network;
 use crate::path_rows::PathRows;
 use crate::{Options, Paths, PathsFault, StopTable};
@@ -19,7 +19,7 @@ use std::alloc::Global;
 use tb_base::{Memory, Path, StopNo};
 
 // The footpaths to a stop from each stop that has a mark; then no stop has one.
-fn collect(marks: &mut Marks, rows: &mut PathRows, to: StopNo) -> Result<(), Memory>
+fn collect(marks: &mut BestRules, rows: &mut PathRows, to: StopNo) -> Result<(), Memory>
     requires many { length marks.old ≡ length rows.old }
     requires away { slot marks.old to ≡ None }
     ensures marks { OnOk result (length marks.new ≡ length marks.old) }
@@ -38,7 +38,7 @@ fn collect(marks: &mut Marks, rows: &mut PathRows, to: StopNo) -> Result<(), Mem
     Ok(())
 }
 
-fn secs_of(verdict: Option<Verdict>) -> Option<u32>
+fn verdict_secs(verdict: Option<Verdict>) -> Option<u32>
     ensures { result ≡ verdict_secs verdict }
 {
     match verdict {
@@ -50,7 +50,7 @@ fn secs_of(verdict: Option<Verdict>) -> Option<u32>
 // The footpaths to one stop, after those that are there, and its change time.
 fn fill_stop(
     network: &Network,
-    marks: &mut Marks,
+    marks: &mut BestRules,
     rows: &mut PathRows,
     stop: StopNo,
     options: &Options,
@@ -71,7 +71,7 @@ fn fill_stop(
         network.now.links p stop))) }
 {
     network.mark_to(marks, stop, options)?;
-    let own = secs_of(marks.take(stop.0));
+    let own = verdict_secs(marks.take(stop.0));
     collect(marks, rows, stop)?;
     Ok(own)
 }
@@ -87,7 +87,7 @@ fn fill(
     ensures { Yields IsPathsRefused result (λ x. x) (check_count
         (paths_of count (secs_between network.now.stops options.now network.now.links))) }
 {
-    let mut marks = Marks::new(alloc, count as usize)?;
+    let mut marks = BestRules::new(alloc, count as usize)?;
     let mut rows = PathRows::new(alloc, count as usize)?;
     let mut change = Vec::new(alloc);
     for stop in 0..count {

@@ -5,17 +5,15 @@
 //! (`test_law`). Each refusal tells the first thing that is wrong; want of memory is free.
 #![tactic(auto)]
 
+mod best_rules;
 mod build;
 mod found;
 mod law;
 mod links;
-mod marks;
 mod network;
 mod path_rows;
 mod paths;
 mod stop_table;
-#[cfg(test)]
-mod tests;
 
 pub use build::build_paths;
 pub use found::{Found, StopsFault};

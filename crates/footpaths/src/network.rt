@@ -4,11 +4,11 @@ ghost use Rattle.gtfs_rows.specs.StopsFile.{StopData};
 ghost use Rattle.footpaths.specs.Stops.{platforms, station_of};
 ghost use Rattle.footpaths.specs.Links.{links_of};
 ghost use Rattle.footpaths.specs.Footpaths.{takes_in, rank, stations_in, said, have_one_station, secs_between};
-ghost use Rattle.footpaths.specs.Marks.{slot, marked, marked_by, ruled, verdict_secs};
+ghost use Rattle.footpaths.specs.BestRules.{slot, marked, marked_by, ruled, verdict_secs};
 ghost use Rattle.footpaths.specs.Network.{link_at, IsEnd, HasLinkEnds, HasPlaces, platform_key, station_key, platform_keys, station_keys, parent_keys};
 
+use crate::best_rules::BestRules;
 use crate::found::{Found, Link};
-use crate::marks::Marks;
 use crate::{Options, StopTable};
 use groups::Groups;
 use std::alloc::{AllocError, Global};
@@ -134,7 +134,7 @@ impl<'a> Network<'a> {
     // One verdict more at each platform that an end of a row takes in.
     fn mark_from(
         &self,
-        marks: &mut Marks,
+        marks: &mut BestRules,
         from: Found,
         rank: u8,
         secs: Option<u32>,
@@ -156,7 +156,7 @@ impl<'a> Network<'a> {
     }
 
     // What the rows at some places say.
-    fn mark_links(&self, marks: &mut Marks, places: &[u32]) -> Result<(), Memory>
+    fn mark_links(&self, marks: &mut BestRules, places: &[u32]) -> Result<(), Memory>
         requires places { All (λ i. i < length self.now.links) places.now }
         requires many { length marks.old ≡ length (platforms self.now.stops) }
         ensures length { OnOk result (length marks.new ≡ length marks.old) }
@@ -174,7 +174,7 @@ impl<'a> Network<'a> {
     }
 
     // What all rows say of the ways to a platform.
-    fn mark_rows(&self, marks: &mut Marks, stop: StopNo) -> Result<(), Memory>
+    fn mark_rows(&self, marks: &mut BestRules, stop: StopNo) -> Result<(), Memory>
         requires stop { stop < length (platforms self.now.stops) }
         requires many { length marks.old ≡ length (platforms self.now.stops) }
         requires clear { (p : ℕ) → slot marks.old p ≡ None }
@@ -193,7 +193,12 @@ impl<'a> Network<'a> {
     }
 
     // What the default within a station says of the ways to a platform, where there is one.
-    fn mark_station(&self, marks: &mut Marks, stop: StopNo, secs: Option<u32>) -> Result<(), Memory>
+    fn mark_station(
+        &self,
+        marks: &mut BestRules,
+        stop: StopNo,
+        secs: Option<u32>,
+    ) -> Result<(), Memory>
         requires stop { stop < length (platforms self.now.stops) }
         requires many { length marks.old ≡ length (platforms self.now.stops) }
         ensures length { OnOk result (length marks.new ≡ length marks.old) }
@@ -213,7 +218,12 @@ impl<'a> Network<'a> {
     }
 
     /// What the rows and the defaults say of the ways to a platform, at marks that are clear.
-    pub fn mark_to(&self, marks: &mut Marks, stop: StopNo, options: &Options) -> Result<(), Memory>
+    pub fn mark_to(
+        &self,
+        marks: &mut BestRules,
+        stop: StopNo,
+        options: &Options,
+    ) -> Result<(), Memory>
         requires stop { stop < length (platforms self.now.stops) }
         requires many { length marks.old ≡ length (platforms self.now.stops) }
         requires clear { (p : ℕ) → slot marks.old p ≡ None }

@@ -21,7 +21,7 @@ use Rattle.footpaths.specs.Footpaths.{changes}
 use Rattle.footpaths.specs.Law.{IsFirstBreach}
 use Rattle.tb_base.specs.Soundness.{IsSoundFootpaths}
 use Rattle.footpaths.proofs.Sound.{secs_day, sound_paths}
-use Rattle.footpaths.proofs.StopPlaces.{length_kept}
+use Rattle.tb_base.proofs.Lists.{length-filter_le}
 use Rattle.trip_table.specs.Feed.{Feed, check_unbuilt, sized, rows_in, file_rows, or_missing, required}
 use Rattle.trip_table.specs.References.{Rows, rows_of, stops_of, services_of, trips_of, times_of, transfer_rows_of, transfers_of}
 use Rattle.trip_table.specs.Day.{DayParts, day_parts, given_footpaths, trips_on, breach_fault, timetable, KeepTheLaw, AreClosedOrTested, IsTimetableOf, IsTimetableOfParts, Then}
@@ -112,7 +112,7 @@ given_sound : (stops : List StopData) (options : Options) (transfers : List Tran
     → All (λ r. TakesAtMostADay (TransferData.rule r)) transfers → given_footpaths stops options transfers ≡ Ok footpaths → IsSoundFootpaths footpaths
 unfolding given_footpaths
 given_sound stops options transfers footpaths h k few days e =
-    let kept = length_kept (λ (s : StopData). is_platform s.kind) stops in
+    let kept = length-filter_le (λ (s : StopData). is_platform s.kind) stops in
     let some : length (platforms stops) ≤ 100000 = omega (arith, few, kept) in
     sound_paths (changes stops transfers options) (length (platforms stops)) footpaths some (λ p q. secs_day stops options transfers p q h k days) e
 

@@ -18,7 +18,7 @@ use Rattle.gtfs_rows.specs.declared.stops.Kind.{Kind}
 use Rattle.gtfs_rows.specs.declared.stops.Kind.TheVariants as kind
 use Rattle.footpaths.specs.Stops.{stop_id, has_stop_id, platforms, stations, station_of, check_stops}
 use Rattle.footpaths.proofs.StopRows.{new_id}
-use Rattle.footpaths.proofs.StopPlaces.{length_kept}
+use Rattle.tb_base.proofs.Lists.{length-filter_le}
 use Rattle.footpaths.specs.Footpaths.{is_number}
 use Rattle.trip_table.specs.Day.{DayParts, station_stops, stations_from, timetable}
 
@@ -127,8 +127,8 @@ sound_day day paths few checked named ways many law trip_count event_count sound
     let count : length (map stop_of (platforms stops)) ≡ length (platforms stops) = length-map (platforms stops) stop_of in
     let rows : length paths.change ≡ length (map stop_of (platforms stops)) = many ∙ sym count in
     record {
-      stops = omega (arith, count, length_kept (λ s. is_platform s.kind) stops);
-      stations = omega (arith, station_count stops 0 (stations stops), length_kept (λ s. is_station s.kind) stops);
+      stops = omega (arith, count, length-filter_le (λ s. is_platform s.kind) stops);
+      stations = omega (arith, station_count stops 0 (stations stops), length-filter_le (λ s. is_station s.kind) stops);
       trips = trip_count;
       events = event_count;
       named = subst (λ names. All (λ n. n ≢ []) names) (names_are day paths)

@@ -6,7 +6,7 @@ use Rattle.footpaths.specs.Links.{links_of}
 use Rattle.footpaths.specs.Footpaths.{secs_between}
 use Rattle.footpaths.proofs.LinkEnds.{links_have_ends}
 use Rattle.footpaths.proofs.Sound.{secs_day, sound_paths}
-use Rattle.footpaths.proofs.StopPlaces.{length_kept}
+use Rattle.tb_base.proofs.Lists.{length-filter_le}
 use Rattle.footpaths.proofs.build.build_paths.Goals as goal
 
 pub new-requires : goal.new-requires
@@ -20,7 +20,7 @@ returns-clause-sound c =
     let stops = c.args.stops.now in
     let options = c.args.options.now in
     let rows = c.args.rows.now in
-    let few : length (platforms stops) ≤ 100000 = omega (arith, length_kept (λ s. is_platform s.kind) stops, c.soundness.ensures.few) in
+    let few : length (platforms stops) ≤ 100000 = omega (arith, length-filter_le (λ s. is_platform s.kind) stops, c.soundness.ensures.few) in
     let filled = rw (c.in_ok-network.ensures, c.in-Ok.ensures.1, c.platforms.ensures) at c.fill.ensures in
     MatchResult-weaker c.fill.result filled
     (λ paths e days. sound_paths (secs_between stops options (links_of stops options.change rows)) (length (platforms stops)) paths few (λ p q. secs_day stops options rows p q c.requires.change c.requires.station days) e)

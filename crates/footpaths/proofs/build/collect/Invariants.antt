@@ -2,7 +2,7 @@ use Rattle.std.proofs.Common.{◌≡◌, ◌<◌, ◌++◌, ℕ, [], None, lengt
 use Rattle.std.specs.Prelude.{count_by, is_some}
 use Rattle.std.specs.Option.{option_to_list}
 use Rattle.footpaths.specs.Footpaths.{path_to}
-use Rattle.footpaths.specs.Marks.{slot, verdict_secs}
+use Rattle.footpaths.specs.BestRules.{slot, verdict_secs}
 use Rattle.footpaths.proofs.build.collect.Given as goal
 
 abbrev pub invariant-loop-from : goal.invariant-loop-from

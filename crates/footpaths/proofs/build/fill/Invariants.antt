@@ -2,7 +2,7 @@ use Rattle.std.proofs.Common.{◌≡◌, ◌<◌, ◌≤◌, ℕ, [], None, leng
 use Rattle.std.specs.Prelude.{filter_map, sum_by}
 use Rattle.tb_base.specs.declared.table.Path.{Path}
 use Rattle.footpaths.specs.Footpaths.{path_to, numbers, secs_between}
-use Rattle.footpaths.specs.Marks.{slot}
+use Rattle.footpaths.specs.BestRules.{slot}
 use Rattle.footpaths.proofs.build.fill.Given as goal
 
 abbrev pub invariant-loop-stop : goal.invariant-loop-stop

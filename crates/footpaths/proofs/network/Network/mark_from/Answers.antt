@@ -5,7 +5,7 @@ use Rattle.std.proofs.lemmas.Result.{on_ok_weaker}
 use Rattle.groups.specs.Places.{places_of}
 use Rattle.footpaths.specs.Stops.{platforms, station_of}
 use Rattle.footpaths.specs.Footpaths.{is_number}
-use Rattle.footpaths.specs.Marks.{slot, marked}
+use Rattle.footpaths.specs.BestRules.{slot, marked}
 use Rattle.footpaths.specs.Network.{NetworkData, parent_keys}
 use Rattle.footpaths.proofs.NetworkLaws.{places_within, places_distinct, member_kept, parent_keys_many}
 use Rattle.footpaths.proofs.network.Network.mark_from.Goals as goal

@@ -1,5 +1,5 @@
 use Rattle.std.proofs.Common.{◌≡◌, ◌<◌, ℕ, length, map, take, fold}
-use Rattle.footpaths.specs.Marks.{slot, marked_by}
+use Rattle.footpaths.specs.BestRules.{slot, marked_by}
 use Rattle.footpaths.specs.Network.{link_at}
 use Rattle.footpaths.proofs.network.Network.mark_links.Given as goal
 

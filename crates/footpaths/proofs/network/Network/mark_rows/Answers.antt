@@ -4,7 +4,7 @@ use Rattle.std.proofs.lemmas.Result.{on_ok_weaker}
 use Rattle.groups.specs.Places.{places_of}
 use Rattle.footpaths.specs.declared.found.Link.{Link}
 use Rattle.footpaths.specs.Stops.{station_of}
-use Rattle.footpaths.specs.Marks.{slot}
+use Rattle.footpaths.specs.BestRules.{slot}
 use Rattle.footpaths.specs.Network.{NetworkData, platform_key, station_key, platform_keys, station_keys}
 use Rattle.footpaths.proofs.NetworkLaws.{places_within}
 use Rattle.footpaths.proofs.RowLaws.{one_rule, both_rule, platform_places, station_places}

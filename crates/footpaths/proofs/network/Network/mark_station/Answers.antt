@@ -4,7 +4,7 @@ use Rattle.std.specs.List.{list_any}
 use Rattle.std.proofs.lemmas.Result.{on_ok_weaker}
 use Rattle.footpaths.specs.Stops.{platforms, station_of}
 use Rattle.footpaths.specs.Footpaths.{is_number, have_one_station}
-use Rattle.footpaths.specs.Marks.{slot, marked}
+use Rattle.footpaths.specs.BestRules.{slot, marked}
 use Rattle.footpaths.specs.Network.{NetworkData, parent_keys}
 use Rattle.footpaths.proofs.NetworkLaws.{places_within, places_distinct, member_kept, parent_keys_many, station_below}
 use Rattle.footpaths.proofs.RowLaws.{station_places}

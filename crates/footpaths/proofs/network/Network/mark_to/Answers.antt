@@ -4,7 +4,7 @@ use Rattle.std.proofs.lemmas.List.{length-set}
 use Rattle.std.proofs.lemmas.Result.{on_ok_weaker}
 use Rattle.footpaths.specs.Stops.{station_of}
 use Rattle.footpaths.specs.Footpaths.{have_one_station, said}
-use Rattle.footpaths.specs.Marks.{better, slot}
+use Rattle.footpaths.specs.BestRules.{better, slot}
 use Rattle.footpaths.proofs.RowLaws.{mark_at, last_rule}
 use Rattle.footpaths.proofs.network.Network.mark_to.Goals as goal
 
