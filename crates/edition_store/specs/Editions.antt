@@ -20,7 +20,8 @@ pub record EditionData : Type 0 where
 abbrev pub net_of : EditionData → NetData
 net_of e = record { table = e.table; lines = e.lines; hops = packed e.set }
 
--- The timetable is sound, the lines are its lines, and the hops are its kept transfers, which are enough to find all best values.
+-- The timetable is sound, the lines are its lines, and the hops are its kept transfers, which are
+-- enough to find all best values.
 pub record IsEdition (e : EditionData) : Type 0 where
   pub sound : IsSound e.table
   pub lines : AreLines e.table e.lines

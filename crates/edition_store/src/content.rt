@@ -11,7 +11,8 @@ use std::marker::Model;
 use std::sync::Arc;
 use tb_base::Memory;
 
-/// One shared list of editions, of which there are 1 to 100, with the mark that nothing comes after it: a beginning of the history.
+/// One shared list of editions, of which there are 1 to 100, with the mark that nothing comes after
+/// it: a beginning of the history.
 #[derive(Drop)]
 pub struct Content<J: Naming> {
     pub(crate) list: Arc<Vec<Shared>>,

@@ -1,7 +1,6 @@
 ghost use Rattle.std.specs.Prelude.{◌≡◌, ◌<◌, ◌≤◌, ℕ, IfOk};
 ghost use Rattle.tb_base.specs.Sufficiency.{AreSufficient};
 ghost use Rattle.tb_base.specs.Transfers.{kept_hops};
-ghost use Rattle.line_split.specs.LinesOf.{AreLinesOf};
 ghost use Rattle.reduce_workers.specs.Reductions.{reduced};
 ghost use Rattle.transfer_pack.specs.Packed.{packed};
 ghost use Rattle.edition_store.specs.Editions.{EditionData, IsEdition, net_of};
@@ -27,20 +26,30 @@ pub struct Edition {
 
 impl Model for Edition {
     ghost use Rattle.std.specs.Prelude.{◌≡◌};
-    ghost use Rattle.line_split.specs.LinesOf.{AreLinesOf};
     ghost use Rattle.edition_store.specs.Editions.{EditionData, IsEdition};
 
     ghost Value = { EditionData };
 
-    ghost view = { λ e. record { table = e.table; lines = e.lines.lines; set = e.set; kept = e.kept } };
+    ghost view = { λ e. record {
+      table = e.table;
+      lines = e.lines.lines;
+      set = e.set;
+      kept = e.kept;
+    } };
 
-    ghost invariant = { λ e. AreLinesOf e.table e.lines × (e.set.table ≡ e.table)
-        × IsEdition (record { table = e.table; lines = e.lines.lines; set = e.set; kept = e.kept }) };
+    ghost invariant = { λ e. (e.lines.table ≡ e.table) × (e.set.table ≡ e.table)
+        × IsEdition (record {
+          table = e.table;
+          lines = e.lines.lines;
+          set = e.set;
+          kept = e.kept;
+        }) };
 }
 
 impl Edition {
-    /// The edition of a timetable. So many workers reduce its transfers, at least one and at most 64; the gate is told of their
-    /// pieces. Every number of workers gives the same network. Refused only for want of memory; the timetable is dropped then.
+    /// The edition of a timetable. So many workers reduce its transfers, at least one and at most
+    /// 64; the gate is told of their pieces. Every number of workers gives the same network.
+    /// Refused only for want of memory; the timetable is dropped then.
     pub fn build<G: Gate, R: Threads + Sync>(
         rt: &R,
         alloc: Global,
@@ -57,23 +66,23 @@ impl Edition {
         Edition::assemble(alloc, table, lines, transfers)
     }
 
-    /// The edition of a timetable with its lines and what the reduction made of its transfers. Refused only for want of memory;
-    /// all three are dropped then.
+    /// The edition of a timetable with its lines and what the reduction made of its transfers.
+    /// Refused only for want of memory; all three are dropped then.
     pub fn assemble(
         alloc: Global,
         table: Timetable,
         lines: Lines,
         transfers: Reduced,
     ) -> Result<Edition, Memory>
-        requires lines { AreLinesOf table lines }
+        requires lines { lines.table ≡ table }
         requires transfers { transfers ≡ reduced table lines.lines }
         ensures table { IfOk result (λ e. EditionData.table e ≡ table) }
         ensures lines { IfOk result (λ e. EditionData.lines e ≡ lines.lines) }
         ensures kept { IfOk result (λ e. EditionData.kept e ≡ transfers.kept) }
     {
-        line_split::laws::lines_divide();
         reduce_workers::laws::kept_rows();
         table.soundness();
+        lines.soundness();
         let kept = transfers.kept;
         let set = transfers.into_set(alloc, &table)?;
         Ok(Edition {
@@ -101,12 +110,13 @@ impl Edition {
     /// The lines of its timetable.
     pub fn lines(&self) -> &Lines
         ensures lines { result.now.lines ≡ self.now.lines }
-        ensures table { AreLinesOf self.now.table result.now }
+        ensures table { result.now.table ≡ self.now.table }
     {
         &self.lines
     }
 
-    /// The set of exactly its kept transfers. It is sufficient: a search over it finds all best values.
+    /// The set of exactly its kept transfers. It is sufficient: a search over it finds all best
+    /// values.
     pub fn set(&self) -> &Set
         ensures set { result.now ≡ self.now.set }
         ensures table { result.now.table ≡ self.now.table }

@@ -2,7 +2,8 @@
 ghost use Rattle.edition_store.specs.Steps.{PinsFollow, PinsStay};
 ghost use Rattle.edition_store.specs.Tied.{IsTied};
 
-/// Each list that a seat pins begins with all that the seat knew, and the list that is published in the end begins with it.
+/// Each list that a seat pins begins with all that the seat knew, and the list that is published in
+/// the end begins with it.
 pub fn pins_follow<E>()
     ensures before { (first : E) → PinsFollow first }
     ensures after { (first : E) → PinsStay first }

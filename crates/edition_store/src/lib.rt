@@ -1,15 +1,20 @@
-//! The network of a day as one value, ready for questions, and editions of it that are published while readers read.
+//! The network of a day as one value, ready for questions, and editions of it that are published
+//! while readers read.
 //!
-//! An `Edition` owns the timetable of a day, its lines, and the set of its kept transfers, as Trip-Based Public Transit Routing (Witt,
-//! ESA 2015) prepares them. To the layer above it promises that the lines are those of the timetable, that the hops from each event
-//! are exactly its kept transfers, and that these suffice: a search over them finds all best values. It is a `Scan`, so a search
-//! looks at it as it stands.
+//! An `Edition` owns the timetable of a day, its lines, and the set of its kept transfers, as
+//! Trip-Based Public Transit Routing (Witt, ESA 2015) prepares them. To the layer above it promises
+//! that the lines are those of the timetable, that the hops from each event are exactly its kept
+//! transfers, and that these suffice: a search over them finds all best values. It is a `Scan`, so
+//! a search looks at it as it stands.
 //!
-//! A `Store` gives one `Publisher`, which appends editions to one list and closes it in the end, and its seats, which pin the list in
-//! other threads and never wait for it: two copies of the list are kept, and readers are moved from one to the other (`left_right`). What
-//! is pinned stays as it is for as long as it is held. To the layer above the crate promises that a pinned list was published, that it
-//! begins with all that its seat has pinned or learned before, and that the whole list begins with it; a seat that has learned the whole
-//! list pins that. Which list a seat that learned nothing meets, and when, it does not promise. The types of one store carry its name `J`.
+//! A `Store` gives one `Publisher`, which appends editions to one list and closes it in the end,
+//! and its seats, which pin the list in other threads and never wait for it: two copies of the list
+//! are kept, and readers are moved from one to the other (`left_right`). What is pinned stays as it
+//! is for as long as it is held. To the layer above the crate promises that a pinned list was
+//! published, that it begins with all that its seat has pinned or learned before, and that the
+//! whole list begins with it; a seat that has learned the whole list pins that. Which list a seat
+//! that learned nothing meets, and when, it does not promise. The types of one store carry its name
+//! `J`.
 #![tactic(auto)]
 
 mod content;

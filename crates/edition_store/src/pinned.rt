@@ -1,4 +1,5 @@
-ghost use Rattle.std.specs.Prelude.{◌≡◌, ◌⊎◌, ◌-◌, ◌<◌, true, length, slice_get, IfSome, IfNone, Some};
+ghost use Rattle.std.specs.Prelude.{◌≡◌, ◌⊎◌, ◌-◌, ◌<◌, true, length, slice_get};
+ghost use Rattle.std.specs.Prelude.{IfSome, IfNone, Some};
 ghost use Rattle.history.specs.Lists.{Shown, Extends};
 
 use crate::content::Content;
@@ -6,7 +7,8 @@ use crate::edition::Edition;
 use history::Naming;
 use std::marker::Model;
 
-/// A published list of editions. It takes no reader's place, so it may be held for as long as one likes.
+/// A published list of editions. It takes no reader's place, so it may be held for as long as one
+/// likes.
 #[derive(Drop)]
 pub struct Pinned<J: Naming> {
     pub(crate) content: Content<J>,

@@ -29,8 +29,9 @@ impl<J: Naming> Shows for Writer<Content<J>, Content<J>, View, Kept> {
     ghost shown = { λ w. w.desk.shown.value };
 }
 
-/// The one who publishes, with the writer `W`. What readers see is the list of the publisher. (A struct's field can't have the type of the
-/// writer itself, since a `Content<J>` absorbs by a generic impl.)
+/// The one who publishes, with the writer `W`. What readers see is the list of the publisher. (A
+/// struct's field can't have the type of the writer itself, since a `Content<J>` absorbs by a
+/// generic impl.)
 pub struct Publishing<J: Naming, W: Shows> {
     alloc: Global,
     history: History<Edition, J>,
@@ -143,8 +144,9 @@ impl<J: Naming> Publishing<J, Writing<Content<J>>> {
         self.kept.len() as u32
     }
 
-    /// Appends the edition to the list in one step. May wait for readers that are just entering. Refused only for want of memory: the list
-    /// stays as it was and never grows again, and the publisher and the edition are dropped.
+    /// Appends the edition to the list in one step. May wait for readers that are just entering.
+    /// Refused only for want of memory: the list stays as it was and never grows again, and the
+    /// publisher and the edition are dropped.
     pub fn publish<R: Wait>(
         self,
         rt: &R,
@@ -173,9 +175,10 @@ impl<J: Naming> Publishing<J, Writing<Content<J>>> {
         ))
     }
 
-    /// Closes the list, to which nothing is added any more, and gives all of it. From then on no seat is let in: each pins what it keeps
-    /// until it has learned the end. May wait for readers that are just entering. Refused only for want of memory: the list stays as it
-    /// was and never grows again, and the publisher is dropped.
+    /// Closes the list, to which nothing is added any more, and gives all of it. From then on no
+    /// seat is let in: each pins what it keeps until it has learned the end. May wait for readers
+    /// that are just entering. Refused only for want of memory: the list stays as it was and never
+    /// grows again, and the publisher is dropped.
     pub fn finish<R: Wait>(self, rt: &R) -> Result<Last<J>, Memory>
         ensures { IfOk result (λ l. l ≡ self) }
     {

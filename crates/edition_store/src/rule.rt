@@ -8,7 +8,8 @@ use crossbeam_utils::rule::{Outcome, Protocol};
 use history::Naming;
 use std::marker::Model;
 
-/// The list that a side saw last: the writer's when it published, a reader's when it entered. No value of it is ever made.
+/// The list that a side saw last: the writer's when it published, a reader's when it entered. No
+/// value of it is ever made.
 pub struct View {
     list: [Edition; 0],
     closed: bool,
@@ -23,7 +24,8 @@ impl Model for View {
     ghost view = { λ v. record { list = v.list; closed = v.closed } };
 }
 
-/// The rule between any two steps: the published list was seen by who published it, and extends each list that was seen.
+/// The rule between any two steps: the published list was seen by who published it, and extends
+/// each list that was seen.
 pub struct Kept;
 
 impl<J: Naming> Protocol<Content<J>, View> for Kept {

@@ -12,7 +12,8 @@ use left_right::reader::Reader;
 use std::marker::Model;
 use tb_base::Memory;
 
-/// A place to pin from. It keeps the longest list that it has pinned or learned, which is how contracts see it.
+/// A place to pin from. It keeps the longest list that it has pinned or learned, which is how
+/// contracts see it.
 #[derive(Drop)]
 pub struct Seat<J: Naming> {
     kept: Content<J>,
@@ -55,7 +56,8 @@ fn look<J: Naming>(
     }
 }
 
-// Whether the list that was seen extends the kept one. Where the kept list was seen before, the rule of the two copies says so.
+// Whether the list that was seen extends the kept one. Where the kept list was seen before, the
+// rule of the two copies says so.
 fn goes_on<J: Naming>(kept: &Content<J>, fresh: bool, seen: &Content<J>) -> bool
     requires { fresh ≡ true → Extends seen.now kept.now }
     ensures { MatchBool result (Extends seen.now kept.now) (Extends kept.now seen.now) }
@@ -92,9 +94,9 @@ impl<J: Naming> Seat<J> {
         self.reader = writer.factory().reader().ok();
     }
 
-    /// A published list, which begins with each that the seat has pinned or learned. One step, which waits for nobody. Where the seat
-    /// isn't let in, as after the end, it is the list that the seat keeps. Refused only for want of memory: the seat keeps the list that
-    /// it kept.
+    /// A published list, which begins with each that the seat has pinned or learned. One step,
+    /// which waits for nobody. Where the seat isn't let in, as after the end, it is the list that
+    /// the seat keeps. Refused only for want of memory: the seat keeps the list that it kept.
     pub fn pin(&mut self) -> Result<Pinned<J>, Memory>
         ensures later { IfOk result (λ p. Extends p self.old) }
         ensures kept { IfOk result (λ p. self.new ≡ p) }
@@ -138,8 +140,8 @@ impl<J: Naming> Seat<J> {
         Ok(())
     }
 
-    /// From now on the seat pins no less than the list of the receipt. Waits for nobody. Refused only for want of memory: the seat has
-    /// learned nothing then.
+    /// From now on the seat pins no less than the list of the receipt. Waits for nobody. Refused
+    /// only for want of memory: the seat has learned nothing then.
     pub fn learn(&mut self, receipt: &Receipt<J>) -> Result<(), Memory>
         ensures later { IfOk result (λ _. Extends self.new self.old) }
         ensures told { IfOk result (λ _. Extends self.new receipt.now) }
@@ -149,7 +151,8 @@ impl<J: Naming> Seat<J> {
         self.keep(&receipt.content)
     }
 
-    /// From now on the seat pins the whole list. Waits for nobody. Refused only for want of memory: the seat has learned nothing then.
+    /// From now on the seat pins the whole list. Waits for nobody. Refused only for want of memory:
+    /// the seat has learned nothing then.
     pub fn learn_last(&mut self, last: &Last<J>) -> Result<(), Memory>
         ensures later { IfOk result (λ _. Extends self.new self.old) }
         ensures whole { IfOk result (λ _. self.new ≡ record { list = last.now; closed = true }) }

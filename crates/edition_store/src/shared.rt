@@ -8,7 +8,8 @@ use std::sync::Arc;
 use std::thread::Threads;
 use tb_base::{Gate, Memory, Timetable};
 
-/// One edition, shared: its shares are one and the same edition, which is dropped with the last of them.
+/// One edition, shared: its shares are one and the same edition, which is dropped with the last of
+/// them.
 #[derive(Drop)]
 pub struct Shared(Arc<Edition>);
 

@@ -1,4 +1,4 @@
-ghost use Rattle.std.specs.Prelude.{◌≡◌, ◌<◌, ◌≤◌, [], ◌∷◌, length, replicate, false, IfOk};
+ghost use Rattle.std.specs.Prelude.{◌≡◌, ◌<◌, ◌≤◌, [], ◌∷◌, length, replicate, true, false, IfOk};
 ghost use Rattle.std.specs.Arc.{arc_value};
 ghost use Rattle.history.specs.Lists.{Shown};
 ghost use Rattle.edition_store.specs.Rules.{IsFirst};
@@ -63,8 +63,9 @@ fn started<J: Naming>(
 }
 
 impl Store {
-    /// A publisher whose list is the first edition alone, and so many seats, each of which keeps this list. `opened` has the store's name:
-    /// the call is made at the `J` that was picked for it. Refused only for want of memory; the edition is dropped then.
+    /// A publisher whose list is the first edition alone, and so many seats, each of which keeps
+    /// this list. `opened` has the store's name: the call is made at the `J` that was picked for
+    /// it. Refused only for want of memory; the edition is dropped then.
     pub fn new<J: Naming>(
         alloc: Global,
         opened: Opened<Edition>,
@@ -91,5 +92,28 @@ impl Store {
         let writer = started(&content, alloc, seats)?;
         give_readers(&writer, &mut places);
         Ok((Publishing::over(alloc, history, content, writer), places))
+    }
+
+    /// A seat of a list that is this edition alone, and closed from the start: what a store is once
+    /// its publisher has finished and the seat has learned the end. Nobody publishes, so nothing
+    /// waits. `opened` has the store's name, as in `new`. Refused only for want of memory; the
+    /// edition is dropped then.
+    pub fn closed<J: Naming>(
+        alloc: Global,
+        opened: Opened<Edition>,
+        only: Shared,
+    ) -> Result<Seat<J>, Memory>
+        requires { opened.seen.book ≡ J.book }
+        ensures { IfOk result (λ s. s ≡ record { list = only ∷ []; closed = true }) }
+    {
+        let begun = opened.begin::<J>(only.edition());
+        let Some(history) = begun else {
+            return Err(Memory);
+        };
+        Ok(Seat::keeping(Content {
+            list: alone(alloc, only)?,
+            closed: true,
+            front: history.finish(),
+        }))
     }
 }

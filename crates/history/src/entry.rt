@@ -4,7 +4,8 @@ pub enum Event<E> {
     Finish,
 }
 
-/// What happened, and the number of the cell whose pen may write what comes next. No value of it is ever made.
+/// What happened, and the number of the cell whose pen may write what comes next. No value of it is
+/// ever made.
 pub struct Entry<E> {
     pub event: Event<E>,
     pub key: u64,

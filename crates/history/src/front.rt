@@ -6,7 +6,8 @@ use crate::law::{Law, Naming};
 use logbook::Seen;
 use std::marker::{Model, PhantomData};
 
-/// A beginning of the history named `J`. Contracts see it as the list of what was published, with the mark that the history is closed.
+/// A beginning of the history named `J`. Contracts see it as the list of what was published, with
+/// the mark that the history is closed.
 #[derive(Drop)]
 pub struct Front<E, J: Naming> {
     pub(crate) seen: Seen<Entry<E>, u64, Law>,

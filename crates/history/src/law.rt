@@ -2,7 +2,8 @@ use crate::entry::Entry;
 use logbook::{Gain, Pen, Plain, Play, Rule};
 use std::marker::Brand;
 
-/// The rule of the book: each entry is added by the pen that the one before left, and none after the end.
+/// The rule of the book: each entry is added by the pen that the one before left, and none after
+/// the end.
 pub struct Law;
 
 impl<E> Rule<Entry<E>, u64> for Law {

@@ -27,7 +27,8 @@ impl<E> Opened<E> {
         }
     }
 
-    /// The history under the name `J`, with what was published first. `None` never comes, of which there is no proof.
+    /// The history under the name `J`, with what was published first. `None` never comes, of which
+    /// there is no proof.
     pub fn begin<J: Naming>(self, first: &E) -> Option<History<E, J>>
         requires { self.seen.book ≡ J.book }
         ensures { IfSome result (λ h. h ≡ record { list = first.now ∷ []; closed = false }) }
