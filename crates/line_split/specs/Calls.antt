@@ -7,4 +7,6 @@ use Rattle.line_split.specs.declared.lines.Berth.{Berth}
 
 -- the calls at stop q among the first n events of a line
 abbrev pub calls_of : ℕ → List Event → ℕ → ℕ → List Berth
-calls_of line events q n = map (λ j. record { line = line; at = j }) (filter (λ j. (slice_index_or events j no_event).stop == q) (numbers_below n))
+calls_of line events q n =
+    map (λ j. record { line = line; at = j })
+    (filter (λ j. (slice_index_or events j no_event).stop == q) (numbers_below n))

@@ -47,7 +47,8 @@ fn add_calls(berths: &mut Nested<Berth>, line: LineNo, events: &[Event]) -> Resu
     requires stops { All (λ e. e.stop < length berths.old) events.now }
     ensures length { OnOk result (length berths.new ≡ length berths.old) }
     ensures calls { OnOk result ((q : ℕ) → q < length berths.old →
-        slice_index_or berths.new q [] ≡ slice_index_or berths.old q [] ++ calls_of line events.now q (length events.now)) }
+        slice_index_or berths.new q []
+        ≡ slice_index_or berths.old q [] ++ calls_of line events.now q (length events.now)) }
 {
     for at in 0..events.len() {
         let berth = Berth {

@@ -10,7 +10,8 @@ use super::nested::Nested;
 use std::alloc::Global;
 use tb_base::{Memory, Sec, Timetable, TripNo};
 
-/// The departures, line after line and within a line index after index, behind the places where each line's begin.
+/// The departures, line after line and within a line index after index, behind the places where
+/// each line's begin.
 pub(crate) fn departures_of(
     alloc: Global,
     table: &Timetable,
@@ -18,7 +19,8 @@ pub(crate) fn departures_of(
 ) -> Result<(Vec<usize>, Vec<Sec>), Memory>
     ensures starts { IfOk result (λ all. all.0.items
         ≡ map (start_of table.now lines.now) (range_with_len 0 (length lines.now))) }
-    ensures departures { IfOk result (λ all. all.1.items ≡ flat_map (line_departures table.now) lines.now) }
+    ensures departures { IfOk result
+        (λ all. all.1.items ≡ flat_map (line_departures table.now) lines.now) }
 {
     let mut starts = Vec::new(alloc);
     let mut departures = Vec::new(alloc);
@@ -31,7 +33,8 @@ pub(crate) fn departures_of(
 
 // Adds the departures of a line.
 fn add_line(departures: &mut Vec<Sec>, table: &Timetable, trips: &[TripNo]) -> Result<(), Memory>
-    ensures { OnOk result (departures.new.items ≡ departures.old.items ++ line_departures table.now trips.now) }
+    ensures { OnOk result (departures.new.items
+        ≡ departures.old.items ++ line_departures table.now trips.now) }
 {
     let count = events_of(table, first_of(trips)).len();
     for at in 0..count {
@@ -47,7 +50,8 @@ fn add_index(
     trips: &[TripNo],
     at: usize,
 ) -> Result<(), Memory>
-    ensures { OnOk result (departures.new.items ≡ departures.old.items ++ departures_at table.now trips.now at) }
+    ensures { OnOk result (departures.new.items
+        ≡ departures.old.items ++ departures_at table.now trips.now at) }
 {
     for trip in trips {
         departures.push(departure(table, *trip, at))?;

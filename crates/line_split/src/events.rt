@@ -23,7 +23,8 @@ pub(crate) fn events_of(table: &Timetable, trip: TripNo) -> &[Event]
 // Whether the second event has the first one's stop and marks, and is nowhere earlier.
 fn follows(e: &Event, f: &Event) -> bool
     ensures { result ≡ ((e.now.stop == f.now.stop) && same_mark e.now.board f.now.board
-        && same_mark e.now.alight f.now.alight && int_le e.now.arr f.now.arr && int_le e.now.dep f.now.dep) }
+        && same_mark e.now.alight f.now.alight && int_le e.now.arr f.now.arr
+        && int_le e.now.dep f.now.dep) }
 {
     e.stop.index() == f.stop.index()
         && e.board == f.board

@@ -1,9 +1,10 @@
-//! The lines of a timetable, as Trip-Based Public Transit Routing (Witt, ESA 2015) has them: trips with one sequence of stops and of
-//! boarding and alighting marks, none of which overtakes another.
+//! The lines of a timetable, as Trip-Based Public Transit Routing (Witt, ESA 2015) has them: trips
+//! with one sequence of stops and of boarding and alighting marks, none of which overtakes another.
 //!
-//! `split` makes the lines. The layer above is promised that they are the lines of the timetable (`Lines::soundness`), and finds in them
-//! without taking memory: the line of a trip and its place there, the trips of a line, where lines call at a stop, and the first
-//! trip of a line that departs at an index no earlier than a time, by one binary search along a run of departures.
+//! `split` makes the lines. The layer above is promised that they are the lines of the timetable
+//! (`Lines::soundness`), and finds in them without taking memory: the line of a trip and its place
+//! there, the trips of a line, where lines call at a stop, and the first trip of a line that
+//! departs at an index no earlier than a time, by one binary search along a run of departures.
 #![tactic(auto)]
 
 ghost use Rattle.std.specs.Prelude.{◌≡◌, IfOk};
@@ -27,8 +28,9 @@ use places::places_of;
 use std::alloc::Global;
 use tb_base::{Memory, Timetable};
 
-/// The lines of a timetable: trips of one pattern of stops and marks, none of which overtakes another. Each trip, in the order of
-/// all times and then of the numbers, joins the first line whose last trip is nowhere later, else it opens the next line.
+/// The lines of a timetable: trips of one pattern of stops and marks, none of which overtakes
+/// another. Each trip, in the order of all times and then of the numbers, joins the first line
+/// whose last trip is nowhere later, else it opens the next line.
 pub fn split(alloc: Global, table: &Timetable) -> Result<Lines, Memory>
     ensures { IfOk result (λ lines. lines.table ≡ table.now) }
 {

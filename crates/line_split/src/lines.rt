@@ -15,7 +15,8 @@ pub struct Berth {
     pub at: u32,
 }
 
-/// The lines of a timetable. They remember for contracts of which timetable they are; that takes no room.
+/// The lines of a timetable. They remember for contracts of which timetable they are; that takes no
+/// room.
 #[derive(Drop)]
 pub struct Lines {
     table: Snapshot<Timetable>,
@@ -78,8 +79,8 @@ impl Lines {
         }
     }
 
-    /// What lines always keep: they are the lines of their timetable, and these are all its trips, each once, with the same stops
-    /// and marks and no falling time along a line. Does nothing.
+    /// What lines always keep: they are the lines of their timetable, and these are all its trips,
+    /// each once, with the same stops and marks and no falling time along a line. Does nothing.
     pub fn soundness(&self)
         ensures lines { AreLines self.now.table self.now.lines }
         ensures divided { AreDividedInto self.now.table self.now.lines }
@@ -118,8 +119,8 @@ impl Lines {
         first_of(self.lines.row(line.index()))
     }
 
-    /// Whether a line may be boarded at an index: boarding is allowed there, and it is not the line's last index.
-    /// The lines are those of the timetable.
+    /// Whether a line may be boarded at an index: boarding is allowed there, and it is not the
+    /// line's last index. The lines are those of the timetable.
     pub fn may_be_boarded(&self, table: &Timetable, line: LineNo, at: u32) -> bool
         requires table { self.now.table ≡ table.now }
         requires line { line < length self.now.lines }
@@ -142,8 +143,10 @@ impl Lines {
     // The departures of a line's trips at one index, in the order of the trips.
     fn departures_at(&self, line: LineNo, at: u32) -> &[Sec]
         requires line { line < length self.now.lines }
-        requires at { at < length (line_events self.now.table (slice_index_or self.now.lines line [])) }
-        ensures { result.now ≡ departures_at self.now.table (slice_index_or self.now.lines line []) at }
+        requires at { at
+            < length (line_events self.now.table (slice_index_or self.now.lines line [])) }
+        ensures { result.now
+            ≡ departures_at self.now.table (slice_index_or self.now.lines line []) at }
     {
         let departures = self.departures.as_slice();
         let count = self.lines.row(line.index()).len();
@@ -156,7 +159,8 @@ impl Lines {
         requires table { self.now.table ≡ table.now }
         requires line { line < length self.now.lines }
         requires at { at < length (line_events table.now (slice_index_or self.now.lines line [])) }
-        ensures { result ≡ earliest_trip table.now (slice_index_or self.now.lines line []) at time }
+        ensures { result
+            ≡ earliest_trip table.now (slice_index_or self.now.lines line []) at time }
     {
         self.soundness();
         let place = first_from(self.departures_at(line, at), time);

@@ -76,7 +76,8 @@ impl<T: Drop> Nested<T> {
     /// An item more, at the end of a row.
     pub(crate) fn add(&mut self, i: usize, item: T) -> Result<(), Memory>
         requires { i < length self.old }
-        ensures { OnOk result (self.new ≡ set self.old i (slice_index_or self.old i [] ++ item ∷ [])) }
+        ensures { OnOk result
+            (self.new ≡ set self.old i (slice_index_or self.old i [] ++ item ∷ [])) }
     {
         let row = &mut self.rows[i];
         row.push(item)?;

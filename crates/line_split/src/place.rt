@@ -10,7 +10,8 @@ use super::nested::Nested;
 use std::alloc::Global;
 use tb_base::{Event, Memory, Timetable, TripNo};
 
-/// The lines: each trip in turn joins the first line that it may follow the last trip of, else it opens a new one.
+/// The lines: each trip in turn joins the first line that it may follow the last trip of, else it
+/// opens a new one.
 pub(crate) fn place_trips(
     alloc: Global,
     table: &Timetable,
@@ -81,7 +82,8 @@ fn first_line(
 ) -> Option<usize>
     requires { All (λ l. l < length lines.now) among.now }
     ensures { result ≡ find (λ l.
-        may_follow (events_of table.now (last_trip (slice_index_or lines.now l []))) events.now) among.now }
+        may_follow (events_of table.now (last_trip (slice_index_or lines.now l []))) events.now)
+        among.now }
 {
     for line in among {
         if may_follow(events_of(table, last_trip(lines.row(*line))), events) {

@@ -17,7 +17,8 @@ pub(crate) fn places_of(
     requires rows { All (λ line. length line < 2 ^ 32) lines.now }
     requires trips { All (λ line. All (λ t. t < count) line) lines.now }
     ensures length { IfOk result (λ places. length places.items ≡ count) }
-    ensures places { IfOk result (λ places. (l k : ℕ) → l < length lines.now → k < length (slice_index_or lines.now l []) →
+    ensures places { IfOk result (λ places. (l k : ℕ) → l < length lines.now →
+        k < length (slice_index_or lines.now l []) →
         StandsAt lines.now (slice_index_or (slice_index_or lines.now l []) k 0)
         (slice_index_or places.items (slice_index_or (slice_index_or lines.now l []) k 0) (0, 0))) }
 {

@@ -37,7 +37,8 @@ of_event t j i [] false e = refl
 of_event t j i (h ∷ hs) true e = ap (λ b. map hop_of (cond b (transfer_by t j h ∷ filter (λ r. r.at == i) (map (transfer_by t j) hs)) (filter (λ r. r.at == i) (map (transfer_by t j) hs)))) (sym e) ∙ ap (λ ks. h ∷ ks) (of_event t j i hs true e)
 of_event t j i (h ∷ hs) false e = ap (λ b. map hop_of (cond b (transfer_by t j h ∷ filter (λ r. r.at == i) (map (transfer_by t j) hs)) (filter (λ r. r.at == i) (map (transfer_by t j) hs)))) (sym e) ∙ of_event t j i hs false e
 
--- of the transfers of the first n events those of event i are by its hops, and there are none of a later one
+-- of the transfers of the first n events those of event i are by its hops, and there are none of a
+-- later one
 module _ (hops : ℕ → List Hop) (t i : ℕ) where
   abbrev by_events : ℕ → List Transfer
   by_events n = flat_map (λ j. map (transfer_by t j) (hops j)) (numbers_down n)

@@ -14,8 +14,8 @@ rows_from T hops a n = map (λ t. transfers_of T (hops t) t) (range_with_len a n
 abbrev pub count_from : TimetableData → (ℕ → ℕ → List Hop) → ℕ → ℕ → ℕ
 count_from T hops a n = sum_by (λ t. length (transfers_of T (hops t) t)) (range_with_len a n)
 
--- transfers, one list a trip, and how many candidates there are, how many of them are no U-turns, how many are kept, and of how
--- many trips
+-- transfers, one list a trip, and how many candidates there are, how many of them are no U-turns,
+-- how many are kept, and of how many trips
 pub record ReducedData : Type 0 where
   pub rows : List (List Transfer)
   pub generated : ℕ

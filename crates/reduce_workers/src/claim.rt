@@ -51,8 +51,8 @@ impl Model for Drawn {
 }
 
 impl Claim {
-    /// A claim of so many pieces, and its seats, of which there are at least one and at most 64. Refused only for want of
-    /// memory.
+    /// A claim of so many pieces, and its seats, of which there are at least one and at most 64.
+    /// Refused only for want of memory.
     pub fn new(alloc: Global, pieces: u32, seats: u32) -> Result<(Claim, Vec<ClaimSeat>), Memory>
         requires some { 0 < seats }
         requires most { seats ≤ 64 }
@@ -73,8 +73,9 @@ impl Claim {
         Ok((Claim { table, pieces }, row))
     }
 
-    /// Draws the next piece, which no other draw of any seat gives, or None where all were drawn. It is one step on one word:
-    /// it waits for no one, and takes no memory. A seat that has been answered None draws no more.
+    /// Draws the next piece, which no other draw of any seat gives, or None where all were drawn.
+    /// It is one step on one word: it waits for no one, and takes no memory. A seat that has been
+    /// answered None draws no more.
     pub fn draw(&self, seat: &mut ClaimSeat) -> Option<u32>
         requires { IsOpen self.now (drawn_of seat.old) seat.old }
         ensures piece { IfSome result (λ n. n < self.now.pieces) }
@@ -91,8 +92,8 @@ impl Claim {
         }
     }
 
-    /// Ends a claim: all its seats have been answered None. Their lists together are all pieces, each once. Takes no memory,
-    /// and waits for no one.
+    /// Ends a claim: all its seats have been answered None. Their lists together are all pieces,
+    /// each once. Takes no memory, and waits for no one.
     pub fn gather(self, mut seats: Vec<ClaimSeat>) -> Drawn
         requires all { vec_len seats ≡ self.seats }
         requires done { All (IsDone self) seats.items }

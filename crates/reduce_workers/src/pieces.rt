@@ -20,9 +20,10 @@ pub fn piece_count(table: &Timetable) -> u32
     (table.trip_count() + (PIECE - 1)) / PIECE
 }
 
-/// Reduces the transfers of the trips of a piece, from trip `64 piece` to trip `64 piece + 63`, or to the last one. The lines are
-/// those of the timetable; the labels are for its stops, and may have served any piece before. Takes memory for the kept transfers,
-/// and for the candidates of one trip besides. Refused only for want of memory.
+/// Reduces the transfers of the trips of a piece, from trip `64 piece` to trip `64 piece + 63`, or
+/// to the last one. The lines are those of the timetable; the labels are for its stops, and may
+/// have served any piece before. Takes memory for the kept transfers, and for the candidates of one
+/// trip besides. Refused only for want of memory.
 pub fn reduce_piece(
     alloc: Global,
     table: &Timetable,

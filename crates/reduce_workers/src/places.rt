@@ -53,7 +53,8 @@ pub(crate) fn place(
     ensures long { IfOk result (λ slots. vec_len slots ≡ count) }
     ensures placed { IfOk result (λ slots. (f : ℕ → ReducedData) →
         All (IsPieceOf f) pieces.items → (n : ℕ) →
-        0 < times n (map number pieces.items) → slice_index_or slots.items n None ≡ Some (f n)) }
+        0 < times n (map number pieces.items) →
+        slice_index_or slots.items n None ≡ Some (f n)) }
 {
     let mut slots = vacant(alloc, count)?;
     while let Some((n, reduced)) = pieces.pop() {

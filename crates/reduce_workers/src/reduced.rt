@@ -13,8 +13,9 @@ use std::marker::Model;
 use tb_base::{Memory, Timetable, Transfer};
 use transfer_pack::Set;
 
-/// The kept transfers of some trips in a row, one list a trip, each from the trip's last event down; and how many candidates there
-/// are, how many of them are no U-turns, how many are kept, and of how many trips.
+/// The kept transfers of some trips in a row, one list a trip, each from the trip's last event
+/// down; and how many candidates there are, how many of them are no U-turns, how many are kept, and
+/// of how many trips.
 #[derive(Drop)]
 pub struct Reduced {
     pub rows: Vec<Vec<Transfer>>,
@@ -54,7 +55,8 @@ impl Reduced {
         }
     }
 
-    /// Adds what the reduction makes of the trips that come next: no list is copied. Refused only for want of memory.
+    /// Adds what the reduction makes of the trips that come next: no list is copied. Refused only
+    /// for want of memory.
     pub fn append(&mut self, table: &Timetable, lines: &Lines, more: Reduced) -> Result<(), Memory>
         requires lines { lines.now.table ≡ table.now }
         requires before { self.old ≡ reduced_from table.now lines.now.lines 0 self.old.trips }
@@ -81,8 +83,9 @@ impl Reduced {
         Ok(())
     }
 
-    /// The set of these transfers: one list a trip, of transfers from its events. If they are the kept ones, its hops are exactly
-    /// the kept hops, and it is sufficient: a search over it finds all best values. Refused only for want of memory.
+    /// The set of these transfers: one list a trip, of transfers from its events. If they are the
+    /// kept ones, its hops are exactly the kept hops, and it is sufficient: a search over it finds
+    /// all best values. Refused only for want of memory.
     pub fn into_set(self, alloc: Global, table: &Timetable) -> Result<Set, Memory>
         requires { AreRowsOf table.now self.rows }
         ensures table { IfOk result (λ set. set.table ≡ table.now) }

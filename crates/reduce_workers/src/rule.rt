@@ -2,8 +2,8 @@
 use atomic_table::{Join, Play, Split, TableRule};
 use std::collections::LinkedList;
 
-/// What a seat knows: how many pieces there are, which it has drawn, how many seats it stands for, and how many of its draws
-/// found none left. No value of it is made.
+/// What a seat knows: how many pieces there are, which it has drawn, how many seats it stands for,
+/// and how many of its draws found none left. No value of it is made.
 pub struct Hand {
     pub pieces: u32,
     pub drawn: LinkedList<u32>,

@@ -72,7 +72,8 @@ impl Reduced {
         ensures labels { length labels.new ≡ length labels.old }
         ensures trips { OnOk result (self.new.trips ≡ self.old.trips + 1) }
         ensures after { OnOk result (self.new
-            ≡ reduced_from table.now lines.now.lines (trip - self.old.trips) (self.old.trips + 1)) }
+            ≡ reduced_from table.now lines.now.lines (trip - self.old.trips)
+            (self.old.trips + 1)) }
     {
         table.soundness();
         lines.soundness();
@@ -86,9 +87,9 @@ impl Reduced {
     }
 }
 
-/// Reduces the transfers of `count` trips from trip `first` on. The lines are those of the timetable; the labels are for its
-/// stops, and serve all trips. Takes memory for the kept transfers, and for the candidates of one trip besides. Refused only for
-/// want of memory.
+/// Reduces the transfers of `count` trips from trip `first` on. The lines are those of the
+/// timetable; the labels are for its stops, and serve all trips. Takes memory for the kept
+/// transfers, and for the candidates of one trip besides. Refused only for want of memory.
 pub(crate) fn reduce_from(
     alloc: Global,
     table: &Timetable,

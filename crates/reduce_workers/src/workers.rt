@@ -17,7 +17,8 @@ use std::thread::Threads;
 use tb_base::{Gate, Memory, Timetable, Work};
 use transfer_reduce::Labels;
 
-// Draws pieces and reduces them until none is left, with labels of its own. The gate is told of each piece.
+// Draws pieces and reduces them until none is left, with labels of its own. The gate is told of
+// each piece.
 fn reduce_drawn<G: Gate>(
     alloc: Global,
     table: &Timetable,
@@ -42,10 +43,11 @@ fn reduce_drawn<G: Gate>(
     Ok((seat, done))
 }
 
-/// Reduces the transfers of all trips by so many workers, of which there are at least one and at most 64. The workers draw
-/// pieces of 64 trips; the gate is told when one begins a piece and when it is done with it. The kept transfers and the
-/// counts are the same for every number of workers, whoever draws which piece. Where no thread can be started the caller
-/// does that worker's part itself. The lines are those of the timetable. Takes memory for the kept transfers, and for each
+/// Reduces the transfers of all trips by so many workers, of which there are at least one and at
+/// most 64. The workers draw pieces of 64 trips; the gate is told when one begins a piece and when
+/// it is done with it. The kept transfers and the counts are the same for every number of workers,
+/// whoever draws which piece. Where no thread can be started the caller does that worker's part
+/// itself. The lines are those of the timetable. Takes memory for the kept transfers, and for each
 /// worker one label a stop and the candidates of one trip besides. Refused only for want of memory.
 pub fn reduce_all<G: Gate, R: Threads + Sync>(
     rt: &R,

@@ -108,7 +108,8 @@ placed_at [] t m = absurd m
 placed_at (x ∷ xs) t (inl e) = (0, ap (λ v. Some v) e)
 placed_at (x ∷ xs) t (inr m) = let r = placed_at xs t m in (suc r.0, r.1)
 
--- whether u, a trip of line n, is t or stands after it on its own line is told by the places of both
+-- whether u, a trip of line n, is t or stands after it on its own line is told by the places of
+-- both
 pub own_line : (T : TimetableData) (lines : List (List ℕ)) → AreDividedInto T lines → (t i u j l p n k : ℕ) (place : ℕ × ℕ) → StandsAt lines t (l, p) → StandsAt lines u place → slice_get (get_or lines n []) k ≡ Some u →
     is_own_line_onward (get_or lines n []) t i u j ≡ ((n == l) && nat_le i j && nat_le p place.1)
 own_line T lines divided t i u j l p n k place g h on_line = by_case (cases_eq n l)

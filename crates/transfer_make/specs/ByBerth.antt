@@ -25,12 +25,14 @@ pub record IsBerth (T : TimetableData) (lines : List (List ℕ)) (b : Berth) : T
   pub line : b.line < length lines
   pub at : b.at < length (line_events T (slice_index_or lines b.line []))
 
--- from t@i onto the line where it calls, no earlier than the time: its first trip, unless staying does as well
+-- from t@i onto the line where it calls, no earlier than the time: its first trip, unless staying
+-- does as well
 abbrev pub hop_at : TimetableData → List (List ℕ) → ℕ → ℕ → ℤ → Berth → Option ℕ
 hop_at T lines t i time b =
     let line = slice_index_or lines b.line [] in
     if may_be_boarded T (slice_index_or line 0 0) b.at
-    then option_and_then (λ u. if is_own_line_onward line t i u b.at then None else Some u) (earliest_trip T line b.at time)
+    then option_and_then (λ u. if is_own_line_onward line t i u b.at then None else Some u)
+    (earliest_trip T line b.at time)
     else None
 
 -- the transfer from t@i by a hop
@@ -39,11 +41,14 @@ row_of t i h = record { trip = t; at = i; to_trip = h.trip; to_at = h.at }
 
 -- the transfer from t@i onto the line where it calls
 abbrev pub row_by : TimetableData → List (List ℕ) → ℕ → ℕ → ℤ → Berth → Option Transfer
-row_by T lines t i time b = option_map (λ u. record { trip = t; at = i; to_trip = u; to_at = b.at }) (hop_at T lines t i time b)
+row_by T lines t i time b =
+    option_map (λ u. record { trip = t; at = i; to_trip = u; to_at = b.at })
+    (hop_at T lines t i time b)
 
 -- the transfers from t@i onto the lines at stop q, where the change takes so many seconds
 abbrev pub rows_at : TimetableData → List (List ℕ) → ℕ → ℕ → ℕ → ℕ → ℤ → List Transfer
-rows_at T lines t i q secs arr = filter_map (row_by T lines t i (arr +ℤ pos secs)) (berths_at T lines q)
+rows_at T lines t i q secs arr =
+    filter_map (row_by T lines t i (arr +ℤ pos secs)) (berths_at T lines q)
 
 -- those at a stop, where one can change to it
 abbrev pub rows_after : TimetableData → List (List ℕ) → ℕ → ℕ → ℕ → ℤ → Option ℕ → List Transfer

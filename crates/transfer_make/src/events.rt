@@ -22,7 +22,8 @@ fn add_paths(
     requires from { IsAlighting table.now lines.now.lines from.now }
     requires paths { All (λ f. (f.to < length table.now.stops) × (f.secs ≤ 86400)) paths.now }
     ensures { OnOk result (rows.new.items ≡ rows.old.items
-        ++ flat_map (λ f. rows_at table.now lines.now.lines from.now.trip from.now.at f.to f.secs from.now.arr) paths.now) }
+        ++ flat_map (λ f. rows_at table.now lines.now.lines from.now.trip from.now.at f.to f.secs
+        from.now.arr) paths.now) }
 {
     for path in paths {
         add_stop(rows, table, lines, from, path.to, path.secs)?;
@@ -41,7 +42,8 @@ fn add_own(
     requires lines { lines.now.table ≡ table.now }
     requires from { IsAlighting table.now lines.now.lines from.now }
     requires stop { stop < length table.now.stops }
-    ensures { OnOk result (rows.new.items ≡ rows.old.items ++ own_rows table.now lines.now.lines from.now.trip from.now.at stop from.now.arr) }
+    ensures { OnOk result (rows.new.items ≡ rows.old.items
+        ++ own_rows table.now lines.now.lines from.now.trip from.now.at stop from.now.arr) }
 {
     if let Some(secs) = table.change(stop, stop) {
         add_stop(rows, table, lines, from, stop, secs)?;
@@ -59,7 +61,8 @@ fn paths_below(paths: &[Path], stop: StopNo) -> usize
     paths.partition_point(|path| path.to.index() < stop.index())
 }
 
-// Adds the candidates of an alighting, by stop: footpaths lead to stops with lesser and with greater numbers.
+// Adds the candidates of an alighting, by stop: footpaths lead to stops with lesser and with
+// greater numbers.
 fn add_alighting(
     rows: &mut Vec<Transfer>,
     table: &Timetable,
@@ -72,7 +75,8 @@ fn add_alighting(
     requires stop { stop ≡ stop_at table.now from.now.trip from.now.at }
     requires alights { MayAlight table.now from.now.trip from.now.at }
     ensures { OnOk result (rows.new.items ≡ rows.old.items
-        ++ map (row_of from.now.trip from.now.at) (candidates table.now lines.now.lines from.now.trip from.now.at)) }
+        ++ map (row_of from.now.trip from.now.at)
+        (candidates table.now lines.now.lines from.now.trip from.now.at)) }
 {
     table.soundness();
     let paths = table.paths(stop);
@@ -93,7 +97,8 @@ pub(crate) fn add_event(
     requires lines { lines.now.table ≡ table.now }
     requires trip { trip < length table.now.trips }
     requires at { at < length (events_of table.now trip) }
-    ensures { OnOk result (rows.new.items ≡ rows.old.items ++ map (row_of trip at) (candidates table.now lines.now.lines trip at)) }
+    ensures { OnOk result (rows.new.items ≡ rows.old.items
+        ++ map (row_of trip at) (candidates table.now lines.now.lines trip at)) }
 {
     table.soundness();
     let event = table.event(trip, at as u32);

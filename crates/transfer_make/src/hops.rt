@@ -19,7 +19,8 @@ fn hop(
     requires from { IsAlighting table.now lines.now.lines from.now }
     requires berth { IsBerth table.now lines.now.lines berth.now }
     requires secs { secs ≤ 86400 }
-    ensures { result ≡ hop_at table.now lines.now.lines from.now.trip from.now.at (from.now.arr +ℤ pos secs) berth.now }
+    ensures { result ≡ hop_at table.now lines.now.lines from.now.trip from.now.at
+        (from.now.arr +ℤ pos secs) berth.now }
 {
     lines.soundness();
     if !lines.may_be_boarded(table, berth.line, berth.at) {
@@ -46,7 +47,8 @@ fn time_after(from: &Alighting, secs: u32) -> Sec
     from.arr + secs as i32
 }
 
-// Whether a trip at a place of the line is the own trip or comes after it, and is boarded no earlier than one alights.
+// Whether a trip at a place of the line is the own trip or comes after it, and is boarded no
+// earlier than one alights.
 fn is_onward(from: &Alighting, berth: &Berth, place: u32) -> bool
     ensures { result ≡ ((berth.now.line == from.now.line) && nat_le from.now.at berth.now.at
         && nat_le from.now.place place) }
@@ -68,7 +70,8 @@ fn add_berth(
     requires berth { IsBerth table.now lines.now.lines berth.now }
     requires secs { secs ≤ 86400 }
     ensures { OnOk result (rows.new.items ≡ rows.old.items
-        ++ option_to_list (row_by table.now lines.now.lines from.now.trip from.now.at (from.now.arr +ℤ pos secs) berth.now)) }
+        ++ option_to_list (row_by table.now lines.now.lines from.now.trip from.now.at
+        (from.now.arr +ℤ pos secs) berth.now)) }
 {
     if let Some(trip) = hop(table, lines, from, berth, secs) {
         let row = Transfer {

@@ -6,9 +6,11 @@ ghost use Rattle.tb_base.specs.Sufficiency.{AreSufficient};
 ghost use Rattle.tb_base.specs.TimetableData.{TimetableData};
 ghost use Rattle.tb_base.specs.Transfers.{candidates};
 
-/// The candidates are sufficient: each is possible, and wherever a journey changes, a ride is saved or a candidate serves.
+/// The candidates are sufficient: each is possible, and wherever a journey changes, a ride is saved
+/// or a candidate serves.
 pub fn candidates_sufficient()
-    ensures { (T : TimetableData) (lines : List (List ℕ)) → IsSound T → AreDividedInto T lines → AreSufficient T (candidates T lines) }
+    ensures { (T : TimetableData) (lines : List (List ℕ)) →
+        IsSound T → AreDividedInto T lines → AreSufficient T (candidates T lines) }
 {
     tb_laws::sufficiency::candidates_sufficient();
 }

@@ -1,8 +1,10 @@
-//! The candidate transfers of a trip, as Trip-Based Public Transit Routing (Witt, ESA 2015) makes them before it reduces them.
+//! The candidate transfers of a trip, as Trip-Based Public Transit Routing (Witt, ESA 2015) makes
+//! them before it reduces them.
 //!
-//! `make` gives the layer above all candidates of a trip, from its last event down: at each event where one may alight, for each stop
-//! that one can change to and each index of a line there where one may board, the line's first trip in time; left out is staying
-//! on the own line. The law in `laws` says that the candidates are sufficient: no best journey is lost by taking them alone.
+//! `make` gives the layer above all candidates of a trip, from its last event down: at each event
+//! where one may alight, for each stop that one can change to and each index of a line there where
+//! one may board, the line's first trip in time; left out is staying on the own line. The law in
+//! `laws` says that the candidates are sufficient: no best journey is lost by taking them alone.
 #![tactic(auto)]
 
 ghost use Rattle.std.specs.Prelude.{◌≡◌, ◌<◌, IfOk, length};
@@ -18,7 +20,8 @@ use line_split::Lines;
 use std::alloc::Global;
 use tb_base::{Memory, Timetable, Transfer, TripNo};
 
-/// The candidates of all events of a trip, from its last event down, and within an event by stop, by line and by index.
+/// The candidates of all events of a trip, from its last event down, and within an event by stop,
+/// by line and by index.
 pub fn make(
     alloc: Global,
     table: &Timetable,
@@ -27,7 +30,8 @@ pub fn make(
 ) -> Result<Vec<Transfer>, Memory>
     requires lines { lines.now.table ≡ table.now }
     requires trip { trip < length table.now.trips }
-    ensures { IfOk result (λ rows. rows.items ≡ transfers_of table.now (candidates table.now lines.now.lines trip) trip) }
+    ensures { IfOk result (λ rows. rows.items
+        ≡ transfers_of table.now (candidates table.now lines.now.lines trip) trip) }
 {
     let mut rows = Vec::new(alloc);
     let mut at = table.trip(trip).events.len();

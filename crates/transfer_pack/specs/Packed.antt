@@ -15,7 +15,8 @@ AreBounds [] end = ⊥
 AreBounds (a ∷ []) end = a ≡ end
 AreBounds (a ∷ b ∷ bounds) end = (a ≤ b) × AreBounds (b ∷ bounds) end
 
--- the hops of all events of a timetable, one list an event, trip after trip, and the number of each trip's first list
+-- the hops of all events of a timetable, one list an event, trip after trip, and the number of each
+-- trip's first list
 pub record PackedHops : Type 0 where
   pub table : TimetableData
   pub starts : List ℕ
@@ -24,8 +25,12 @@ pub record PackedHops : Type 0 where
 -- each event of the timetable has a list
 pub record FitsRuns (S : PackedHops) : Type 0 where
   pub trips : length S.starts ≡ length S.table.trips
-  pub events : (t : ℕ) → t < length S.table.trips → slice_index_or S.starts t 0 + length (events_of S.table t) ≤ length S.runs
+  pub events : (t : ℕ) → t < length S.table.trips →
+      slice_index_or S.starts t 0 + length (events_of S.table t) ≤ length S.runs
 
 -- the hops from event i of trip t
 abbrev pub packed : PackedHops → ℕ → ℕ → List Hop
-packed S t i = if nat_lt i (length (events_of S.table t)) then slice_index_or S.runs (slice_index_or S.starts t 0 + i) [] else []
+packed S t i =
+    if nat_lt i (length (events_of S.table t))
+    then slice_index_or S.runs (slice_index_or S.starts t 0 + i) []
+    else []

@@ -8,8 +8,8 @@ use std::marker::Model;
 use std::snapshot::Snapshot;
 use tb_base::{Hop, Memory, OutSet, Timetable, Transfer, TripNo};
 
-/// A set of transfers: the hops of all events one behind the other, and where those of each event begin and end. It remembers for
-/// contracts of which timetable it is; that takes no room.
+/// A set of transfers: the hops of all events one behind the other, and where those of each event
+/// begin and end. It remembers for contracts of which timetable it is; that takes no room.
 #[derive(Drop)]
 pub struct Set {
     table: Snapshot<Timetable>,
@@ -24,10 +24,18 @@ impl Model for Set {
 
     ghost Value = { PackedHops };
 
-    ghost view = { λ s. record { table = s.table.value; starts = s.starts.items; runs = runs_in s.hops.items s.bounds.items } };
+    ghost view = { λ s. record {
+      table = s.table.value;
+      starts = s.starts.items;
+      runs = runs_in s.hops.items s.bounds.items;
+    } };
 
     ghost invariant = { λ s. AreBounds s.bounds.items (length s.hops.items)
-        × FitsRuns (record { table = s.table.value; starts = s.starts.items; runs = runs_in s.hops.items s.bounds.items }) };
+        × FitsRuns (record {
+          table = s.table.value;
+          starts = s.starts.items;
+          runs = runs_in s.hops.items s.bounds.items;
+        }) };
 }
 
 // Adds the hops of a trip's transfers from one of its events.
@@ -46,7 +54,8 @@ fn add_event(hops: &mut Vec<Hop>, row: &[Transfer], at: usize) -> Result<(), Mem
     Ok(())
 }
 
-// Adds the hops of a trip's transfers from so many of its events, event after event, and where they end.
+// Adds the hops of a trip's transfers from so many of its events, event after event, and where they
+// end.
 fn add_trip(
     hops: &mut Vec<Hop>,
     bounds: &mut Vec<usize>,
@@ -56,7 +65,8 @@ fn add_trip(
     requires { AreBounds bounds.old.items (length hops.old.items) }
     ensures bounds { OnOk result (AreBounds bounds.new.items (length hops.new.items)) }
     ensures runs { OnOk result (runs_in hops.new.items bounds.new.items
-        ≡ runs_in hops.old.items bounds.old.items ++ map (hops_at row.now) (numbers_below events)) }
+        ≡ runs_in hops.old.items bounds.old.items
+        ++ map (hops_at row.now) (numbers_below events)) }
 {
     for at in 0..events {
         add_event(hops, row, at)?;
@@ -66,13 +76,14 @@ fn add_trip(
 }
 
 impl Set {
-    /// The set of these transfers: one list for each trip, of transfers from its events, in any order.
-    /// Takes memory by the numbers of events and transfers. Refused only for want of memory.
+    /// The set of these transfers: one list for each trip, of transfers from its events, in any
+    /// order. Takes memory by the numbers of events and transfers. Refused only for want of memory.
     pub fn build(alloc: Global, table: &Timetable, rows: &[Vec<Transfer>]) -> Result<Set, Memory>
         requires { AreRowsOf table.now (map (λ row. row.items) rows.now) }
         ensures table { IfOk result (λ set. set.table ≡ table.now) }
         ensures hops { IfOk result
-            (λ set. (t i : ℕ) → packed set t i ≡ hops_at (row_of (map (λ row. row.items) rows.now) t) i) }
+            (λ set. (t i : ℕ) → packed set t i
+            ≡ hops_at (row_of (map (λ row. row.items) rows.now) t) i) }
     {
         let mut starts = Vec::new(alloc);
         let mut bounds = Vec::new(alloc);

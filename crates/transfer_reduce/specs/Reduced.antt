@@ -11,7 +11,9 @@ use Rattle.tb_laws.specs.Labels.{label}
 
 -- row n is one of event i
 abbrev pub HasRowAt : List Transfer → ℕ → ℕ → Type 0
-HasRowAt rows i n = (n < length rows) × (Transfer.at (slice_index_or rows n (record { trip = 0; at = 0; to_trip = 0; to_at = 0 })) ≡ i)
+HasRowAt rows i n =
+    (n < length rows)
+    × (Transfer.at (slice_index_or rows n (record { trip = 0; at = 0; to_trip = 0; to_at = 0 })) ≡ i)
 
 -- the transfer from t@i by a hop
 abbrev pub row_of : ℕ → ℕ → Hop → Transfer
@@ -25,14 +27,21 @@ alternative_row t a = option_map (row_of t a.at) a.hop
 abbrev pub hop_from : ℕ → Hop → Alternative
 hop_from i h = record { at = i; hop = Some h }
 
--- Of the rows the first ones are kept; from a place on they are those of some hops of event i, and of the events before it.
--- The alternatives until then have been looked at, and the labels are what they offer.
-pub record Reduces (T : TimetableData) (lines : List (List ℕ)) (t : ℕ) (rows : List Transfer) (labels : List (Option ℤ)) (i taken kept : ℕ) : Type 0 where
+-- Of the rows the first ones are kept; from a place on they are those of some hops of event i, and
+-- of the events before it. The alternatives until then have been looked at, and the labels are what
+-- they offer.
+pub record Reduces (T : TimetableData) (lines : List (List ℕ)) (t : ℕ) (rows : List Transfer)
+    (labels : List (Option ℤ)) (i taken kept : ℕ) : Type 0 where
   pub hops : List Hop
   pub earlier : List (List Event)
-  pub left : drop taken rows ≡ map (row_of t i) hops ++ flat_map (λ j. map (row_of t j) (candidates_without_u_turns T lines t j)) (numbers_down i)
+  pub left : drop taken rows
+      ≡ map (row_of t i) hops
+      ++ flat_map (λ j. map (row_of t j) (candidates_without_u_turns T lines t j)) (numbers_down i)
   pub done : filter_map (alternative_row t) (kept_alternatives T lines t)
-      ≡ take kept rows ++ filter_map (alternative_row t) (improving_alternatives T t earlier (map (hop_from i) hops ++ flat_map (alternatives_at T lines t) (numbers_down i)))
-  pub shown : (p : ℕ) → p < length T.stops → slice_index_or labels p None ≡ label (walk T) earlier p
+      ≡ take kept rows ++ filter_map (alternative_row t)
+      (improving_alternatives T t earlier
+      (map (hop_from i) hops ++ flat_map (alternatives_at T lines t) (numbers_down i)))
+  pub shown : (p : ℕ) → p < length T.stops →
+      slice_index_or labels p None ≡ label (walk T) earlier p
   pub begun : (hops ≡ []) ⊎ (0 < length earlier)
   pub first : i ≡ 0 → hops ≡ []

@@ -29,4 +29,6 @@ hop_alightings T r = filter (λ e. e.alight) (drop (r.to_at + 1) (events_of T r.
 
 -- from where there is a time one may walk: nowhere is the label later than that
 pub record AreWalked (T : TimetableData) (labels : List (Option ℤ)) : Type 0 where
-  pub on_foot : (p q secs : ℕ) (time : ℤ) → slice_index_or labels p None ≡ Some time → walk T p q ≡ Some secs → IsSomeAnd (slice_index_or labels q None) (λ y. y ≤ℤ (time +ℤ pos secs))
+  pub on_foot : (p q secs : ℕ) (time : ℤ) → slice_index_or labels p None ≡ Some time →
+      walk T p q ≡ Some secs →
+      IsSomeAnd (slice_index_or labels q None) (λ y. y ≤ℤ (time +ℤ pos secs))

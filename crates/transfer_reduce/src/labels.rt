@@ -15,8 +15,8 @@ struct Label {
     time: Sec,
 }
 
-/// For each stop the earliest time that was offered there, if any was. A label with an older stamp is none, so that all are
-/// forgotten at once.
+/// For each stop the earliest time that was offered there, if any was. A label with an older stamp
+/// is none, so that all are forgotten at once.
 #[derive(Drop)]
 pub struct Labels {
     labels: Vec<Label>,
@@ -65,7 +65,8 @@ impl Labels {
     pub(crate) fn lower(&mut self, stop: StopNo, time: Sec) -> bool
         requires { stop < length self.old }
         ensures sooner { result ≡ is_sooner (Some time) (slice_index_or self.old stop None) }
-        ensures labels { self.new ≡ slice_set self.old stop (lesser (Some time) (slice_index_or self.old stop None)) }
+        ensures labels { self.new
+            ≡ slice_set self.old stop (lesser (Some time) (slice_index_or self.old stop None)) }
     {
         if !is_before(&self.labels[stop.index()], self.stamp, time) {
             return false;

@@ -6,16 +6,20 @@ ghost use Rattle.tb_base.specs.Sufficiency.{AreSufficient};
 ghost use Rattle.tb_base.specs.TimetableData.{TimetableData};
 ghost use Rattle.tb_base.specs.Transfers.{candidates_without_u_turns, kept_hops};
 
-/// The candidates that are no U-turns are sufficient, under the law on footpaths that sound parts keep.
+/// The candidates that are no U-turns are sufficient, under the law on footpaths that sound parts
+/// keep.
 pub fn candidates_without_u_turns_sufficient()
-    ensures { (T : TimetableData) (lines : List (List ℕ)) → IsSound T → AreDividedInto T lines → AreSufficient T (candidates_without_u_turns T lines) }
+    ensures { (T : TimetableData) (lines : List (List ℕ)) →
+        IsSound T → AreDividedInto T lines → AreSufficient T (candidates_without_u_turns T lines) }
 {
     tb_laws::sufficiency::candidates_without_u_turns_sufficient();
 }
 
-/// The kept hops are sufficient: each is possible, and wherever a journey changes, a ride is saved or a kept hop serves.
+/// The kept hops are sufficient: each is possible, and wherever a journey changes, a ride is saved
+/// or a kept hop serves.
 pub fn kept_hops_sufficient()
-    ensures { (T : TimetableData) (lines : List (List ℕ)) → IsSound T → AreDividedInto T lines → AreSufficient T (kept_hops T lines) }
+    ensures { (T : TimetableData) (lines : List (List ℕ)) →
+        IsSound T → AreDividedInto T lines → AreSufficient T (kept_hops T lines) }
 {
     tb_laws::sufficiency::kept_hops_sufficient();
 }

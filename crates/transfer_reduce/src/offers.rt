@@ -17,7 +17,8 @@ fn lower_path(labels: &mut Labels, event: &Event, path: &Path)
     requires event { IsSoundEvent (length labels.old) event.now }
     requires secs { path.now.secs ≤ 86400 }
     ensures { labels.new ≡ slice_set labels.old path.now.to
-        (lesser (Some (event.now.arr +ℤ pos path.now.secs)) (slice_index_or labels.old path.now.to None)) }
+        (lesser (Some (event.now.arr +ℤ pos path.now.secs))
+        (slice_index_or labels.old path.now.to None)) }
 {
     let _ = labels.lower(path.to, event.arr + path.secs as i32);
 }
@@ -43,7 +44,8 @@ pub(crate) fn offer(table: &Timetable, labels: &mut Labels, event: &Event) -> bo
     requires event { IsSoundEvent (length table.now.stops) event.now }
     ensures length { length labels.new ≡ length labels.old }
     ensures walked { AreWalked table.now labels.new }
-    ensures sooner { result ≡ is_sooner (Some event.now.arr) (slice_index_or labels.old event.now.stop None) }
+    ensures sooner { result
+        ≡ is_sooner (Some event.now.arr) (slice_index_or labels.old event.now.stop None) }
     ensures labels { (p : ℕ) → p < length labels.old → slice_index_or labels.new p None
         ≡ lesser (offer_at table.now event.now p) (slice_index_or labels.old p None) }
 {
@@ -62,7 +64,8 @@ fn offer_alighting(table: &Timetable, labels: &mut Labels, event: &Event) -> boo
     requires event { IsSoundEvent (length table.now.stops) event.now }
     ensures length { length labels.new ≡ length labels.old }
     ensures walked { AreWalked table.now labels.new }
-    ensures sooner { result ≡ (event.now.alight && is_sooner (Some event.now.arr) (slice_index_or labels.old event.now.stop None)) }
+    ensures sooner { result ≡ (event.now.alight
+        && is_sooner (Some event.now.arr) (slice_index_or labels.old event.now.stop None)) }
     ensures labels { (p : ℕ) → p < length labels.old → slice_index_or labels.new p None
         ≡ lesser (offer_if table.now event.now p) (slice_index_or labels.old p None) }
 {
@@ -79,9 +82,12 @@ fn offer_all(table: &Timetable, labels: &mut Labels, events: &[Event]) -> bool
     requires events { All (IsSoundEvent (length table.now.stops)) events.now }
     ensures length { length labels.new ≡ length labels.old }
     ensures walked { AreWalked table.now labels.new }
-    ensures sooner { result ≡ list_any (λ e. is_sooner (Some e.arr) (slice_index_or labels.old e.stop None)) (filter (λ e. e.alight) events.now) }
+    ensures sooner { result
+        ≡ list_any (λ e. is_sooner (Some e.arr) (slice_index_or labels.old e.stop None))
+        (filter (λ e. e.alight) events.now) }
     ensures labels { (p : ℕ) → p < length labels.old → slice_index_or labels.new p None
-        ≡ lesser (earliest_offer (walk table.now) (filter (λ e. e.alight) events.now) p) (slice_index_or labels.old p None) }
+        ≡ lesser (earliest_offer (walk table.now) (filter (λ e. e.alight) events.now) p)
+        (slice_index_or labels.old p None) }
 {
     let mut sooner = false;
     for event in events {
@@ -96,9 +102,12 @@ pub(crate) fn offer_hop(table: &Timetable, labels: &mut Labels, row: &Transfer) 
     requires walked { AreWalked table.now labels.old }
     ensures length { length labels.new ≡ length labels.old }
     ensures walked { AreWalked table.now labels.new }
-    ensures sooner { result ≡ list_any (λ e. is_sooner (Some e.arr) (slice_index_or labels.old e.stop None)) (hop_alightings table.now row.now) }
+    ensures sooner { result
+        ≡ list_any (λ e. is_sooner (Some e.arr) (slice_index_or labels.old e.stop None))
+        (hop_alightings table.now row.now) }
     ensures labels { (p : ℕ) → p < length labels.old → slice_index_or labels.new p None
-        ≡ lesser (earliest_offer (walk table.now) (hop_alightings table.now row.now) p) (slice_index_or labels.old p None) }
+        ≡ lesser (earliest_offer (walk table.now) (hop_alightings table.now row.now) p)
+        (slice_index_or labels.old p None) }
 {
     offer_all(
         table,

@@ -10,7 +10,8 @@ use super::labels::Labels;
 use super::offers::{offer_hop, offer_stay};
 use tb_base::{Timetable, Transfer, TripNo};
 
-/// How far a reduction has come: the events from `at` on, `taken` rows of theirs, of which `kept` are kept.
+/// How far a reduction has come: the events from `at` on, `taken` rows of theirs, of which `kept`
+/// are kept.
 #[derive(Clone, Copy, Debug, PartialEq, Eq)]
 struct Progress {
     at: usize,
@@ -27,7 +28,8 @@ fn put_row(rows: &mut [Transfer], from: usize, to: usize)
     rows[to] = rows[from];
 }
 
-// Takes the next row, which is one of the event that is taken up: it stays where it is sooner somewhere.
+// Takes the next row, which is one of the event that is taken up: it stays where it is sooner
+// somewhere.
 fn take_row(
     table: &Timetable,
     labels: &mut Labels,
@@ -44,7 +46,8 @@ fn take_row(
     ensures at { result.at ≡ done.at }
     ensures taken { result.taken ≡ done.taken + 1 }
     ensures kept { result.kept ≤ result.taken }
-    ensures reduces { (lines : List (List ℕ)) (t : ℕ) → Reduces table.now lines t rows.old labels.old done.at done.taken done.kept →
+    ensures reduces { (lines : List (List ℕ)) (t : ℕ) →
+        Reduces table.now lines t rows.old labels.old done.at done.taken done.kept →
         Reduces table.now lines t rows.new labels.new result.at result.taken result.kept }
 {
     table.soundness();
@@ -74,7 +77,8 @@ fn next_event(table: &Timetable, labels: &mut Labels, trip: TripNo, done: Progre
     ensures at { result.at + 1 ≡ done.at }
     ensures taken { result.taken ≡ done.taken }
     ensures kept { result.kept ≡ done.kept }
-    ensures reduces { (lines : List (List ℕ)) (rows : List Transfer) → ¬ (HasRowAt rows done.at done.taken) →
+    ensures reduces { (lines : List (List ℕ)) (rows : List Transfer) →
+        ¬ (HasRowAt rows done.at done.taken) →
         Reduces table.now lines trip rows labels.old done.at done.taken done.kept →
         Reduces table.now lines trip rows labels.new result.at result.taken result.kept }
 {
@@ -112,8 +116,10 @@ fn step(
     ensures walked { AreWalked table.now labels.new }
     ensures taken { result.taken ≤ length rows.old }
     ensures kept { result.kept ≤ result.taken }
-    ensures smaller { result.at + (length rows.old - result.taken) < done.at + (length rows.old - done.taken) }
-    ensures reduces { (lines : List (List ℕ)) → Reduces table.now lines trip rows.old labels.old done.at done.taken done.kept →
+    ensures smaller { result.at + (length rows.old - result.taken)
+        < done.at + (length rows.old - done.taken) }
+    ensures reduces { (lines : List (List ℕ)) →
+        Reduces table.now lines trip rows.old labels.old done.at done.taken done.kept →
         Reduces table.now lines trip rows.new labels.new result.at result.taken result.kept }
 {
     if has_row(rows, done) {
@@ -122,13 +128,15 @@ fn step(
     next_event(table, labels, trip, done)
 }
 
-/// Reduces the transfers of a trip: of its candidates that are no U-turns, from the last event down, exactly the kept ones stay, in
-/// their order. The labels are for the stops of this timetable, and may have served any trip before. Takes no memory.
+/// Reduces the transfers of a trip: of its candidates that are no U-turns, from the last event
+/// down, exactly the kept ones stay, in their order. The labels are for the stops of this
+/// timetable, and may have served any trip before. Takes no memory.
 pub fn reduce(table: &Timetable, labels: &mut Labels, trip: TripNo, rows: &mut Vec<Transfer>)
     requires labels { length labels.old ≡ length table.now.stops }
     requires trip { trip < length table.now.trips }
     ensures labels { length labels.new ≡ length labels.old }
-    ensures kept { (lines : List (List ℕ)) → rows.old.items ≡ transfers_of table.now (candidates_without_u_turns table.now lines trip) trip →
+    ensures kept { (lines : List (List ℕ)) → rows.old.items
+        ≡ transfers_of table.now (candidates_without_u_turns table.now lines trip) trip →
         rows.new.items ≡ transfers_of table.now (kept_hops table.now lines trip) trip }
 {
     table.soundness();

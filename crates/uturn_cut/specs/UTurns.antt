@@ -11,6 +11,10 @@ use Rattle.tb_base.specs.Walking.{change_time}
 abbrev pub is_u_turn_row : TimetableData → Transfer → Bool
 is_u_turn_row T r = is_u_turn T r.trip r.at (record { trip = r.to_trip; at = r.to_at })
 
--- from the arrival of the first event one can change, within its stop, to the departure of the second
+-- from the arrival of the first event one can change, within its stop, to the departure of the
+-- second
 abbrev pub can_change_within : TimetableData → Event → Event → Bool
-can_change_within T before after = is_some (option_and_then (λ secs. if int_le (before.arr +ℤ pos secs) after.dep then Some secs else None) (change_time T.footpaths before.stop))
+can_change_within T before after =
+    is_some (option_and_then
+    (λ secs. if int_le (before.arr +ℤ pos secs) after.dep then Some secs else None)
+    (change_time T.footpaths before.stop))

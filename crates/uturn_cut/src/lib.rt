@@ -1,7 +1,9 @@
-//! The U-turns among the transfers of a trip, as Trip-Based Public Transit Routing (Witt, ESA 2015) leaves them out.
+//! The U-turns among the transfers of a trip, as Trip-Based Public Transit Routing (Witt, ESA 2015)
+//! leaves them out.
 //!
-//! A transfer is a U-turn where one could change already at the event before it: there the trip stops where the other trip goes next,
-//! and the change is possible in time. `cut` gives the layer above exactly the transfers that are no U-turns, in their order.
+//! A transfer is a U-turn where one could change already at the event before it: there the trip
+//! stops where the other trip goes next, and the change is possible in time. `cut` gives the layer
+//! above exactly the transfers that are no U-turns, in their order.
 #![tactic(auto)]
 
 ghost use Rattle.std.specs.Prelude.{◌≡◌, filter, not};
