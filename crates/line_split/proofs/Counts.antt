@@ -4,7 +4,7 @@ use Rattle.std.specs.Prelude.{All}
 use Rattle.std.specs.List.{concat}
 use Rattle.std.proofs.lemmas.List.{length_push}
 use Rattle.std.proofs.lemmas.List.Elements.{All-nil, All-cons, All-contains, All-head, All-tail}
-use Rattle.tb_base.specs.TimetableData.{TimetableData, events_of}
+use Rattle.tb_base.specs.TimetableData.{TimetableData}
 use Rattle.tb_base.specs.Lines.{may_join, place_trip, AreDividedInto}
 use Rattle.tb_base.proofs.Ordered.{Member, Member-from_Contains, Contains-from_Member}
 use Rattle.tb_base.proofs.Members.{Member-left, Member-right}

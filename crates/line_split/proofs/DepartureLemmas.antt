@@ -1,5 +1,5 @@
 -- The departures of a line at an index are one run, and the first in time is found along it.
-use Rattle.std.proofs.Common.{◌≡◌, ◌∙◌, sym, ap, subst, refl, ℕ, zero, suc, ◌+◌, ◌*◌, ◌<◌, ◌≤◌, ◌⊎◌, inl, inr, true, false, cond, List, [], ◌∷◌, ◌++◌, length, map, get_or, take, drop, Some, None, ℤ, ◌≤ℤ◌, ◌<ℤ◌, arith, append_assoc, length-append}
+use Rattle.std.proofs.Common.{◌≡◌, ◌∙◌, sym, ap, subst, refl, ℕ, zero, suc, ◌+◌, ◌*◌, ◌<◌, ◌≤◌, ◌⊎◌, inl, inr, true, false, cond, List, [], ◌∷◌, ◌++◌, length, map, get_or, take, drop, Some, ℤ, ◌≤ℤ◌, ◌<ℤ◌, arith, append_assoc, length-append}
 use Rattle.std.specs.Prelude.{AllPairs, flat_map, int_le, int_lt, slice_get}
 use Rattle.std.specs.List.{AllWithin, range_with_len}
 use Rattle.std.specs.List.Sorted.{IsPartitionedBy}

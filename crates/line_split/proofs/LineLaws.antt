@@ -1,5 +1,5 @@
 -- The lines are all trips, each once, and along a line no time falls.
-use Rattle.std.proofs.Common.{◌≡◌, ◌≢◌, ℕ, Equal, ◌<◌, ◌⊎◌, inl, inr, List, [], ◌∷◌, ◌++◌, length, fold, ◌==◌, ◌&&◌, ◌-◌, suc, not, Bool, true, false, cond, get_or, refl, sym, ap, subst, ◌∙◌, arith, ℤ, ◌≤ℤ◌}
+use Rattle.std.proofs.Common.{◌≡◌, ◌≢◌, ℕ, Equal, ◌<◌, ◌⊎◌, inl, inr, List, [], ◌∷◌, ◌++◌, length, fold, ◌==◌, ◌&&◌, ◌-◌, suc, not, Bool, true, false, cond, get_or, refl, sym, ap, subst, ◌∙◌, arith, ℤ}
 use Rattle.std.specs.Prelude.{int_le, AllPairs, All}
 use Rattle.std.specs.List.{concat}
 use Rattle.std.specs.Ordering.{nat_cmp, int_cmp}

@@ -1,5 +1,5 @@
 -- How many transfers there are: few enough to be counted in 64 bits.
-use Rattle.std.proofs.Common.{◌≡◌, ◌∙◌, ℕ, zero, suc, ◌+◌, ◌*◌, ◌≤◌, ◌==◌, ◌&&◌, List, [], ◌∷◌, ◌++◌, ◌-◌, Bool, true, false, cond, Option, None, Some, length, map, refl, sym, ap, subst, arith, add-one, length-append}
+use Rattle.std.proofs.Common.{◌≡◌, ◌∙◌, ℕ, zero, suc, ◌+◌, ◌*◌, ◌≤◌, ◌==◌, ◌&&◌, List, [], ◌∷◌, ◌++◌, ◌-◌, Bool, true, false, cond, Option, None, Some, length, map, refl, sym, ap, subst, arith, length-append}
 use Rattle.std.specs.Prelude.{filter, filter_map, flat_map, nat_lt, not, sum_by}
 use Rattle.std.specs.List.{cons_option, range_with_len}
 use Rattle.std.specs.Option.{option_map}

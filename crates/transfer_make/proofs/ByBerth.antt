@@ -3,9 +3,9 @@ use Rattle.std.proofs.Common.{◌≡◌, ◌≢◌, ◌∙◌, sym, ap, subst, r
 use Rattle.std.specs.Prelude.{All, AllPairs, filter, filter_map, flat_map, find, int_le, nat_le, nat_lt, slice_get}
 use Rattle.std.specs.List.{AllWithin, concat, cons_option}
 use Rattle.std.specs.Option.{option_map, option_and_then, option_to_list}
-use Rattle.std.proofs.lemmas.List.{flat_map_more, take_more, take_all, take_rest, map-append}
+use Rattle.std.proofs.lemmas.List.{flat_map_more, take_more, take_all, take_rest}
 use Rattle.std.proofs.lemmas.Option.{get_or_from_slice_get}
-use Rattle.std.proofs.lemmas.List.Elements.{filter_map-append, All-contains, All-cons, All-nil}
+use Rattle.std.proofs.lemmas.List.Elements.{filter_map-append, All-contains}
 use Rattle.std.proofs.lemmas.List.Concat.{flat_map-append}
 use Rattle.std.proofs.lemmas.Bool.{eqb-true, and_from}
 use Rattle.tb_base.specs.declared.table.Path.{Path}

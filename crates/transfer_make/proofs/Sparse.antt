@@ -7,7 +7,6 @@ use Rattle.std.proofs.lemmas.List.{take-append-drop, map-append}
 use Rattle.std.proofs.lemmas.List.Elements.{All-head, All-tail}
 use Rattle.std.proofs.lemmas.Bool.{eqb-true, eq-eqb, ltb-true, lt-ltb, ltb-false}
 use Rattle.tb_base.specs.declared.table.Path.{Path}
-use Rattle.tb_base.specs.Transfers.{numbers_below}
 use Rattle.tb_base.proofs.Ordered.{Member, Contains-from_Member, AllPairs-head, AllPairs-tail}
 use Rattle.tb_base.proofs.Members.{Member-left, Member-right, Member-append}
 use Rattle.tb_base.proofs.NumberFacts.{lt-eqb}

@@ -9,7 +9,7 @@ use Rattle.tb_base.specs.declared.table.Event.{Event}
 use Rattle.tb_base.specs.Transfers.{earliest_offer, is_sooner, least}
 use Rattle.tb_base.proofs.Ordered.{Member}
 use Rattle.tb_laws.specs.Labels.{lesser, label}
-use Rattle.tb_base.proofs.NumberFacts.{≤ℤ-antisym, le-int_le, int_lt-false, ≤ℤ-trans, ≤ℤ-refl}
+use Rattle.tb_base.proofs.NumberFacts.{≤ℤ-antisym, le-int_le, int_lt-false, ≤ℤ-trans}
 
 pub ≤ℤ-cases : (x y : ℤ) → (x ≤ℤ y) ⊎ (y ≤ℤ x)
 ≤ℤ-cases x y = by_test (int_le x y) refl

@@ -9,11 +9,13 @@ use Rattle.tb_base.specs.Transfers.{Alternative, alternatives_at, candidates_wit
 use Rattle.tb_base.specs.Walking.{walk}
 use Rattle.tb_laws.specs.Labels.{label}
 
+-- what stands for a transfer that isn't there
+abbrev pub no_transfer : Transfer
+no_transfer = record { trip = 0; at = 0; to_trip = 0; to_at = 0 }
+
 -- row n is one of event i
 abbrev pub HasRowAt : List Transfer → ℕ → ℕ → Type 0
-HasRowAt rows i n =
-    (n < length rows)
-    × (Transfer.at (slice_index_or rows n (record { trip = 0; at = 0; to_trip = 0; to_at = 0 })) ≡ i)
+HasRowAt rows i n = (n < length rows) × (Transfer.at (slice_index_or rows n no_transfer) ≡ i)
 
 -- the transfer from t@i by a hop
 abbrev pub row_of : ℕ → ℕ → Hop → Transfer
