@@ -14,13 +14,15 @@ labelled label n = label ++ decimal n
 abbrev pub table_text : TimetableData → List ℕ
 table_text T =
     labelled (codes "stops ") (length T.stops) ++ labelled (codes " trips ") (length T.trips)
-    ++ labelled (codes " events ") (event_total T) ++ labelled (codes " footpaths ") (path_total T.footpaths) ++ codes "\n"
+    ++ labelled (codes " events ") (event_total T)
+    ++ labelled (codes " footpaths ") (path_total T.footpaths) ++ codes "\n"
 
 -- `lines N generated N after_uturn N kept N`
 abbrev pub counts_text : BuildCounts → List ℕ
 counts_text c =
     labelled (codes "lines ") c.lines ++ labelled (codes " generated ") c.generated
-    ++ labelled (codes " after_uturn ") c.after_uturn ++ labelled (codes " kept ") c.kept ++ codes "\n"
+    ++ labelled (codes " after_uturn ") c.after_uturn
+    ++ labelled (codes " kept ") c.kept ++ codes "\n"
 
 -- both lines
 abbrev pub build_text : TimetableData → BuildCounts → List ℕ
@@ -32,7 +34,8 @@ event_text T t i = trip_name T t ++ codes "@" ++ decimal i
 
 -- `TRIP@I TRIP@J`
 abbrev pub transfer_text : TimetableData → Transfer → List ℕ
-transfer_text T r = event_text T r.trip r.at ++ codes " " ++ event_text T r.to_trip r.to_at ++ codes "\n"
+transfer_text T r =
+    event_text T r.trip r.at ++ codes " " ++ event_text T r.to_trip r.to_at ++ codes "\n"
 
 -- one line a transfer, in order
 abbrev pub transfers_text : TimetableData → List Transfer → List ℕ

@@ -15,7 +15,8 @@ column_name spot = slice_index_or (column_names spot.file) (spot.column - 1) []
 
 -- a place: file, row and column
 abbrev pub spot_text : Spot → List ℕ
-spot_text spot = file_name spot.file ++ codes " row " ++ decimal spot.row ++ codes " column " ++ column_name spot
+spot_text spot =
+    file_name spot.file ++ codes " row " ++ decimal spot.row ++ codes " column " ++ column_name spot
 
 -- a quantity that has a limit
 abbrev pub many_text : Many → List ℕ
@@ -54,8 +55,10 @@ fault_text (fault.NoEndTime spot) = codes "14 NoEndTime " ++ spot_text spot
 fault_text (fault.TimeRunsBack spot) = codes "15 TimeRunsBack " ++ spot_text spot
 fault_text (fault.NotAPlatform spot) = codes "16 NotAPlatform " ++ spot_text spot
 fault_text (fault.DuplicateTransfer spot) = codes "17 DuplicateTransfer " ++ spot_text spot
-fault_text (fault.OpenFootpaths p q r) = codes "18 OpenFootpaths " ++ p ++ codes " " ++ q ++ codes " " ++ r
-fault_text (fault.LongFootpath p q r) = codes "19 LongFootpath " ++ p ++ codes " " ++ q ++ codes " " ++ r
+fault_text (fault.OpenFootpaths p q r) =
+    codes "18 OpenFootpaths " ++ p ++ codes " " ++ q ++ codes " " ++ r
+fault_text (fault.LongFootpath p q r) =
+    codes "19 LongFootpath " ++ p ++ codes " " ++ q ++ codes " " ++ r
 fault_text (fault.TooMany many row) = codes "20 TooMany " ++ many_text many ++ row_text row
 fault_text (fault.NotBuilt file) = codes "21 NotBuilt " ++ file_name file
 fault_text (fault.FarFootpath p q) = codes "22 FarFootpath " ++ p ++ codes " " ++ q

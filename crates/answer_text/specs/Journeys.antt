@@ -17,7 +17,8 @@ trip_name T t = TripData.name (slice_index_or T.trips t (record { name = []; eve
 
 -- `  walk STOP STOP SECONDS`
 abbrev pub walk_text : TimetableData → ℕ → ℕ → ℕ → List ℕ
-walk_text T from to secs = codes "  walk" ++ (codes " " ++ stop_name T from) ++ (codes " " ++ stop_name T to) ++ codes " " ++ decimal secs ++ codes "\n"
+walk_text T from to secs =
+    codes "  walk" ++ (codes " " ++ stop_name T from) ++ (codes " " ++ stop_name T to) ++ codes " " ++ decimal secs ++ codes "\n"
 
 -- ` STOP TIME`
 abbrev pub place_text : TimetableData → ℕ → ℤ → List ℕ
@@ -40,7 +41,9 @@ legs_text T legs = flat_map (leg_text T) legs
 
 -- `arrive TIME rides N`, then the legs
 abbrev pub journey_text : TimetableData → ℤ → ℕ → List Leg → List ℕ
-journey_text T arrive rides legs = codes "arrive " ++ time_text arrive ++ codes " rides " ++ decimal rides ++ codes "\n" ++ legs_text T legs
+journey_text T arrive rides legs =
+    codes "arrive " ++ time_text arrive ++ codes " rides " ++ decimal rides ++ codes "\n"
+    ++ legs_text T legs
 
 abbrev pub choice_text : TimetableData → ChoiceData → List ℕ
 choice_text T c = journey_text T c.value.arrive c.value.rides c.legs

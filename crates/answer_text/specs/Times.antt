@@ -12,7 +12,8 @@ padded n = if nat_lt n 100 then two_digits n else decimal n
 
 -- seconds as hours, minutes and seconds, with colons
 abbrev pub clock_text : ℕ → List ℕ
-clock_text secs = padded (secs / 3600) ++ 58 ∷ two_digits (secs / 60 % 60) ++ 58 ∷ two_digits (secs % 60)
+clock_text secs =
+    padded (secs / 3600) ++ 58 ∷ two_digits (secs / 60 % 60) ++ 58 ∷ two_digits (secs % 60)
 
 -- a time: one before the day begins has a minus sign before its distance
 abbrev pub time_text : ℤ → List ℕ

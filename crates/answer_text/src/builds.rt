@@ -6,7 +6,8 @@ use crate::text::Text;
 use std::alloc::Global;
 use tb_base::{Memory, Timetable, Transfer, TripNo};
 
-/// How many lines a timetable has, how many candidate transfers, how many of these are no U-turns, and how many are kept.
+/// How many lines a timetable has, how many candidate transfers, how many of these are no U-turns,
+/// and how many are kept.
 #[derive(Clone, Copy, Debug, PartialEq, Eq)]
 pub struct BuildCounts {
     pub lines: u32,
@@ -87,7 +88,8 @@ impl Text {
     }
 }
 
-/// What is built of a timetable: `stops N trips N events N footpaths N`, and `lines N generated N after_uturn N kept N`.
+/// What is built of a timetable: `stops N trips N events N footpaths N`, and
+/// `lines N generated N after_uturn N kept N`.
 pub fn build_text(alloc: Global, table: &Timetable, counts: BuildCounts) -> Result<Vec<u8>, Memory>
     ensures { IfOk result (λ v. v.items ≡ build_text table.now counts) }
 {
@@ -96,7 +98,8 @@ pub fn build_text(alloc: Global, table: &Timetable, counts: BuildCounts) -> Resu
     Ok(text.into_bytes())
 }
 
-/// The same, and behind it `TRIP@I TRIP@J` for each transfer, list after list. Their trips exist in the timetable.
+/// The same, and behind it `TRIP@I TRIP@J` for each transfer, list after list. Their trips exist in
+/// the timetable.
 pub fn build_list_text(
     alloc: Global,
     table: &Timetable,
@@ -104,7 +107,8 @@ pub fn build_list_text(
     lists: &[Vec<Transfer>],
 ) -> Result<Vec<u8>, Memory>
     requires { All (λ row. All (HasTrips table.now) row.items) lists.now }
-    ensures { IfOk result (λ v. v.items ≡ build_list_text table.now counts (map (λ row. row.items) lists.now)) }
+    ensures { IfOk result (λ v.
+        v.items ≡ build_list_text table.now counts (map (λ row. row.items) lists.now)) }
 {
     let mut text = Text::new(alloc);
     text.build(table, counts)?;

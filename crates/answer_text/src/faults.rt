@@ -57,7 +57,8 @@ impl Text {
 
     // Adds a label, a quantity and the row past its limit.
     fn too_many(&mut self, label: &[u8], many: Many, row: u32) -> Result<(), Memory>
-        ensures { OnOk result (self.new ≡ self.old ++ (label.now ++ many_text many ++ row_text row)) }
+        ensures { OnOk result (self.new
+            ≡ self.old ++ (label.now ++ many_text many ++ row_text row)) }
     {
         self.add(label)?;
         self.add(many_text(many).as_bytes())?;
@@ -80,7 +81,8 @@ impl Text {
 
     // Adds a label and three names.
     fn three_names(&mut self, label: &[u8], p: &Name, q: &Name, r: &Name) -> Result<(), Memory>
-        ensures { OnOk result (self.new ≡ self.old ++ (label.now ++ p.now ++ codes " " ++ q.now ++ codes " " ++ r.now)) }
+        ensures { OnOk result (self.new
+            ≡ self.old ++ (label.now ++ p.now ++ codes " " ++ q.now ++ codes " " ++ r.now)) }
     {
         self.two_names(label, p, q)?;
         self.add(b" ")?;

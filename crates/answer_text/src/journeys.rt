@@ -57,7 +57,8 @@ impl Text {
     // Adds where and when an event is boarded.
     fn boarding(&mut self, table: &Timetable, event: &Event) -> Result<(), Memory>
         requires { event.now.stop < length table.now.stops }
-        ensures { OnOk result (self.new ≡ self.old ++ place_text table.now event.now.stop event.now.dep) }
+        ensures { OnOk result (self.new
+            ≡ self.old ++ place_text table.now event.now.stop event.now.dep) }
     {
         self.place(table, event.stop, event.dep)
     }
@@ -65,7 +66,8 @@ impl Text {
     // Adds where and when an event is left.
     fn alighting(&mut self, table: &Timetable, event: &Event) -> Result<(), Memory>
         requires { event.now.stop < length table.now.stops }
-        ensures { OnOk result (self.new ≡ self.old ++ place_text table.now event.now.stop event.now.arr) }
+        ensures { OnOk result (self.new
+            ≡ self.old ++ place_text table.now event.now.stop event.now.arr) }
     {
         self.place(table, event.stop, event.arr)
     }
@@ -141,7 +143,8 @@ impl Text {
         legs: &[Leg],
     ) -> Result<(), Memory>
         requires { All (HasNumbers table.now) legs.now }
-        ensures { OnOk result (self.new ≡ self.old ++ journey_text table.now arrive rides legs.now) }
+        ensures { OnOk result (self.new
+            ≡ self.old ++ journey_text table.now arrive rides legs.now) }
     {
         self.add(b"arrive ")?;
         self.time(arrive)?;
@@ -184,8 +187,8 @@ impl Text {
     }
 }
 
-/// One line a leg, in order: `  walk STOP STOP SECONDS`, or `  ride TRIP STOP DEPARTURE STOP ARRIVAL`.
-/// The numbers of the legs exist in the timetable.
+/// One line a leg, in order: `  walk STOP STOP SECONDS`, or
+/// `  ride TRIP STOP DEPARTURE STOP ARRIVAL`. The numbers of the legs exist in the timetable.
 pub fn legs_text(alloc: Global, table: &Timetable, legs: &[Leg]) -> Result<Vec<u8>, Memory>
     requires { All (HasNumbers table.now) legs.now }
     ensures { IfOk result (λ v. v.items ≡ legs_text table.now legs.now) }
@@ -211,8 +214,8 @@ pub fn choices_text(alloc: Global, table: &Timetable, choices: &[Choice]) -> Res
     Ok(text.into_bytes())
 }
 
-/// Each offer as `leave TIME arrive TIME rides N` and its legs, or `no journey` where there is none.
-/// The numbers of the legs exist in the timetable.
+/// Each offer as `leave TIME arrive TIME rides N` and its legs, or `no journey` where there is
+/// none. The numbers of the legs exist in the timetable.
 pub fn offers_text(alloc: Global, table: &Timetable, offers: &[Offer]) -> Result<Vec<u8>, Memory>
     requires { All (λ o. All (HasNumbers table.now) (OfferData.legs o)) offers.now }
     ensures { IfOk result (λ v. v.items ≡ offers_text table.now offers.now) }

@@ -1,8 +1,10 @@
-//! What the program shows: times, journeys, faults and what is built of a timetable, as lines of text.
+//! What the program shows: times, journeys, faults and what is built of a timetable, as lines of
+//! text.
 //!
-//! Each text is a list of bytes that its definition in specs/ gives for the value, so the layers above know every byte that
-//! they write. Times are those of the service day, in whole seconds from noon minus twelve hours, as the GTFS Schedule
-//! Reference counts them, and are shown as hours, minutes and seconds; hours go past 24.
+//! Each text is a list of bytes that its definition in specs/ gives for the value, so the layers
+//! above know every byte that they write. Times are those of the service day, in whole seconds from
+//! noon minus twelve hours, as the GTFS Schedule Reference counts them, and are shown as hours,
+//! minutes and seconds; hours go past 24.
 #![tactic(auto)]
 
 mod builds;
@@ -15,6 +17,3 @@ pub use builds::{BuildCounts, build_list_text, build_text};
 pub use faults::fault_text;
 pub use journeys::{arrival_text, choices_text, legs_text, offers_text, unknown_text};
 pub use times::time_text;
-
-#[cfg(test)]
-mod tests;

@@ -6,8 +6,8 @@ use crate::text::Text;
 use std::alloc::Global;
 use tb_base::{Memory, Sec};
 
-/// A time, in seconds from noon minus twelve hours, as hours in at least two digits, minutes and seconds.
-/// A negative one has `-` before the text of its distance.
+/// A time, in seconds from noon minus twelve hours, as hours in at least two digits, minutes and
+/// seconds. A negative one has `-` before the text of its distance.
 pub fn time_text(alloc: Global, time: Sec) -> Result<Vec<u8>, Memory>
     ensures { IfOk result (λ v. v.items ≡ time_text time) }
 {

@@ -1,4 +1,5 @@
--- The report on what is built of a timetable: its lines, its candidate transfers and its kept transfers.
+-- The report on what is built of a timetable: its lines, its candidate transfers and its kept
+-- transfers.
 use Rattle.std.specs.Prelude.{◌≡◌, ℕ, List, Bool, length, if◌then◌else◌}
 use Rattle.tb_base.specs.Lines.{AreLines}
 use Rattle.tb_base.specs.TimetableData.{TimetableData}
@@ -8,7 +9,12 @@ use Rattle.answer_text.specs.declared.builds.BuildCounts.{BuildCounts}
 
 -- how many lines there are, and the counts of the reduction
 abbrev pub counts_of : List (List ℕ) → ReducedData → BuildCounts
-counts_of lines r = record { lines = length lines; generated = r.generated; after_uturn = r.after_uturn; kept = r.kept }
+counts_of lines r = record {
+  lines = length lines;
+  generated = r.generated;
+  after_uturn = r.after_uturn;
+  kept = r.kept;
+}
 
 -- the sizes and the counts, and if asked for, the kept transfers
 abbrev pub report : TimetableData → List (List ℕ) → Bool → List ℕ

@@ -21,9 +21,10 @@ fn counts_of(lines: &Lines, reduced: &Reduced) -> BuildCounts
 }
 
 /// The report on what is built of a timetable: `stops N trips N events N footpaths N`, and
-/// `lines N generated N after_uturn N kept N`; with a list, `TRIP@I TRIP@J` for each kept transfer besides, trip after trip, each
-/// trip's from its last event down. So many workers reduce the transfers, at least one and at most 64; the gate is told of their
-/// pieces. The text is the same for every number of them. Refused only for want of memory.
+/// `lines N generated N after_uturn N kept N`; with a list, `TRIP@I TRIP@J` for each kept transfer
+/// besides, trip after trip, each trip's from its last event down. So many workers reduce the
+/// transfers, at least one and at most 64; the gate is told of their pieces. The text is the same
+/// for every number of them. Refused only for want of memory.
 pub fn report<G: Gate, R: Threads + Sync>(
     rt: &R,
     alloc: Global,

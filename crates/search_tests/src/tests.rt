@@ -1,3 +1,4 @@
 mod reduction;
 mod ring_values;
 mod sets;
+mod workers;

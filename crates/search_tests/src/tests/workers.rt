@@ -1,61 +1,38 @@
 //! Workers that share the reduction.
-ghost use Rattle.std.specs.Prelude.{◌≤◌};
-
-use super::{Feed, timetable};
 use line_split::split;
+use made_feeds::{Feed, timetable};
 use reduce_workers::{Gate, Work, reduce_all};
 use std::alloc::{AllocError, Global};
 use std::sync::atomic::{AtomicBool, Ordering};
 use std::test::Fail;
 use tb_base::Timetable;
 
-const HEADER: &str = "trip_id,stop_sequence,stop_id,arrival_time,departure_time\n";
-
-// Trips that leave A every minute from six on, by their names.
-fn trip_rows(alloc: Global, trips: u32) -> Result<String, AllocError> {
-    let mut rows = String::from_str(alloc, "service_id,trip_id\n")?;
+// Each row of a trip, in which `#` stands for its number, so many times.
+fn rows(alloc: Global, header: &str, row: &str, trips: u32) -> Result<String, AllocError> {
+    let mut text = String::from_str(alloc, header)?;
     for trip in 0..trips {
-        let row = format!(in alloc; "S,m{trip}\n")?;
-        rows.push_str(row.as_str())?;
+        let number = format!(in alloc; "{trip}")?;
+        text.push_str(row.replace(alloc, "#", number.as_str())?.as_str())?;
     }
-    Ok(rows)
-}
-
-// A stop of a trip, so many minutes after six.
-fn time_row(
-    alloc: Global,
-    trip: u32,
-    at: u32,
-    stop: &str,
-    minutes: u32,
-) -> Result<String, AllocError>
-    requires { minutes ≤ 1000 }
-{
-    let (hour, minute) = (6 + minutes / 60, minutes % 60);
-    format!(in alloc; "m{trip},{at},{stop},{hour:02}:{minute:02}:00,\n")
-}
-
-// Their times: each takes five minutes to B.
-fn time_rows(alloc: Global, trips: u32) -> Result<String, AllocError>
-    requires { trips ≤ 900 }
-{
-    let mut rows = String::from_str(alloc, HEADER)?;
-    for trip in 0..trips {
-        rows.push_str(time_row(alloc, trip, 1, "A", trip)?.as_str())?;
-        rows.push_str(time_row(alloc, trip, 2, "B", trip + 5)?.as_str())?;
-    }
-    Ok(rows)
+    Ok(text)
 }
 
 // The timetable of two pieces of trips from A to B, which lead nowhere.
 fn two_pieces(alloc: Global) -> Result<Timetable, Fail> {
-    let trips = trip_rows(alloc, 128)?;
-    let times = time_rows(alloc, 128)?;
+    let trips = rows(alloc, "service_id,trip_id\n", "S,m#\n", 128)?;
+    let times = rows(
+        alloc,
+        "trip_id,stop_sequence,stop_id,arrival_time,departure_time\n",
+        "m#,1,A,06:00:00,\nm#,2,B,06:05:00,\n",
+        128,
+    )?;
     let feed = Feed {
+        stops: "stop_id\nA\nB\n",
         trips: trips.as_str(),
         times: times.as_str(),
+        transfers: "from_stop_id,to_stop_id\n",
     };
-    match timetable(alloc, feed, "", false)? {
+    match timetable(alloc, feed) {
         Ok(table) => Ok(table),
         Err(_) => Err("no timetable".into()),
     }
@@ -90,16 +67,14 @@ impl Gate for HoldsFirst {
 
 #[test]
 fn one_worker_goes_on_while_another_is_held(rt: HostRuntime) -> Result<(), Fail> {
-    let alloc = rt.alloc();
-    let table = two_pieces(alloc)?;
-    let lines = split(alloc, &table)?;
+    let table = two_pieces(rt.alloc())?;
+    let lines = split(rt.alloc(), &table)?;
     let gate = HoldsFirst {
         is_second_done: AtomicBool::new(false),
         is_first_let_on: AtomicBool::new(false),
     };
-    let reduced = reduce_all(&rt, alloc, &table, &lines, 2, &gate)?;
+    let reduced = reduce_all(&rt, rt.alloc(), &table, &lines, 2, &gate)?;
     assert!(rt; gate.is_first_let_on.load(Ordering::SeqCst));
     assert!(rt; reduced.trips == 128 && reduced.generated == 0);
-    assert!(rt; reduced.after_uturn == 0 && reduced.kept == 0);
     Ok(())
 }
