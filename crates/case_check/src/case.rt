@@ -2,68 +2,10 @@
 use super::broken::Broken;
 use super::feeds;
 use super::feeds::Files;
+use super::question::{Asked, Question, byte_of};
 use gtfs_rows::number_of;
 use std::alloc::{AllocError, Global};
 use std::rt;
-
-/// How a run of the program ends: its number, and the bytes on standard output and on standard error.
-#[derive(Drop)]
-pub struct Ending {
-    pub code: u8,
-    pub out: Vec<u8>,
-    pub err: Vec<u8>,
-}
-
-/// Of what a question is asked.
-#[derive(Clone, Copy, PartialEq, Eq, Debug)]
-pub enum Asked {
-    /// The program.
-    Program,
-    /// The change times and footpaths of a day.
-    Paths,
-}
-
-/// What is asked, and how it has to end.
-#[derive(Drop)]
-pub struct Question {
-    pub asked: Asked,
-    pub words: Vec<String>,
-    pub want: Ending,
-}
-
-impl Question {
-    // The question of a line, whose words have one space between two. As long as nothing else is said, it has to end well and
-    // to write nothing.
-    fn new(alloc: Global, asked: Asked, line: &str) -> Result<Question, AllocError> {
-        let mut words = Vec::new(alloc);
-        if !line.is_empty() {
-            for word in line.split(' ') {
-                words.push(String::from_str(alloc, word)?)?;
-            }
-        }
-        let want = Ending {
-            code: 0,
-            out: Vec::new(alloc),
-            err: Vec::new(alloc),
-        };
-        Ok(Question { asked, words, want })
-    }
-}
-
-// Adds a line to a text.
-fn add_line(text: &mut Vec<u8>, line: &str) -> Result<(), AllocError> {
-    text.extend_from_slice(line.as_bytes())?;
-    text.push(b'\n')?;
-    Ok(())
-}
-
-// A number below 256.
-fn byte_of(number: &str) -> Option<u8> {
-    match number_of(number.as_bytes()) {
-        Some(byte) if byte < 256 => Some(byte as u8),
-        _ => None,
-    }
-}
 
 /// A case: over which files what is asked. What adds to it says whether that has a meaning there.
 #[derive(Drop)]
@@ -75,6 +17,8 @@ pub struct Case {
     changed: Files,
     // Files of feeds.
     given: Files,
+    // The path of the one file that is there, and has no end.
+    endless: Option<String>,
     pub questions: Vec<Question>,
 }
 
@@ -86,6 +30,7 @@ impl Case {
             folder: String::new(alloc),
             changed: Vec::new(alloc),
             given: Vec::new(alloc),
+            endless: None,
             questions: Vec::new(alloc),
         })
     }
@@ -178,38 +123,26 @@ impl Case {
         Ok(true)
     }
 
-    /// A question.
-    pub fn ask(&mut self, alloc: Global, asked: Asked, words: &str) -> Result<bool, Broken> {
-        self.questions.push(Question::new(alloc, asked, words)?)?;
+    /// A file of the feed that has no end, in place of all its files.
+    pub fn set_endless(&mut self, alloc: Global, name: &str) -> Result<bool, Broken> {
+        if self.folder.is_empty() || !feeds::is_file(name) {
+            return Ok(false);
+        }
+        self.endless = Some(self.path(alloc, name)?);
         Ok(true)
     }
 
-    /// The number with which the last question ends. It is said once, and isn't that of a good end, which needs no word.
-    pub fn want_status(&mut self, number: &str) -> bool {
-        match (self.questions.last_mut(), byte_of(number)) {
-            (Some(question), Some(code)) if question.want.code == 0 && code > 0 => {
-                question.want.code = code;
-                true
-            }
-            _ => false,
+    /// The path of the file that has no end, where there is one.
+    pub fn endless(&self) -> Option<&str> {
+        match &self.endless {
+            Some(path) => Some(path.as_str()),
+            None => None,
         }
     }
 
-    /// A line of its standard output.
-    pub fn want_out(&mut self, line: &str) -> Result<bool, Broken> {
-        let Some(question) = self.questions.last_mut() else {
-            return Ok(false);
-        };
-        add_line(&mut question.want.out, line)?;
-        Ok(true)
-    }
-
-    /// A line of its standard error.
-    pub fn want_err(&mut self, line: &str) -> Result<bool, Broken> {
-        let Some(question) = self.questions.last_mut() else {
-            return Ok(false);
-        };
-        add_line(&mut question.want.err, line)?;
+    /// A question.
+    pub fn ask(&mut self, alloc: Global, asked: Asked, words: &str) -> Result<bool, Broken> {
+        self.questions.push(Question::new(alloc, asked, words)?)?;
         Ok(true)
     }
 }

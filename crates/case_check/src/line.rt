@@ -21,14 +21,24 @@ pub enum Line<'a> {
     Cut(&'a str),
     /// One byte of that file, by its number.
     Byte(&'a str),
+    /// A file that has no end. No other file is there.
+    Endless(&'a str),
     /// The words of a command line, with one space between two.
     Words(&'a str),
     /// A feed, a day and options, for which change times and footpaths are shown.
     Paths(&'a str),
+    /// The call of the folder that fails, by its number.
+    Folder(&'a str),
+    /// The write to standard output that fails, by its number.
+    Output(&'a str),
+    /// How many bytes standard output takes.
+    Room(&'a str),
     /// The number with which it ends.
     Status(&'a str),
     /// A line of standard output.
     Out(&'a str),
+    /// A piece of standard output with no end of line behind.
+    Part(&'a str),
     /// A line of standard error.
     Err(&'a str),
 }
@@ -45,6 +55,7 @@ impl Line<'_> {
                 | Line::Rows(_)
                 | Line::Cut(_)
                 | Line::Byte(_)
+                | Line::Endless(_)
         )
     }
 }
@@ -58,7 +69,9 @@ pub fn line_of(text: &str) -> Option<Line<'_>> {
         Some(parts) => parts,
         None => (text, ""),
     };
-    setting_of(word, rest).or(answer_of(word, rest))
+    setting_of(word, rest)
+        .or(trouble_of(word, rest))
+        .or(answer_of(word, rest))
 }
 
 // A line that says over which files is asked.
@@ -72,6 +85,17 @@ fn setting_of<'a>(word: &str, rest: &'a str) -> Option<Line<'a>> {
         "rows" => Some(Line::Rows(rest)),
         "cut" => Some(Line::Cut(rest)),
         "byte" => Some(Line::Byte(rest)),
+        "endless" => Some(Line::Endless(rest)),
+        _ => None,
+    }
+}
+
+// A line that says what goes wrong outside.
+fn trouble_of<'a>(word: &str, rest: &'a str) -> Option<Line<'a>> {
+    match word {
+        "folder" => Some(Line::Folder(rest)),
+        "output" => Some(Line::Output(rest)),
+        "room" => Some(Line::Room(rest)),
         _ => None,
     }
 }
@@ -83,6 +107,7 @@ fn answer_of<'a>(word: &str, rest: &'a str) -> Option<Line<'a>> {
         "paths" => Some(Line::Paths(rest)),
         "status" => Some(Line::Status(rest)),
         "out" => Some(Line::Out(rest)),
+        "part" => Some(Line::Part(rest)),
         "err" => Some(Line::Err(rest)),
         _ => None,
     }

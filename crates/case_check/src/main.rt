@@ -1,15 +1,20 @@
-//! The program `case_check`: cases in plain files, each of which says what `router` answers over a feed.
+//! The program `case_check`: cases in plain files, each of which says what `router` answers over a
+//! feed.
 //!
-//! `case_check FILE..` reads the cases of these files and the feeds that they name, puts each feed into a folder in memory, and asks
-//! `route` what each case asks. It writes a line for each case, under one that came out otherwise what came, and at last how many
-//! there were, with status 1 where one differs. Where a file of cases is no such file it says in which line, with status 2.
-//! `Line` says how a case is written. Nothing is promised of the program but that it is safe and ends.
+//! `case_check FILE..` reads the cases of these files and the feeds that they name, puts each feed
+//! into a folder in memory, and asks `route` what each case asks. It writes a line for each case,
+//! under one that came out otherwise what came, and at last how many there were, with status 1
+//! where one differs. Where a file of cases is no such file it says in which line, with status 2.
+//! `Line` says how a case is written. Nothing is promised of the program but that it is safe and
+//! ends.
 #![tactic(auto)]
 
 mod broken;
 mod case;
+mod endless;
 mod feeds;
 mod line;
+mod question;
 mod reader;
 mod shown;
 mod trial;

@@ -1,7 +1,8 @@
 //! Cases from a text.
 use super::broken::Broken;
-use super::case::{Asked, Case};
+use super::case::Case;
 use super::line::{Line, line_of};
+use super::question::{Asked, Question};
 use std::alloc::Global;
 use std::rt::Files;
 
@@ -20,19 +21,43 @@ fn add_setting<R: Files>(
         Line::Rows(text) => case.add_rows(alloc, text),
         Line::Cut(text) => case.add_text(text, ""),
         Line::Byte(number) => case.add_byte(number),
-        _ => add_answer(alloc, case, line),
+        Line::Endless(name) => case.set_endless(alloc, name),
+        _ => add_question(alloc, case, line),
     }
 }
 
-fn add_answer(alloc: Global, case: &mut Case, line: Line<'_>) -> Result<bool, Broken> {
+fn add_question(alloc: Global, case: &mut Case, line: Line<'_>) -> Result<bool, Broken> {
     match line {
+        Line::Nothing => Ok(true),
         Line::Words(words) => case.ask(alloc, Asked::Program, words),
         Line::Paths(words) => case.ask(alloc, Asked::Paths, words),
-        Line::Status(number) => Ok(case.want_status(number)),
-        Line::Out(text) => case.want_out(text),
-        Line::Err(text) => case.want_err(text),
-        _ => Ok(true),
+        _ => match case.questions.last_mut() {
+            Some(question) => add_answer(question, line),
+            None => Ok(false),
+        },
     }
+}
+
+// What a line says of a question.
+fn add_answer(question: &mut Question, line: Line<'_>) -> Result<bool, Broken> {
+    match line {
+        Line::Folder(number) => Ok(question.fail_folder(number)),
+        Line::Output(number) => Ok(question.fail_output(number)),
+        Line::Room(number) => Ok(question.set_room(number)),
+        Line::Status(number) => Ok(question.want_status(number)),
+        Line::Out(text) => add_out(question, text, "\n"),
+        Line::Part(text) => add_out(question, text, ""),
+        Line::Err(text) => {
+            question.want_err(text)?;
+            Ok(true)
+        }
+        _ => Ok(false),
+    }
+}
+
+fn add_out(question: &mut Question, text: &str, end: &str) -> Result<bool, Broken> {
+    question.want_out(text, end)?;
+    Ok(true)
 }
 
 // Whether the last case asks something.
@@ -67,8 +92,8 @@ fn add_line<R: Files>(
     }
 }
 
-/// The cases of a text, with the files of the feeds that they name. There is at least one, each asks something, and what it says of
-/// files comes before what it asks.
+/// The cases of a text, with the files of the feeds that they name. There is at least one, each
+/// asks something, and what it says of files comes before what it asks.
 pub fn cases_of<R: Files>(rt: &R, alloc: Global, text: &str) -> Result<Vec<Case>, Broken> {
     let mut cases = Vec::new(alloc);
     let mut number: usize = 0;

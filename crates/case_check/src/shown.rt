@@ -22,18 +22,36 @@ fn number_after(words: &[String], name: &str) -> Option<u32> {
     None
 }
 
-// Whether the words behind feed and day are options, each with its number of seconds, at most a day.
+// A word behind feed and day.
+#[derive(Clone, Copy)]
+enum Word {
+    // Behind which a number stands.
+    Named,
+    Close,
+    // At most a day.
+    Seconds,
+}
+
+fn word_of(text: &str) -> Option<Word> {
+    match text {
+        "change" | "station" => Some(Word::Named),
+        "close" => Some(Word::Close),
+        _ => match number_of(text.as_bytes()) {
+            Some(secs) if secs <= 86_400 => Some(Word::Seconds),
+            _ => None,
+        },
+    }
+}
+
+// Whether the words behind feed and day are options, each with its number of seconds.
 fn are_options(words: &[String]) -> bool {
     let mut wants_number = false;
     for word in words.iter().skip(2) {
-        let text = word.as_str();
-        let is_number = matches!(number_of(text.as_bytes()), Some(secs) if secs <= 86_400);
-        if is_number != wants_number {
-            return false;
-        }
-        wants_number = matches!(text, "change" | "station");
-        if !is_number && !wants_number && text != "close" {
-            return false;
+        match word_of(word.as_str()) {
+            Some(Word::Named) if !wants_number => wants_number = true,
+            Some(Word::Seconds) if wants_number => wants_number = false,
+            Some(Word::Close) if !wants_number => {}
+            _ => return false,
         }
     }
     !wants_number
@@ -64,7 +82,8 @@ fn add_id(text: &mut Vec<u8>, table: &Timetable, p: u32) -> Result<(), AllocErro
     Ok(())
 }
 
-// Adds a line on the change between two stops, or within one where it doesn't take what it mostly does.
+// Adds a line on the change between two stops, or within one where it doesn't take what it mostly
+// does.
 fn add_change(
     alloc: Global,
     text: &mut Vec<u8>,
@@ -88,7 +107,8 @@ fn add_change(
     Ok(())
 }
 
-// A line `FROM TO SECONDS` for each footpath, and one for each stop whose change time isn't the one that is mostly had.
+// A line `FROM TO SECONDS` for each footpath, and one for each stop whose change time isn't the one
+// that is mostly had.
 fn paths_text(alloc: Global, table: &Timetable, mostly: u32) -> Result<Vec<u8>, AllocError> {
     let mut text = Vec::new(alloc);
     for p in 0..table.stop_count() {
@@ -99,8 +119,8 @@ fn paths_text(alloc: Global, table: &Timetable, mostly: u32) -> Result<Vec<u8>, 
     Ok(text)
 }
 
-/// Whether the timetable of a day can be had, and its change times and footpaths: `DIR DATE change SECONDS station SECONDS close`, the
-/// last three where they are wanted.
+/// Whether the timetable of a day can be had, and its change times and footpaths: `DIR DATE change
+/// SECONDS station SECONDS close`, the last three where they are wanted.
 pub fn shown_paths(
     alloc: Global,
     files: Files,

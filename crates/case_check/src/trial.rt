@@ -1,17 +1,18 @@
 //! A case, tried.
+ghost use Rattle.std.specs.Prelude.{◌<◌, ◌-◌, ◌^◌};
+
 use super::broken::Broken;
-use super::case::{Asked, Case, Ending, Question};
+use super::case::Case;
+use super::endless::Endless;
+use super::question::{Asked, Ending, Question, Trouble};
 use super::shown::shown_paths;
-use router_cli::{route, status_text};
+use router_cli::{Status, route, status_text};
 use std::alloc::Global;
 use std::sync::Wait;
 use std::thread::Threads;
 use std::{fmt, str};
 use tb_base::{IdleGate, Memory};
-use tb_io::{MemFolder, MemSink, MemSource};
-
-// The most bytes that an answer has.
-const ROOM: usize = 100_000;
+use tb_io::{Folder, MemFolder, MemSink, MemSource, Sink};
 
 /// What was tried.
 #[derive(Clone, Copy)]
@@ -56,26 +57,51 @@ impl fmt::Display for Tally {
     }
 }
 
-// How the program ends on these words over the files of a case.
+// The number of a call that fails, as objects in memory take it.
+fn fails(alloc: Global, number: Option<u32>) -> Result<Vec<u64>, Memory> {
+    let mut fails = Vec::new(alloc);
+    if let Some(number) = number {
+        fails.push(number as u64)?;
+    }
+    Ok(fails)
+}
+
+// How the program ends over a folder.
+fn status_over<R: Threads + Wait + Sync, F: Folder + Send, K: Sink>(
+    rt: &R,
+    alloc: Global,
+    words: &[String],
+    folder: &mut F,
+    sink: &mut K,
+) -> Status
+    requires folder { F.faults folder.old < 2 ^ 64 - 1 }
+    requires sink { K.faults sink.old < 2 ^ 64 - 1 }
+{
+    let mut script = MemSource::new(Vec::new(alloc), Vec::new(alloc));
+    route(rt, alloc, words, folder, &mut script, sink, &IdleGate)
+}
+
+// How the program ends over the files of a case.
 fn program_ending<R: Threads + Wait + Sync>(
     rt: &R,
     alloc: Global,
     case: &Case,
-    words: &[String],
-    room: usize,
+    question: &Question,
 ) -> Result<Ending, Memory> {
-    let mut folder = MemFolder::new(case.files(alloc)?, Vec::new(alloc));
-    let mut script = MemSource::new(Vec::new(alloc), Vec::new(alloc));
-    let mut sink = MemSink::new(alloc, room, Vec::new(alloc))?;
-    let status = route(
-        rt,
-        alloc,
-        words,
-        &mut folder,
-        &mut script,
-        &mut sink,
-        &IdleGate,
-    );
+    let words = question.words.as_slice();
+    let Trouble {
+        folder,
+        output,
+        room,
+    } = question.trouble;
+    let mut sink = MemSink::new(alloc, room as usize, fails(alloc, output)?)?;
+    let status = match case.endless() {
+        Some(path) => status_over(rt, alloc, words, &mut Endless { path }, &mut sink),
+        None => {
+            let mut files = MemFolder::new(case.files(alloc)?, fails(alloc, folder)?);
+            status_over(rt, alloc, words, &mut files, &mut sink)
+        }
+    };
     Ok(Ending {
         code: status.code(),
         out: sink.bytes().to_vec(alloc)?,
@@ -100,10 +126,9 @@ fn ending_of<R: Threads + Wait + Sync>(
     case: &Case,
     question: &Question,
 ) -> Result<Ending, Memory> {
-    let words = question.words.as_slice();
     match question.asked {
-        Asked::Program => program_ending(rt, alloc, case, words, ROOM),
-        Asked::Paths => paths_ending(alloc, case, words),
+        Asked::Program => program_ending(rt, alloc, case, question),
+        Asked::Paths => paths_ending(alloc, case, question.words.as_slice()),
     }
 }
 
@@ -141,7 +166,8 @@ fn write_ending(rt: &impl Print, question: &Question, came: &Ending) {
     }
 }
 
-/// Tries a case, and writes how it came out: `ok` or `differs` and its title, and under `differs` what came, as a case says it.
+/// Tries a case, and writes how it came out: `ok` or `differs` and its title, and under `differs`
+/// what came, as a case says it.
 pub fn try_case<R: Threads + Wait + Sync + Print>(
     rt: &R,
     alloc: Global,

@@ -1,8 +1,9 @@
 //! Small feeds in memory, for tests and for holding one way to an answer against another.
 //!
-//! A `Feed` has its texts written out; `town` and `ring` are timetables of two of them. `small_feed` makes the files of a feed with
-//! loops, marks of boarding and alighting, footpaths, forbidden ways, stations, ties and times beyond midnight, that look random;
-//! the same seed gives the same files. Nothing is promised of feeds and timetables but that they are made safely.
+//! A `Feed` has its texts written out; `town` and `ring` are timetables of two of them.
+//! `small_feed` makes the files of a feed with loops, marks of boarding and alighting, footpaths,
+//! forbidden ways, stations, ties and times beyond midnight, that look random; the same seed gives
+//! the same files. Nothing is promised of feeds and timetables but that they are made safely.
 #![tactic(auto)]
 
 mod draw;

@@ -68,15 +68,15 @@ D,F,2,720
 ",
 };
 
-/// Four stops, A to D, with change times at A and C and a footpath from B to C; the station S of B and C; and four trips,
-/// T from A over B to C, U and W from C to D, and V from A past B to D.
+/// Four stops, A to D, with change times at A and C and a footpath from B to C; the station S of B
+/// and C; and four trips, T from A over B to C, U and W from C to D, and V from A past B to D.
 pub fn town(alloc: Global) -> Result<Timetable, DayFault> {
     timetable(alloc, TOWN)
 }
 
-/// Six stops, A to F, with footpaths from B to E and back and from D to F. A ring through B twice, three times a day, of which the
-/// last overtakes; a trip that is at C twice, where one may not alight at A nor board at E; one that is only reached on foot; and
-/// one back from D.
+/// Six stops, A to F, with footpaths from B to E and back and from D to F. A ring through B twice,
+/// three times a day, of which the last overtakes; a trip that is at C twice, where one may not
+/// alight at A nor board at E; one that is only reached on foot; and one back from D.
 pub fn ring(alloc: Global) -> Result<Timetable, DayFault> {
     timetable(alloc, RING)
 }

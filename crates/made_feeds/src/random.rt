@@ -52,7 +52,8 @@ fn transfers(alloc: Global, draw: &mut Draw, size: Size) -> Result<String, Alloc
     Ok(text)
 }
 
-// A call of a pattern: where, whether one may not board or not alight there, and the seconds of the way there.
+// A call of a pattern: where, whether one may not board or not alight there, and the seconds of the
+// way there.
 #[derive(Clone, Copy)]
 struct Call {
     stop: u32,
@@ -101,7 +102,8 @@ fn time_row(
     format!(in alloc; "{trip},{row},P{stop},{arrival},{departure},{pickup},{drop_off}\n")
 }
 
-// The rows of a trip over these calls that leaves at a time. It stops for a minute at some of them, and at times is slow.
+// The rows of a trip over these calls that leaves at a time. It stops for a minute at some of them,
+// and at times is slow.
 fn trip_rows(
     alloc: Global,
     draw: &mut Draw,
@@ -169,8 +171,9 @@ fn drawn_trips(alloc: Global, draw: &mut Draw, size: Size) -> Result<Trips, Allo
     Ok(trips)
 }
 
-/// The files of a small feed, of two to seven platforms, of which some belong to a station, and of up to twenty trips. Its
-/// footpaths may break the footpath law, so it wants to be read with footpaths closed.
+/// The files of a small feed, of two to seven platforms, of which some belong to a station, and of
+/// up to twenty trips. Its footpaths may break the footpath law, so it wants to be read with
+/// footpaths closed.
 pub fn small_feed(alloc: Global, draw: &mut Draw) -> Result<Files, Memory> {
     let size = Size {
         stops: draw.below(6) + 2,

@@ -45,7 +45,8 @@ pub fn files(alloc: Global, feed: Feed<'_>) -> Result<Files, Memory> {
     Ok(files)
 }
 
-/// The timetable of a feed's files, or what is wrong with the feed. The seconds of the options are at most a day.
+/// The timetable of a feed's files, or what is wrong with the feed. The seconds of the options are
+/// at most a day.
 pub fn timetable_of(alloc: Global, files: Files, options: &Options) -> Result<Timetable, DayFault>
     requires change { options.now.change ≤ 86400 }
     requires station { IfSome options.now.station (λ secs. secs ≤ 86400) }
@@ -57,8 +58,8 @@ pub fn timetable_of(alloc: Global, files: Files, options: &Options) -> Result<Ti
     read_day(alloc, &mut folder, FOLDER, &day, options)
 }
 
-/// The timetable of a feed, or what is wrong with the feed. A stop of which transfers.txt doesn't speak takes no time to change at,
-/// and a station makes no footpath.
+/// The timetable of a feed, or what is wrong with the feed. A stop of which transfers.txt doesn't
+/// speak takes no time to change at, and a station makes no footpath.
 pub fn timetable(alloc: Global, feed: Feed<'_>) -> Result<Timetable, DayFault> {
     let options = Options {
         change: 0,

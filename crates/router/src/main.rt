@@ -1,7 +1,8 @@
 //! The program `router`: answers about one service day of a GTFS feed.
 //!
-//! `route` of `router_cli` does all that the program does. `main` hands in the words of the command line, the machine's files and
-//! standard output, writes how the program ended to standard error, and ends with the number of that.
+//! `route` of `router_cli` does all that the program does. `main` hands in the words of the command
+//! line, the machine's files and standard output, writes how the program ended to standard error,
+//! and ends with the number of that.
 #![tactic(auto)]
 
 ghost use Rattle.std.specs.Prelude.{◌≡◌};

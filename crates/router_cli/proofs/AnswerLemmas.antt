@@ -1,13 +1,12 @@
 -- Answers from their parts.
-use Rattle.std.proofs.Common.{◌≡◌, List, [], ◌∷◌, ℕ, Result, Ok, Err, ℤ, rules, subst, sym, filter_map}
-use Rattle.std.specs.Prelude.{IfOk, All, Contains, FitsSigned, MatchResult}
+use Rattle.std.proofs.Common.{◌≡◌, List, [], ◌∷◌, ℕ, Ok, Err, ℤ, refl, rules, subst, sym, filter_map}
+use Rattle.std.specs.Prelude.{All, Contains, FitsSigned, MatchResult}
 use Rattle.std.specs.Int.{w32}
 use Rattle.std.proofs.lemmas.List.Elements.{All-weaker}
 use Rattle.tb_base.specs.TimetableData.{TimetableData}
-use Rattle.tb_base.specs.BestValues.{QueryData, ChoiceData}
+use Rattle.tb_base.specs.BestValues.{ChoiceData}
 use Rattle.tb_base.specs.Journeys.{Ride}
-use Rattle.tb_base.specs.Lines.{AreLines}
-use Rattle.tb_base.specs.Profiles.{OfferData, WindowData}
+use Rattle.tb_base.specs.Profiles.{OfferData}
 use Rattle.tb_base.specs.Transfers.{kept_hops}
 use Rattle.tb_base.specs.declared.query.Leg.{Leg}
 use Rattle.tb_base.specs.declared.transfer.Hop.{Hop}
@@ -19,11 +18,8 @@ use Rattle.query_gate.specs.Questions.{AskData, Ends, ProfileData, ends_between,
 use Rattle.query_gate.specs.Replies.{IsAskReply, IsProfileReply}
 use Rattle.query_gate.specs.declared.reply.Reply.{Reply}
 use Rattle.query_gate.specs.declared.reply.Reply.TheVariants.{Values, Slots, UnknownStop, Deferred}
-use Rattle.router_cli.specs.Answers.{HasKeptChanges, IsTextBetween, ShowsKept, ShowsProfile, reply_text}
-
-pub if_ok-map : {A E : Type 0} (r : Result A E) (P Q : A → Type 0) → ((x : A) → P x → Q x) → IfOk r P → IfOk r Q
-if_ok-map (Ok x) P Q f h = f x h
-if_ok-map (Err e) P Q f h = tt
+use Rattle.router_cli.specs.Answers.{HasKeptChanges, IsTextBetween, ShowsKept, ShowsProfile, ask_data, profile_data, reply_text}
+use Rattle.router_cli.specs.Inquiry.{InquiryData, WindowInquiryData}
 
 -- the text where both names are those of places
 pub known_text : (T : TimetableData) (from to : List ℕ) (IsTextOf : Ends → List ℕ → Type 0) (ends : Ends) (bytes : List ℕ) →
@@ -37,23 +33,15 @@ pub unknown_name : (T : TimetableData) (from to : List ℕ) (IsTextOf : Ends →
 unknown_name T from to IsTextOf name bytes is text =
     subst (λ r. MatchResult r (λ e. IsTextOf e bytes) (λ name. bytes ≡ unknown_text name)) (sym is) text
 
--- the same text, by names and a time that are known by other terms
-pub same_inquiry : (T : TimetableData) (IsTextOf : TimetableData → QueryData → List ℕ → Type 0) (from start to target : List ℕ) (z time : ℤ) (bytes : List ℕ) →
-    from ≡ start → to ≡ target → z ≡ time → IsTextBetween T from to (λ ends. IsTextOf T (query_at ends z)) bytes →
-    IsTextBetween T start target (λ ends. IsTextOf T (query_at ends time)) bytes
-same_inquiry T IsTextOf from start to target z time bytes same_from same_to same_time text =
-    subst (λ f. IsTextBetween T f target (λ ends. IsTextOf T (query_at ends time)) bytes) same_from
-    (subst (λ g. IsTextBetween T from g (λ ends. IsTextOf T (query_at ends time)) bytes) same_to
-    (subst (λ y. IsTextBetween T from to (λ ends. IsTextOf T (query_at ends y)) bytes) same_time text))
+-- the same question, by names and times that are known by other terms
+pub same_ask : (i : InquiryData) (from to : List ℕ) (time : ℤ) → from ≡ i.from → to ≡ i.to → time ≡ i.time →
+    ask_data (record { from = from; to = to; time = time }) ≡ ask_data i
+same_ask i from to time same_from same_to same_time = rw (same_from, same_to, same_time) refl
 
-pub same_window : (T : TimetableData) (from start to target : List ℕ) (y first z last : ℤ) (bytes : List ℕ) →
-    from ≡ start → to ≡ target → y ≡ first → z ≡ last → IsTextBetween T from to (λ ends. ShowsProfile T (window_at ends y z)) bytes →
-    IsTextBetween T start target (λ ends. ShowsProfile T (window_at ends first last)) bytes
-same_window T from start to target y first z last bytes same_from same_to same_first same_last text =
-    subst (λ f. IsTextBetween T f target (λ ends. ShowsProfile T (window_at ends first last)) bytes) same_from
-    (subst (λ g. IsTextBetween T from g (λ ends. ShowsProfile T (window_at ends first last)) bytes) same_to
-    (subst (λ x. IsTextBetween T from to (λ ends. ShowsProfile T (window_at ends x last)) bytes) same_first
-    (subst (λ x. IsTextBetween T from to (λ ends. ShowsProfile T (window_at ends y x)) bytes) same_last text)))
+pub same_profile : (i : WindowInquiryData) (from to : List ℕ) (first last : ℤ) → from ≡ i.from → to ≡ i.to → first ≡ i.first → last ≡ i.last →
+    profile_data (record { from = from; to = to; first = first; last = last }) ≡ profile_data i
+same_profile i from to first last same_from same_to same_first same_last =
+    rw (same_from, same_to, same_first, same_last) refl
 
 -- rides that follow hops follow equal hops
 rides_follow : (hops others : ℕ → ℕ → List Hop) → ((t i : ℕ) → hops t i ≡ others t i) → (rides : List Ride) → RidesFollow hops rides → RidesFollow others rides

@@ -1,5 +1,5 @@
 -- How the program ends where nothing fails outside.
-use Rattle.std.proofs.Common.{◌≡◌, ℕ, ◌<◌, ◌⊎◌, inl, inr, List, Option, Some, None, Result, Ok, Err, refl, subst, arith}
+use Rattle.std.proofs.Common.{◌≡◌, ℕ, ◌<◌, inl, inr, List, Option, Some, None, Result, Ok, Err, refl, subst, arith}
 use Rattle.std.specs.Prelude.{IfSome, IsSome}
 use Rattle.tb_base.specs.TimetableData.{TimetableData}
 use Rattle.footpaths.specs.declared.paths.Options.{Options}

@@ -1,5 +1,5 @@
 -- Command lines option by option.
-use Rattle.std.proofs.Common.{◌≡◌, ◌∙◌, ap, refl, ℕ, ◌<◌, ◌≤◌, List, [], ◌∷◌, length, map, drop, get_or, arith, Bool, true, false, Option, None, Some}
+use Rattle.std.proofs.Common.{◌≡◌, ◌∙◌, refl, ℕ, ◌<◌, ◌≤◌, List, [], ◌∷◌, length, map, drop, get_or, arith, true, false, None, Some}
 use Rattle.router_cli.specs.Given.{given_with, option_named, takes_value}
 use Rattle.std.specs.List.{list_any}
 use Rattle.router_cli.specs.Words.{command_line, inquiry_from, inquiry_of, is_hyphened, list_from, list_word, plain_line, request_from, request_line, window_from, window_inquiry_of}

@@ -11,23 +11,26 @@ use Rattle.segment_queue.specs.Traced.{LegsFollow}
 use Rattle.plain_rounds.specs.Shown.{SpellShortest}
 use Rattle.answer_text.specs.Journeys.{arrival_text, choices_text, offers_text, unknown_text}
 use Rattle.build_report.specs.Reports.{IsReport}
-use Rattle.query_gate.specs.Questions.{Ends, ends_between, query_at, window_at}
+use Rattle.query_gate.specs.Questions.{AskData, Ends, ProfileData, ends_between, query_at, window_at}
 use Rattle.query_gate.specs.declared.reply.Reply.{Reply}
 use Rattle.query_gate.specs.declared.reply.Reply.TheVariants as reply
 use Rattle.router_cli.specs.Inquiry.{InquiryData, WindowInquiryData}
 use Rattle.router_cli.specs.Words.{RequestData}
-use Rattle.router_cli.specs.declared.answers.Asked.{Asked}
-use Rattle.router_cli.specs.declared.answers.Asked.TheVariants as asked
+use Rattle.router_cli.specs.declared.over_table.Asked.{Asked}
+use Rattle.router_cli.specs.declared.over_table.Asked.TheVariants as asked
 use Rattle.router_cli.specs.declared.words.Command.{Command}
 use Rattle.router_cli.specs.declared.words.Command.TheVariants as command
 
--- the least arrival over the journeys of exactly one ride that the query allows, or that there is none
+-- the least arrival over the journeys of exactly one ride that the query allows, or that there is
+-- none
 abbrev pub IsDirectText : TimetableData → QueryData → List ℕ → Type 0
-IsDirectText T Q bytes = (least : Option ℤ) × IsLeast (IsDirectArrival T Q) least × (bytes ≡ arrival_text least)
+IsDirectText T Q bytes =
+    (least : Option ℤ) × IsLeast (IsDirectArrival T Q) least × (bytes ≡ arrival_text least)
 
--- the best values of the query in order, each followed by the legs of a journey that has it, by the shortest walks at both ends; any
--- such journey may be shown that is of this kind
-pub record ShowsBestValues (T : TimetableData) (Q : QueryData) (OfKind : List Leg → Type 0) (bytes : List ℕ) : Type 0 where
+-- the best values of the query in order, each followed by the legs of a journey that has it, by the
+-- shortest walks at both ends; any such journey may be shown that is of this kind
+pub record ShowsBestValues (T : TimetableData) (Q : QueryData) (OfKind : List Leg → Type 0)
+    (bytes : List ℕ) : Type 0 where
   pub choices : List ChoiceData
   pub values : AreBestValues T Q (map ChoiceData.value choices)
   pub journeys : All (λ c. SpellShortest T Q (ChoiceData.legs c) (ChoiceData.value c)) choices
@@ -40,7 +43,8 @@ pub record HasKeptChanges (T : TimetableData) (legs : List Leg) : Type 0 where
   pub are_lines : AreLines T lines
   pub kept : LegsFollow (kept_hops T lines) legs
 
--- the slots of the window's profile in order, each followed by the legs of a journey that has it and changes by kept transfers
+-- the slots of the window's profile in order, each followed by the legs of a journey that has it
+-- and changes by kept transfers
 pub record ShowsProfile (T : TimetableData) (W : WindowData) (bytes : List ℕ) : Type 0 where
   pub offers : List OfferData
   pub slots : IsProfile T W (map OfferData.slot offers)
@@ -61,17 +65,21 @@ abbrev pub Shows : Bool → TimetableData → QueryData → List ℕ → Type 0
 Shows true = ShowsAny
 Shows false = ShowsKept
 
--- What is written about two places: where one is no place of the timetable, that the stop is unknown, the origin first; else a
--- text about the stops of both.
-abbrev pub IsTextBetween : TimetableData → List ℕ → List ℕ → (Ends → List ℕ → Type 0) → List ℕ → Type 0
+-- What is written about two places: where one is no place of the timetable, that the stop is
+-- unknown, the origin first; else a text about the stops of both.
+abbrev pub IsTextBetween : TimetableData → List ℕ → List ℕ → (Ends → List ℕ → Type 0)
+    → List ℕ → Type 0
 IsTextBetween T from to IsTextOf bytes =
-    MatchResult (ends_between T from to) (λ ends. IsTextOf ends bytes) (λ name. bytes ≡ unknown_text name)
+    MatchResult (ends_between T from to) (λ ends. IsTextOf ends bytes)
+    (λ name. bytes ≡ unknown_text name)
 
-abbrev pub IsInquiryText : TimetableData → (TimetableData → QueryData → List ℕ → Type 0) → InquiryData → List ℕ → Type 0
+abbrev pub IsInquiryText : TimetableData → (TimetableData → QueryData → List ℕ → Type 0)
+    → InquiryData → List ℕ → Type 0
 IsInquiryText T IsTextOf i = IsTextBetween T i.from i.to (λ ends. IsTextOf T (query_at ends i.time))
 
 abbrev pub IsProfileText : TimetableData → WindowInquiryData → List ℕ → Type 0
-IsProfileText T i = IsTextBetween T i.from i.to (λ ends. ShowsProfile T (window_at ends i.first i.last))
+IsProfileText T i =
+    IsTextBetween T i.from i.to (λ ends. ShowsProfile T (window_at ends i.first i.last))
 
 -- the answer to a command
 abbrev pub IsCommandText : TimetableData → Bool → Command → List ℕ → Type 0
@@ -85,9 +93,18 @@ IsAnswer T r = IsCommandText T r.plain r.command
 
 -- the query that an inquiry means, between stops that exist, or the name in it that is no place
 abbrev pub IsQuery : TimetableData → InquiryData → Asked → Type 0
-IsQuery T i (asked.Query q) = (ends : Ends) × (ends_between T i.from i.to ≡ Ok ends) × (q ≡ query_at ends i.time)
-    × All (λ p. p < length T.stops) ends.from × All (λ p. p < length T.stops) ends.to × (i.time ≤ℤ pos 359999)
+IsQuery T i (asked.Query q) =
+    (ends : Ends) × (ends_between T i.from i.to ≡ Ok ends) × (q ≡ query_at ends i.time)
+    × All (λ p. p < length T.stops) ends.from × All (λ p. p < length T.stops) ends.to
+    × (i.time ≤ℤ pos 359999)
 IsQuery T i (asked.Unknown name) = ends_between T i.from i.to ≡ Err name.now
+
+-- the questions that inquiries ask, of whichever edition
+abbrev pub ask_data : InquiryData → AskData
+ask_data i = record { since = 0; from = i.from; to = i.to; leave = i.time }
+
+abbrev pub profile_data : WindowInquiryData → ProfileData
+profile_data i = record { since = 0; from = i.from; to = i.to; first = i.first; last = i.last }
 
 -- what is written for an edition's answer
 abbrev pub reply_text : TimetableData → Reply → List ℕ

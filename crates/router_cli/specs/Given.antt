@@ -1,5 +1,5 @@
 -- The options before a command.
-use Rattle.std.specs.Prelude.{◌≡◌, ℕ, ◌<◌, ◌≤◌, ◌&&◌, nat_lt, nat_le, List, codes, bytes_eq, Bool, false, true, Option, Some, None, IfSome, is_some, if◌then◌else◌}
+use Rattle.std.specs.Prelude.{ℕ, ◌<◌, ◌≤◌, ◌&&◌, nat_lt, nat_le, List, codes, bytes_eq, Bool, false, true, Option, Some, None, IfSome, is_some, if◌then◌else◌}
 use Rattle.std.specs.Option.{option_and_then, option_map, unwrap_or}
 use Rattle.footpaths.specs.declared.paths.Options.{Options}
 use Rattle.gtfs_rows.specs.Fields.{secs_of}
@@ -39,26 +39,57 @@ one_to_64 n = if nat_lt 0 n && nat_le n 64 then Some n else None
 abbrev pub worker_count : List ℕ → Option ℕ
 worker_count text = option_and_then one_to_64 (number_of text)
 
--- One option more: each stands at most once, and a value is a number of seconds up to a day, or a number of workers.
+-- One option more: each stands at most once, and a value is a number of seconds up to a day, or a
+-- number of workers.
 abbrev pub given_with : Given → OptionName → List ℕ → Option Given
 given_with g option.Change value =
     if is_some g.change then None
-    else option_map (λ secs. record { change = Some secs; station = g.station; workers = g.workers; close = g.close; plain = g.plain })
+    else option_map (λ secs. record {
+      change = Some secs;
+      station = g.station;
+      workers = g.workers;
+      close = g.close;
+      plain = g.plain;
+    })
     (secs_of value)
 given_with g option.Station value =
     if is_some g.station then None
-    else option_map (λ secs. record { change = g.change; station = Some secs; workers = g.workers; close = g.close; plain = g.plain })
+    else option_map (λ secs. record {
+      change = g.change;
+      station = Some secs;
+      workers = g.workers;
+      close = g.close;
+      plain = g.plain;
+    })
     (secs_of value)
 given_with g option.Workers value =
     if is_some g.workers then None
-    else option_map (λ n. record { change = g.change; station = g.station; workers = Some n; close = g.close; plain = g.plain })
+    else option_map (λ n. record {
+      change = g.change;
+      station = g.station;
+      workers = Some n;
+      close = g.close;
+      plain = g.plain;
+    })
     (worker_count value)
 given_with g option.Close value =
     if g.close then None
-    else Some (record { change = g.change; station = g.station; workers = g.workers; close = true; plain = g.plain })
+    else Some (record {
+      change = g.change;
+      station = g.station;
+      workers = g.workers;
+      close = true;
+      plain = g.plain;
+    })
 given_with g option.Plain value =
     if g.plain then None
-    else Some (record { change = g.change; station = g.station; workers = g.workers; close = g.close; plain = true })
+    else Some (record {
+      change = g.change;
+      station = g.station;
+      workers = g.workers;
+      close = g.close;
+      plain = true;
+    })
 
 -- what they say of footpaths; without `--change` every stop has the change time 0
 abbrev pub options_of : Given → Options

@@ -25,38 +25,47 @@ status_code status.Memory = 6
 -- the line that it writes to standard error
 abbrev pub status_text : Status → List ℕ
 status_text status.Done = []
-status_text status.Usage = codes "usage: router [--change SECS] [--station SECS] [--close] [--workers N] [--plain] COMMAND WORDS\n"
+status_text status.Usage =
+    codes "usage: router [--change SECS] [--station SECS] [--close] [--workers N] [--plain] COMMAND WORDS\n"
 status_text (status.FeedRefused f) = codes "router: feed refused: " ++ fault_text f ++ codes "\n"
 status_text status.ReadFault = codes "router: read fault\n"
 status_text status.WriteFault = codes "router: write fault\n"
 status_text status.Memory = codes "router: out of memory\n"
 
--- what becomes of the day of a request: its timetable, or the first thing that is wrong with the feed
+-- what becomes of the day of a request: its timetable, or the first thing that is wrong with the
+-- feed
 abbrev pub IsDayOf : Option FileList → RequestData → Result TimetableData FeedFault → Type 0
 IsDayOf files r = IsTimetableOf (feed_of files r.dir) r.date r.options
 
--- What a status says of a request, of the day's timetable or first fault, and of the bytes that a sink held before and
--- holds now. Done: the answer was written whole. WriteFault: some first bytes of it.
--- FeedRefused: the fault is the day's. Usage doesn't come here. Of ReadFault and Memory no clause speaks here.
-abbrev pub IsOutcome : (Result TimetableData FeedFault → Type 0) → RequestData → Status → Option (List ℕ) → Option (List ℕ) → Type 0
-IsOutcome IsDay r status.Done before now = (T : TimetableData) × (bytes : List ℕ) × IsDay (Ok T) × IsAnswer T r bytes × Appends before now bytes
+-- What a status says of a request, of the day's timetable or first fault, and of the bytes that a
+-- sink held before and holds now. Done: the answer was written whole. WriteFault: some first bytes
+-- of it. FeedRefused: the fault is the day's. Usage doesn't come here. Of ReadFault and Memory no
+-- clause speaks here.
+abbrev pub IsOutcome : (Result TimetableData FeedFault → Type 0) → RequestData → Status
+    → Option (List ℕ) → Option (List ℕ) → Type 0
+IsOutcome IsDay r status.Done before now =
+    (T : TimetableData) × (bytes : List ℕ) × IsDay (Ok T) × IsAnswer T r bytes
+    × Appends before now bytes
 IsOutcome IsDay r status.WriteFault before now =
-    (T : TimetableData) × (bytes : List ℕ) × (n : ℕ) × IsDay (Ok T) × IsAnswer T r bytes × (n ≤ length bytes) × Appends before now (take n bytes)
+    (T : TimetableData) × (bytes : List ℕ) × (n : ℕ) × IsDay (Ok T) × IsAnswer T r bytes
+    × (n ≤ length bytes) × Appends before now (take n bytes)
 IsOutcome IsDay r (status.FeedRefused f) before now = IsDay (Err f)
 IsOutcome IsDay r status.Usage before now = ⊥
 IsOutcome IsDay r status.ReadFault before now = ⊤
 IsOutcome IsDay r status.Memory before now = ⊤
 
--- How the program may end where nothing fails outside: with the answer or for want of memory on a lawful day, and else with the feed's
--- first fault or for want of memory.
+-- How the program may end where nothing fails outside: with the answer or for want of memory on a
+-- lawful day, and else with the feed's first fault or for want of memory.
 abbrev pub IsEnding : Result TimetableData FeedFault → Status → Type 0
 IsEnding (Ok T) s = (s ≡ status.Done) ⊎ (s ≡ status.Memory)
 IsEnding (Err f) s = (s ≡ status.FeedRefused f) ⊎ (s ≡ status.Memory)
 
--- Whatever the folder tells: with Done the answer over a sound timetable was written whole, with WriteFault some first bytes of it.
+-- Whatever the folder tells: with Done the answer over a sound timetable was written whole, with
+-- WriteFault some first bytes of it.
 abbrev pub WritesAnswer : RequestData → Status → Option (List ℕ) → Option (List ℕ) → Type 0
 WritesAnswer r status.Done before now =
-    (T : TimetableData) × (bytes : List ℕ) × IsSound T × IsAnswer T r bytes × Appends before now bytes
+    (T : TimetableData) × (bytes : List ℕ) × IsSound T × IsAnswer T r bytes
+    × Appends before now bytes
 WritesAnswer r status.WriteFault before now =
     (T : TimetableData) × (bytes : List ℕ) × (n : ℕ) × IsSound T × IsAnswer T r bytes
     × (n ≤ length bytes) × Appends before now (take n bytes)

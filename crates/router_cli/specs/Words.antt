@@ -1,5 +1,5 @@
 -- What the words of a command line mean.
-use Rattle.std.specs.Prelude.{ℕ, ◌==◌, List, [], ◌∷◌, codes, bytes_eq, Bool, false, true, ℤ, Option, Some, None, if◌then◌else◌}
+use Rattle.std.specs.Prelude.{ℕ, ◌==◌, List, [], ◌∷◌, codes, bytes_eq, Bool, false, true, Option, Some, None, if◌then◌else◌}
 use Rattle.std.specs.List.{list_any}
 use Rattle.std.specs.Option.{option_and_then, option_map, unwrap_or}
 use Rattle.footpaths.specs.declared.paths.Options.{Options}
@@ -8,12 +8,11 @@ use Rattle.gtfs_rows.specs.Numbers.{time_of}
 use Rattle.router_cli.specs.Inquiry.{InquiryData, WindowInquiryData}
 use Rattle.router_cli.specs.Given.{given_with, none_given, option_named, options_of, takes_value, workers_of}
 use Rattle.router_cli.specs.declared.given.Given.{Given}
-use Rattle.router_cli.specs.declared.given.OptionName.{OptionName}
 use Rattle.router_cli.specs.declared.words.Command.{Command}
 use Rattle.router_cli.specs.declared.words.Command.TheVariants as command
 
--- a request about one day of a feed: what is said of footpaths, how many workers reduce the transfers, whether round by round, the
--- folder, the date, and what is asked for
+-- a request about one day of a feed: what is said of footpaths, how many workers reduce the
+-- transfers, whether round by round, the folder, the date, and what is asked for
 pub record RequestData : Type 0 where
   pub options : Options
   pub workers : ℕ
@@ -32,7 +31,9 @@ inquiry_of from to time = option_map (λ t. record { from = from; to = to; time 
 
 abbrev pub window_inquiry_of : List ℕ → List ℕ → List ℕ → List ℕ → Option WindowInquiryData
 window_inquiry_of from to first last =
-    option_and_then (λ t. option_map (λ u. record { from = from; to = to; first = t; last = u }) (time_of last)) (time_of first)
+    option_and_then (λ t.
+    option_map (λ u. record { from = from; to = to; first = t; last = u }) (time_of last))
+    (time_of first)
 
 -- what is asked by the words FROM TO TIME
 abbrev pub inquiry_from : List (List ℕ) → Option InquiryData
@@ -54,8 +55,8 @@ list_from [] = Some false
 list_from (word ∷ []) = list_word word
 list_from words = None
 
--- a command by its name and the words behind folder and date: `direct FROM TO TIME`, `ask FROM TO TIME`,
--- `profile FROM TO FIRST LAST`, `build`, `build list`
+-- a command by its name and the words behind folder and date: `direct FROM TO TIME`, `ask FROM TO
+-- TIME`, `profile FROM TO FIRST LAST`, `build`, `build list`
 abbrev pub command_of : List ℕ → List (List ℕ) → Option Command
 command_of name words =
     if bytes_eq name (codes "direct") then option_map command.Direct (inquiry_from words)
@@ -91,7 +92,9 @@ request_from g [] = None
 request_from g (word ∷ []) = None
 request_from g (word ∷ value ∷ rest) =
     unwrap_or (option_map (λ option.
-    option_and_then (λ h. if takes_value option then request_from h rest else request_from h (value ∷ rest)) (given_with g option value))
+    option_and_then (λ h.
+    if takes_value option then request_from h rest else request_from h (value ∷ rest))
+    (given_with g option value))
     (option_named word)) (command_line g (word ∷ value ∷ rest))
 
 -- the words of a command line: options, and a command

@@ -1,18 +1,18 @@
 //! All that the program `router` does, over objects that are handed in.
 //!
-//! [`route`] answers about one service day of a GTFS feed, from the words of the command line and the bytes of the folder to the
-//! bytes written. Its contract is the program's promise. The program hands in the machine's files and standard output, and tests
-//! hand in objects in memory. The files follow the GTFS Schedule Reference.
+//! [`route`] answers about one service day of a GTFS feed, from the words of the command line and
+//! the bytes of the folder to the bytes written. Its contract is the program's promise. The program
+//! hands in the machine's files and standard output, and tests hand in objects in memory. The files
+//! follow the GTFS Schedule Reference.
 #![tactic(auto)]
 
 mod answers;
 mod given;
+mod over_edition;
+mod over_table;
 mod program;
 mod status;
 mod words;
 
 pub use program::route;
 pub use status::{Status, status_text};
-
-#[cfg(test)]
-mod tests;

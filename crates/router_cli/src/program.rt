@@ -29,10 +29,13 @@ fn text_of<R: Threads + Sync, F: Folder, G: Gate>(
 ) -> Result<Vec<u8>, DayFault>
     requires { F.faults folder.old < 2 ^ 64 - 1 }
     ensures text { IsSome (F.files folder.old) → MatchResult result
-        (λ text. (T : TimetableData) × IsDayOf (F.files folder.old) request.now (Ok T) × IsAnswer T request.now text.items)
+        (λ text. (T : TimetableData) × IsDayOf (F.files folder.old) request.now (Ok T)
+        × IsAnswer T request.now text.items)
         (IsFault (IsDayOf (F.files folder.old) request.now)) }
-    ensures answer { IfOk result (λ text. (T : TimetableData) × IsSound T × IsAnswer T request.now text.items) }
-    ensures leaves { Leaves (F.files folder.old) (F.files folder.new) (F.faults folder.old) (F.faults folder.new) result }
+    ensures answer { IfOk result (λ text.
+        (T : TimetableData) × IsSound T × IsAnswer T request.now text.items) }
+    ensures leaves { Leaves (F.files folder.old) (F.files folder.new) (F.faults folder.old)
+        (F.faults folder.new) result }
 {
     let table = match read_day(alloc, folder, request.dir, &request.day, &request.options) {
         Ok(table) => table,
@@ -57,14 +60,18 @@ fn outcome<R: Threads + Sync, F: Folder, K: Sink, G: Gate>(
     requires folder { F.faults folder.old < 2 ^ 64 - 1 }
     requires out { K.faults out.old < 2 ^ 64 - 1 }
     ensures usage { (result ≡ Status.Usage) ↔ (request_of (map string_bytes words.now) ≡ None) }
-    ensures promise { IfSome (request_of (map string_bytes words.now)) (λ r. IsSome (F.files folder.old) →
-        IsOutcome (IsDayOf (F.files folder.old) r) r result (K.written out.old) (K.written out.new)) }
+    ensures promise { IfSome (request_of (map string_bytes words.now)) (λ r.
+        IsSome (F.files folder.old) →
+        IsOutcome (IsDayOf (F.files folder.old) r) r result (K.written out.old)
+        (K.written out.new)) }
     ensures answers { IfSome (request_of (map string_bytes words.now)) (λ r.
         WritesAnswer r result (K.written out.old) (K.written out.new)) }
-    ensures quiet { (result ≡ Status.Done) ⊎ (result ≡ Status.WriteFault) ⊎ (K.written out.new ≡ K.written out.old) }
+    ensures quiet { (result ≡ Status.Done) ⊎ (result ≡ Status.WriteFault)
+        ⊎ (K.written out.new ≡ K.written out.old) }
     ensures read { result ≡ Status.ReadFault → F.faults folder.old < F.faults folder.new }
     ensures write { result ≡ Status.WriteFault → K.faults out.old < K.faults out.new }
-    ensures folder_kept { (result ≡ Status.ReadFault) ⊎ (F.faults folder.new ≡ F.faults folder.old) }
+    ensures folder_kept { (result ≡ Status.ReadFault)
+        ⊎ (F.faults folder.new ≡ F.faults folder.old) }
     ensures out_kept { (result ≡ Status.WriteFault) ⊎ (K.faults out.new ≡ K.faults out.old) }
     ensures files { F.files folder.new ≡ F.files folder.old }
 {
@@ -82,11 +89,13 @@ fn outcome<R: Threads + Sync, F: Folder, K: Sink, G: Gate>(
     }
 }
 
-/// Does all that the program does: from the words and the files of the folder to the bytes written to `out`.
+/// Does all that the program does: from the words and the files of the folder to the bytes written
+/// to `out`.
 ///
-/// `Usage` comes exactly where the words have no meaning. With any status but `Done` and `WriteFault` nothing is written,
-/// since the whole text is gathered before its first byte is written. Whatever the folder is, what is written with `Done` is
-/// the answer over some sound timetable; where it tells its contents, over the timetable of the day. `Memory` is free. No
+/// `Usage` comes exactly where the words have no meaning. With any status but `Done` and
+/// `WriteFault` nothing is written, since the whole text is gathered before its first byte is
+/// written. Whatever the folder is, what is written with `Done` is the answer over some sound
+/// timetable; where it tells its contents, over the timetable of the day. `Memory` is free. No
 /// script is read yet. The gate is told of the pieces that workers reduce.
 pub fn route<R: Threads + Wait + Sync, F: Folder + Send, S: Source, K: Sink, G: Gate>(
     rt: &R,
@@ -100,17 +109,23 @@ pub fn route<R: Threads + Wait + Sync, F: Folder + Send, S: Source, K: Sink, G: 
     requires folder { F.faults folder.old < 2 ^ 64 - 1 }
     requires out { K.faults out.old < 2 ^ 64 - 1 }
     ensures usage { (result ≡ Status.Usage) ↔ (request_of (map string_bytes words.now) ≡ None) }
-    ensures promise { IfSome (request_of (map string_bytes words.now)) (λ r. IsSome (F.files folder.old) →
-        IsOutcome (IsDayOf (F.files folder.old) r) r result (K.written out.old) (K.written out.new)) }
-    ensures complete { IfSome (request_of (map string_bytes words.now)) (λ r. IsSome (F.files folder.old) →
+    ensures promise { IfSome (request_of (map string_bytes words.now)) (λ r.
+        IsSome (F.files folder.old) →
+        IsOutcome (IsDayOf (F.files folder.old) r) r result (K.written out.old)
+        (K.written out.new)) }
+    ensures complete { IfSome (request_of (map string_bytes words.now)) (λ r.
+        IsSome (F.files folder.old) →
         F.faults folder.new ≡ F.faults folder.old → K.faults out.new ≡ K.faults out.old →
-        (day : Result TimetableData FeedFault) → IsDayOf (F.files folder.old) r day → IsEnding day result) }
+        (day : Result TimetableData FeedFault) → IsDayOf (F.files folder.old) r day →
+        IsEnding day result) }
     ensures answers { IfSome (request_of (map string_bytes words.now)) (λ r.
         WritesAnswer r result (K.written out.old) (K.written out.new)) }
-    ensures quiet { (result ≡ Status.Done) ⊎ (result ≡ Status.WriteFault) ⊎ (K.written out.new ≡ K.written out.old) }
+    ensures quiet { (result ≡ Status.Done) ⊎ (result ≡ Status.WriteFault)
+        ⊎ (K.written out.new ≡ K.written out.old) }
     ensures read { result ≡ Status.ReadFault → F.faults folder.old < F.faults folder.new }
     ensures write { result ≡ Status.WriteFault → K.faults out.old < K.faults out.new }
-    ensures folder_kept { (result ≡ Status.ReadFault) ⊎ (F.faults folder.new ≡ F.faults folder.old) }
+    ensures folder_kept { (result ≡ Status.ReadFault)
+        ⊎ (F.faults folder.new ≡ F.faults folder.old) }
     ensures out_kept { (result ≡ Status.WriteFault) ⊎ (K.faults out.new ≡ K.faults out.old) }
     ensures files { F.files folder.new ≡ F.files folder.old }
     ensures script { S.left _script.new ≡ S.left _script.old }

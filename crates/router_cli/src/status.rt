@@ -28,7 +28,8 @@ pub enum Status {
 }
 
 impl Status {
-    /// The number with which the program ends: 0 for `Done`, and 2 to 6 for the others in their order.
+    /// The number with which the program ends: 0 for `Done`, and 2 to 6 for the others in their
+    /// order.
     pub fn code(&self) -> u8
         ensures { result ≡ status_code self.now }
     {

@@ -11,7 +11,8 @@ use service_day::{Day, day_of};
 use std::marker::Model;
 use tb_base::Sec;
 
-/// From where to where a journey is asked for, and from when on. The names are those of stops or stations.
+/// From where to where a journey is asked for, and from when on. The names are those of stops or
+/// stations.
 #[derive(Drop)]
 pub struct Inquiry<'a> {
     pub from: &'a str,
@@ -30,8 +31,8 @@ impl<'a> Model for Inquiry<'a> {
     ghost invariant = { λ i. IsFileTime i.time };
 }
 
-/// From where to where journeys are asked for that leave within a window, both ends counted. The names are those of stops or
-/// stations.
+/// From where to where journeys are asked for that leave within a window, both ends counted. The
+/// names are those of stops or stations.
 #[derive(Drop)]
 pub struct WindowInquiry<'a> {
     pub from: &'a str,
@@ -46,7 +47,12 @@ impl<'a> Model for WindowInquiry<'a> {
 
     ghost Value = { WindowInquiryData };
 
-    ghost view = { λ i. record { from = i.from.now; to = i.to.now; first = i.first; last = i.last } };
+    ghost view = { λ i. record {
+      from = i.from.now;
+      to = i.to.now;
+      first = i.first;
+      last = i.last;
+    } };
 
     ghost invariant = { λ i. IsFileTime i.first × IsFileTime i.last };
 }
@@ -60,7 +66,8 @@ pub enum Command<'a> {
     Ask(Inquiry<'a>),
     /// Every best trade-off between late departure, early arrival and number of rides.
     Profile(WindowInquiry<'a>),
-    /// What is built of the timetable: its sizes and counts, and where asked for, the list of the kept transfers.
+    /// What is built of the timetable: its sizes and counts, and where asked for, the list of the
+    /// kept transfers.
     Build {
         /// Whether with the list.
         list: bool,
@@ -274,9 +281,10 @@ fn request_from(given: Given, words: &[String]) -> Option<Request<'_>>
     }
 }
 
-/// What the words mean: `[--change SECS] [--station SECS] [--close] [--workers N] [--plain] COMMAND WORDS`, each option at most once
-/// and in any order, where no word of the command begins with a hyphen. The commands are `direct DIR DATE FROM TO TIME`, `ask DIR DATE FROM TO TIME`,
-/// `profile DIR DATE FROM TO FIRST LAST`, `build DIR DATE` and `build DIR DATE list`.
+/// What the words mean: `[--change SECS] [--station SECS] [--close] [--workers N] [--plain] COMMAND
+/// WORDS`, each option at most once and in any order, where no word of the command begins with a
+/// hyphen. The commands are `direct DIR DATE FROM TO TIME`, `ask DIR DATE FROM TO TIME`, `profile
+/// DIR DATE FROM TO FIRST LAST`, `build DIR DATE` and `build DIR DATE list`.
 pub fn request_of(words: &[String]) -> Option<Request<'_>>
     ensures { result ≡ request_of (map string_bytes words.now) }
 {

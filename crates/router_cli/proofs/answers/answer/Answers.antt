@@ -1,4 +1,4 @@
-use Rattle.std.proofs.Common.{◌≡◌, IfOk, sym, subst}
+use Rattle.std.proofs.Common.{IfOk, sym, subst}
 use Rattle.router_cli.specs.Answers.{IsAnswer, IsCommandText}
 use Rattle.router_cli.proofs.answers.answer.Goals as goal
 

@@ -1,4 +1,3 @@
-use Rattle.std.proofs.Common.{◌≡◌}
 use Rattle.router_cli.proofs.program.outcome.Goals as goal
 
 pub returns-in-Err-Feed-clause-promise : goal.returns-in-Err-Feed-clause-promise

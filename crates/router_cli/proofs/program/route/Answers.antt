@@ -1,4 +1,4 @@
-use Rattle.std.proofs.Common.{◌≡◌, map}
+use Rattle.std.proofs.Common.{map}
 use Rattle.std.specs.Prelude.{string_bytes}
 use Rattle.router_cli.specs.Words.{request_of}
 use Rattle.router_cli.proofs.Endings.{completed}

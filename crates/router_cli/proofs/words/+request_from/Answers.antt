@@ -1,4 +1,4 @@
-use Rattle.std.proofs.Common.{◌≡◌, ◌∙◌, sym, string_bytes}
+use Rattle.std.proofs.Common.{◌∙◌, sym, string_bytes}
 use Rattle.std.proofs.lemmas.List.{take_rest}
 use Rattle.router_cli.proofs.WordLemmas.{few_words, valued_option, plain_option}
 use Rattle.router_cli.proofs.words.+request_from.Goals as goal

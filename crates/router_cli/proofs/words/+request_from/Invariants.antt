@@ -1,4 +1,4 @@
-use Rattle.std.proofs.Common.{length, ℕ}
+use Rattle.std.proofs.Common.{length}
 use Rattle.router_cli.proofs.words.+request_from.Given as goal
 
 abbrev pub decreases-request_from : goal.decreases-request_from

@@ -1,4 +1,4 @@
-use Rattle.std.proofs.Common.{◌≡◌, ◌∙◌, sym, refl, string_bytes}
+use Rattle.std.proofs.Common.{◌∙◌, sym, refl, string_bytes}
 use Rattle.std.proofs.lemmas.List.{take_rest}
 use Rattle.router_cli.proofs.WordLemmas.{hyphened_words, few_in_line, words_in_line}
 use Rattle.router_cli.proofs.words.command_line.Goals as goal

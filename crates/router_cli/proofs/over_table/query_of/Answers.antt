@@ -1,11 +1,11 @@
-use Rattle.std.proofs.Common.{◌≡◌, ◌∙◌, ap, refl, length, pos, ◌≤ℤ◌, subst, to_z, of_z, w32}
+use Rattle.std.proofs.Common.{◌∙◌, ap, refl, length, pos, ◌≤ℤ◌, subst, w32}
 use Rattle.std.proofs.lemmas.Int.{to_z-of_z}
 use Rattle.query_gate.specs.Questions.{Ends, query_at}
 use Rattle.query_gate.specs.Replies.{AreWithin, IsBetween}
 use Rattle.query_gate.proofs.NamedEnds.{between_by}
 use Rattle.router_cli.specs.Inquiry.{InquiryData}
 use Rattle.router_cli.proofs.AnswerLemmas.{file_time-fits}
-use Rattle.router_cli.proofs.answers.query_of.Goals as goal
+use Rattle.router_cli.proofs.over_table.query_of.Goals as goal
 
 pub returns-in-Stops : goal.returns-in-Stops
 returns-in-Stops c =

@@ -2,11 +2,12 @@ use Rattle.std.proofs.Common.{◌∙◌, ◌<◌, ap, length, subst, sym}
 use Rattle.std.specs.Prelude.{All}
 use Rattle.tb_base.specs.BestValues.{QueryData}
 use Rattle.answer_text.specs.Journeys.{choices_text}
+use Rattle.std.proofs.lemmas.Result.{IfOk-weaker}
 use Rattle.query_gate.specs.Questions.{query_at}
 use Rattle.query_gate.proofs.Numbers.{numbers_of_choices}
 use Rattle.router_cli.specs.Answers.{IsQuery, ShowsAny}
-use Rattle.router_cli.proofs.AnswerLemmas.{if_ok-map, known_text}
-use Rattle.router_cli.proofs.answers.rounds_text.Goals as goal
+use Rattle.router_cli.proofs.AnswerLemmas.{known_text}
+use Rattle.router_cli.proofs.over_table.rounds_text.Goals as goal
 
 pub choices_text-requires : goal.choices_text-requires
 choices_text-requires c =
@@ -20,7 +21,7 @@ returns-in_ok-choices-in-Query c =
     let T = c.args.table.now in
     let i = c.args.inquiry.now in
     let known = subst (IsQuery T i) c.in-Query.is c.in_ok-name.ensures in
-    if_ok-map c.choices_text.result _ _
+    IfOk-weaker c.choices_text.result _ _
     (λ text same. known_text T i.from i.to (λ ends. ShowsAny T (query_at ends i.time)) known.0 text.items known.1
     (subst (λ Q. ShowsAny T Q text.items) known.2 (record {
       choices = c.in_ok-choices-in-Query.choices.items;
