@@ -11,7 +11,7 @@ ghost use Rattle.earliest_query.specs.Ridden.{IsRidden};
 use super::riding::earlier;
 use super::search::Search;
 use super::walks::{after, nearest, origins, targets};
-use segment_queue::{Desk, Hit, LastLeg, Scan, Steps};
+use segment_queue::{Desk, Hit, LastLeg, Look, Scan, Steps};
 use std::sync::ledger::Ledger;
 use tb_base::{Path, Query, StopNo, Value};
 
@@ -110,6 +110,8 @@ impl<S: Scan> Search<'_, S> {
         round: u32,
         steps: &mut Steps<L>,
     ) -> u32
+    where
+        S: Look<L>,
         requires ridden { IsRidden (S.net self.now.scan.now) self.now.query.now
             desk.old from round }
         requires from { from < length desk.old.segments }
@@ -131,6 +133,8 @@ impl<S: Scan> Search<'_, S> {
 
     // Rides all segments, round by round.
     pub(crate) fn ride_all<L: Ledger>(&self, desk: &mut Desk, steps: &mut Steps<L>)
+    where
+        S: Look<L>,
         requires ridden { IsRidden (S.net self.now.scan.now) self.now.query.now desk.old 0 1 }
         requires sufficient { AreSufficient (S.net self.now.scan.now).table
             (S.net self.now.scan.now).hops }

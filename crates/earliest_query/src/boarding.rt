@@ -7,7 +7,7 @@ ghost use Rattle.earliest_query.specs.UnderWay.{AreBoarded, BoardsOnce, BoardsSt
 
 use super::search::Search;
 use super::walks::{after, is_first_choice, origins};
-use segment_queue::{Desk, Scan, Steps};
+use segment_queue::{Desk, Look, Scan, Steps};
 use std::sync::ledger::Ledger;
 use tb_base::StopNo;
 
@@ -21,6 +21,8 @@ impl<S: Scan> Search<'_, S> {
         secs: u32,
         steps: &mut Steps<L>,
     )
+    where
+        S: Look<L>,
         requires queue { IsQueue (S.net self.now.scan.now) self.now.query.now desk.old 1 }
         requires stop { stop < length (S.net self.now.scan.now).table.stops }
         requires berth { berth
@@ -50,6 +52,8 @@ impl<S: Scan> Search<'_, S> {
 
     // Boards each line at a stop, after a walk of so many seconds from an origin.
     fn board_stop<L: Ledger>(&self, desk: &mut Desk, stop: StopNo, secs: u32, steps: &mut Steps<L>)
+    where
+        S: Look<L>,
         requires queue { IsQueue (S.net self.now.scan.now) self.now.query.now desk.old 1 }
         requires stop { stop < length (S.net self.now.scan.now).table.stops }
         requires near { IsNear (S.net self.now.scan.now).table self.now.query.now.from stop secs }
@@ -79,6 +83,8 @@ impl<S: Scan> Search<'_, S> {
         secs: u32,
         steps: &mut Steps<L>,
     )
+    where
+        S: Look<L>,
         requires queue { IsQueue (S.net self.now.scan.now) self.now.query.now desk.old 1 }
         requires origins { All (λ p. p < length (S.net self.now.scan.now).table.stops)
             self.now.query.now.from }
@@ -103,6 +109,8 @@ impl<S: Scan> Search<'_, S> {
 
     // Boards at the stops that are boarded from the origin at this place.
     fn board_from<L: Ledger>(&self, desk: &mut Desk, place: usize, steps: &mut Steps<L>)
+    where
+        S: Look<L>,
         requires queue { IsQueue (S.net self.now.scan.now) self.now.query.now desk.old 1 }
         requires origins { All (λ p. p < length (S.net self.now.scan.now).table.stops)
             self.now.query.now.from }
@@ -126,6 +134,8 @@ impl<S: Scan> Search<'_, S> {
 
     // Boards at each stop with a walk from an origin, once.
     pub(crate) fn board_all<L: Ledger>(&self, desk: &mut Desk, steps: &mut Steps<L>)
+    where
+        S: Look<L>,
         requires queue { IsQueue (S.net self.now.scan.now) self.now.query.now desk.old 1 }
         requires origins { All (λ p. p < length (S.net self.now.scan.now).table.stops)
             self.now.query.now.from }

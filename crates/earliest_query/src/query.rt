@@ -8,7 +8,7 @@ ghost use Rattle.earliest_query.specs.Choices.{lines_near};
 
 use super::all_rounds::keep;
 use super::search::Search;
-use segment_queue::{Desk, Scan, Steps};
+use segment_queue::{Desk, Look, Steps};
 use std::sync::ledger::Ledger;
 use tb_base::Query;
 
@@ -16,7 +16,7 @@ use tb_base::Query;
 /// the query, and its segments go by hops of the set. It goes on from everywhere but where it arrives no earlier than a hit with no
 /// more rides; so for a query without targets the segments serve every stop. It takes no memory, and steps at most once for each
 /// event and once for each line index at the stops with a walk from an origin.
-pub fn earliest<S: Scan, L: Ledger>(scan: &S, query: &Query, desk: &mut Desk, steps: &mut Steps<L>)
+pub fn earliest<L: Ledger, S: Look<L>>(scan: &S, query: &Query, desk: &mut Desk, steps: &mut Steps<L>)
     requires fits { Fits (S.net scan.now).table desk.old }
     requires origins { All (λ p. p < length (S.net scan.now).table.stops) query.now.from }
     requires leave { query.now.leave ≤ℤ pos 359999 }

@@ -7,7 +7,7 @@ ghost use Rattle.earliest_query.specs.UnderWay.{Covers, Extends, IsBounded, IsDo
 
 use super::search::Search;
 use super::walks::{nearest, targets};
-use segment_queue::{Desk, Hit, LastLeg, Scan, Steps, Visit};
+use segment_queue::{Desk, Hit, LastLeg, Look, Scan, Steps, Visit};
 use std::sync::ledger::Ledger;
 use tb_base::{Path, Value};
 
@@ -101,6 +101,8 @@ impl<S: Scan> Search<'_, S> {
         so_far: Option<Hit>,
         steps: &mut Steps<L>,
     ) -> Option<Hit>
+    where
+        S: Look<L>,
         requires queue { IsQueue (S.net self.now.scan.now) self.now.query.now desk.old (suc round) }
         requires segment { n < length desk.old.segments }
         requires round { round_of desk.old.segments n ≡ round }
@@ -144,6 +146,8 @@ impl<S: Scan> Search<'_, S> {
         so_far: Option<Hit>,
         steps: &mut Steps<L>,
     ) -> Option<Hit>
+    where
+        S: Look<L>,
         requires queue { IsQueue (S.net self.now.scan.now) self.now.query.now desk.old (suc round) }
         requires from { from ≤ to }
         requires to { to ≤ length desk.old.segments }

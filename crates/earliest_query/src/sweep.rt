@@ -11,7 +11,7 @@ use super::all_rounds::keep;
 use super::found::{drop_walks, take_hits};
 use super::search::Search;
 use super::swept_riding::segment_total;
-use segment_queue::{Desk, Levels, Scan, Steps};
+use segment_queue::{Desk, Levels, Look, Scan, Steps};
 use std::alloc::Global;
 use std::marker::Model;
 use std::sync::ledger::Ledger;
@@ -79,7 +79,7 @@ impl Sweep {
     /// hits of this time in the desk: for each journey that leaves no earlier, one of them or a
     /// value of before is no worse. The segments of all times stay there. It needs memory; at a
     /// refusal the desk still fits, and the sweep has to begin anew.
-    pub fn ask<S: Scan, L: Ledger>(
+    pub fn ask<L: Ledger, S: Look<L>>(
         &mut self,
         alloc: Global,
         scan: &S,

@@ -13,7 +13,7 @@ ghost use Rattle.earliest_query.specs.UnderWay.{Covers, Extends, IsBounded, IsDo
 use super::all_rounds::last_hit;
 use super::riding::{earlier, is_late};
 use super::search::Search;
-use segment_queue::{Desk, Hit, LastLeg, Levels, Scan, Steps};
+use segment_queue::{Desk, Hit, LastLeg, Levels, Look, Scan, Steps};
 use std::alloc::Global;
 use std::sync::ledger::Ledger;
 use tb_base::{Memory, StopNo, Value};
@@ -109,6 +109,8 @@ impl<S: Scan> Search<'_, S> {
         so_far: Option<Hit>,
         steps: &mut Steps<L>,
     ) -> Result<Option<Hit>, Memory>
+    where
+        S: Look<L>,
         requires queue { IsSweptQueue (S.net self.now.scan.now) self.now.query.now
             desk.old levels.old }
         requires level { round < length levels.old }
@@ -159,6 +161,8 @@ impl<S: Scan> Search<'_, S> {
         so_far: Option<Hit>,
         steps: &mut Steps<L>,
     ) -> Result<Option<Hit>, Memory>
+    where
+        S: Look<L>,
         requires queue { IsSweptQueue (S.net self.now.scan.now) self.now.query.now
             desk.old levels.old }
         requires level { round < length levels.old }
@@ -198,6 +202,8 @@ impl<S: Scan> Search<'_, S> {
         round: u32,
         steps: &mut Steps<L>,
     ) -> Result<u32, Memory>
+    where
+        S: Look<L>,
         requires ridden { IsSweptRound (S.net self.now.scan.now) self.now.query.now desk.old
             levels.old values.now from round }
         requires from { from < length desk.old.segments }
@@ -230,6 +236,8 @@ impl<S: Scan> Search<'_, S> {
         from: u32,
         steps: &mut Steps<L>,
     ) -> Result<(), Memory>
+    where
+        S: Look<L>,
         requires ridden { IsSweptRound (S.net self.now.scan.now) self.now.query.now desk.old
             levels.old values.now from 1 }
         requires sufficient { AreSufficient (S.net self.now.scan.now).table

@@ -8,7 +8,7 @@ ghost use Rattle.earliest_query.specs.UnderWay.{Extends, IsBoarded, IsReachedBy}
 
 use super::search::Search;
 use super::walks::{after, origins};
-use segment_queue::{Desk, Levels, Scan, Steps};
+use segment_queue::{Desk, Levels, Look, Scan, Steps};
 use std::sync::ledger::Ledger;
 use tb_base::{Memory, StopNo};
 
@@ -23,6 +23,8 @@ impl<S: Scan> Search<'_, S> {
         secs: u32,
         steps: &mut Steps<L>,
     ) -> Result<(), Memory>
+    where
+        S: Look<L>,
         requires queue { IsSweptQueue (S.net self.now.scan.now) self.now.query.now
             desk.old levels.old }
         requires stop { stop < length (S.net self.now.scan.now).table.stops }
@@ -63,6 +65,8 @@ impl<S: Scan> Search<'_, S> {
         secs: u32,
         steps: &mut Steps<L>,
     ) -> Result<(), Memory>
+    where
+        S: Look<L>,
         requires queue { IsSweptQueue (S.net self.now.scan.now) self.now.query.now
             desk.old levels.old }
         requires stop { stop < length (S.net self.now.scan.now).table.stops }
@@ -93,6 +97,8 @@ impl<S: Scan> Search<'_, S> {
         origin: StopNo,
         steps: &mut Steps<L>,
     ) -> Result<(), Memory>
+    where
+        S: Look<L>,
         requires queue { IsSweptQueue (S.net self.now.scan.now) self.now.query.now
             desk.old levels.old }
         requires origin { origin < length (S.net self.now.scan.now).table.stops }
@@ -122,6 +128,8 @@ impl<S: Scan> Search<'_, S> {
         levels: &mut Levels,
         steps: &mut Steps<L>,
     ) -> Result<(), Memory>
+    where
+        S: Look<L>,
         requires queue { IsSweptQueue (S.net self.now.scan.now) self.now.query.now
             desk.old levels.old }
         requires origins { All (λ p. p < length (S.net self.now.scan.now).table.stops)

@@ -7,7 +7,7 @@ ghost use Rattle.edition_store.specs.Editions.{EditionData, IsEdition, net_of};
 
 use line_split::{Lines, split};
 use reduce_workers::{Reduced, reduce_all};
-use segment_queue::{Scan, Shape, Steps, View, Visit};
+use segment_queue::{Look, Scan, Shape, Steps, View, Visit};
 use std::alloc::Global;
 use std::marker::Model;
 use std::sync::ledger::Ledger;
@@ -166,8 +166,10 @@ impl Scan for Edition {
     fn after(&self, trip: TripNo) -> Option<TripNo> {
         self.view().after(trip)
     }
+}
 
-    fn boarding<L: Ledger>(
+impl<L: Ledger> Look<L> for Edition {
+    fn boarding(
         &self,
         p: StopNo,
         berth: u32,
@@ -177,7 +179,7 @@ impl Scan for Edition {
         self.view().boarding(p, berth, time, steps)
     }
 
-    fn visit<L: Ledger>(&self, trip: TripNo, at: u32, steps: &mut Steps<L>) -> Visit<'_> {
+    fn visit(&self, trip: TripNo, at: u32, steps: &mut Steps<L>) -> Visit<'_> {
         self.view().look_at(trip, at, steps)
     }
 }

@@ -17,9 +17,9 @@ use Rattle.tb_base.proofs.Events.{MayAlight-inside}
 use Rattle.tb_laws.proofs.CandidateLaws.{and_some}
 use Rattle.tb_laws.proofs.StaircaseLaws.{best_values_from_staircase}
 use Rattle.plain_rounds.specs.declared.arrivals.Arrivals.{Arrivals}
-use Rattle.plain_rounds.specs.declared.arrivals.Step.{Step}
-use Rattle.plain_rounds.specs.declared.hits.Hit.{Hit}
-use Rattle.plain_rounds.specs.declared.labels.Label.{Label}
+use Rattle.plain_rounds.specs.declared.arrivals.PlainRide.{PlainRide}
+use Rattle.plain_rounds.specs.declared.hits.TargetArrival.{TargetArrival}
+use Rattle.plain_rounds.specs.declared.labels.StopLabel.{StopLabel}
 use Rattle.plain_rounds.specs.declared.rounds.Rounds.{Rounds}
 use Rattle.plain_rounds.specs.Answer.{IsAnswer, IsRound, IsShownWithin}
 use Rattle.plain_rounds.specs.Hits.{IsHitFrom, IsDueFrom, IsHitOf, IsDueOf, IsArrivalHit, IsHitOfOrigin, IsDueOfOrigin}
@@ -29,7 +29,7 @@ use Rattle.plain_rounds.specs.Rides.{IsTrace, IsArrivalLabel, AreArrivals, AreRe
 use Rattle.plain_rounds.specs.Shown.{IsInside, IsNearest, SpellShortest}
 use Rattle.std.proofs.Math.ListN.{get_or-append}
 use Rattle.plain_rounds.proofs.RoundLemmas.{label_and, and_label, label_inside, arrivals-more, arrivals-all, arrivals-none, ready-more, ready-first}
-use Rattle.plain_rounds.proofs.ValueLemmas.{IsEnded, attained-ended, attained-walk, ended-attained, shown, first-walk, steps-inside, steps-some}
+use Rattle.plain_rounds.proofs.ValueLemmas.{IsEnded, attained-ended, attained-walk, ended-attained, shown, first-walk, ridden-inside, ridden-some}
 
 ≤-two : (a b c : ℤ) → a ≤ℤ b → b ≤ℤ c → a ≤ℤ c
 ≤-two a b c g h = omega (arith, ints, g, h)
@@ -169,7 +169,7 @@ module _ (T : TimetableData) (Q : QueryData) where
 
     -- the label of the last stop, and the walk from there
     pub record IsDueBy : Type 0 where
-      pub label : Label
+      pub label : StopLabel
       pub at : label_at a.labels.items (alighting_stop T e.last) ≡ Some label
       pub secs : ℕ
       pub walks : walk T (alighting_stop T e.last) e.target ≡ Some secs
@@ -202,7 +202,7 @@ module _ (T : TimetableData) (Q : QueryData) where
     answer-unreached none = answer-same most cs best a (λ v attained n. (let d = due_of (suc most) arrivals are v attained (omega (arith, n)) (omega (arith, n)) in absurd (none d.0 d.1)))
 
     -- none is reached earlier
-    pub answer-no_better : (h : Hit) → ((time : ℤ) → IsDueOf T Q.to arrivals.labels.items time → h.arrive ≤ℤ time) → IsSomeAnd best (λ b. b ≤ℤ h.arrive) → IsAnswer T Q (suc most) cs best
+    pub answer-no_better : (h : TargetArrival) → ((time : ℤ) → IsDueOf T Q.to arrivals.labels.items time → h.arrive ≤ℤ time) → IsSomeAnd best (λ b. b ≤ℤ h.arrive) → IsAnswer T Q (suc most) cs best
     answer-no_better h least le = answer-same most cs best a (λ v attained n. (let d = due_of (suc most) arrivals are v attained (omega (arith, n)) (omega (arith, n)) in weaker best v.arrive d.0 (least d.0 d.1) d.2 le))
       where
         weaker : (o : Option ℤ) (z d : ℤ) → h.arrive ≤ℤ d → d ≤ℤ z → IsSomeAnd o (λ b. b ≤ℤ h.arrive) → IsSomeAnd o (λ b. b ≤ℤ z)
@@ -210,7 +210,7 @@ module _ (T : TimetableData) (Q : QueryData) where
         weaker (Some b) z d g k le = ≤-two b h.arrive z le (≤-two h.arrive d z g k)
 
     -- one is reached earlier
-    pub answer-better : (h : Hit) → ((time : ℤ) → IsDueOf T Q.to arrivals.labels.items time → h.arrive ≤ℤ time) → IfSome best (λ b. h.arrive <ℤ b) → (legs : List Leg) → IsShownWithin T Q (suc most) legs h.arrive →
+    pub answer-better : (h : TargetArrival) → ((time : ℤ) → IsDueOf T Q.to arrivals.labels.items time → h.arrive ≤ℤ time) → IfSome best (λ b. h.arrive <ℤ b) → (legs : List Leg) → IsShownWithin T Q (suc most) legs h.arrive →
         IsAnswer T Q (suc most) (cs ++ record { value = record { arrive = h.arrive; rides = suc most }; legs = legs } ∷ []) (Some h.arrive)
     answer-better h least less legs (n, some, few, shows) =
         let n_is : n ≡ suc most = exact most cs best a (record { arrive = h.arrive; rides = n }) (shown-attained legs (record { arrive = h.arrive; rides = n }) shows) few less in
@@ -219,38 +219,38 @@ module _ (T : TimetableData) (Q : QueryData) where
         (λ v attained m. (let d = due_of (suc most) arrivals are v attained (omega (arith, m)) (omega (arith, m)) in ≤-two h.arrive d.0 v.arrive (least d.0 d.1) d.2))
 
   -- a hit of the arrivals
-  pub arrival_hit : (most : ℕ) (a : Arrivals) → AreArrivals T Q most a → (h : Hit) → IsHitOf T Q.to a.labels.items h → IsArrivalHit T Q a.steps.items most h
+  pub arrival_hit : (most : ℕ) (a : Arrivals) → AreArrivals T Q most a → (h : TargetArrival) → IsHitOf T Q.to a.labels.items h → IsArrivalHit T Q a.ridden.items most h
   arrival_hit most a are h (p, inside, hits) =
       let l = label_and (λ l. IsHitFrom T Q.to p l h) (label_at a.labels.items p) hits in
       record { stop = p; label = l.0; arrival = are.sound p l.0 l.1; hit = l.2 }
 
   -- the rides to a hit
-  module _ (steps : List Step) (most : ℕ) (h : Hit) (ah : IsArrivalHit T Q steps most h) where
+  module _ (ridden : List PlainRide) (most : ℕ) (h : TargetArrival) (ah : IsArrivalHit T Q ridden most h) where
     pub hit_back : List Ride
     hit_back = ah.arrival.last ∷ ah.arrival.back
 
-    pub hit-trace : IsTrace steps hit_back h.ride
+    pub hit-trace : IsTrace ridden hit_back h.ride
     unfolding hit_back
-    hit-trace = subst (λ o. IsTrace steps (ah.arrival.last ∷ ah.arrival.back) o) (sym ah.hit.ride) ah.arrival.trace
+    hit-trace = subst (λ o. IsTrace ridden (ah.arrival.last ∷ ah.arrival.back) o) (sym ah.hit.ride) ah.arrival.trace
 
     near_target : IsNearest (λ q. walk T (alighting_stop T ah.arrival.last) q) Q.to h.target
     near_target = subst (λ p. IsNearest (λ q. walk T p q) Q.to h.target) (sym ah.arrival.stop) ah.hit.nearest
 
-    module _ (rides : List Step) (are : map ride_of rides ≡ reverse hit_back) where
+    module _ (rides : List PlainRide) (are : map ride_of rides ≡ reverse hit_back) where
       are_hit : map ride_of rides ≡ reverse (ah.arrival.last ∷ ah.arrival.back)
       unfolding hit_back
       are_hit = are
 
       pub hit-inside : All (IsInside T) rides
-      hit-inside = steps-inside T Q ah.arrival.back ah.arrival.last ah.arrival.boarded h.target near_target.walks rides are_hit
+      hit-inside = ridden-inside T Q ah.arrival.back ah.arrival.last ah.arrival.boarded h.target near_target.walks rides are_hit
 
       pub hit-some : 0 < length rides
-      hit-some = steps-some T Q ah.arrival.back ah.arrival.last ah.arrival.boarded h.target near_target.walks rides are_hit
+      hit-some = ridden-some T Q ah.arrival.back ah.arrival.last ah.arrival.boarded h.target near_target.walks rides are_hit
 
-      pub hit-walk : (f : Step) (rest : List Step) → rides ≡ f ∷ rest → (o s : ℕ) × (Contains Q.from o × (walk T o (stop_at T f.trip f.board) ≡ Some s))
+      pub hit-walk : (f : PlainRide) (rest : List PlainRide) → rides ≡ f ∷ rest → (o s : ℕ) × (Contains Q.from o × (walk T o (stop_at T f.trip f.board) ≡ Some s))
       hit-walk = first-walk T Q ah.arrival.back ah.arrival.last ah.arrival.boarded h.target near_target.walks rides are_hit
 
-      pub hit-shown : (f : Step) (rest : List Step) → rides ≡ f ∷ rest → (o : ℕ) → IsNearest (λ o. walk T o (stop_at T f.trip f.board)) Q.from o → (legs : List Leg) → legs ≡ legs_of T o (map ride_of rides) h.target → IsShownWithin T Q most legs h.arrive
+      pub hit-shown : (f : PlainRide) (rest : List PlainRide) → rides ≡ f ∷ rest → (o : ℕ) → IsNearest (λ o. walk T o (stop_at T f.trip f.board)) Q.from o → (legs : List Leg) → legs ≡ legs_of T o (map ride_of rides) h.target → IsShownWithin T Q most legs h.arrive
       hit-shown f rest e o near legs spelt = (
         suc (length ah.arrival.back),
         omega arith,
@@ -262,7 +262,7 @@ module _ (T : TimetableData) (Q : QueryData) where
           arrives = ah.hit.arrives ∙ ap (λ z. z +ℤ walk_secs T ah.stop h.target) (sym ah.arrival.time) ∙ ap (λ p. alighting_time T ah.arrival.last +ℤ walk_secs T p h.target) (sym ah.arrival.stop)
 
   -- with no ride
-  module _ (start : Label) (is_start : start.time ≡ Q.leave) where
+  module _ (start : StopLabel) (is_start : start.time ≡ Q.leave) where
     due_origin : (v : Value) → IsAttained T Q v → v.rides ≡ 0 → IsDueOfOrigin T Q.from Q.to start v.arrive
     due_origin v attained none =
         let w = attained-walk T Q v attained none in
@@ -271,7 +271,7 @@ module _ (T : TimetableData) (Q : QueryData) where
     pub walk-none : ((time : ℤ) → IsDueOfOrigin T Q.from Q.to start time → ⊥) → IsAnswer T Q 0 [] None
     walk-none none = answer-none (λ v attained n. none v.arrive (due_origin v attained n))
 
-    pub walk-one : (h : Hit) → IsHitOfOrigin T Q.from Q.to start h → ((time : ℤ) → IsDueOfOrigin T Q.from Q.to start time → h.arrive ≤ℤ time) → (legs : List Leg) → legs ≡ legs_of T h.from [] h.target →
+    pub walk-one : (h : TargetArrival) → IsHitOfOrigin T Q.from Q.to start h → ((time : ℤ) → IsDueOfOrigin T Q.from Q.to start time → h.arrive ≤ℤ time) → (legs : List Leg) → legs ≡ legs_of T h.from [] h.target →
         IsAnswer T Q 0 (record { value = record { arrive = h.arrive; rides = 0 }; legs = legs } ∷ []) (Some h.arrive)
     walk-one h (o, from, hit) least legs spelt = answer-one (record { value = record { arrive = h.arrive; rides = 0 }; legs = legs }) (record {
       by = record { origin = h.from; rides = []; target = h.target };
@@ -288,28 +288,28 @@ module _ (T : TimetableData) (Q : QueryData) where
   pub arrivals-early : IsSound T → (most : ℕ) (a : Arrivals) → AreArrivals T Q most a → AreEarly a.labels.items
   arrivals-early sound most a are p = by_label (label_at a.labels.items p) refl
     where
-      early : (l : Label) → IsArrivalLabel T Q a.steps.items most p l → l.time ≤ℤ pos 359999
+      early : (l : StopLabel) → IsArrivalLabel T Q a.ridden.items most p l → l.time ≤ℤ pos 359999
       early l is =
           let inside = MayAlight-inside T is.last.trip is.last.alight is.boarded.ride.alights in
           let event : IsSoundEvent (length T.stops) (event_at T is.last.trip is.last.alight) = (sound.trip is.last.trip (record { name = []; events = [] }) inside.0).events is.last.alight no_event inside.1 in
           subst (λ z. z ≤ℤ pos 359999) is.time (≤-two (alighting_time T is.last) (event_at T is.last.trip is.last.alight).dep (pos 359999) event.waits event.latest)
 
-      by_label : (o : Option Label) → o ≡ label_at a.labels.items p → IfSome o (λ l. l.time ≤ℤ pos 359999)
+      by_label : (o : Option StopLabel) → o ≡ label_at a.labels.items p → IfSome o (λ l. l.time ≤ℤ pos 359999)
       by_label None e = tt
       by_label (Some l) e = early l (are.sound p l (sym e))
 
   -- the first round
-  pub round-first : (r : Rounds) (start : Label) → start ≡ record { time = Q.leave; ride = None } → AreKept T r → ((p : ℕ) (l : Label) → label_at (replicate (length T.stops) None) p ≡ Some l → ⊥) → Takes (replicate (length T.stops) None) r.ready.items (IsOfferedByOrigin T Q.from start) →
-      r.arrivals.labels.items ≡ replicate (length T.stops) None → sum r.marks.items ≤ 10000000 → IsRound T Q 0 r
+  pub round-first : (r : Rounds) (start : StopLabel) → start ≡ record { time = Q.leave; ride = None } → AreKept T r → ((p : ℕ) (l : StopLabel) → label_at (replicate (length T.stops) None) p ≡ Some l → ⊥) → Takes (replicate (length T.stops) None) r.ready.items (IsOfferedByOrigin T Q.from start) →
+      r.arrivals.labels.items ≡ replicate (length T.stops) None → sum r.boarded_at.items ≤ 10000000 → IsRound T Q 0 r
   round-first r start is_start kept none takes empty few = record {
     kept = kept;
-    ready = ready-first T Q (replicate (length T.stops) None) r.ready.items r.arrivals.steps.items start is_start none takes;
+    ready = ready-first T Q (replicate (length T.stops) None) r.ready.items r.arrivals.ridden.items start is_start none takes;
     arrivals = arrivals-none T Q r.arrivals kept.labels nothing;
     changed = λ q l offered. (let m = label_and _ (label_at r.arrivals.labels.items offered.0) offered.2 in absurd (nothing offered.0 m.0 m.1));
     few = omega (arith, few);
   }
     where
-      nothing : (p : ℕ) (l : Label) → label_at r.arrivals.labels.items p ≡ Some l → ⊥
+      nothing : (p : ℕ) (l : StopLabel) → label_at r.arrivals.labels.items p ≡ Some l → ⊥
       nothing p l h = none p l (subst (λ xs. label_at xs p ≡ Some l) empty h)
 
   -- one more round
@@ -317,18 +317,18 @@ module _ (T : TimetableData) (Q : QueryData) where
     pub round-arrivals : AreArrivals T Q (suc most) mid.arrivals
     round-arrivals = arrivals-more T Q most old.ready.items old.arrivals mid.arrivals takes was.arrivals was.ready
 
-    pub round-more : AreKept T new → Takes mid.ready.items new.ready.items (IsOfferedByChange T mid.arrivals.labels.items) → new.arrivals ≡ mid.arrivals → suc most + sum new.marks.items ≤ 10000000 → IsRound T Q (suc most) new
+    pub round-more : AreKept T new → Takes mid.ready.items new.ready.items (IsOfferedByChange T mid.arrivals.labels.items) → new.arrivals ≡ mid.arrivals → suc most + sum new.boarded_at.items ≤ 10000000 → IsRound T Q (suc most) new
     round-more kept changes same few = record {
       kept = kept;
-      ready = subst (λ (a : Arrivals). AreReady T Q (suc most) a.steps.items new.ready.items) (sym same)
-          (ready-more T Q most mid.ready.items new.ready.items old.arrivals.steps.items mid.arrivals round-arrivals changes (subst (λ xs. AreReady T Q most old.arrivals.steps.items xs) (sym same_ready) was.ready) takes.steps);
+      ready = subst (λ (a : Arrivals). AreReady T Q (suc most) a.ridden.items new.ready.items) (sym same)
+          (ready-more T Q most mid.ready.items new.ready.items old.arrivals.ridden.items mid.arrivals round-arrivals changes (subst (λ xs. AreReady T Q most old.arrivals.ridden.items xs) (sym same_ready) was.ready) takes.ridden);
       arrivals = subst (λ (a : Arrivals). AreArrivals T Q (suc most) a) (sym same) round-arrivals;
-      changed = subst (λ (a : Arrivals). (q : ℕ) (l : Label) → IsOfferedByChange T a.labels.items q l → IsNoLaterAt new.ready.items q l.time) (sym same) changes.taken;
+      changed = subst (λ (a : Arrivals). (q : ℕ) (l : StopLabel) → IsOfferedByChange T a.labels.items q l → IsNoLaterAt new.ready.items q l.time) (sym same) changes.taken;
       few = few;
     }
 
     -- a round that is the last
-    module _ (cs : List ChoiceData) (best : Option ℤ) (a : IsAnswer T Q most cs best) (last : length mid.arrivals.steps.items ≡ length old.arrivals.steps.items) where
+    module _ (cs : List ChoiceData) (best : Option ℤ) (a : IsAnswer T Q most cs best) (last : length mid.arrivals.ridden.items ≡ length old.arrivals.ridden.items) where
       -- a value with any number of rides is no better than one with at most so many
       covers-all : (v : Value) → IsAttained T Q v → (c : ChoiceData) × Contains cs c × IsNoWorse c.value v
       covers-all v attained = by_rides (zero_or_some v.rides)
@@ -345,7 +345,7 @@ module _ (T : TimetableData) (Q : QueryData) where
           -- the value by the label of the last stop
           by_due : (e : IsEnded T Q v) → (d : IsDueBy old.arrivals v e) → (c : ChoiceData) × Contains cs c × IsNoWorse c.value v
           by_due e d =
-              let is : IsArrivalLabel T Q old.arrivals.steps.items most (alighting_stop T e.last) d.label = was.arrivals.sound (alighting_stop T e.last) d.label d.at in
+              let is : IsArrivalLabel T Q old.arrivals.ridden.items most (alighting_stop T e.last) d.label = was.arrivals.sound (alighting_stop T e.last) d.label d.at in
               let w : Value = record { arrive = d.label.time +ℤ pos d.secs; rides = suc (length is.back) } in
               let attains : IsAttained T Q w = ended-attained T Q is.back is.last is.boarded e.target e.to (d.label.time +ℤ pos d.secs) d.secs (ap (λ p. walk T p e.target) is.stop ∙ d.walks) (ap (λ z. z +ℤ pos d.secs) (sym is.time)) in
               let c = a.covers w attains (omega (arith, is.few)) in

@@ -5,8 +5,8 @@ use Rattle.std.proofs.lemmas.Int.{ints}
 use Rattle.tb_base.specs.TimetableData.{TimetableData}
 use Rattle.tb_base.specs.Walking.{walk}
 use Rattle.tb_laws.proofs.CandidateLaws.{some_and}
-use Rattle.plain_rounds.specs.declared.hits.Hit.{Hit}
-use Rattle.plain_rounds.specs.declared.labels.Label.{Label}
+use Rattle.plain_rounds.specs.declared.hits.TargetArrival.{TargetArrival}
+use Rattle.plain_rounds.specs.declared.labels.StopLabel.{StopLabel}
 use Rattle.plain_rounds.specs.declared.legs.Near.{Near}
 use Rattle.plain_rounds.specs.Hits.{IsEarliest, IsHitFrom, IsDueFrom}
 use Rattle.plain_rounds.specs.Shown.{IsNearest, IsNearestOf}
@@ -16,22 +16,22 @@ use Rattle.plain_rounds.proofs.NearLemmas.{nearest-shown}
 two : (a b c : ℤ) → a ≤ℤ b → b ≤ℤ c → a ≤ℤ c
 two a b c g h = omega (arith, ints, g, h)
 
-pub earliest-same : (P Q : Hit → Type 0) (D E : ℤ → Type 0) → ((h : Hit) → P h → Q h) → ((t : ℤ) → E t → D t) → (o : Option Hit) → IsEarliest P D o → IsEarliest Q E o
+pub earliest-same : (P Q : TargetArrival → Type 0) (D E : ℤ → Type 0) → ((h : TargetArrival) → P h → Q h) → ((t : ℤ) → E t → D t) → (o : Option TargetArrival) → IsEarliest P D o → IsEarliest Q E o
 earliest-same P Q D E f g None h = λ t due. h t (g t due)
 earliest-same P Q D E f g (Some x) h = (f x h.0, λ t due. h.1 t (g t due))
 
 -- the earlier of two
-pub earliest-then : (P Q : Hit → Type 0) (D E : ℤ → Type 0) (a b r : Option Hit) → IfSome r (λ h. (a ≡ Some h) ⊎ (b ≡ Some h)) → IfSome a (λ x. MatchOption r ⊥ (λ h. h.arrive ≤ℤ x.arrive)) → IfSome b (λ x. MatchOption r ⊥ (λ h. h.arrive ≤ℤ x.arrive)) →
+pub earliest-then : (P Q : TargetArrival → Type 0) (D E : ℤ → Type 0) (a b r : Option TargetArrival) → IfSome r (λ h. (a ≡ Some h) ⊎ (b ≡ Some h)) → IfSome a (λ x. MatchOption r ⊥ (λ h. h.arrive ≤ℤ x.arrive)) → IfSome b (λ x. MatchOption r ⊥ (λ h. h.arrive ≤ℤ x.arrive)) →
     IsEarliest P D a → IsEarliest Q E b → IsEarliest (λ h. P h ⊎ Q h) (λ t. D t ⊎ E t) r
 earliest-then P Q D E None None None one first second h k = λ t due. elim due [ inl d ↦ h t d | inr e ↦ k t e ]
 earliest-then P Q D E (Some x) b None one first second h k = absurd first
 earliest-then P Q D E None (Some y) None one first second h k = absurd second
 earliest-then P Q D E a b (Some r) one first second h k = (had one, λ t due. within t due)
   where
-    at_some : {x y : Hit} → Some x ≡ Some y → x ≡ y
+    at_some : {x y : TargetArrival} → Some x ≡ Some y → x ≡ y
     at_some e = cc
 
-    hit_of : (R : Hit → Type 0) (F : ℤ → Type 0) (o : Option Hit) → o ≡ Some r → IsEarliest R F o → R r
+    hit_of : (R : TargetArrival → Type 0) (F : ℤ → Type 0) (o : Option TargetArrival) → o ≡ Some r → IsEarliest R F o → R r
     hit_of R F None e h = cc
     hit_of R F (Some x) e h = subst R (at_some e) h.0
 
@@ -39,7 +39,7 @@ earliest-then P Q D E a b (Some r) one first second h k = (had one, λ t due. wi
     had (inl e) = inl (hit_of P D a e h)
     had (inr e) = inr (hit_of Q E b e k)
 
-    within_one : (R : Hit → Type 0) (F : ℤ → Type 0) (o : Option Hit) → IfSome o (λ x. r.arrive ≤ℤ x.arrive) → IsEarliest R F o → (t : ℤ) → F t → r.arrive ≤ℤ t
+    within_one : (R : TargetArrival → Type 0) (F : ℤ → Type 0) (o : Option TargetArrival) → IfSome o (λ x. r.arrive ≤ℤ x.arrive) → IsEarliest R F o → (t : ℤ) → F t → r.arrive ≤ℤ t
     within_one R F None le h t due = absurd (h t due)
     within_one R F (Some x) le h t due = two r.arrive x.arrive t le (h.1 t due)
 
@@ -48,7 +48,7 @@ earliest-then P Q D E a b (Some r) one first second h k = (had one, λ t due. wi
     within t (inr e) = within_one Q E b second k t e
 
 -- one more of some that are looked at in turn
-pub earliest-more : (P : ℕ → Hit → Type 0) (D : ℕ → ℤ → Type 0) (i : ℕ) (a b r : Option Hit) → IfSome r (λ h. (a ≡ Some h) ⊎ (b ≡ Some h)) → IfSome a (λ x. MatchOption r ⊥ (λ h. h.arrive ≤ℤ x.arrive)) → IfSome b (λ x. MatchOption r ⊥ (λ h. h.arrive ≤ℤ x.arrive)) →
+pub earliest-more : (P : ℕ → TargetArrival → Type 0) (D : ℕ → ℤ → Type 0) (i : ℕ) (a b r : Option TargetArrival) → IfSome r (λ h. (a ≡ Some h) ⊎ (b ≡ Some h)) → IfSome a (λ x. MatchOption r ⊥ (λ h. h.arrive ≤ℤ x.arrive)) → IfSome b (λ x. MatchOption r ⊥ (λ h. h.arrive ≤ℤ x.arrive)) →
     IsEarliest (λ h. (k : ℕ) × (k < i) × P k h) (λ t. (k : ℕ) × (k < i) × D k t) a → IsEarliest (P i) (D i) b → IsEarliest (λ h. (k : ℕ) × (k < i + 1) × P k h) (λ t. (k : ℕ) × (k < i + 1) × D k t) r
 earliest-more P D i a b r one first second h k =
     earliest-same (λ h. ((k : ℕ) × (k < i) × P k h) ⊎ P i h) (λ h. (k : ℕ) × (k < i + 1) × P k h) (λ t. ((k : ℕ) × (k < i) × D k t) ⊎ D i t) (λ t. (k : ℕ) × (k < i + 1) × D k t)
@@ -61,7 +61,7 @@ earliest-more P D i a b r one first second h k =
     by_case t j d (inr e) = inr (subst (λ n. D n t) e d)
 
 -- all numbers of a list in turn
-pub earliest-contained : (P : ℕ → Hit → Type 0) (D : ℕ → ℤ → Type 0) (ns : List ℕ) (i : ℕ) → i ≡ length ns → (o : Option Hit) →
+pub earliest-contained : (P : ℕ → TargetArrival → Type 0) (D : ℕ → ℤ → Type 0) (ns : List ℕ) (i : ℕ) → i ≡ length ns → (o : Option TargetArrival) →
     IsEarliest (λ h. (k : ℕ) × (k < i) × P (get_or ns k 0) h) (λ t. (k : ℕ) × (k < i) × D (get_or ns k 0) t) o → IsEarliest (λ h. (n : ℕ) × Contains ns n × P n h) (λ t. (n : ℕ) × Contains ns n × D n t) o
 earliest-contained P D ns i all o h =
     earliest-same (λ h. (k : ℕ) × (k < i) × P (get_or ns k 0) h) (λ h. (n : ℕ) × Contains ns n × P n h) (λ t. (k : ℕ) × (k < i) × D (get_or ns k 0) t) (λ t. (n : ℕ) × Contains ns n × D n t)
@@ -69,11 +69,11 @@ earliest-contained P D ns i all o h =
     (λ t d. (d.1.0, omega (arith, all, d.1.1), subst (λ n. D n t) (sym (get_or-inside ns d.1.0 0 d.0 d.1.1 ∙ d.1.2)) d.2)) o h
 
 -- by the walk to the nearest target
-module _ (T : TimetableData) (targets : List ℕ) (p : ℕ) (l : Label) where
+module _ (T : TimetableData) (targets : List ℕ) (p : ℕ) (l : StopLabel) where
   pub no_hit : IsNearestOf (λ q. walk T p q) (Contains targets) None → (t : ℤ) → IsDueFrom T targets p l t → ⊥
   no_hit none t (q, among, walks) = let w = some_and (λ secs. t ≡ (l.time +ℤ pos secs)) (walk T p q) walks in none q w.0 among w.1
 
-  pub nearest_hit : (n : Near) → IsNearestOf (λ q. walk T p q) (Contains targets) (Some n) → (h : Hit) → h.arrive ≡ (l.time +ℤ pos n.secs) → h.from ≡ p → h.target ≡ n.stop → h.ride ≡ l.ride →
+  pub nearest_hit : (n : Near) → IsNearestOf (λ q. walk T p q) (Contains targets) (Some n) → (h : TargetArrival) → h.arrive ≡ (l.time +ℤ pos n.secs) → h.from ≡ p → h.target ≡ n.stop → h.ride ≡ l.ride →
       IsHitFrom T targets p l h × ((t : ℤ) → IsDueFrom T targets p l t → h.arrive ≤ℤ t)
   nearest_hit n near h arrive from target ride = (
     record {

@@ -6,7 +6,7 @@ use Rattle.tb_base.specs.declared.query.Leg.TheVariants.{Ride as RideLeg}
 use Rattle.tb_base.specs.TimetableData.{TimetableData, stop_at}
 use Rattle.tb_base.specs.Journeys.{Ride, boarding_stop, alighting_stop}
 use Rattle.tb_base.specs.JourneyRules.{walk_legs, legs_after, legs_of}
-use Rattle.plain_rounds.specs.declared.arrivals.Step.{Step}
+use Rattle.plain_rounds.specs.declared.arrivals.PlainRide.{PlainRide}
 use Rattle.plain_rounds.specs.Rounds.{ride_of}
 use Rattle.plain_rounds.specs.Shown.{ride_leg}
 
@@ -24,7 +24,7 @@ legs_from-legs_of T origin [] target = refl
 legs_from-legs_of T origin (r ∷ rest) target = ap (λ legs. walk_legs T origin (boarding_stop T r) ++ RideLeg r.trip r.board r.alight ∷ legs) (after_is T r rest target)
 
 -- one more ride
-pub spell-more : (T : TimetableData) (legs new : List Leg) (at next : ℕ) (rides : List Step) (i : ℕ) (ride : Step) (target : ℕ) → drop i rides ≡ ride ∷ drop (i + 1) rides →
+pub spell-more : (T : TimetableData) (legs new : List Leg) (at next : ℕ) (rides : List PlainRide) (i : ℕ) (ride : PlainRide) (target : ℕ) → drop i rides ≡ ride ∷ drop (i + 1) rides →
     new ≡ (legs ++ walk_legs T at (stop_at T ride.trip ride.board)) ++ ride_leg ride ∷ [] → next ≡ stop_at T ride.trip ride.alight →
     new ++ legs_from T next (map ride_of (drop (i + 1) rides)) target ≡ legs ++ legs_from T at (map ride_of (drop i rides)) target
 spell-more T legs new at next rides i ride target more e f =

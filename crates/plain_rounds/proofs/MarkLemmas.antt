@@ -6,7 +6,7 @@ use Rattle.std.proofs.lemmas.List.Sums.{sum-map, sum_by-le-sum_by, get_or-le-sum
 use Rattle.tb_base.specs.TimetableData.{TripData, TimetableData, events_of}
 use Rattle.tb_base.specs.Soundness.{IsSound}
 use Rattle.tb_base.proofs.Events.{MayAlight-inside}
-use Rattle.plain_rounds.specs.declared.labels.Label.{Label}
+use Rattle.plain_rounds.specs.declared.labels.StopLabel.{StopLabel}
 use Rattle.plain_rounds.specs.Labels.{label_at}
 use Rattle.plain_rounds.specs.Rounds.{last_index, IsLeftBehind}
 
@@ -21,8 +21,8 @@ module _ (T : TimetableData) (sound : IsSound T) where
   pub two_events : (t : ℕ) → t < length T.trips → 2 ≤ length (events_of T t)
   two_events t inside = (sound.trip t no_trip inside).long
 
-  pub marks-few : sum (map last_index T.trips) ≤ 10000000
-  marks-few = subst (λ n. n ≤ 10000000) (sym (sum-map last_index T.trips))
+  pub boarded_at-few : sum (map last_index T.trips) ≤ 10000000
+  boarded_at-few = subst (λ n. n ≤ 10000000) (sym (sum-map last_index T.trips))
       (omega (arith, sound.events, sum_by-le-sum_by last_index (λ (t : TripData). length t.events) T.trips (λ t. less (length t.events))))
     where
       less : (n : ℕ) → n - 1 ≤ n
@@ -31,14 +31,14 @@ module _ (T : TimetableData) (sound : IsSound T) where
   mark_is : (t : ℕ) → t < length T.trips → get_or (map last_index T.trips) t 0 ≡ length (events_of T t) - 1
   mark_is t inside = get_or-map last_index T.trips t no_trip 0 inside
 
-  pub mark-inside : (t : ℕ) → t < length T.trips → get_or (map last_index T.trips) t 0 < length (events_of T t)
-  mark-inside t inside = omega (arith, mark_is t inside, two_events t inside)
+  pub last-inside : (t : ℕ) → t < length T.trips → get_or (map last_index T.trips) t 0 < length (events_of T t)
+  last-inside t inside = omega (arith, mark_is t inside, two_events t inside)
 
-  pub mark-left : (labels : List (Option Label)) (t : ℕ) → t < length T.trips → IsLeftBehind T labels t (get_or (map last_index T.trips) t 0)
-  mark-left labels t inside i behind alights = absurd (omega (arith, mark_is t inside, two_events t inside, (MayAlight-inside T t i alights).1))
+  pub last-left : (labels : List (Option StopLabel)) (t : ℕ) → t < length T.trips → IsLeftBehind T labels t (get_or (map last_index T.trips) t 0)
+  last-left labels t inside i behind alights = absurd (omega (arith, mark_is t inside, two_events t inside, (MayAlight-inside T t i alights).1))
 
 -- there is no label
-pub no_label : (n p : ℕ) (l : Label) → label_at (replicate n None) p ≡ Some l → ⊥
+pub no_label : (n p : ℕ) (l : StopLabel) → label_at (replicate n None) p ≡ Some l → ⊥
 no_label n p l h = by_case (inside_or_past p n)
   where
     inside_or_past : (i n : ℕ) → (i < n) ⊎ (n ≤ i)
@@ -46,4 +46,4 @@ no_label n p l h = by_case (inside_or_past p n)
 
     by_case : (p < n) ⊎ (n ≤ p) → ⊥
     by_case (inl k) = let none : label_at (replicate n None) p ≡ None = get_or-replicate n p None None k in let no : None ≡ Some l = sym none ∙ h in cc
-    by_case (inr k) = let none : label_at (replicate n None) p ≡ None = get_or_past (replicate n None) p None (omega (arith, length-replicate {A = Option Label} n None)) in let no : None ≡ Some l = sym none ∙ h in cc
+    by_case (inr k) = let none : label_at (replicate n None) p ≡ None = get_or_past (replicate n None) p None (omega (arith, length-replicate {A = Option StopLabel} n None)) in let no : None ≡ Some l = sym none ∙ h in cc

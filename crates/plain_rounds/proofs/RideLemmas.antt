@@ -7,8 +7,8 @@ use Rattle.tb_base.specs.TimetableData.{TimetableData, events_of, event_at, stop
 use Rattle.tb_base.specs.Journeys.{alighting_stop, alighting_time}
 use Rattle.plain_rounds.specs.declared.arrivals.Arrivals.{Arrivals}
 use Rattle.plain_rounds.specs.declared.arrivals.Boarding.{Boarding}
-use Rattle.plain_rounds.specs.declared.arrivals.Step.{Step}
-use Rattle.plain_rounds.specs.declared.labels.Label.{Label}
+use Rattle.plain_rounds.specs.declared.arrivals.PlainRide.{PlainRide}
+use Rattle.plain_rounds.specs.declared.labels.StopLabel.{StopLabel}
 use Rattle.plain_rounds.specs.Labels.{IsNoLaterAt, IsLaterAt, label_at}
 use Rattle.plain_rounds.specs.Rounds.{ride_of, LetsBoard, NoneBoards, IsBoardable, IsAlong, IsLabelOf, IsLeftBehind, TakesRides}
 use Rattle.plain_rounds.proofs.Least.{below_or_at}
@@ -35,7 +35,7 @@ set_each xs i x P inside here all k = by_case (same_or_other k i)
     by_case (inr far) = subst (λ y. P k y) (sym (get_or-set_other xs i k x 0 far)) (all k)
 
 -- a label that takes the place of a later one
-module _ (xs : List (Option Label)) (p : ℕ) (l : Label) (inside : p < length xs) where
+module _ (xs : List (Option StopLabel)) (p : ℕ) (l : StopLabel) (inside : p < length xs) where
   new_label : label_at (set xs p (Some l)) p ≡ Some l
   new_label = get_or-set_same xs p (Some l) None inside
 
@@ -45,7 +45,7 @@ module _ (xs : List (Option Label)) (p : ℕ) (l : Label) (inside : p < length x
   set_kept : IsLaterAt xs p l.time → (q : ℕ) (time : ℤ) → IsNoLaterAt xs q time → IsNoLaterAt (set xs p (Some l)) q time
   set_kept later q time h = by_case (same_or_other q p)
     where
-      earlier : (o : Option Label) → IfSome o (λ m. l.time <ℤ m.time) → IsSomeAnd o (λ m. m.time ≤ℤ time) → l.time ≤ℤ time
+      earlier : (o : Option StopLabel) → IfSome o (λ m. l.time <ℤ m.time) → IsSomeAnd o (λ m. m.time ≤ℤ time) → l.time ≤ℤ time
       earlier None g k = absurd k
       earlier (Some m) g k = two l.time m.time time g k
         where
@@ -57,7 +57,7 @@ module _ (xs : List (Option Label)) (p : ℕ) (l : Label) (inside : p < length x
           (subst (λ o. IsSomeAnd o (λ m. m.time ≤ℤ time)) (sym new_label) (earlier (label_at xs p) later (subst (λ n. IsNoLaterAt xs n time) e h)))
       by_case (inr far) = subst (λ o. IsSomeAnd o (λ m. m.time ≤ℤ time)) (sym (old_label q far)) h
 
-  set_made : (q : ℕ) (m : Label) → label_at (set xs p (Some l)) q ≡ Some m → (label_at xs q ≡ Some m) ⊎ ((q ≡ p) × (m ≡ l))
+  set_made : (q : ℕ) (m : StopLabel) → label_at (set xs p (Some l)) q ≡ Some m → (label_at xs q ≡ Some m) ⊎ ((q ≡ p) × (m ≡ l))
   set_made q m h = by_case (same_or_other q p)
     where
       by_case : (q ≡ p) ⊎ (q ≢ p) → (label_at xs q ≡ Some m) ⊎ ((q ≡ p) × (m ≡ l))
@@ -71,27 +71,27 @@ module _ (xs : List (Option Label)) (p : ℕ) (l : Label) (inside : p < length x
       same a b e = omega (arith, ints, e)
 
 module _ (T : TimetableData) where
-  -- the offered steps by another word
-  pub TakesRides-as : (a b : Arrivals) (P Q : Step → Type 0) → ((s : Step) → P s → Q s) → ((s : Step) → Q s → IsNoLaterAt b.labels.items (alighting_stop T (ride_of s)) (alighting_time T (ride_of s))) → TakesRides T a b P → TakesRides T a b Q
+  -- the offered ridden by another word
+  pub TakesRides-as : (a b : Arrivals) (P Q : PlainRide → Type 0) → ((s : PlainRide) → P s → Q s) → ((s : PlainRide) → Q s → IsNoLaterAt b.labels.items (alighting_stop T (ride_of s)) (alighting_time T (ride_of s))) → TakesRides T a b P → TakesRides T a b Q
   TakesRides-as a b P Q f g t = record {
     long = t.long;
     grown = t.grown;
-    steps = t.steps;
+    ridden = t.ridden;
     unchanged = t.unchanged;
     kept = t.kept;
     made = λ p l h. elim (t.made p l h) [ inl k ↦ inl k | inr k ↦ inr (record { place = k.place; is_place = k.is_place; new = k.new; step = k.step; is_step = k.is_step; offered = f k.step k.offered; stop = k.stop; time = k.time }) ];
     taken = g;
   }
 
-  pub TakesRides-same : (a b : Arrivals) (P Q : Step → Type 0) → ((s : Step) → P s → Q s) → ((s : Step) → Q s → P s) → TakesRides T a b P → TakesRides T a b Q
+  pub TakesRides-same : (a b : Arrivals) (P Q : PlainRide → Type 0) → ((s : PlainRide) → P s → Q s) → ((s : PlainRide) → Q s → P s) → TakesRides T a b P → TakesRides T a b Q
   TakesRides-same a b P Q f g t = TakesRides-as a b P Q f (λ s h. t.taken s (g s h)) t
 
   -- nothing new is offered
-  pub TakesRides-none : (a : Arrivals) (P : Step → Type 0) → ((s : Step) → P s → IsNoLaterAt a.labels.items (alighting_stop T (ride_of s)) (alighting_time T (ride_of s))) → TakesRides T a a P
+  pub TakesRides-none : (a : Arrivals) (P : PlainRide → Type 0) → ((s : PlainRide) → P s → IsNoLaterAt a.labels.items (alighting_stop T (ride_of s)) (alighting_time T (ride_of s))) → TakesRides T a a P
   TakesRides-none a P there = record {
     long = refl;
     grown = omega arith;
-    steps = λ n s h. h;
+    ridden = λ n s h. h;
     unchanged = λ e. refl;
     kept = λ p time h. h;
     made = λ p l h. inl h;
@@ -99,58 +99,58 @@ module _ (T : TimetableData) where
   }
 
   -- one offer after another
-  pub TakesRides-then : (a b c : Arrivals) (P Q : Step → Type 0) → TakesRides T a b P → TakesRides T b c Q → TakesRides T a c (λ s. P s ⊎ Q s)
+  pub TakesRides-then : (a b c : Arrivals) (P Q : PlainRide → Type 0) → TakesRides T a b P → TakesRides T b c Q → TakesRides T a c (λ s. P s ⊎ Q s)
   TakesRides-then a b c P Q t u = record {
     long = u.long ∙ t.long;
     grown = omega (arith, t.grown, u.grown);
-    steps = λ n s h. u.steps n s (t.steps n s h);
+    ridden = λ n s h. u.ridden n s (t.ridden n s h);
     unchanged = λ e. u.unchanged (omega (arith, e, t.grown, u.grown)) ∙ t.unchanged (omega (arith, e, t.grown, u.grown));
     kept = λ p time h. u.kept p time (t.kept p time h);
     made = λ p l h. by_case p l (u.made p l h);
     taken = λ s h. elim h [ inl k ↦ u.kept (alighting_stop T (ride_of s)) (alighting_time T (ride_of s)) (t.taken s k) | inr k ↦ u.taken s k ];
   }
     where
-      by_case : (p : ℕ) (l : Label) → (label_at b.labels.items p ≡ Some l) ⊎ IsLabelOf T c.steps.items (length b.steps.items) Q p l →
-          (label_at a.labels.items p ≡ Some l) ⊎ IsLabelOf T c.steps.items (length a.steps.items) (λ s. P s ⊎ Q s) p l
+      by_case : (p : ℕ) (l : StopLabel) → (label_at b.labels.items p ≡ Some l) ⊎ IsLabelOf T c.ridden.items (length b.ridden.items) Q p l →
+          (label_at a.labels.items p ≡ Some l) ⊎ IsLabelOf T c.ridden.items (length a.ridden.items) (λ s. P s ⊎ Q s) p l
       by_case p l (inl h) = elim (t.made p l h) [
         | inl k ↦ inl k
-        | inr k ↦ inr (record { place = k.place; is_place = k.is_place; new = k.new; step = k.step; is_step = u.steps k.place k.step k.is_step; offered = inl k.offered; stop = k.stop; time = k.time })
+        | inr k ↦ inr (record { place = k.place; is_place = k.is_place; new = k.new; step = k.step; is_step = u.ridden k.place k.step k.is_step; offered = inl k.offered; stop = k.stop; time = k.time })
       ]
       by_case p l (inr k) = inr (record { place = k.place; is_place = k.is_place; new = omega (arith, k.new, t.grown); step = k.step; is_step = k.is_step; offered = inr k.offered; stop = k.stop; time = k.time })
 
   -- one more of some offers that are made in turn, from a number on
-  pub TakesRides-more : (a b c : Arrivals) (P : ℕ → Step → Type 0) (from i : ℕ) → from < i + 1 → TakesRides T a b (λ s. (k : ℕ) × (from < k + 1) × (k < i) × P k s) → TakesRides T b c (P i) → TakesRides T a c (λ s. (k : ℕ) × (from < k + 1) × (k < i + 1) × P k s)
+  pub TakesRides-more : (a b c : Arrivals) (P : ℕ → PlainRide → Type 0) (from i : ℕ) → from < i + 1 → TakesRides T a b (λ s. (k : ℕ) × (from < k + 1) × (k < i) × P k s) → TakesRides T b c (P i) → TakesRides T a c (λ s. (k : ℕ) × (from < k + 1) × (k < i + 1) × P k s)
   TakesRides-more a b c P from i start t u =
       TakesRides-same a c (λ s. ((k : ℕ) × (from < k + 1) × (k < i) × P k s) ⊎ P i s) (λ s. (k : ℕ) × (from < k + 1) × (k < i + 1) × P k s)
       (λ s h. elim h [ inl k ↦ (k.0, k.1, omega (arith, k.2), k.3) | inr k ↦ (i, start, omega arith, k) ])
       (λ s h. by_case s h.0 h.1 h.3 (below_or_at h.0 i h.2))
       (TakesRides-then a b c (λ s. (k : ℕ) × (from < k + 1) × (k < i) × P k s) (P i) t u)
     where
-      by_case : (s : Step) (k : ℕ) → from < k + 1 → P k s → (k < i) ⊎ (k ≡ i) → ((k : ℕ) × (from < k + 1) × (k < i) × P k s) ⊎ P i s
+      by_case : (s : PlainRide) (k : ℕ) → from < k + 1 → P k s → (k < i) ⊎ (k ≡ i) → ((k : ℕ) × (from < k + 1) × (k < i) × P k s) ⊎ P i s
       by_case s k g h (inl below) = inl (k, g, below, h)
       by_case s k g h (inr e) = inr (subst (λ j. P j s) e h)
 
   -- a step that arrives sooner than the label of its stop
-  pub TakesRides-pushed : (a b : Arrivals) (s : Step) (l : Label) (p : ℕ) → b.labels.items ≡ set a.labels.items p (Some l) → b.steps.items ≡ a.steps.items ++ s ∷ [] → p < length a.labels.items →
-      l.ride ≡ Some (length a.steps.items) → alighting_stop T (ride_of s) ≡ p → alighting_time T (ride_of s) ≡ l.time → IsLaterAt a.labels.items p l.time → MayAlight T s.trip s.alight →
+  pub TakesRides-pushed : (a b : Arrivals) (s : PlainRide) (l : StopLabel) (p : ℕ) → b.labels.items ≡ set a.labels.items p (Some l) → b.ridden.items ≡ a.ridden.items ++ s ∷ [] → p < length a.labels.items →
+      l.ride ≡ Some (length a.ridden.items) → alighting_stop T (ride_of s) ≡ p → alighting_time T (ride_of s) ≡ l.time → IsLaterAt a.labels.items p l.time → MayAlight T s.trip s.alight →
       TakesRides T a b (λ x. (x ≡ s) × MayAlight T s.trip s.alight)
-  TakesRides-pushed a b s l p labels steps inside place stop time later alights = record {
+  TakesRides-pushed a b s l p labels ridden inside place stop time later alights = record {
     long = ap length labels ∙ length-set a.labels.items p (Some l);
     grown = omega (arith, more);
-    steps = λ n x h. subst (λ xs. slice_get xs n ≡ Some x) (sym steps) (slice_get-push a.steps.items s x n h);
+    ridden = λ n x h. subst (λ xs. slice_get xs n ≡ Some x) (sym ridden) (slice_get-push a.ridden.items s x n h);
     unchanged = λ e. absurd (omega (arith, e, more));
     kept = λ q t h. subst (λ xs. IsNoLaterAt xs q t) (sym labels) (set_kept a.labels.items p l inside later q t h);
     made = λ q m h. elim (set_made a.labels.items p l inside q m (subst (λ xs. label_at xs q ≡ Some m) labels h)) [
       | inl k ↦ inl k
       | inr k ↦ inr (record {
-        place = length a.steps.items;
-        is_place = ap (λ (x : Label). x.ride) k.1 ∙ place;
+        place = length a.ridden.items;
+        is_place = ap (λ (x : StopLabel). x.ride) k.1 ∙ place;
         new = omega arith;
         step = s;
-        is_step = subst (λ xs. slice_get xs (length a.steps.items) ≡ Some s) (sym steps) (slice_get-pushed a.steps.items s);
+        is_step = subst (λ xs. slice_get xs (length a.ridden.items) ≡ Some s) (sym ridden) (slice_get-pushed a.ridden.items s);
         offered = (refl, alights);
         stop = stop ∙ sym k.0;
-        time = time ∙ sym (ap (λ (x : Label). x.time) k.1);
+        time = time ∙ sym (ap (λ (x : StopLabel). x.time) k.1);
       })
     ];
     taken = λ x h. subst (λ y. IsNoLaterAt b.labels.items (alighting_stop T (ride_of y)) (alighting_time T (ride_of y))) (sym h.0)
@@ -158,57 +158,57 @@ module _ (T : TimetableData) where
         (subst (λ n. IsNoLaterAt (set a.labels.items p (Some l)) n (alighting_time T (ride_of s))) (sym stop) (set_there a.labels.items p l inside (alighting_time T (ride_of s)) time)));
   }
     where
-      more : length b.steps.items ≡ length a.steps.items + 1
-      more = ap length steps ∙ length_push a.steps.items s
+      more : length b.ridden.items ≡ length a.ridden.items + 1
+      more = ap length ridden ∙ length_push a.ridden.items s
 
-  module _ (ready : List (Option Label)) (t mark : ℕ) (a : Arrivals) (left : IsLeftBehind T a.labels.items t mark) where
+  module _ (ready : List (Option StopLabel)) (t until : ℕ) (a : Arrivals) (left : IsLeftBehind T a.labels.items t until) where
     below_or_not : (m n : ℕ) → (m < n) ⊎ (n ≤ m)
     below_or_not m n = grind arith
 
     within_or_behind : (m n : ℕ) → (m < n + 1) ⊎ (n < m)
     within_or_behind m n = grind arith
 
-    -- a trip that cannot be boarded before its mark gives nothing new
-    pub none_boarded : NoneBoards ready (events_of T t) mark → TakesRides T a a (λ s. (s.trip ≡ t) × IsBoardable T ready s)
+    -- a trip that cannot be boarded before its until gives nothing new
+    pub none_boarded : NoneBoards ready (events_of T t) until → TakesRides T a a (λ s. (s.trip ≡ t) × IsBoardable T ready s)
     none_boarded none = TakesRides-none a (λ s. (s.trip ≡ t) × IsBoardable T ready s) (λ s h. by_trip s h.0 h.1)
       where
-        by_case : (s : Step) → IsBoardable T ready s → s.trip ≡ t → (s.board < mark) ⊎ (mark ≤ s.board) → IsNoLaterAt a.labels.items (alighting_stop T (ride_of s)) (alighting_time T (ride_of s))
+        by_case : (s : PlainRide) → IsBoardable T ready s → s.trip ≡ t → (s.board < until) ⊎ (until ≤ s.board) → IsNoLaterAt a.labels.items (alighting_stop T (ride_of s)) (alighting_time T (ride_of s))
         by_case s h e (inl early) = absurd (none s.board s.before early (subst (λ u. LetsBoard ready (event_at T u s.board) s.before) e h.boards))
         by_case s h e (inr late) = subst (λ u. IsNoLaterAt a.labels.items (stop_at T u s.alight) (arrival_at T u s.alight)) (sym e) (left s.alight (omega (arith, late, h.onward)) (subst (λ u. MayAlight T u s.alight) e h.alights))
 
-        by_trip : (s : Step) → s.trip ≡ t → IsBoardable T ready s → IsNoLaterAt a.labels.items (alighting_stop T (ride_of s)) (alighting_time T (ride_of s))
-        by_trip s e h = by_case s h e (below_or_not s.board mark)
+        by_trip : (s : PlainRide) → s.trip ≡ t → IsBoardable T ready s → IsNoLaterAt a.labels.items (alighting_stop T (ride_of s)) (alighting_time T (ride_of s))
+        by_trip s e h = by_case s h e (below_or_not s.board until)
 
     -- one that is boarded at its first event where it can be
-    module _ (b : Arrivals) (f : Boarding) (takes : TakesRides T a b (IsAlong T t f mark)) where
+    module _ (b : Arrivals) (f : Boarding) (takes : TakesRides T a b (IsAlong T t f until)) where
       pub left_from : IsLeftBehind T b.labels.items t f.at
-      left_from i behind alights = by_case (within_or_behind i mark)
+      left_from i behind alights = by_case (within_or_behind i until)
         where
-          by_case : (i < mark + 1) ⊎ (mark < i) → IsNoLaterAt b.labels.items (stop_at T t i) (arrival_at T t i)
+          by_case : (i < until + 1) ⊎ (until < i) → IsNoLaterAt b.labels.items (stop_at T t i) (arrival_at T t i)
           by_case (inl within) = takes.taken (record { trip = t; board = f.at; alight = i; before = f.before }) (i, behind, within, (refl, alights))
           by_case (inr far) = takes.kept (stop_at T t i) (arrival_at T t i) (left i far alights)
 
       pub first_boarded : NoneBoards ready (events_of T t) f.at → LetsBoard ready (event_at T t f.at) f.before → TakesRides T a b (λ s. (s.trip ≡ t) × IsBoardable T ready s)
-      first_boarded none boards = TakesRides-as a b (IsAlong T t f mark) (λ s. (s.trip ≡ t) × IsBoardable T ready s) (λ s h. onto s h) (λ s h. back s h.0 h.1) takes
+      first_boarded none boards = TakesRides-as a b (IsAlong T t f until) (λ s. (s.trip ≡ t) × IsBoardable T ready s) (λ s h. onto s h) (λ s h. back s h.0 h.1) takes
         where
-          onto : (s : Step) → IsAlong T t f mark s → (s.trip ≡ t) × IsBoardable T ready s
+          onto : (s : PlainRide) → IsAlong T t f until s → (s.trip ≡ t) × IsBoardable T ready s
           onto s h = subst (λ x. (x.trip ≡ t) × IsBoardable T ready x) (sym h.3.0) (refl, record { onward = h.1; boards = boards; alights = h.3.1 })
 
-          by_case : (s : Step) → s.trip ≡ t → IsBoardable T ready s → (s.board < f.at) ⊎ (f.at ≤ s.board) → IsNoLaterAt b.labels.items (alighting_stop T (ride_of s)) (alighting_time T (ride_of s))
+          by_case : (s : PlainRide) → s.trip ≡ t → IsBoardable T ready s → (s.board < f.at) ⊎ (f.at ≤ s.board) → IsNoLaterAt b.labels.items (alighting_stop T (ride_of s)) (alighting_time T (ride_of s))
           by_case s e h (inl early) = absurd (none s.board s.before early (subst (λ u. LetsBoard ready (event_at T u s.board) s.before) e h.boards))
           by_case s e h (inr late) = subst (λ u. IsNoLaterAt b.labels.items (stop_at T u s.alight) (arrival_at T u s.alight)) (sym e) (left_from s.alight (omega (arith, late, h.onward)) (subst (λ u. MayAlight T u s.alight) e h.alights))
 
-          back : (s : Step) → s.trip ≡ t → IsBoardable T ready s → IsNoLaterAt b.labels.items (alighting_stop T (ride_of s)) (alighting_time T (ride_of s))
+          back : (s : PlainRide) → s.trip ≡ t → IsBoardable T ready s → IsNoLaterAt b.labels.items (alighting_stop T (ride_of s)) (alighting_time T (ride_of s))
           back s e h = by_case s e h (below_or_not s.board f.at)
 
-  -- the steps of one more trip
-  pub TakesRides-next : (a b c : Arrivals) (P : Step → Type 0) (i : ℕ) → TakesRides T a b (λ s. (s.trip < i) × P s) → TakesRides T b c (λ s. (s.trip ≡ i) × P s) → TakesRides T a c (λ s. (s.trip < i + 1) × P s)
+  -- the ridden of one more trip
+  pub TakesRides-next : (a b c : Arrivals) (P : PlainRide → Type 0) (i : ℕ) → TakesRides T a b (λ s. (s.trip < i) × P s) → TakesRides T b c (λ s. (s.trip ≡ i) × P s) → TakesRides T a c (λ s. (s.trip < i + 1) × P s)
   TakesRides-next a b c P i t u =
       TakesRides-same a c (λ s. ((s.trip < i) × P s) ⊎ ((s.trip ≡ i) × P s)) (λ s. (s.trip < i + 1) × P s)
       (λ s h. elim h [ inl k ↦ (omega (arith, k.0), k.1) | inr k ↦ (omega (arith, k.0), k.1) ])
       (λ s h. by_case s h.1 (below_or_at s.trip i h.0))
       (TakesRides-then a b c (λ s. (s.trip < i) × P s) (λ s. (s.trip ≡ i) × P s) t u)
     where
-      by_case : (s : Step) → P s → (s.trip < i) ⊎ (s.trip ≡ i) → ((s.trip < i) × P s) ⊎ ((s.trip ≡ i) × P s)
+      by_case : (s : PlainRide) → P s → (s.trip < i) ⊎ (s.trip ≡ i) → ((s.trip < i) × P s) ⊎ ((s.trip ≡ i) × P s)
       by_case s h (inl below) = inl (below, h)
       by_case s h (inr e) = inr (e, h)

@@ -13,7 +13,7 @@ use Rattle.tb_base.specs.JourneyRules.{legs_of}
 use Rattle.tb_base.proofs.Events.{MayBoard-inside, MayAlight-inside}
 use Rattle.tb_laws.proofs.CandidateLaws.{some_and, and_some}
 use Rattle.tb_laws.proofs.Exchange.{IsSomeAnd-weaker}
-use Rattle.plain_rounds.specs.declared.arrivals.Step.{Step}
+use Rattle.plain_rounds.specs.declared.arrivals.PlainRide.{PlainRide}
 use Rattle.plain_rounds.specs.Rides.{IsBoarded, IsReadyAfter}
 use Rattle.plain_rounds.specs.Rounds.{ride_of}
 use Rattle.plain_rounds.specs.Shown.{IsNearest, IsInside, HasShortestWalks, SpellShortest, last_ride}
@@ -88,44 +88,44 @@ module _ (T : TimetableData) (Q : QueryData) where
   leads-rides o (r ∷ xs) q leads zero d below = leads.1
   leads-rides o (r ∷ xs) q leads (suc k) d below = leads_on-rides r xs q leads.2 k d (omega (arith, below))
 
-  -- the steps of an arrival
-  module _ (back : List Ride) (last : Ride) (boarded : IsBoarded T (IsReadyAfter T Q back) last) (target : ℕ) (walks : IsSome (walk T (alighting_stop T last) target)) (rides : List Step) (are : map ride_of rides ≡ reverse (last ∷ back)) where
+  -- the ridden of an arrival
+  module _ (back : List Ride) (last : Ride) (boarded : IsBoarded T (IsReadyAfter T Q back) last) (target : ℕ) (walks : IsSome (walk T (alighting_stop T last) target)) (rides : List PlainRide) (are : map ride_of rides ≡ reverse (last ∷ back)) where
     are_onto : map ride_of rides ≡ rev_onto back (last ∷ [])
     are_onto = are ∙ reverse-rev_onto back last
 
     journey : (o : ℕ) × Contains Q.from o × (Leads T o (map ride_of rides) target × LeavesNoEarlier T Q.leave o (map ride_of rides))
     journey = subst (λ xs. (o : ℕ) × Contains Q.from o × (Leads T o xs target × LeavesNoEarlier T Q.leave o xs)) (sym are_onto) (leads_back back last [] target boarded walks)
 
-    pub steps-inside : All (IsInside T) rides
-    steps-inside k d below =
-        let ride : IsRide T (ride_of (get_or rides k d)) = subst (λ r. IsRide T r) (get_or-map ride_of rides k d (ride_of d) below) (leads-rides journey.0 (map ride_of rides) target journey.2.0 k (ride_of d) (omega (arith, length-map {A = Step} {B = Ride} rides ride_of, below))) in
+    pub ridden-inside : All (IsInside T) rides
+    ridden-inside k d below =
+        let ride : IsRide T (ride_of (get_or rides k d)) = subst (λ r. IsRide T r) (get_or-map ride_of rides k d (ride_of d) below) (leads-rides journey.0 (map ride_of rides) target journey.2.0 k (ride_of d) (omega (arith, length-map {A = PlainRide} {B = Ride} rides ride_of, below))) in
         ((MayBoard-inside T (get_or rides k d).trip (get_or rides k d).board ride.boards).0, (MayBoard-inside T (get_or rides k d).trip (get_or rides k d).board ride.boards).1, (MayAlight-inside T (get_or rides k d).trip (get_or rides k d).alight ride.alights).1)
 
-    pub steps-some : 0 < length rides
-    steps-some = omega (arith, length-map {A = Step} {B = Ride} rides ride_of, ap length are_onto, length_back back (last ∷ []))
+    pub ridden-some : 0 < length rides
+    ridden-some = omega (arith, length-map {A = PlainRide} {B = Ride} rides ride_of, ap length are_onto, length_back back (last ∷ []))
 
     -- an origin has a walk to the first boarding
-    pub first-walk : (f : Step) (rest : List Step) → rides ≡ f ∷ rest → (o s : ℕ) × (Contains Q.from o × (walk T o (stop_at T f.trip f.board) ≡ Some s))
+    pub first-walk : (f : PlainRide) (rest : List PlainRide) → rides ≡ f ∷ rest → (o s : ℕ) × (Contains Q.from o × (walk T o (stop_at T f.trip f.board) ≡ Some s))
     first-walk f rest e =
-        let j : Leads T journey.0 (map ride_of (f ∷ rest)) target = subst (λ (xs : List Step). Leads T journey.0 (map ride_of xs) target) e journey.2.0 in
+        let j : Leads T journey.0 (map ride_of (f ∷ rest)) target = subst (λ (xs : List PlainRide). Leads T journey.0 (map ride_of xs) target) e journey.2.0 in
         let w = is_some_some (walk T journey.0 (stop_at T f.trip f.board)) j.0 in
         (journey.0, w.0, (journey.1, w.1))
 
     -- from the nearest origin to the nearest target they are a journey that is shown
-    pub shown : (f : Step) (rest : List Step) → rides ≡ f ∷ rest → (o : ℕ) → IsNearest (λ o. walk T o (stop_at T f.trip f.board)) Q.from o → IsNearest (λ q. walk T (alighting_stop T last) q) Q.to target →
+    pub shown : (f : PlainRide) (rest : List PlainRide) → rides ≡ f ∷ rest → (o : ℕ) → IsNearest (λ o. walk T o (stop_at T f.trip f.board)) Q.from o → IsNearest (λ q. walk T (alighting_stop T last) q) Q.to target →
         (arrive : ℤ) → arrive ≡ (alighting_time T last +ℤ walk_secs T (alighting_stop T last) target) → (legs : List Leg) → legs ≡ legs_of T o (map ride_of rides) target →
         SpellShortest T Q legs (record { arrive = arrive; rides = suc (length back) })
     shown f rest e o near_origin near_target arrive arrives legs spelt = record {
       by = record { origin = o; rides = map ride_of rides; target = target };
       has = record {
-        journey = record { origin = near_origin.among; target = near_target.among; leads = subst (λ (xs : List Step). Leads T o (map ride_of xs) target) (sym e) (near_origin.walks, leads.1, leads.2) };
-        leaves = subst (λ (xs : List Step). LeavesNoEarlier T Q.leave o (map ride_of xs)) (sym e) leaves;
+        journey = record { origin = near_origin.among; target = near_target.among; leads = subst (λ (xs : List PlainRide). Leads T o (map ride_of xs) target) (sym e) (near_origin.walks, leads.1, leads.2) };
+        leaves = subst (λ (xs : List PlainRide). LeavesNoEarlier T Q.leave o (map ride_of xs)) (sym e) leaves;
         value = same_value arrive (arrival T Q.leave o (map ride_of rides) target) (suc (length back)) (length (map ride_of rides))
             (arrives ∙ sym (arrival_back back last [] o target) ∙ ap (λ xs. arrival T Q.leave o xs target) (sym are_onto))
             (omega (arith, ap length are_onto, length_back back (last ∷ [])));
       };
       spelt = spelt;
-      shortest = subst (λ (xs : List Step). HasShortestWalks T Q o (map ride_of xs) target) (sym e)
+      shortest = subst (λ (xs : List PlainRide). HasShortestWalks T Q o (map ride_of xs) target) (sym e)
           (near_origin, subst (λ r. IsNearest (λ q. walk T (alighting_stop T r) q) Q.to target) (sym last_is) near_target);
     }
       where
@@ -133,10 +133,10 @@ module _ (T : TimetableData) (Q : QueryData) where
         same_value a a' n n' e f = cc
 
         leads : Leads T journey.0 (map ride_of (f ∷ rest)) target
-        leads = subst (λ (xs : List Step). Leads T journey.0 (map ride_of xs) target) e journey.2.0
+        leads = subst (λ (xs : List PlainRide). Leads T journey.0 (map ride_of xs) target) e journey.2.0
 
         onto : map ride_of (f ∷ rest) ≡ rev_onto back (last ∷ [])
-        onto = ap (λ (xs : List Step). map ride_of xs) (sym e) ∙ are_onto
+        onto = ap (λ (xs : List PlainRide). map ride_of xs) (sym e) ∙ are_onto
 
         last_is : last_ride (ride_of f) (map ride_of rest) ≡ last
         last_is = ap (λ xs. last_or last xs) onto ∙ last_back back last [] last
@@ -150,7 +150,7 @@ module _ (T : TimetableData) (Q : QueryData) where
 
         leaves : Q.leave ≤ℤ (boarding_time T (ride_of f) -ℤ walk_secs T o (stop_at T f.trip f.board))
         leaves =
-            let early : LeavesNoEarlier T Q.leave journey.0 (map ride_of (f ∷ rest)) = subst (λ (xs : List Step). LeavesNoEarlier T Q.leave journey.0 (map ride_of xs)) e journey.2.1 in
+            let early : LeavesNoEarlier T Q.leave journey.0 (map ride_of (f ∷ rest)) = subst (λ (xs : List PlainRide). LeavesNoEarlier T Q.leave journey.0 (map ride_of xs)) e journey.2.1 in
             let w = is_some_some (walk T journey.0 (stop_at T f.trip f.board)) leads.0 in
             later Q.leave (boarding_time T (ride_of f)) (unwrap_or (walk T o (stop_at T f.trip f.board)) 0) (unwrap_or (walk T journey.0 (stop_at T f.trip f.board)) 0) early
             (subst (λ n. unwrap_or (walk T o (stop_at T f.trip f.board)) 0 ≤ n) (sym (secs_is (walk T journey.0 (stop_at T f.trip f.board)) w.0 w.1))

@@ -5,68 +5,84 @@ use Rattle.tb_base.specs.TimetableData.{TripData, TimetableData, no_event, event
 use Rattle.tb_base.specs.Journeys.{Ride, alighting_stop, alighting_time}
 use Rattle.plain_rounds.specs.declared.arrivals.Arrivals.{Arrivals}
 use Rattle.plain_rounds.specs.declared.arrivals.Boarding.{Boarding}
-use Rattle.plain_rounds.specs.declared.arrivals.Step.{Step}
-use Rattle.plain_rounds.specs.declared.labels.Label.{Label}
+use Rattle.plain_rounds.specs.declared.arrivals.PlainRide.{PlainRide}
+use Rattle.plain_rounds.specs.declared.labels.StopLabel.{StopLabel}
 use Rattle.plain_rounds.specs.declared.rounds.Rounds.{Rounds}
 use Rattle.plain_rounds.specs.Labels.{IsNoLaterAt, label_at}
 
--- the ride of a step
-abbrev pub ride_of : Step → Ride
+-- a ride, without the place of the ride before it
+abbrev pub ride_of : PlainRide → Ride
 ride_of s = record { trip = s.trip; board = s.board; alight = s.alight }
 
--- by the label of its stop one can board at the event, after the step that the label names
-abbrev pub LetsBoard : List (Option Label) → Event → Option ℕ → Type 0
-LetsBoard ready e before = IsTrue e.board × IsSomeAnd (label_at ready e.stop) (λ l. (l.time ≤ℤ e.dep) × (l.ride ≡ before))
+-- by the label of its stop one can board at the event, after the ride that the label names
+abbrev pub LetsBoard : List (Option StopLabel) → Event → Option ℕ → Type 0
+LetsBoard ready e before = IsTrue e.board × IsSomeAnd (label_at ready e.stop)
+    (λ l. (l.time ≤ℤ e.dep) × (l.ride ≡ before))
 
--- the step is a ride that the labels let one board
-pub record IsBoardable (T : TimetableData) (ready : List (Option Label)) (s : Step) : Type 0 where
+-- a ride that the labels let one board
+pub record IsBoardable (T : TimetableData) (ready : List (Option StopLabel)) (s : PlainRide)
+    : Type 0 where
   pub onward : s.board < s.alight
   pub boards : LetsBoard ready (event_at T s.trip s.board) s.before
   pub alights : MayAlight T s.trip s.alight
 
--- the label is that of an offered step, which stands in the list from a place on
-pub record IsLabelOf (T : TimetableData) (steps : List Step) (from : ℕ) (IsOffered : Step → Type 0) (p : ℕ) (l : Label) : Type 0 where
+-- the label is that of an offered ride, which stands in the list from a place on
+pub record IsLabelOf (T : TimetableData) (ridden : List PlainRide) (from : ℕ)
+    (IsOffered : PlainRide → Type 0) (p : ℕ) (l : StopLabel) : Type 0 where
   pub place : ℕ
   pub is_place : l.ride ≡ Some place
   pub new : from ≤ place
-  pub step : Step
-  pub is_step : slice_get steps place ≡ Some step
+  pub step : PlainRide
+  pub is_step : slice_get ridden place ≡ Some step
   pub offered : IsOffered step
   pub stop : alighting_stop T (ride_of step) ≡ p
   pub time : alighting_time T (ride_of step) ≡ l.time
 
--- The arrivals take what the offered steps give: no label gets later, each new one is that of an offered step, and none is later than such a step arrives.
-pub record TakesRides (T : TimetableData) (old new : Arrivals) (IsOffered : Step → Type 0) : Type 0 where
+-- The arrivals take what the offered rides give: no label gets later, each new one is that of an
+-- offered ride, and none is later than such a ride arrives.
+pub record TakesRides (T : TimetableData) (old new : Arrivals) (IsOffered : PlainRide → Type 0)
+    : Type 0 where
   pub long : length new.labels.items ≡ length old.labels.items
-  pub grown : length old.steps.items ≤ length new.steps.items
-  pub steps : (n : ℕ) (s : Step) → slice_get old.steps.items n ≡ Some s → slice_get new.steps.items n ≡ Some s
-  pub unchanged : length new.steps.items ≡ length old.steps.items → new.labels.items ≡ old.labels.items
-  pub kept : (p : ℕ) (time : ℤ) → IsNoLaterAt old.labels.items p time → IsNoLaterAt new.labels.items p time
-  pub made : (p : ℕ) (l : Label) → label_at new.labels.items p ≡ Some l →
-      (label_at old.labels.items p ≡ Some l) ⊎ IsLabelOf T new.steps.items (length old.steps.items) IsOffered p l
-  pub taken : (s : Step) → IsOffered s → IsNoLaterAt new.labels.items (alighting_stop T (ride_of s)) (alighting_time T (ride_of s))
+  pub grown : length old.ridden.items ≤ length new.ridden.items
+  pub ridden : (n : ℕ) (s : PlainRide) → slice_get old.ridden.items n ≡ Some s →
+      slice_get new.ridden.items n ≡ Some s
+  pub unchanged : length new.ridden.items ≡ length old.ridden.items → new.labels.items
+      ≡ old.labels.items
+  pub kept : (p : ℕ) (time : ℤ) → IsNoLaterAt old.labels.items p time →
+      IsNoLaterAt new.labels.items p time
+  pub made : (p : ℕ) (l : StopLabel) → label_at new.labels.items p ≡ Some l →
+      (label_at old.labels.items p ≡ Some l) ⊎ IsLabelOf T new.ridden.items
+      (length old.ridden.items) IsOffered p l
+  pub taken : (s : PlainRide) → IsOffered s → IsNoLaterAt new.labels.items
+      (alighting_stop T (ride_of s)) (alighting_time T (ride_of s))
 
 -- the last index of a trip
 abbrev pub last_index : TripData → ℕ
 last_index t = length t.events - 1
 
--- a trip has been left at each event behind the mark
-abbrev pub IsLeftBehind : TimetableData → List (Option Label) → ℕ → ℕ → Type 0
-IsLeftBehind T labels t mark = (i : ℕ) → mark < i → MayAlight T t i → IsNoLaterAt labels (stop_at T t i) (arrival_at T t i)
+-- a trip has been left at each event behind an index
+abbrev pub IsLeftBehind : TimetableData → List (Option StopLabel) → ℕ → ℕ → Type 0
+IsLeftBehind T labels t until = (i : ℕ) → until < i → MayAlight T t i →
+    IsNoLaterAt labels (stop_at T t i) (arrival_at T t i)
 
 -- what the rounds keep
 pub record AreKept (T : TimetableData) (r : Rounds) : Type 0 where
   pub ready : length r.ready.items ≡ length T.stops
   pub labels : length r.arrivals.labels.items ≡ length T.stops
-  pub marks : length r.marks.items ≡ length T.trips
-  pub inside : (t : ℕ) → t < length T.trips → slice_index_or r.marks.items t 0 < length (events_of T t)
-  pub left : (t : ℕ) → t < length T.trips → IsLeftBehind T r.arrivals.labels.items t (slice_index_or r.marks.items t 0)
+  pub boarded_at : length r.boarded_at.items ≡ length T.trips
+  pub inside : (t : ℕ) → t < length T.trips → slice_index_or r.boarded_at.items t 0
+      < length (events_of T t)
+  pub left : (t : ℕ) → t < length T.trips → IsLeftBehind T r.arrivals.labels.items t
+      (slice_index_or r.boarded_at.items t 0)
 
--- the step alights from the trip at an event behind the boarding, up to the mark
-abbrev pub IsAlong : TimetableData → ℕ → Boarding → ℕ → Step → Type 0
-IsAlong T trip boarding mark s =
-    (i : ℕ) × (boarding.at < i) × (i < mark + 1) × ((s ≡ record { trip = trip; board = boarding.at; alight = i; before = boarding.before }) × MayAlight T trip i)
+-- the ride alights from the trip at an event behind the boarding, up to an index
+abbrev pub IsAlong : TimetableData → ℕ → Boarding → ℕ → PlainRide → Type 0
+IsAlong T trip boarding until s =
+    (i : ℕ) × (boarding.at < i) × (i < until + 1)
+    × ((s ≡ record { trip = trip; board = boarding.at; alight = i; before = boarding.before })
+    × MayAlight T trip i)
 
 -- none of the first events can be boarded
-abbrev pub NoneBoards : List (Option Label) → List Event → ℕ → Type 0
-NoneBoards ready events n = (b : ℕ) (before : Option ℕ) → b < n → LetsBoard ready (slice_index_or events b no_event) before → ⊥
+abbrev pub NoneBoards : List (Option StopLabel) → List Event → ℕ → Type 0
+NoneBoards ready events n = (b : ℕ) (before : Option ℕ) → b < n →
+    LetsBoard ready (slice_index_or events b no_event) before → ⊥

@@ -7,12 +7,12 @@ ghost use Rattle.plain_rounds.specs.Rides.{AreArrivals};
 ghost use Rattle.plain_rounds.specs.Hits.{IsArrivalHit};
 ghost use Rattle.plain_rounds.specs.Shown.{IsInside, SpellShortest};
 ghost use Rattle.plain_rounds.specs.Answer.{IsAnswer, IsRound, IsShownWithin};
-ghost use Rattle.plain_rounds.specs.declared.arrivals.Step.{Step as StepData};
+ghost use Rattle.plain_rounds.specs.declared.arrivals.PlainRide.{PlainRide as StepData};
 ghost use Rattle.tb_base.specs.TimetableData.{stop_at};
 
-use super::arrivals::{Arrivals, Step};
-use super::hits::{Hit, best_hit, best_walk};
-use super::labels::Label;
+use super::arrivals::{Arrivals, PlainRide};
+use super::hits::{TargetArrival, best_hit, best_walk};
+use super::labels::StopLabel;
 use super::legs::{Walks, nearest, rides_to, spell};
 use super::rounds::Rounds;
 use std::alloc::Global;
@@ -27,7 +27,8 @@ struct Answer {
 
 // Whether a time is before the last arrival, where there is one.
 fn is_better(best: Option<Sec>, arrive: Sec) -> bool
-    ensures { MatchBool result (IfSome best (λ b. arrive <ℤ b)) (IsSomeAnd best (λ b. b ≤ℤ arrive)) }
+    ensures { MatchBool result (IfSome best (λ b. arrive <ℤ b)) (IsSomeAnd best
+        (λ b. b ≤ℤ arrive)) }
 {
     match best {
         Some(best) => arrive < best,
@@ -36,11 +37,12 @@ fn is_better(best: Option<Sec>, arrive: Sec) -> bool
 }
 
 // The stop where the first of some rides is boarded.
-fn first_stop(table: &Timetable, rides: &[Step]) -> StopNo
+fn first_stop(table: &Timetable, rides: &[PlainRide]) -> StopNo
     requires some { 0 < length rides.now }
     requires rides { All (IsInside table.now) rides.now }
     ensures inside { result < length table.now.stops }
-    ensures stop { (f : StepData) (rest : List StepData) → rides.now ≡ f ∷ rest → result ≡ stop_at table.now f.trip f.board }
+    ensures stop { (f : StepData) (rest : List StepData) → rides.now ≡ f ∷ rest → result
+        ≡ stop_at table.now f.trip f.board }
 {
     table.soundness();
     let trip = rides[0].trip;
@@ -54,15 +56,16 @@ fn legs_to(
     alloc: Global,
     table: &Timetable,
     query: &Query,
-    steps: &[Step],
-    hit: &Hit,
+    ridden: &[PlainRide],
+    hit: &TargetArrival,
 ) -> Result<Vec<Leg>, Memory>
     requires origins { All (λ p. p < length table.now.stops) query.now.from }
     requires targets { All (λ p. p < length table.now.stops) query.now.to }
-    requires hit { (most : ℕ) × IsArrivalHit table.now query.now steps.now most hit.now }
-    ensures { IfOk result (λ legs. (most : ℕ) → IsArrivalHit table.now query.now steps.now most hit.now → IsShownWithin table.now query.now most legs.items hit.now.arrive) }
+    requires hit { (most : ℕ) × IsArrivalHit table.now query.now ridden.now most hit.now }
+    ensures { IfOk result (λ legs. (most : ℕ) → IsArrivalHit table.now query.now ridden.now most
+        hit.now → IsShownWithin table.now query.now most legs.items hit.now.arrive) }
 {
-    let rides = rides_to(alloc, steps, hit.ride)?;
+    let rides = rides_to(alloc, ridden, hit.ride)?;
     let start = first_stop(table, rides.as_slice());
     match nearest(table, &Walks::To(start), query.from.as_slice()) {
         Some(origin) => spell(alloc, table, origin.stop, rides.as_slice(), hit.target),
@@ -76,10 +79,11 @@ impl Answer {
         requires origins { All (λ p. p < length table.now.stops) query.now.from }
         requires targets { All (λ p. p < length table.now.stops) query.now.to }
         requires time { query.now.leave ≤ℤ pos 359999 }
-        ensures { IfOk result (λ answer. IsAnswer table.now query.now 0 answer.choices.items answer.best) }
+        ensures { IfOk result (λ answer. IsAnswer table.now query.now 0 answer.choices.items
+            answer.best) }
     {
         let mut choices = Vec::new(alloc);
-        let start = Label {
+        let start = StopLabel {
             time: query.leave,
             ride: None,
         };
@@ -115,8 +119,10 @@ impl Answer {
         requires origins { All (λ p. p < length table.now.stops) query.now.from }
         requires early { AreEarly arrivals.now.labels.items }
         requires arrivals { AreArrivals table.now query.now rides arrivals.now }
-        requires answer { (most : ℕ) × (rides ≡ most + 1) × IsAnswer table.now query.now most self.old.choices.items self.old.best }
-        ensures { OnOk result (IsAnswer table.now query.now rides self.new.choices.items self.new.best) }
+        requires answer { (most : ℕ) × (rides ≡ most + 1)
+            × IsAnswer table.now query.now most self.old.choices.items self.old.best }
+        ensures { OnOk result (IsAnswer table.now query.now rides self.new.choices.items
+            self.new.best) }
     {
         let best = best_hit(table, query.to.as_slice(), arrivals.labels.as_slice());
         let Some(hit) = best else {
@@ -125,7 +131,7 @@ impl Answer {
         if !is_better(self.best, hit.arrive) {
             return Ok(());
         }
-        let legs = legs_to(alloc, table, query, arrivals.steps.as_slice(), &hit)?;
+        let legs = legs_to(alloc, table, query, arrivals.ridden.as_slice(), &hit)?;
         let value = Value {
             arrive: hit.arrive,
             rides,
@@ -142,7 +148,7 @@ fn begin(alloc: Global, table: &Timetable, query: &Query) -> Result<Rounds, Memo
     requires time { query.now.leave ≤ℤ pos 359999 }
     ensures { IfOk result (λ rounds. IsRound table.now query.now 0 rounds) }
 {
-    let start = Label {
+    let start = StopLabel {
         time: query.leave,
         ride: None,
     };
@@ -150,14 +156,18 @@ fn begin(alloc: Global, table: &Timetable, query: &Query) -> Result<Rounds, Memo
     Ok(rounds)
 }
 
-/// The best values in order, each with the legs of a journey that has it, by the shortest walks at both ends.
+/// The best values in order, each with the legs of a journey that has it, by the shortest walks at
+/// both ends.
 pub fn plain_ask(alloc: Global, table: &Timetable, query: &Query) -> Result<Vec<Choice>, Memory>
     requires origins { All (λ p. p < length table.now.stops) query.now.from }
     requires targets { All (λ p. p < length table.now.stops) query.now.to }
     requires time { query.now.leave ≤ℤ pos 359999 }
-    ensures values { IfOk result (λ cs. AreBestValues table.now query.now (map ChoiceData.value cs.items)) }
-    ensures journeys { IfOk result (λ cs. All (λ c. SpellValue table.now query.now (ChoiceData.legs c) (ChoiceData.value c)) cs.items) }
-    ensures walks { IfOk result (λ cs. All (λ c. SpellShortest table.now query.now (ChoiceData.legs c) (ChoiceData.value c)) cs.items) }
+    ensures values { IfOk result (λ cs. AreBestValues table.now query.now
+        (map ChoiceData.value cs.items)) }
+    ensures journeys { IfOk result (λ cs. All (λ c. SpellValue table.now query.now
+        (ChoiceData.legs c) (ChoiceData.value c)) cs.items) }
+    ensures walks { IfOk result (λ cs. All (λ c. SpellShortest table.now query.now
+        (ChoiceData.legs c) (ChoiceData.value c)) cs.items) }
 {
     table.soundness();
     let mut answer = Answer::walk(alloc, table, query)?;

@@ -5,21 +5,22 @@ ghost use Rattle.plain_rounds.specs.Labels.{IsNoLaterAt, IsLaterAt, Takes, AreEa
 
 use tb_base::{Sec, StopNo, Timetable};
 
-/// A time at a stop, and the place of the last ride that leads there in the list of rides: none where one walks from an origin.
+/// A time at a stop, and the place of the last ride that leads there in the list of rides: none
+/// where one walks from an origin.
 #[derive(Clone, Copy)]
-pub(crate) struct Label {
+pub(crate) struct StopLabel {
     pub time: Sec,
     pub ride: Option<usize>,
 }
 
-impl Label {
+impl StopLabel {
     /// The same so many seconds later.
-    pub(crate) fn later(self, secs: u32) -> Label
+    pub(crate) fn later(self, secs: u32) -> StopLabel
         requires time { self.time ≤ℤ pos 359999 }
         requires secs { secs ≤ 86400 }
         ensures { result ≡ later self secs }
     {
-        Label {
+        StopLabel {
             time: self.time + secs as i32,
             ride: self.ride,
         }
@@ -27,7 +28,7 @@ impl Label {
 }
 
 // Whether a stop has no label, or one that is later than the time.
-pub(crate) fn is_sooner(labels: &[Option<Label>], stop: StopNo, time: Sec) -> bool
+pub(crate) fn is_sooner(labels: &[Option<StopLabel>], stop: StopNo, time: Sec) -> bool
     requires { stop < length labels.now }
     ensures { MatchBool result (IsLaterAt labels.now stop time) (IsNoLaterAt labels.now stop time) }
 {
@@ -38,7 +39,7 @@ pub(crate) fn is_sooner(labels: &[Option<Label>], stop: StopNo, time: Sec) -> bo
 }
 
 // Offers a stop the label, which takes it where it has none or a later one.
-fn offer(labels: &mut [Option<Label>], stop: StopNo, label: Label)
+fn offer(labels: &mut [Option<StopLabel>], stop: StopNo, label: StopLabel)
     requires { stop < length labels.old }
     ensures { Takes labels.old labels.new (λ p l. (p ≡ stop) × (l ≡ label)) }
 {
@@ -48,11 +49,17 @@ fn offer(labels: &mut [Option<Label>], stop: StopNo, label: Label)
 }
 
 // Offers the label to each stop that a footpath leads to, later by its seconds.
-fn offer_footpaths(table: &Timetable, labels: &mut [Option<Label>], from: StopNo, label: Label)
+fn offer_footpaths(
+    table: &Timetable,
+    labels: &mut [Option<StopLabel>],
+    from: StopNo,
+    label: StopLabel,
+)
     requires from { from < length table.now.stops }
     requires rows { length labels.old ≡ length table.now.stops }
     requires time { label.time ≤ℤ pos 359999 }
-    ensures { Takes labels.old labels.new (λ q l. IsSomeAnd (footpath_secs table.now.footpaths from q) (λ secs. l ≡ later label secs)) }
+    ensures { Takes labels.old labels.new (λ q l. IsSomeAnd (footpath_secs table.now.footpaths from q)
+        (λ secs. l ≡ later label secs)) }
 {
     table.soundness();
     let paths = table.paths(from);
@@ -62,11 +69,12 @@ fn offer_footpaths(table: &Timetable, labels: &mut [Option<Label>], from: StopNo
 }
 
 // Offers the label to each stop that one can walk to, its own stop among them.
-fn offer_walks(table: &Timetable, labels: &mut [Option<Label>], from: StopNo, label: Label)
+fn offer_walks(table: &Timetable, labels: &mut [Option<StopLabel>], from: StopNo, label: StopLabel)
     requires from { from < length table.now.stops }
     requires rows { length labels.old ≡ length table.now.stops }
     requires time { label.time ≤ℤ pos 359999 }
-    ensures { Takes labels.old labels.new (λ q l. IsSomeAnd (walk table.now from q) (λ secs. l ≡ later label secs)) }
+    ensures { Takes labels.old labels.new (λ q l. IsSomeAnd (walk table.now from q)
+        (λ secs. l ≡ later label secs)) }
 {
     table.soundness();
     offer(labels, from, label);
@@ -74,11 +82,12 @@ fn offer_walks(table: &Timetable, labels: &mut [Option<Label>], from: StopNo, la
 }
 
 // Offers the label to its own stop, where one can change within it.
-fn offer_own(table: &Timetable, labels: &mut [Option<Label>], from: StopNo, label: Label)
+fn offer_own(table: &Timetable, labels: &mut [Option<StopLabel>], from: StopNo, label: StopLabel)
     requires from { from < length table.now.stops }
     requires rows { length labels.old ≡ length table.now.stops }
     requires time { label.time ≤ℤ pos 359999 }
-    ensures { Takes labels.old labels.new (λ q l. (q ≡ from) × IsSomeAnd (change table.now from from) (λ secs. l ≡ later label secs)) }
+    ensures { Takes labels.old labels.new (λ q l. (q ≡ from)
+        × IsSomeAnd (change table.now from from) (λ secs. l ≡ later label secs)) }
 {
     if let Some(secs) = table.change(from, from) {
         offer(labels, from, label.later(secs));
@@ -86,28 +95,35 @@ fn offer_own(table: &Timetable, labels: &mut [Option<Label>], from: StopNo, labe
 }
 
 // Offers the label to each stop that one can change to.
-fn offer_changes(table: &Timetable, labels: &mut [Option<Label>], from: StopNo, label: Label)
+fn offer_changes(
+    table: &Timetable,
+    labels: &mut [Option<StopLabel>],
+    from: StopNo,
+    label: StopLabel,
+)
     requires from { from < length table.now.stops }
     requires rows { length labels.old ≡ length table.now.stops }
     requires time { label.time ≤ℤ pos 359999 }
-    ensures { Takes labels.old labels.new (λ q l. IsSomeAnd (change table.now from q) (λ secs. l ≡ later label secs)) }
+    ensures { Takes labels.old labels.new (λ q l. IsSomeAnd (change table.now from q)
+        (λ secs. l ≡ later label secs)) }
 {
     table.soundness();
     offer_own(table, labels, from, label);
     offer_footpaths(table, labels, from, label);
 }
 
-// The same for a label that a stop may have.
+// Offers the label that a stop may have to each stop that one can change to.
 fn offer_changes_if(
     table: &Timetable,
-    labels: &mut [Option<Label>],
+    labels: &mut [Option<StopLabel>],
     from: StopNo,
-    label: Option<Label>,
+    label: Option<StopLabel>,
 )
     requires from { from < length table.now.stops }
     requires rows { length labels.old ≡ length table.now.stops }
     requires time { IfSome label (λ l. l.time ≤ℤ pos 359999) }
-    ensures { Takes labels.old labels.new (λ q l. IsSomeAnd label (λ m. IsSomeAnd (change table.now from q) (λ secs. l ≡ later m secs))) }
+    ensures { Takes labels.old labels.new (λ q l. IsSomeAnd label
+        (λ m. IsSomeAnd (change table.now from q) (λ secs. l ≡ later m secs))) }
 {
     if let Some(label) = label {
         offer_changes(table, labels, from, label);
@@ -117,8 +133,8 @@ fn offer_changes_if(
 // Offers the label of each stop to the stops that one can change to from there.
 pub(crate) fn offer_all_changes(
     table: &Timetable,
-    labels: &mut [Option<Label>],
-    arrived: &[Option<Label>],
+    labels: &mut [Option<StopLabel>],
+    arrived: &[Option<StopLabel>],
 )
     requires rows { length labels.old ≡ length table.now.stops }
     requires arrived { length arrived.now ≡ length table.now.stops }
@@ -131,17 +147,19 @@ pub(crate) fn offer_all_changes(
     }
 }
 
-// Offers each stop that one can walk to from an origin the asked time, later by the seconds of the walk.
+// Offers each stop that one can walk to from an origin the asked time, later by the seconds of the
+// walk.
 pub(crate) fn offer_origins(
     table: &Timetable,
-    labels: &mut [Option<Label>],
+    labels: &mut [Option<StopLabel>],
     origins: &[StopNo],
-    start: Label,
+    start: StopLabel,
 )
     requires origins { All (λ p. p < length table.now.stops) origins.now }
     requires rows { length labels.old ≡ length table.now.stops }
     requires time { start.time ≤ℤ pos 359999 }
-    ensures { Takes labels.old labels.new (λ q l. IsOfferedByOrigin table.now origins.now start q l) }
+    ensures { Takes labels.old labels.new (λ q l. IsOfferedByOrigin table.now origins.now start q
+        l) }
 {
     for origin in origins {
         offer_walks(table, labels, *origin, start);

@@ -7,7 +7,7 @@ ghost use Rattle.plain_rounds.specs.Rounds.{ride_of};
 ghost use Rattle.plain_rounds.specs.Rides.{IsTrace};
 ghost use Rattle.plain_rounds.specs.Shown.{IsAsNear, IsNearestOf, IsInside, ride_leg, secs_by, stop_of};
 
-use super::arrivals::Step;
+use super::arrivals::PlainRide;
 use std::alloc::Global;
 use tb_base::{Leg, Memory, StopNo, Timetable};
 
@@ -61,7 +61,8 @@ fn nearer(best: Option<Near>, stop: StopNo, secs: Option<u32>) -> Option<Near>
     }
 }
 
-/// The nearest of the stops, where there is a walk at all; of equally near ones that with the lowest number.
+/// The nearest of the stops, where there is a walk at all; of equally near ones that with the
+/// lowest number.
 pub fn nearest(table: &Timetable, walks: &Walks, stops: &[StopNo]) -> Option<Near>
     requires stop { stop_of walks.now < length table.now.stops }
     requires stops { All (λ p. p < length table.now.stops) stops.now }
@@ -76,19 +77,20 @@ pub fn nearest(table: &Timetable, walks: &Walks, stops: &[StopNo]) -> Option<Nea
     best
 }
 
-/// The rides that end in the step at a place, in order.
+/// The rides that end in the one at a place, in order.
 pub(crate) fn rides_to(
     alloc: Global,
-    steps: &[Step],
+    ridden: &[PlainRide],
     last: Option<usize>,
-) -> Result<Vec<Step>, Memory>
-    requires { (back : List Ride) × IsTrace steps.now back last }
-    ensures { IfOk result (λ rides. (back : List Ride) → IsTrace steps.now back last → map ride_of rides.items ≡ reverse back) }
+) -> Result<Vec<PlainRide>, Memory>
+    requires { (back : List Ride) × IsTrace ridden.now back last }
+    ensures { IfOk result (λ rides. (back : List Ride) → IsTrace ridden.now back last →
+        map ride_of rides.items ≡ reverse back) }
 {
     let mut rides = Vec::new(alloc);
     let mut at = last;
     while let Some(place) = at {
-        let step = steps[place];
+        let step = ridden[place];
         at = step.before;
         rides.push(step)?;
     }
@@ -120,12 +122,14 @@ fn push_ride(
     table: &Timetable,
     legs: &mut Vec<Leg>,
     from: StopNo,
-    ride: Step,
+    ride: PlainRide,
 ) -> Result<StopNo, Memory>
     requires from { from < length table.now.stops }
     requires ride { IsInside table.now ride }
     ensures stop { IfOk result (λ stop. stop ≡ stop_at table.now ride.trip ride.alight) }
-    ensures legs { OnOk result (legs.new.items ≡ (legs.old.items ++ walk_legs table.now from (stop_at table.now ride.trip ride.board)) ++ ride_leg ride ∷ []) }
+    ensures legs { OnOk result (legs.new.items ≡ (legs.old.items
+        ++ walk_legs table.now from (stop_at table.now ride.trip ride.board))
+        ++ ride_leg ride ∷ []) }
 {
     let events = table.trip(ride.trip).events.as_slice();
     push_walk(table, legs, from, events[ride.board as usize].stop)?;
@@ -142,13 +146,14 @@ pub(crate) fn spell(
     alloc: Global,
     table: &Timetable,
     origin: StopNo,
-    rides: &[Step],
+    rides: &[PlainRide],
     target: StopNo,
 ) -> Result<Vec<Leg>, Memory>
     requires origin { origin < length table.now.stops }
     requires target { target < length table.now.stops }
     requires rides { All (IsInside table.now) rides.now }
-    ensures { IfOk result (λ legs. legs.items ≡ legs_of table.now origin (map ride_of rides.now) target) }
+    ensures { IfOk result (λ legs. legs.items ≡ legs_of table.now origin (map ride_of rides.now)
+        target) }
 {
     table.soundness();
     let mut legs = Vec::new(alloc);

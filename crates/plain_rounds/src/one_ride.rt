@@ -66,11 +66,12 @@ fn arrival_from(table: &Timetable, targets: &[StopNo], event: &Event) -> Option<
     best
 }
 
-// The same for one who is aboard there, and none for one who isn't.
+// The least arrival at a target from the event for one who is aboard, and none for one who isn't.
 fn arrival_if(aboard: bool, table: &Timetable, targets: &[StopNo], event: &Event) -> Option<Sec>
     requires targets { All (λ p. p < length table.now.stops) targets.now }
     requires event { IsSoundEvent (length table.now.stops) event.now }
-    ensures { IsLeast (λ time. IsTrue aboard × ArrivesAt table.now targets.now event.now time) result }
+    ensures { IsLeast (λ time. IsTrue aboard × ArrivesAt table.now targets.now event.now time)
+        result }
 {
     if aboard {
         arrival_from(table, targets, event)
@@ -79,7 +80,7 @@ fn arrival_if(aboard: bool, table: &Timetable, targets: &[StopNo], event: &Event
     }
 }
 
-// Whether one of the two holds.
+// Whether one of the two holds, as a function, since a loop's invariant speaks of both.
 fn either(a: bool, b: bool) -> bool
     ensures { IsTrue result ↔ (IsTrue a ⊎ IsTrue b) }
 {
@@ -132,7 +133,12 @@ fn direct_between(
 ) -> Option<Sec>
     requires origins { All (λ p. p < length table.now.stops) origins.now }
     requires targets { All (λ p. p < length table.now.stops) targets.now }
-    ensures { IsLeast (IsDirectArrival table.now (record { from = origins.now; to = targets.now; leave = asked })) result }
+    ensures { IsLeast (IsDirectArrival table.now (record {
+      from = origins.now;
+      to =
+          targets.now;
+      leave = asked;
+    })) result }
 {
     let mut best = None;
     for t in 0..table.trip_count() {

@@ -5,7 +5,7 @@ ghost use Rattle.plain_rounds.specs.Labels.{Takes, AreEarly, IsOfferedByChange, 
 ghost use Rattle.plain_rounds.specs.Rounds.{AreKept, last_index, IsBoardable, LetsBoard, NoneBoards, TakesRides};
 
 use super::arrivals::{Arrivals, Boarding};
-use super::labels::{Label, offer_all_changes, offer_origins};
+use super::labels::{StopLabel, offer_all_changes, offer_origins};
 use std::alloc::Global;
 use tb_base::{Event, Memory, Sec, StopNo, Timetable, TripNo};
 
@@ -13,17 +13,18 @@ use tb_base::{Event, Memory, Sec, StopNo, Timetable, TripNo};
 #[derive(Drop)]
 pub(crate) struct Rounds {
     /// By stop, the least time from which a trip can be boarded there.
-    pub ready: Vec<Option<Label>>,
+    pub ready: Vec<Option<StopLabel>>,
     /// The least arrivals.
     pub arrivals: Arrivals,
     /// By trip, the first index where it was boarded, and its last index where it was not.
-    pub marks: Vec<u32>,
+    pub boarded_at: Vec<u32>,
 }
 
 // The label of the event's stop, where one can board there.
-fn boarding_label(ready: &[Option<Label>], event: &Event) -> Option<Label>
+fn boarding_label(ready: &[Option<StopLabel>], event: &Event) -> Option<StopLabel>
     requires { event.now.stop < length ready.now }
-    ensures { MatchOption result ((before : Option ℕ) → LetsBoard ready.now event.now before → ⊥) (λ l. LetsBoard ready.now event.now l.ride) }
+    ensures { MatchOption result ((before : Option ℕ) → LetsBoard ready.now event.now before → ⊥)
+        (λ l. LetsBoard ready.now event.now l.ride) }
 {
     if !event.board {
         return None;
@@ -40,13 +41,15 @@ fn boarding_label(ready: &[Option<Label>], event: &Event) -> Option<Label>
     }
 }
 
-// Where one can board a trip first, before the mark.
-fn first_boarding(ready: &[Option<Label>], events: &[Event], mark: u32) -> Option<Boarding>
-    requires mark { mark < length events.now }
+// Where one can board a trip first, before an index.
+fn first_boarding(ready: &[Option<StopLabel>], events: &[Event], until: u32) -> Option<Boarding>
+    requires until { until < length events.now }
     requires stops { All (λ e. e.stop < length ready.now) events.now }
-    ensures { MatchOption result (NoneBoards ready.now events.now mark) (λ f. (f.at < mark) × NoneBoards ready.now events.now f.at × LetsBoard ready.now (slice_index_or events.now f.at no_event) f.before) }
+    ensures { MatchOption result (NoneBoards ready.now events.now until) (λ f. (f.at < until)
+        × NoneBoards ready.now events.now f.at × LetsBoard ready.now
+        (slice_index_or events.now f.at no_event) f.before) }
 {
-    for at in 0..mark {
+    for at in 0..until {
         if let Some(label) = boarding_label(ready, &events[at as usize]) {
             return Some(Boarding {
                 at,
@@ -58,7 +61,7 @@ fn first_boarding(ready: &[Option<Label>], events: &[Event], mark: u32) -> Optio
 }
 
 // No labels for so many stops.
-fn no_labels(alloc: Global, stops: usize) -> Result<Vec<Option<Label>>, Memory>
+fn no_labels(alloc: Global, stops: usize) -> Result<Vec<Option<StopLabel>>, Memory>
     ensures { IfOk result (λ labels. labels.items ≡ replicate stops None) }
 {
     let labels = vec![in alloc; None; stops]?;
@@ -67,15 +70,15 @@ fn no_labels(alloc: Global, stops: usize) -> Result<Vec<Option<Label>>, Memory>
 
 // The last index of each trip.
 fn last_indexes(alloc: Global, table: &Timetable) -> Result<Vec<u32>, Memory>
-    ensures { IfOk result (λ marks. marks.items ≡ map last_index table.now.trips) }
+    ensures { IfOk result (λ boarded_at. boarded_at.items ≡ map last_index table.now.trips) }
 {
     table.soundness();
-    let mut marks = Vec::new(alloc);
+    let mut boarded_at = Vec::new(alloc);
     for t in 0..table.trip_count() {
         let trip = table.trip(TripNo(t));
-        marks.push((trip.events.len() - 1) as u32)?;
+        boarded_at.push((trip.events.len() - 1) as u32)?;
     }
-    Ok(marks)
+    Ok(boarded_at)
 }
 
 impl Rounds {
@@ -84,28 +87,30 @@ impl Rounds {
         alloc: Global,
         table: &Timetable,
         origins: &[StopNo],
-        start: Label,
+        start: StopLabel,
     ) -> Result<Rounds, Memory>
         requires origins { All (λ p. p < length table.now.stops) origins.now }
         requires time { start.time ≤ℤ pos 359999 }
         ensures kept { IfOk result (λ rounds. AreKept table.now rounds) }
-        ensures ready { IfOk result (λ rounds. Takes (replicate (length table.now.stops) None) rounds.ready.items (IsOfferedByOrigin table.now origins.now start)) }
-        ensures arrivals { IfOk result (λ rounds. rounds.arrivals.labels.items ≡ replicate (length table.now.stops) None) }
-        ensures steps { IfOk result (λ rounds. rounds.arrivals.steps.items ≡ []) }
-        ensures few { IfOk result (λ rounds. sum rounds.marks.items ≤ 10000000) }
+        ensures ready { IfOk result (λ rounds. Takes (replicate (length table.now.stops) None)
+            rounds.ready.items (IsOfferedByOrigin table.now origins.now start)) }
+        ensures arrivals { IfOk result (λ rounds. rounds.arrivals.labels.items
+            ≡ replicate (length table.now.stops) None) }
+        ensures ridden { IfOk result (λ rounds. rounds.arrivals.ridden.items ≡ []) }
+        ensures few { IfOk result (λ rounds. sum rounds.boarded_at.items ≤ 10000000) }
     {
         table.soundness();
         let mut ready = no_labels(alloc, table.stop_count() as usize)?;
         offer_origins(table, ready.as_mut_slice(), origins, start);
         let arrivals = Arrivals {
             labels: no_labels(alloc, table.stop_count() as usize)?,
-            steps: Vec::new(alloc),
+            ridden: Vec::new(alloc),
         };
-        let marks = last_indexes(alloc, table)?;
+        let boarded_at = last_indexes(alloc, table)?;
         Ok(Rounds {
             ready,
             arrivals,
-            marks,
+            boarded_at,
         })
     }
 
@@ -114,9 +119,10 @@ impl Rounds {
         requires kept { AreKept table.now self.old }
         requires times { AreEarly self.old.arrivals.labels.items }
         ensures kept { AreKept table.now self.new }
-        ensures takes { Takes self.old.ready.items self.new.ready.items (IsOfferedByChange table.now self.old.arrivals.labels.items) }
+        ensures takes { Takes self.old.ready.items self.new.ready.items
+            (IsOfferedByChange table.now self.old.arrivals.labels.items) }
         ensures arrivals { self.new.arrivals ≡ self.old.arrivals }
-        ensures marks { self.new.marks ≡ self.old.marks }
+        ensures boarded_at { self.new.boarded_at ≡ self.old.boarded_at }
     {
         offer_all_changes(
             table,
@@ -125,39 +131,48 @@ impl Rounds {
         );
     }
 
-    // Boards a trip where it can be boarded before its mark.
+    // Boards a trip where it can be boarded before it was so far.
     fn ride_trip(&mut self, table: &Timetable, trip: TripNo) -> Result<(), Memory>
         requires trip { trip < length table.now.trips }
         requires kept { AreKept table.now self.old }
         ensures kept { OnOk result (AreKept table.now self.new) }
         ensures ready { OnOk result (self.new.ready.items ≡ self.old.ready.items) }
-        ensures takes { OnOk result (TakesRides table.now self.old.arrivals self.new.arrivals (λ s. (s.trip ≡ trip) × IsBoardable table.now self.old.ready.items s)) }
-        ensures few { OnOk result (length self.new.arrivals.steps.items + sum self.new.marks.items ≤ length self.old.arrivals.steps.items + sum self.old.marks.items) }
+        ensures takes { OnOk result (TakesRides table.now self.old.arrivals self.new.arrivals
+            (λ s. (s.trip ≡ trip) × IsBoardable table.now self.old.ready.items s)) }
+        ensures few { OnOk result (length self.new.arrivals.ridden.items + sum
+            self.new.boarded_at.items ≤ length self.old.arrivals.ridden.items + sum
+            self.old.boarded_at.items) }
     {
         table.soundness();
         let events = table.trip(trip).events.as_slice();
-        let mark = self.marks[trip.index()];
-        let Some(boarding) = first_boarding(self.ready.as_slice(), events, mark) else {
+        let until = self.boarded_at[trip.index()];
+        let Some(boarding) = first_boarding(self.ready.as_slice(), events, until) else {
             return Ok(());
         };
-        self.arrivals.alight_along(table, trip, boarding, mark)?;
-        self.marks[trip.index()] = boarding.at;
+        self.arrivals.alight_along(table, trip, boarding, until)?;
+        self.boarded_at[trip.index()] = boarding.at;
         Ok(())
     }
 
-    /// One more ride: boards each trip where it can be boarded before its mark. Says whether one arrives anywhere sooner.
+    /// One more ride: boards each trip where it can be boarded before it was so far. Says whether
+    /// one arrives anywhere sooner.
     pub(crate) fn ride(&mut self, table: &Timetable) -> Result<bool, Memory>
         requires { AreKept table.now self.old }
         ensures kept { OnOk result (AreKept table.now self.new) }
         ensures ready { OnOk result (self.new.ready.items ≡ self.old.ready.items) }
-        ensures takes { OnOk result (TakesRides table.now self.old.arrivals self.new.arrivals (IsBoardable table.now self.old.ready.items)) }
-        ensures few { OnOk result (length self.new.arrivals.steps.items + sum self.new.marks.items ≤ length self.old.arrivals.steps.items + sum self.old.marks.items) }
-        ensures sooner { IfOk result (λ sooner. MatchBool sooner (length self.old.arrivals.steps.items < length self.new.arrivals.steps.items) (length self.new.arrivals.steps.items ≡ length self.old.arrivals.steps.items)) }
+        ensures takes { OnOk result (TakesRides table.now self.old.arrivals self.new.arrivals
+            (IsBoardable table.now self.old.ready.items)) }
+        ensures few { OnOk result (length self.new.arrivals.ridden.items + sum
+            self.new.boarded_at.items ≤ length self.old.arrivals.ridden.items + sum
+            self.old.boarded_at.items) }
+        ensures sooner { IfOk result (λ sooner. MatchBool sooner
+            (length self.old.arrivals.ridden.items < length self.new.arrivals.ridden.items)
+            (length self.new.arrivals.ridden.items ≡ length self.old.arrivals.ridden.items)) }
     {
-        let before = self.arrivals.steps.len();
+        let before = self.arrivals.ridden.len();
         for t in 0..table.trip_count() {
             self.ride_trip(table, TripNo(t))?;
         }
-        Ok(self.arrivals.steps.len() > before)
+        Ok(self.arrivals.ridden.len() > before)
     }
 }

@@ -10,24 +10,20 @@ use super::leaving::leaving_times;
 use super::searching::{ask_at, begin, copy_values, query_after, search};
 use super::slots::add_offers;
 use earliest_query::Sweep;
-use segment_queue::{Desk, Scan, Steps};
+use segment_queue::{Desk, Look, Scan, Steps};
 use std::alloc::Global;
-use std::marker::Brand;
-use std::sync::ledger::{Blank, Ledger};
+use std::sync::ledger::Ledger;
 use tb_base::{Memory, Offer, Query, Timetable, Window};
 
-// The offers of a window, with a ledger that nobody else counts in.
-fn offers_of<S: Scan, L: Ledger>(
+// The offers of a window.
+fn offers_of<L: Ledger, S: Look<L>>(
     alloc: Global,
     scan: &S,
     table: &Timetable,
     window: &Window,
     desk: &mut Desk,
-    blank: Blank,
+    steps: &mut Steps<L>,
 ) -> Result<Vec<Offer>, Memory>
-    requires name { blank.name ≡ L.name }
-    requires parts { blank.parts ≡ L.parts }
-    requires some { 0 < L.parts }
     requires table { (S.net scan.now).table ≡ table.now }
     requires fits { Fits table.now desk.old }
     requires origins { All (λ p. p < length table.now.stops) window.now.from }
@@ -44,17 +40,16 @@ fn offers_of<S: Scan, L: Ledger>(
     ensures fits { Fits table.now desk.new }
 {
     table.soundness();
-    let mut steps = Steps::<L>::new(blank);
     let mut query = query_after(alloc, window)?;
-    let mut times = leaving_times(alloc, scan, table, window, &mut steps)?;
+    let mut times = leaving_times(alloc, scan, table, window, steps)?;
     let mut sweep = Sweep::new(alloc);
-    begin(alloc, scan, table, &query, desk, &mut sweep, &mut steps)?;
+    begin(alloc, scan, table, &query, desk, &mut sweep, steps)?;
     let mut later = Vec::new(alloc);
     let mut offers = Vec::new(alloc);
     while let Some(time) = times.pop() {
         copy_values(&mut later, sweep.values())?;
         ask_at(&mut query, time);
-        search(alloc, scan, table, &query, desk, &mut sweep, &mut steps)?;
+        search(alloc, scan, table, &query, desk, &mut sweep, steps)?;
         add_offers(alloc, &mut offers, desk, table, &query, later.as_slice())?;
     }
     Ok(offers)
@@ -78,15 +73,17 @@ fn empty<S: Scan>(alloc: Global, scan: &S, desk: &mut Desk)
 /// first, each with the legs of a journey that has it and changes by hops of the set alone. Any
 /// sufficient set of hops gives the same slots. The window is swept from its end: once a second
 /// after it, and at each time within it at which one can leave an origin for a first ride. What a
-/// later time has reached with no more rides isn't entered again; no clause bounds the work.
+/// later time has reached with no more rides isn't entered again. Each look is a step on the
+/// counter, but no clause bounds how many there are.
 /// Refused only for want of memory, as which more segments count than 32 bits can number; then the
 /// desk fits still and its queue is empty.
-pub fn profile<S: Scan>(
+pub fn profile<L: Ledger, S: Look<L>>(
     alloc: Global,
     scan: &S,
     table: &Timetable,
     window: &Window,
     desk: &mut Desk,
+    steps: &mut Steps<L>,
 ) -> Result<Vec<Offer>, Memory>
     requires table { (S.net scan.now).table ≡ table.now }
     requires fits { Fits table.now desk.old }
@@ -104,7 +101,7 @@ pub fn profile<S: Scan>(
     ensures fits { Fits table.now desk.new }
     ensures emptied { OnErr result (desk.new.segments ≡ []) }
 {
-    let offers = offers_of::<S, Brand>(alloc, scan, table, window, desk, Blank::new(1));
+    let offers = offers_of(alloc, scan, table, window, desk, steps);
     match offers {
         Ok(offers) => Ok(offers),
         Err(refused) => {

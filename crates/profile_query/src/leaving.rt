@@ -3,7 +3,7 @@ ghost use Rattle.std.specs.Prelude.{◌≡◌, ◌<◌, ◌≤◌, ◌≤ℤ◌,
 ghost use Rattle.segment_queue.specs.Scans.{line_indices_at};
 ghost use Rattle.profile_query.specs.Leaving.{AreLeavingTimes, DepartsAt, HaveJoined, IsLineDeparture, IsWithin, LeavesFor, line_departure};
 
-use segment_queue::{Scan, Steps};
+use segment_queue::{Look, Steps};
 use std::alloc::Global;
 use std::sync::ledger::Ledger;
 use tb_base::{Memory, Path, Sec, StopNo, Timetable, Window};
@@ -23,7 +23,7 @@ fn is_past(window: &Window, time: Sec) -> bool
 }
 
 // When the first trip from the time on departs that can be boarded at a stop on the line index with this number.
-fn line_departure<S: Scan, L: Ledger>(
+fn line_departure<L: Ledger, S: Look<L>>(
     scan: &S,
     table: &Timetable,
     stop: StopNo,
@@ -46,7 +46,7 @@ fn line_departure<S: Scan, L: Ledger>(
 
 // Adds the times within a window at which one leaves who takes a path, and boards at its end the
 // line index with this number.
-fn gather_line<S: Scan, L: Ledger>(
+fn gather_line<L: Ledger, S: Look<L>>(
     scan: &S,
     table: &Timetable,
     window: &Window,
@@ -81,7 +81,7 @@ fn gather_line<S: Scan, L: Ledger>(
 }
 
 // Adds the times within a window at which one leaves who takes a path, and boards at its end.
-fn gather_at<S: Scan, L: Ledger>(
+fn gather_at<L: Ledger, S: Look<L>>(
     scan: &S,
     table: &Timetable,
     window: &Window,
@@ -106,7 +106,7 @@ fn gather_at<S: Scan, L: Ledger>(
 }
 
 // Adds the times within a window at which one leaves an origin for a first ride.
-fn gather_from<S: Scan, L: Ledger>(
+fn gather_from<L: Ledger, S: Look<L>>(
     scan: &S,
     table: &Timetable,
     window: &Window,
@@ -144,7 +144,7 @@ fn put_in_order(times: &mut Vec<Sec>)
 /// The leaving times of a window in order, each once. It boards each line index at the stops with
 /// a walk from an origin once for each of its departures within the window, and once more, and
 /// sorts. Refused only for want of memory.
-pub(crate) fn leaving_times<S: Scan, L: Ledger>(
+pub(crate) fn leaving_times<L: Ledger, S: Look<L>>(
     alloc: Global,
     scan: &S,
     table: &Timetable,

@@ -7,7 +7,7 @@ ghost use Rattle.earliest_query.specs.Sweeping.{IsSweptSoFar};
 ghost use Rattle.profile_query.specs.Slots.{AreFound, AreLater};
 
 use earliest_query::Sweep;
-use segment_queue::{Desk, Scan, Steps};
+use segment_queue::{Desk, Look, Steps};
 use std::alloc::Global;
 use std::sync::ledger::Ledger;
 use tb_base::{Memory, Query, Sec, Timetable, Value, Window};
@@ -46,7 +46,7 @@ pub(crate) fn copy_values(values: &mut Vec<Value>, others: &[Value]) -> Result<(
 
 /// Comes down to the time of the query, from a later one or the same. The desk has the values then
 /// found, and the sweep those of all who leave no earlier.
-pub(crate) fn search<S: Scan, L: Ledger>(
+pub(crate) fn search<L: Ledger, S: Look<L>>(
     alloc: Global,
     scan: &S,
     table: &Timetable,
@@ -77,7 +77,7 @@ pub(crate) fn search<S: Scan, L: Ledger>(
 
 /// Begins a sweep at the time of a query, with the values of all who leave no earlier: none where
 /// nothing departs any more.
-pub(crate) fn begin<S: Scan, L: Ledger>(
+pub(crate) fn begin<L: Ledger, S: Look<L>>(
     alloc: Global,
     scan: &S,
     table: &Timetable,

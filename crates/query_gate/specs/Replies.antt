@@ -1,10 +1,11 @@
 -- Which replies are right.
-use Rattle.std.specs.Prelude.{◌≡◌, ◌<◌, ⊤, ℕ, List, Ok, Err, All, map}
+use Rattle.std.specs.Prelude.{◌≡◌, ◌+◌, ◌<◌, ⊤, ℕ, List, Result, Ok, Err, All, map}
 use Rattle.tb_base.specs.BestValues.{AreBestValues, ChoiceData, QueryData}
 use Rattle.tb_base.specs.JourneyRules.{HasNumbers, SpellSlot}
 use Rattle.tb_base.specs.Network.{NetData}
 use Rattle.tb_base.specs.Profiles.{IsProfile, OfferData, WindowData}
-use Rattle.tb_base.specs.TimetableData.{TimetableData}
+use Rattle.tb_base.specs.TimetableData.{TimetableData, event_total}
+use Rattle.earliest_query.specs.Choices.{lines_near}
 use Rattle.plain_rounds.specs.Shown.{SpellShortest}
 use Rattle.segment_queue.specs.Queue.{DeskData}
 use Rattle.segment_queue.specs.Traced.{IsAnswered, LegsFollow}
@@ -72,3 +73,13 @@ HaveNumbers T (Values choices) = All (λ c. All (HasNumbers T) (ChoiceData.legs 
 HaveNumbers T (Slots offers) = All (λ o. All (HasNumbers T) (OfferData.legs o)) offers.items
 HaveNumbers T (UnknownStop name) = ⊤
 HaveNumbers T (Deferred number) = ⊥
+
+-- the most looks of a search from these stops: one at each event, and one at each line of the stops
+-- with a walk from an origin
+abbrev pub search_looks : NetData → List ℕ → ℕ
+search_looks N from = event_total N.table + lines_near N from
+
+-- the most looks for a question between two places: those of one search; none if a name is no place
+abbrev pub looks_between : NetData → Result Ends (List ℕ) → ℕ
+looks_between N (Ok ends) = search_looks N ends.from
+looks_between N (Err name) = 0

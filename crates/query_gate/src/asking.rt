@@ -1,19 +1,22 @@
 //! The best values between two named places.
-ghost use Rattle.std.specs.Prelude.{◌≡◌, ◌≤ℤ◌, IfOk, pos};
+ghost use Rattle.std.specs.Prelude.{◌≡◌, ◌+◌, ◌≤◌, ◌≤ℤ◌, IfOk, pos};
 ghost use Rattle.edition_store.specs.Editions.{net_of};
-ghost use Rattle.query_gate.specs.Replies.{HaveNumbers, IsAskReply, LeavesAnswered};
+ghost use Rattle.query_gate.specs.Questions.{ends_between};
+ghost use Rattle.query_gate.specs.Replies.{HaveNumbers, IsAskReply, LeavesAnswered, looks_between};
 
 use crate::between::{Between, stops_between};
 use crate::choices::best_choices;
 use crate::reply::Reply;
 use edition_store::Edition;
-use segment_queue::Desk;
+use segment_queue::{Desk, Steps};
 use std::alloc::Global;
 use std::marker::Model;
+use std::sync::ledger::Ledger;
 use tb_base::{Memory, Name, Query, Sec};
 
-/// A question for the best values: from which edition on it may be answered, from which place to which, by the names of stops or
-/// stations, and how early one can leave, in seconds since noon minus twelve hours.
+/// A question for the best values: from which edition on it may be answered, from which place to
+/// which, by the names of stops or stations, and how early one can leave, in seconds since noon
+/// minus twelve hours.
 #[derive(Drop)]
 pub struct AskText {
     /// The number of an edition, from 1; 0 for any.
@@ -31,20 +34,25 @@ impl Model for AskText {
     ghost view = { λ q. record { since = q.since; from = q.from; to = q.to; leave = q.leave } };
 }
 
-/// Answers a question for the best values over an edition, whatever its number is: `UnknownStop` exactly where it has no stop and no station with a name, the
-/// origin's tried first, else `Values`; and then the desk holds the answer, whose hits have these values. The desk may have served any
-/// network before; it is made to fit. Refused only for want of memory.
-pub fn ask(
+/// Answers a question for the best values over an edition, whatever its number is: `UnknownStop`
+/// exactly where it has no stop and no station with a name, the origin's tried first, else `Values`;
+/// and then the desk holds the answer, whose hits have these values. The desk may have served any
+/// network before; it is made to fit. Between two places it looks at most once at each event, and
+/// once at each line of the stops near an origin. Refused only for want of memory.
+pub fn ask<L: Ledger>(
     alloc: Global,
     edition: &Edition,
     desk: &mut Desk,
     text: &AskText,
+    steps: &mut Steps<L>,
 ) -> Result<Reply, Memory>
     requires { text.now.leave ≤ℤ pos 359999 }
     ensures reply { IfOk result (IsAskReply (net_of edition.now) text.now) }
     ensures numbers { IfOk result (HaveNumbers edition.now.table) }
     ensures desk { IfOk result
         (λ reply. LeavesAnswered (net_of edition.now) text.now reply desk.new) }
+    ensures looks { steps.new ≤ steps.old + looks_between (net_of edition.now)
+        (ends_between edition.now.table text.now.from text.now.to) }
 {
     edition.soundness();
     let table = edition.table();
@@ -57,7 +65,7 @@ pub fn ask(
                 leave: text.leave,
             };
             desk.make_room(edition)?;
-            Ok(Reply::Values(best_choices(alloc, edition, table, &query, desk)?))
+            Ok(Reply::Values(best_choices(alloc, edition, table, &query, desk, steps)?))
         }
     }
 }

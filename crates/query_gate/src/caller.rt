@@ -5,9 +5,10 @@ ghost use Rattle.edition_store.specs.Editions.{net_of};
 ghost use Rattle.query_gate.specs.Callers.{AnswersAsk, AnswersProfile, CallerData, IsAnsweredBy, IsProfiledBy, LeavesAnsweredBy};
 ghost use Rattle.query_gate.specs.Replies.{LeavesAnswered};
 
-use crate::asking::{AskText, ask};
-use crate::profiling::{ProfileText, profile};
+use crate::asking::AskText;
+use crate::profiling::ProfileText;
 use crate::reply::Reply;
+use crate::uncounted::{ask, profile};
 use edition_store::{Edition, Last, Naming, Pinned, Receipt, Seat};
 use segment_queue::Desk;
 use std::alloc::Global;

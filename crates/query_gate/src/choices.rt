@@ -1,44 +1,30 @@
 //! The best values of a query over any network whose hops suffice.
-ghost use Rattle.std.specs.Prelude.{◌≡◌, ◌<◌, ◌≤ℤ◌, All, IfOk, length, map, pos};
+ghost use Rattle.std.specs.Prelude.{◌≡◌, ◌+◌, ◌<◌, ◌≤◌, ◌≤ℤ◌, All, IfOk, length, map, pos};
 ghost use Rattle.tb_base.specs.BestValues.{ChoiceData};
 ghost use Rattle.tb_base.specs.Sufficiency.{AreSufficient};
 ghost use Rattle.segment_queue.specs.Queue.{Fits};
 ghost use Rattle.segment_queue.specs.Traced.{IsAnswered};
-ghost use Rattle.query_gate.specs.Replies.{AreBestChoices};
+ghost use Rattle.query_gate.specs.Replies.{AreBestChoices, search_looks};
 
 use earliest_query::earliest;
 use journey_unfold::choices;
-use segment_queue::{Desk, Scan, Steps};
+use segment_queue::{Desk, Look, Steps};
 use std::alloc::Global;
-use std::marker::Brand;
-use std::sync::ledger::{Blank, Ledger};
+use std::sync::ledger::Ledger;
 use tb_base::{Choice, Memory, Query, Timetable};
 
-// Searches on a ledger that nobody else counts in.
-fn search_on<S: Scan, L: Ledger>(scan: &S, query: &Query, desk: &mut Desk, blank: Blank)
-    requires name { blank.name ≡ L.name }
-    requires parts { blank.parts ≡ L.parts }
-    requires some { 0 < L.parts }
-    requires fits { Fits (S.net scan.now).table desk.old }
-    requires origins { All (λ p. p < length (S.net scan.now).table.stops) query.now.from }
-    requires leave { query.now.leave ≤ℤ pos 359999 }
-    requires sufficient { AreSufficient (S.net scan.now).table (S.net scan.now).hops }
-    ensures fits { Fits (S.net scan.now).table desk.new }
-    ensures answered { IsAnswered (S.net scan.now) query.now desk.new }
-{
-    let mut steps = Steps::<L>::new(blank);
-    earliest(scan, query, desk, &mut steps);
-}
-
-/// The best values in order, each with the legs of a journey that has it: by the shortest walks at both ends, and with changes by
-/// hops of the network alone. Any sufficient hops give the same values. The search takes no memory, since the desk was made to fit
-/// before; the list of choices does. Refused only for want of memory, and then the desk fits and is answered still.
-pub fn best_choices<S: Scan>(
+/// The best values in order, each with the legs of a journey that has it: by the shortest walks at
+/// both ends, and with changes by hops of the network alone. Any sufficient hops give the same
+/// values. The search takes no memory, since the desk was made to fit before; the list of choices
+/// does. It looks at most once at each event, and once at each line of the stops near an origin.
+/// Refused only for want of memory, and then the desk fits and is answered still.
+pub fn best_choices<L: Ledger, S: Look<L>>(
     alloc: Global,
     scan: &S,
     table: &Timetable,
     query: &Query,
     desk: &mut Desk,
+    steps: &mut Steps<L>,
 ) -> Result<Vec<Choice>, Memory>
     requires table { (S.net scan.now).table ≡ table.now }
     requires fits { Fits table.now desk.old }
@@ -51,7 +37,8 @@ pub fn best_choices<S: Scan>(
         map ChoiceData.value cs.items ≡ map (λ h. h.value) desk.new.hits) }
     ensures fits { Fits table.now desk.new }
     ensures answered { IsAnswered (S.net scan.now) query.now desk.new }
+    ensures looks { steps.new ≤ steps.old + search_looks (S.net scan.now) query.now.from }
 {
-    search_on::<S, Brand>(scan, query, desk, Blank::new(1));
+    earliest(scan, query, desk, steps);
     choices(alloc, desk, table, query)
 }

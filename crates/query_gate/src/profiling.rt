@@ -6,13 +6,15 @@ ghost use Rattle.query_gate.specs.Replies.{HaveNumbers, IsProfileReply};
 use crate::between::{Between, stops_between};
 use crate::reply::Reply;
 use edition_store::Edition;
-use segment_queue::Desk;
+use segment_queue::{Desk, Steps};
 use std::alloc::Global;
 use std::marker::Model;
+use std::sync::ledger::Ledger;
 use tb_base::{Memory, Name, Sec, Window};
 
-/// A question for a profile: from which edition on it may be answered, from which place to which, by the names of stops or stations, and within which window one leaves, both
-/// ends counted, in seconds since noon minus twelve hours.
+/// A question for a profile: from which edition on it may be answered, from which place to which, by
+/// the names of stops or stations, and within which window one leaves, both ends counted, in seconds
+/// since noon minus twelve hours.
 #[derive(Drop)]
 pub struct ProfileText {
     /// The number of an edition, from 1; 0 for any.
@@ -37,13 +39,16 @@ impl Model for ProfileText {
     } };
 }
 
-/// Answers a question for a profile over an edition, whatever its number is: `UnknownStop` exactly where it has no stop and no station with a name, the
-/// origin's tried first, else `Slots`. The desk may have served any network before; it is made to fit. Refused only for want of memory.
-pub fn profile(
+/// Answers a question for a profile over an edition, whatever its number is: `UnknownStop` exactly
+/// where it has no stop and no station with a name, the origin's tried first, else `Slots`. The desk
+/// may have served any network before; it is made to fit. Each look is a step on the counter, but no
+/// clause bounds how many there are. Refused only for want of memory.
+pub fn profile<L: Ledger>(
     alloc: Global,
     edition: &Edition,
     desk: &mut Desk,
     text: &ProfileText,
+    steps: &mut Steps<L>,
 ) -> Result<Reply, Memory>
     requires { text.now.last ≤ℤ pos 359999 }
     ensures reply { IfOk result (IsProfileReply (net_of edition.now) text.now) }
@@ -61,7 +66,7 @@ pub fn profile(
                 last: text.last,
             };
             desk.make_room(edition)?;
-            let offers = profile_query::profile(alloc, edition, table, &window, desk)?;
+            let offers = profile_query::profile(alloc, edition, table, &window, desk, steps)?;
             Ok(Reply::Slots(offers))
         }
     }

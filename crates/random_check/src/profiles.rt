@@ -4,7 +4,7 @@ ghost use Rattle.segment_queue.specs.Queue.{Fits};
 
 use edition_store::Edition;
 use plain_rounds::plain_ask;
-use profile_query::profile;
+use query_gate::uncounted::offers;
 use segment_queue::Desk;
 use std::alloc::Global;
 use tb_base::{Memory, Query, Sec, Slot, Timetable, Value, Window};
@@ -98,8 +98,8 @@ pub fn same_slots(
     edition.soundness();
     let table = edition.table();
     let asked = slots_by_seconds(alloc, table, window, seconds)?;
-    let offers = profile(alloc, edition, table, window, desk)?;
-    let same = offers
+    let found = offers(alloc, edition, window, desk)?;
+    let same = found
         .iter()
         .map(|offer| offer.slot)
         .eq(asked.iter().copied());

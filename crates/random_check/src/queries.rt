@@ -6,7 +6,7 @@ use edition_store::Edition;
 use journey_rules::fault;
 use made_feeds::Draw;
 use plain_rounds::plain_ask;
-use query_gate::best_choices;
+use query_gate::uncounted::best_choices;
 use segment_queue::Desk;
 use std::alloc::Global;
 use tb_base::{Choice, Memory, Query, Sec, StopNo, Timetable, TripNo};
@@ -82,7 +82,7 @@ pub fn same_values(
 {
     edition.soundness();
     let table = edition.table();
-    let searched = best_choices(alloc, edition, table, query, desk)?;
+    let searched = best_choices(alloc, edition, query, desk)?;
     let plain = plain_ask(alloc, table, query)?;
     let same = have_same_values(searched.as_slice(), plain.as_slice());
     if same && break_no_rule(table, query, searched.as_slice()) {

@@ -16,6 +16,6 @@ mod view;
 pub use desk::{Desk, Hit, LastLeg, Segment};
 pub use levels::Levels;
 pub use marks::Marks;
-pub use scan::{Scan, Shape, Visit};
+pub use scan::{Look, Scan, Shape, Visit};
 pub use steps::Steps;
 pub use view::View;

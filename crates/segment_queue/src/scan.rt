@@ -64,30 +64,35 @@ pub trait Scan {
         requires { trip < length (net self.now).table.trips }
         ensures next { result ≡ slice_get (trips_from (net self.now).lines trip) 1 }
         ensures there { IfSome result (λ u. u < length (net self.now).table.trips) };
+}
 
+/// The looks of a search at a network: who boards a line, and an event of a trip. Each is a step on
+/// a counter of the ledger `L`, and there is no other way to look. So a search over any `L` counts
+/// all its looks where its caller counts, since no counter that it makes is of this ledger.
+pub trait Look<L: Ledger>: Scan {
     /// Who boards the line at the line index with this number at the stop, no earlier than the time. It is a step.
-    fn boarding<L: Ledger>(
+    fn boarding(
         &self,
         p: StopNo,
         berth: u32,
         time: Sec,
         steps: &mut Steps<L>,
     ) -> Option<Hop>
-        requires stop { p < length (net self.now).table.stops }
+        requires stop { p < length (Self.net self.now).table.stops }
         requires berth { berth
-            < length (line_indices_at (net self.now).table (net self.now).lines p) }
-        ensures hop { result ≡ boarding_hop (net self.now).table
-            (slice_index_or (line_indices_at (net self.now).table (net self.now).lines p) berth
+            < length (line_indices_at (Self.net self.now).table (Self.net self.now).lines p) }
+        ensures hop { result ≡ boarding_hop (Self.net self.now).table
+            (slice_index_or (line_indices_at (Self.net self.now).table (Self.net self.now).lines p) berth
             no_line_index) time }
         ensures step { steps.new ≡ steps.old + 1 };
 
     /// Event `at` of a trip. It is a step.
-    fn visit<L: Ledger>(&self, trip: TripNo, at: u32, steps: &mut Steps<L>) -> Visit<'_>
-        requires trip { trip < length (net self.now).table.trips }
-        requires at { at < length (events_of (net self.now).table trip) }
-        ensures stop { result.stop ≡ stop_at (net self.now).table trip at }
-        ensures arr { result.arr ≡ arrival_at (net self.now).table trip at }
-        ensures alight { result.alight ≡ (event_at (net self.now).table trip at).alight }
-        ensures out { result.out.now ≡ (net self.now).hops trip at }
+    fn visit(&self, trip: TripNo, at: u32, steps: &mut Steps<L>) -> Visit<'_>
+        requires trip { trip < length (Self.net self.now).table.trips }
+        requires at { at < length (events_of (Self.net self.now).table trip) }
+        ensures stop { result.stop ≡ stop_at (Self.net self.now).table trip at }
+        ensures arr { result.arr ≡ arrival_at (Self.net self.now).table trip at }
+        ensures alight { result.alight ≡ (event_at (Self.net self.now).table trip at).alight }
+        ensures out { result.out.now ≡ (Self.net self.now).hops trip at }
         ensures step { steps.new ≡ steps.old + 1 };
 }

@@ -4,7 +4,7 @@ ghost use Rattle.tb_base.specs.TimetableData.{arrival_at, event_at, events_of, s
 ghost use Rattle.tb_base.specs.Transfers.{may_be_boarded};
 ghost use Rattle.line_split.specs.LinesOf.{AreLinesOf};
 
-use super::scan::{Scan, Shape, Visit};
+use super::scan::{Look, Scan, Shape, Visit};
 use super::steps::Steps;
 use line_split::Lines;
 use std::marker::Model;
@@ -137,8 +137,10 @@ impl<'a, O: OutSet> Scan for View<'a, O> {
         }
         Some(trips[next])
     }
+}
 
-    fn boarding<L: Ledger>(
+impl<'a, O: OutSet, L: Ledger> Look<L> for View<'a, O> {
+    fn boarding(
         &self,
         p: StopNo,
         berth: u32,
@@ -159,7 +161,7 @@ impl<'a, O: OutSet> Scan for View<'a, O> {
         }
     }
 
-    fn visit<L: Ledger>(&self, trip: TripNo, at: u32, steps: &mut Steps<L>) -> Visit<'_> {
+    fn visit(&self, trip: TripNo, at: u32, steps: &mut Steps<L>) -> Visit<'_> {
         self.look_at(trip, at, steps)
     }
 }

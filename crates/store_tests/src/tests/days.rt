@@ -1,7 +1,8 @@
 //! Two editions of one day, and what is asked of them.
 use edition_store::{Edition, Shared, build_edition};
 use made_feeds::{Feed, timetable};
-use query_gate::{AskText, Reply, ask};
+use query_gate::uncounted::ask;
+use query_gate::{AskText, Reply};
 use segment_queue::Desk;
 use std::alloc::Global;
 use std::thread::Threads;

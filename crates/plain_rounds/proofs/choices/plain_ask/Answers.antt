@@ -34,10 +34,10 @@ loop-rounds-preserved c =
     let new = c.change.new.self in
     let inv = c.loop-rounds.invariant in
     let next : suc rides ≡ rides + 1 = omega arith in
-    let grown : length old.arrivals.steps.items < length mid.arrivals.steps.items =
-    subst (λ b. MatchBool b (length old.arrivals.steps.items < length mid.arrivals.steps.items) (length mid.arrivals.steps.items ≡ length old.arrivals.steps.items)) c.if-branch.true c.in_ok-ride.ensures.sooner in
-    let marks : sum new.marks.items ≡ sum mid.marks.items = rw c.change.ensures.marks refl in
-    let few : suc rides + sum new.marks.items ≤ 10000000 = omega (arith, grown, marks, c.in_ok-ride.ensures.few, inv.round.few) in
+    let grown : length old.arrivals.ridden.items < length mid.arrivals.ridden.items =
+    subst (λ b. MatchBool b (length old.arrivals.ridden.items < length mid.arrivals.ridden.items) (length mid.arrivals.ridden.items ≡ length old.arrivals.ridden.items)) c.if-branch.true c.in_ok-ride.ensures.sooner in
+    let boarded_at : sum new.boarded_at.items ≡ sum mid.boarded_at.items = rw c.change.ensures.boarded_at refl in
+    let few : suc rides + sum new.boarded_at.items ≤ 10000000 = omega (arith, grown, boarded_at, c.in_ok-ride.ensures.few, inv.round.few) in
     record {
       round = subst (λ n. IsRound T Q n new) next (round-more T Q rides old mid new inv.round c.in_ok-ride.ensures.ready c.in_ok-ride.ensures.takes c.change.ensures.kept c.change.ensures.takes c.change.ensures.arrivals few);
       answer = c.in_ok-add.ensures;
@@ -48,8 +48,8 @@ returns-clause-values c =
     let inv = c.loop-rounds.invariant in
     let old = c.loop-rounds.rounds in
     let mid = c.ride.new.self in
-    let last : length mid.arrivals.steps.items ≡ length old.arrivals.steps.items =
-    subst (λ b. MatchBool b (length old.arrivals.steps.items < length mid.arrivals.steps.items) (length mid.arrivals.steps.items ≡ length old.arrivals.steps.items)) c.if-branch.false c.in_ok-ride.ensures.sooner in
+    let last : length mid.arrivals.ridden.items ≡ length old.arrivals.ridden.items =
+    subst (λ b. MatchBool b (length old.arrivals.ridden.items < length mid.arrivals.ridden.items) (length mid.arrivals.ridden.items ≡ length old.arrivals.ridden.items)) c.if-branch.false c.in_ok-ride.ensures.sooner in
     best-values c.args.table.now c.args.query.now c.loop-rounds.rides old mid mid inv.round c.in_ok-ride.ensures.ready c.in_ok-ride.ensures.takes
     c.loop-rounds.answer.choices.items c.loop-rounds.answer.best inv.answer last c.soundness.ensures
 

@@ -9,4 +9,4 @@ invariant-loop-rounds l = record {
 }
 
 abbrev pub decreases-loop-rounds : goal.decreases-loop-rounds
-decreases-loop-rounds l = sum l.rounds.marks.items
+decreases-loop-rounds l = sum l.rounds.boarded_at.items

@@ -179,4 +179,5 @@ returns-clause-steps g c =
     let T : TimetableData = (g.S.Scan.net c.args.self.now.scan.now).table in
     let same : segment_of c.args.desk.now.segments c.args.n ≡ c.in-Some.segment = get_or_from_slice_get c.args.desk.now.segments c.args.n c.in-Some.segment no_segment (sym c.in-Some.ensures) in
     let sound = subst (IsSoundSegment T) same (c.requires.queue.step.segments c.args.n no_segment c.requires.segment) in
-    omega (arith, c.loop-before.invariant.steps, ap (λ (s : Segment). s.board) same, ap (λ (s : Segment). s.end) same, c.loop-before-test.false, sound.onward)
+    let within = c.loop-before.auto.before-end (omega (arith, sound.onward)) in
+    omega (arith, within, c.loop-before.invariant.steps, ap (λ (s : Segment). s.board) same, ap (λ (s : Segment). s.end) same, c.loop-before-test.false, sound.onward)

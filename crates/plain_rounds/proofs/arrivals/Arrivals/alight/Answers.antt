@@ -24,7 +24,7 @@ returns-clause-takes c =
     let here : event_at T step.trip step.alight ≡ event = ap (λ (es : List Event). get_or es step.alight no_event) (sym same) ∙ sym (get_or_read c.as_slice-events.result.now step.alight event inside c.index-events-step.is no_event) in
     let fits : FitsSigned w32 event.arr = search rules in
     let arr : to_z w32 (of_z w32 event.arr) ≡ event.arr = to_z-of_z w32 event.arr fits in
-    let place : c.len-place.result ≡ length c.args.self.now.steps.items = grind (arith, common_steps) in
+    let place : c.len-place.result ≡ length c.args.self.now.ridden.items = grind (arith, common_steps) in
     let sound : IsSoundEvent (length T.stops) (event_at T step.trip step.alight) = subst (λ es. All (IsSoundEvent (length T.stops)) es) c.trip.ensures.events c.trip.ensures.sound.events step.alight no_event c.requires.at in
     let stop_inside : event.stop < length c.args.self.now.labels.items = subst (λ n. event.stop < n) (sym c.requires.rows) (subst (λ (e : Event). e.stop < length T.stops) here sound.stop) in
     TakesRides-pushed T c.args.self.now _ step (record { time = to_z w32 (of_z w32 event.arr); ride = Some c.len-place.result }) event.stop

@@ -14,8 +14,8 @@ loop-alight-preserved c = record {
 
 pub returns-clause-takes : goal.returns-clause-takes
 returns-clause-takes c =
-    let all : c.loop-alight.alight ≡ c.args.mark + 1 = omega arith in
-    TakesRides-same c.args.table.now c.args.self.now c.loop-alight.self _ (IsAlong c.args.table.now c.args.trip c.args.boarding c.args.mark)
+    let all : c.loop-alight.alight ≡ c.args.until + 1 = omega arith in
+    TakesRides-same c.args.table.now c.args.self.now c.loop-alight.self _ (IsAlong c.args.table.now c.args.trip c.args.boarding c.args.until)
     (λ s h. (h.0, omega (arith, h.1), omega (arith, all, h.2), h.3))
     (λ s h. (h.0, omega (arith, h.1), omega (arith, all, h.2), h.3))
     c.loop-alight.invariant.takes

@@ -6,5 +6,5 @@ use Rattle.plain_rounds.proofs.arrivals.Arrivals.alight_along.Given as goal
 abbrev pub invariant-loop-alight : goal.invariant-loop-alight
 invariant-loop-alight l = record {
   takes : TakesRides l.table l.fn.self l.self (λ s. (i : ℕ) × (l.boarding.at + 1 < i + 1) × (i < l.alight) × ((s ≡ record { trip = l.trip; board = l.boarding.at; alight = i; before = l.boarding.before }) × MayAlight l.table l.trip i));
-  few : length l.self.steps.items + l.boarding.at + 1 ≤ length l.fn.self.steps.items + l.alight;
+  few : length l.self.ridden.items + l.boarding.at + 1 ≤ length l.fn.self.ridden.items + l.alight;
 }

@@ -2,7 +2,7 @@ use Rattle.std.proofs.Common.{◌≡◌, ℕ, suc, List, [], ◌∷◌, ◌++◌
 use Rattle.std.specs.Prelude.{FitsSigned, IfSome, IsSomeAnd}
 use Rattle.std.proofs.lemmas.Int.{to_z-of_z}
 use Rattle.tb_base.specs.BestValues.{QueryData, ChoiceData}
-use Rattle.plain_rounds.specs.declared.arrivals.Step.{Step}
+use Rattle.plain_rounds.specs.declared.arrivals.PlainRide.{PlainRide}
 use Rattle.plain_rounds.specs.Answer.{IsAnswer}
 use Rattle.plain_rounds.specs.Hits.{IsArrivalHit, IsHitOf, IsDueOf}
 use Rattle.plain_rounds.specs.Rides.{AreArrivals}
@@ -47,7 +47,7 @@ legs_to-requires-clause-hit c =
     let h = c.in-Some.hit in
     let to_is : c.as_slice.result.now ≡ Q.to = c.as_slice.ensures.value ∙ ap (λ (q : QueryData). q.to) c.query.view_is in (
       c.args.rides,
-      subst (λ (xs : List Step). IsArrivalHit T Q xs c.args.rides h) (sym c.as_slice-3.ensures.value)
+      subst (λ (xs : List PlainRide). IsArrivalHit T Q xs c.args.rides h) (sym c.as_slice-3.ensures.value)
           (arrival_hit T Q c.args.rides a c.requires.arrivals h (subst (λ ns. IsHitOf T ns a.labels.items h) to_is (subst (λ ls. IsHitOf T c.as_slice.result.now ls h) c.as_slice-2.ensures.value c.in-Some.ensures.0))),
     )
 
@@ -68,11 +68,11 @@ returns c =
     let arrive_fits : FitsSigned w32 h.arrive = search rules in
     let arrive : to_z w32 (of_z w32 h.arrive) ≡ h.arrive = to_z-of_z w32 h.arrive arrive_fits in
     let better : IfSome best (λ b. h.arrive <ℤ b) = subst (λ z. IfSome best (λ b. z <ℤ b)) arrive c.if-not-is_better.ensures in
-    let ah : IsArrivalHit T Q a.steps.items (suc most) h = arrival_hit T Q (suc most) a are h (subst (λ ns. IsHitOf T ns a.labels.items h) to_is (subst (λ ls. IsHitOf T c.as_slice.result.now ls h) labels_are c.in-Some.ensures.0)) in
+    let ah : IsArrivalHit T Q a.ridden.items (suc most) h = arrival_hit T Q (suc most) a are h (subst (λ ns. IsHitOf T ns a.labels.items h) to_is (subst (λ ls. IsHitOf T c.as_slice.result.now ls h) labels_are c.in-Some.ensures.0)) in
     let one : IsAnswer T Q (suc most) (cs ++ record { value = record { arrive = h.arrive; rides = suc most }; legs = legs } ∷ []) (Some h.arrive) =
     answer-better T Q most cs best c.requires.answer.2 a are h
     (λ time due. c.in-Some.ensures.1 time (subst (λ ns. IsDueOf T ns c.as_slice-2.result.now time) (sym to_is) (subst (λ ls. IsDueOf T Q.to ls time) (sym labels_are) due)))
-    better legs (c.in_ok-legs.ensures (suc most) (subst (λ (xs : List Step). IsArrivalHit T Q xs (suc most) h) (sym c.as_slice-3.ensures.value) ah)) in
+    better legs (c.in_ok-legs.ensures (suc most) (subst (λ (xs : List PlainRide). IsArrivalHit T Q xs (suc most) h) (sym c.as_slice-3.ensures.value) ah)) in
     subst (λ (xs : List ChoiceData). IsAnswer T Q c.args.rides xs (Some (to_z w32 (of_z w32 h.arrive)))) (sym c.in_ok-push.ensures.items)
     (subst (λ (n : ℕ). IsAnswer T Q n (cs ++ record { value = record { arrive = to_z w32 (of_z w32 h.arrive); rides = n }; legs = legs } ∷ []) (Some (to_z w32 (of_z w32 h.arrive)))) (sym e)
     (subst (λ (z : ℤ). IsAnswer T Q (suc most) (cs ++ record { value = record { arrive = z; rides = suc most }; legs = legs } ∷ []) (Some z)) (sym arrive) one))

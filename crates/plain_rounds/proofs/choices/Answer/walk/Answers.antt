@@ -2,7 +2,7 @@ use Rattle.std.proofs.Common.{◌≡◌, List, [], ◌∷◌, ◌++◌, sym, ap,
 use Rattle.std.specs.Prelude.{FitsSigned}
 use Rattle.std.proofs.lemmas.Int.{to_z-of_z}
 use Rattle.tb_base.specs.BestValues.{QueryData, ChoiceData}
-use Rattle.plain_rounds.specs.declared.labels.Label.{Label}
+use Rattle.plain_rounds.specs.declared.labels.StopLabel.{StopLabel}
 use Rattle.plain_rounds.specs.Answer.{IsAnswer}
 use Rattle.plain_rounds.specs.Hits.{IsHitOfOrigin, IsDueOfOrigin}
 use Rattle.plain_rounds.proofs.AnswerLemmas.{walk-none, walk-one}
@@ -13,7 +13,7 @@ returns-in_default c =
     let T = c.args.table.now in
     let Q = c.args.query.now in
     let fits : FitsSigned w32 c.query.inside.leave = search rules in
-    let start : Label = record { time = to_z w32 (of_z w32 c.query.inside.leave); ride = None } in
+    let start : StopLabel = record { time = to_z w32 (of_z w32 c.query.inside.leave); ride = None } in
     let is_start : to_z w32 (of_z w32 c.query.inside.leave) ≡ Q.leave = to_z-of_z w32 c.query.inside.leave fits ∙ ap (λ (q : QueryData). q.leave) c.query.view_is in
     let from_is : c.as_slice.result.now ≡ Q.from = c.as_slice.ensures.value ∙ ap (λ (q : QueryData). q.from) c.query.view_is in
     let to_is : c.as_slice-2.result.now ≡ Q.to = c.as_slice-2.ensures.value ∙ ap (λ (q : QueryData). q.to) c.query.view_is in
@@ -26,7 +26,7 @@ returns c =
     let Q = c.args.query.now in
     let h = c.in-Some.hit in
     let fits : FitsSigned w32 c.query.inside.leave = search rules in
-    let start : Label = record { time = to_z w32 (of_z w32 c.query.inside.leave); ride = None } in
+    let start : StopLabel = record { time = to_z w32 (of_z w32 c.query.inside.leave); ride = None } in
     let is_start : to_z w32 (of_z w32 c.query.inside.leave) ≡ Q.leave = to_z-of_z w32 c.query.inside.leave fits ∙ ap (λ (q : QueryData). q.leave) c.query.view_is in
     let from_is : c.as_slice.result.now ≡ Q.from = c.as_slice.ensures.value ∙ ap (λ (q : QueryData). q.from) c.query.view_is in
     let to_is : c.as_slice-2.result.now ≡ Q.to = c.as_slice-2.ensures.value ∙ ap (λ (q : QueryData). q.to) c.query.view_is in

@@ -8,5 +8,5 @@ invariant-loop-t l = record {
   kept : AreKept l.table l.self;
   ready : l.self.ready.items ≡ l.fn.self.ready.items;
   takes : TakesRides l.table l.fn.self.arrivals l.self.arrivals (λ s. (s.trip < l.t) × IsBoardable l.table l.fn.self.ready.items s);
-  few : length l.self.arrivals.steps.items + sum l.self.marks.items ≤ length l.fn.self.arrivals.steps.items + sum l.fn.self.marks.items;
+  few : length l.self.arrivals.ridden.items + sum l.self.boarded_at.items ≤ length l.fn.self.arrivals.ridden.items + sum l.fn.self.boarded_at.items;
 }

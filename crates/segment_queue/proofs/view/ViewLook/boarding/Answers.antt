@@ -5,7 +5,7 @@ use Rattle.tb_base.specs.Transfers.{may_be_boarded, earliest_trip}
 use Rattle.segment_queue.specs.Scans.{first_trip, line_indices_at}
 use Rattle.segment_queue.proofs.Distinct.{of_member}
 use Rattle.segment_queue.proofs.LineViews.{at_berth, berth_below, berth_inside, first_read, hop_is, index_of, line_nonempty, no_hop, nonempty}
-use Rattle.segment_queue.proofs.view.ViewScan.boarding.Goals as goal
+use Rattle.segment_queue.proofs.view.ViewLook.boarding.Goals as goal
 
 pub bounds-at-berth : goal.bounds-at-berth
 bounds-at-berth g c =

@@ -1,4 +1,0 @@
-use Rattle.query_gate.proofs.choices.best_choices.Given as goal
-
-abbrev pub ghosts-search_on : goal.ghosts-search_on
-ghosts-search_on g a = record { name = a.blank.name; parts = a.blank.parts }

@@ -1,0 +1,165 @@
+//! Questions of callers without a counter: each call is the one of its name, on a counter of its own.
+ghost use Rattle.std.specs.Prelude.{◌≡◌, ◌<◌, ◌≤ℤ◌, All, IfOk, length, pos};
+ghost use Rattle.edition_store.specs.Editions.{net_of};
+ghost use Rattle.segment_queue.specs.Queue.{Fits};
+ghost use Rattle.query_gate.specs.Replies.{AreBestChoices, AreBestOffers, HaveNumbers, IsAskReply, IsProfileReply, LeavesAnswered};
+
+use crate::asking::AskText;
+use crate::profiling::ProfileText;
+use crate::reply::Reply;
+use edition_store::Edition;
+use segment_queue::{Desk, Steps};
+use std::alloc::Global;
+use std::marker::Brand;
+use std::sync::ledger::{Blank, Ledger};
+use tb_base::{Choice, Memory, Offer, Query, Window};
+
+// `ask` on a ledger that nobody else counts in.
+fn ask_on<L: Ledger>(
+    alloc: Global,
+    edition: &Edition,
+    desk: &mut Desk,
+    text: &AskText,
+    blank: Blank,
+) -> Result<Reply, Memory>
+    requires name { blank.name ≡ L.name }
+    requires parts { blank.parts ≡ L.parts }
+    requires some { 0 < L.parts }
+    requires leave { text.now.leave ≤ℤ pos 359999 }
+    ensures reply { IfOk result (IsAskReply (net_of edition.now) text.now) }
+    ensures numbers { IfOk result (HaveNumbers edition.now.table) }
+    ensures desk { IfOk result
+        (λ reply. LeavesAnswered (net_of edition.now) text.now reply desk.new) }
+{
+    let mut steps = Steps::<L>::new(blank);
+    crate::asking::ask(alloc, edition, desk, text, &mut steps)
+}
+
+/// Answers a question for the best values over an edition, as `ask` does that is lent a counter.
+pub fn ask(
+    alloc: Global,
+    edition: &Edition,
+    desk: &mut Desk,
+    text: &AskText,
+) -> Result<Reply, Memory>
+    requires { text.now.leave ≤ℤ pos 359999 }
+    ensures reply { IfOk result (IsAskReply (net_of edition.now) text.now) }
+    ensures numbers { IfOk result (HaveNumbers edition.now.table) }
+    ensures desk { IfOk result
+        (λ reply. LeavesAnswered (net_of edition.now) text.now reply desk.new) }
+{
+    ask_on::<Brand>(alloc, edition, desk, text, Blank::new(1))
+}
+
+// `profile` on a ledger that nobody else counts in.
+fn profile_on<L: Ledger>(
+    alloc: Global,
+    edition: &Edition,
+    desk: &mut Desk,
+    text: &ProfileText,
+    blank: Blank,
+) -> Result<Reply, Memory>
+    requires name { blank.name ≡ L.name }
+    requires parts { blank.parts ≡ L.parts }
+    requires some { 0 < L.parts }
+    requires last { text.now.last ≤ℤ pos 359999 }
+    ensures reply { IfOk result (IsProfileReply (net_of edition.now) text.now) }
+    ensures numbers { IfOk result (HaveNumbers edition.now.table) }
+{
+    let mut steps = Steps::<L>::new(blank);
+    crate::profiling::profile(alloc, edition, desk, text, &mut steps)
+}
+
+/// Answers a question for a profile over an edition, as `profile` does that is lent a counter.
+pub fn profile(
+    alloc: Global,
+    edition: &Edition,
+    desk: &mut Desk,
+    text: &ProfileText,
+) -> Result<Reply, Memory>
+    requires { text.now.last ≤ℤ pos 359999 }
+    ensures reply { IfOk result (IsProfileReply (net_of edition.now) text.now) }
+    ensures numbers { IfOk result (HaveNumbers edition.now.table) }
+{
+    profile_on::<Brand>(alloc, edition, desk, text, Blank::new(1))
+}
+
+// The best values over an edition, on a ledger that nobody else counts in.
+fn best_choices_on<L: Ledger>(
+    alloc: Global,
+    edition: &Edition,
+    query: &Query,
+    desk: &mut Desk,
+    blank: Blank,
+) -> Result<Vec<Choice>, Memory>
+    requires name { blank.name ≡ L.name }
+    requires parts { blank.parts ≡ L.parts }
+    requires some { 0 < L.parts }
+    requires fits { Fits edition.now.table desk.old }
+    requires origins { All (λ p. p < length edition.now.table.stops) query.now.from }
+    requires targets { All (λ p. p < length edition.now.table.stops) query.now.to }
+    requires leave { query.now.leave ≤ℤ pos 359999 }
+    ensures best { IfOk result (λ cs. AreBestChoices (net_of edition.now) query.now cs.items) }
+    ensures fits { Fits edition.now.table desk.new }
+{
+    edition.soundness();
+    let mut steps = Steps::<L>::new(blank);
+    crate::choices::best_choices(alloc, edition, edition.table(), query, desk, &mut steps)
+}
+
+/// The best values of a query over an edition, as `best_choices` gives them that is lent a counter.
+pub fn best_choices(
+    alloc: Global,
+    edition: &Edition,
+    query: &Query,
+    desk: &mut Desk,
+) -> Result<Vec<Choice>, Memory>
+    requires fits { Fits edition.now.table desk.old }
+    requires origins { All (λ p. p < length edition.now.table.stops) query.now.from }
+    requires targets { All (λ p. p < length edition.now.table.stops) query.now.to }
+    requires leave { query.now.leave ≤ℤ pos 359999 }
+    ensures best { IfOk result (λ cs. AreBestChoices (net_of edition.now) query.now cs.items) }
+    ensures fits { Fits edition.now.table desk.new }
+{
+    best_choices_on::<Brand>(alloc, edition, query, desk, Blank::new(1))
+}
+
+// The profile of a window over an edition, on a ledger that nobody else counts in.
+fn offers_on<L: Ledger>(
+    alloc: Global,
+    edition: &Edition,
+    window: &Window,
+    desk: &mut Desk,
+    blank: Blank,
+) -> Result<Vec<Offer>, Memory>
+    requires name { blank.name ≡ L.name }
+    requires parts { blank.parts ≡ L.parts }
+    requires some { 0 < L.parts }
+    requires fits { Fits edition.now.table desk.old }
+    requires origins { All (λ p. p < length edition.now.table.stops) window.now.from }
+    requires targets { All (λ p. p < length edition.now.table.stops) window.now.to }
+    requires last { window.now.last ≤ℤ pos 359999 }
+    ensures best { IfOk result (λ os. AreBestOffers (net_of edition.now) window.now os.items) }
+    ensures fits { Fits edition.now.table desk.new }
+{
+    edition.soundness();
+    let mut steps = Steps::<L>::new(blank);
+    profile_query::profile(alloc, edition, edition.table(), window, desk, &mut steps)
+}
+
+/// The profile of a window over an edition, as `profile_query` gives it that is lent a counter.
+pub fn offers(
+    alloc: Global,
+    edition: &Edition,
+    window: &Window,
+    desk: &mut Desk,
+) -> Result<Vec<Offer>, Memory>
+    requires fits { Fits edition.now.table desk.old }
+    requires origins { All (λ p. p < length edition.now.table.stops) window.now.from }
+    requires targets { All (λ p. p < length edition.now.table.stops) window.now.to }
+    requires last { window.now.last ≤ℤ pos 359999 }
+    ensures best { IfOk result (λ os. AreBestOffers (net_of edition.now) window.now os.items) }
+    ensures fits { Fits edition.now.table desk.new }
+{
+    offers_on::<Brand>(alloc, edition, window, desk, Blank::new(1))
+}
