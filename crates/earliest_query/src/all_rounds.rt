@@ -98,7 +98,7 @@ impl<S: Scan> Search<'_, S> {
         ensures most { result ≤ 10000000 }
     {
         let scan = self.scan;
-        let _shape = scan.shape();
+        scan.soundness();
         desk.segment_count() as u32
     }
 

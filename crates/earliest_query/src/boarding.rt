@@ -43,7 +43,7 @@ impl<S: Scan> Search<'_, S> {
         ensures step { steps.new ≡ steps.old + 1 }
     {
         let scan = self.scan;
-        let _shape = scan.shape();
+        scan.soundness();
         let time = after(self.query, secs);
         if let Some(hop) = scan.boarding(stop, berth, time, steps) {
             self.enter(desk, hop, None);
@@ -68,7 +68,7 @@ impl<S: Scan> Search<'_, S> {
             (S.net self.now.scan.now).lines stop) }
     {
         let scan = self.scan;
-        let _shape = scan.shape();
+        scan.soundness();
         for berth in 0..scan.berths(stop) {
             self.board_line(desk, stop, berth, secs, steps);
         }
@@ -124,7 +124,7 @@ impl<S: Scan> Search<'_, S> {
             (place + 1) steps.old steps.new }
     {
         let scan = self.scan;
-        let _shape = scan.shape();
+        scan.soundness();
         let origin = origins(self.query)[place];
         self.board_if_first(desk, place, origin, 0, steps);
         for path in scan.walks(origin) {

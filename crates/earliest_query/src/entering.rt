@@ -31,7 +31,7 @@ impl<S: Scan> Search<'_, S> {
             (round_after (round_segments desk.old.segments) parent) }
     {
         let scan = self.scan;
-        let _shape = scan.shape();
+        scan.soundness();
         let _entered = desk.reach(scan, hop.trip, hop.at, parent);
     }
 

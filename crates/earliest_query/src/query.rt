@@ -28,7 +28,7 @@ pub fn earliest<L: Ledger, S: Look<L>>(scan: &S, query: &Query, desk: &mut Desk,
     ensures steps { steps.new ≤ steps.old
         + (event_total (S.net scan.now).table + lines_near (S.net scan.now) query.now.from) }
 {
-    let _shape = scan.shape();
+    scan.soundness();
     let search = Search { scan, query };
     desk.begin(scan, query);
     let walk = search.walk_hit();

@@ -119,7 +119,7 @@ impl<S: Scan> Search<'_, S> {
         ensures steps { steps.new ≤ steps.old + covered_indices (segment_of desk.old.segments n) }
     {
         let scan = self.scan;
-        let _shape = scan.shape();
+        scan.soundness();
         let Some(segment) = desk.segment(n) else {
             return so_far;
         };

@@ -68,6 +68,7 @@ impl Sweep {
         ensures no_hits { desk.new.hits ≡ [] }
         ensures fits { Fits (S.net scan.now).table desk.new }
     {
+        scan.soundness();
         let shape = scan.shape();
         desk.begin(scan, query);
         self.values.clear();
@@ -102,7 +103,7 @@ impl Sweep {
             IsLate (values_with desk.new.hits self.old.values) w.arrive w.rides) }
         ensures fits { Fits (S.net scan.now).table desk.new }
     {
-        let _shape = scan.shape();
+        scan.soundness();
         let search = Search { scan, query };
         let from = segment_total(desk)?;
         drop_walks(&mut self.values);

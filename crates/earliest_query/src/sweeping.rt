@@ -43,7 +43,7 @@ impl<S: Scan> Search<'_, S> {
             Fits (S.net self.now.scan.now).table desk.new }
     {
         let scan = self.scan;
-        let _shape = scan.shape();
+        scan.soundness();
         let end = levels.mark(scan, level, hop.trip);
         if end <= hop.at {
             return Ok(());

@@ -133,7 +133,7 @@ impl<S: Scan> Search<'_, S> {
             Fits (S.net self.now.scan.now).table desk.new }
     {
         let scan = self.scan;
-        let _shape = scan.shape();
+        scan.soundness();
         let Some(segment) = desk.segment(n) else {
             return Ok(so_far);
         };

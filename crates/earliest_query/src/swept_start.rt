@@ -48,7 +48,7 @@ impl<S: Scan> Search<'_, S> {
             Fits (S.net self.now.scan.now).table desk.new }
     {
         let scan = self.scan;
-        let _shape = scan.shape();
+        scan.soundness();
         let time = after(self.query, secs);
         if let Some(hop) = scan.boarding(stop, berth, time, steps) {
             self.enter_level(desk, levels, 0, hop, None)?;
@@ -82,7 +82,7 @@ impl<S: Scan> Search<'_, S> {
             Fits (S.net self.now.scan.now).table desk.new }
     {
         let scan = self.scan;
-        let _shape = scan.shape();
+        scan.soundness();
         for berth in 0..scan.berths(stop) {
             self.start_line(desk, levels, stop, berth, secs, steps)?;
         }
@@ -113,7 +113,7 @@ impl<S: Scan> Search<'_, S> {
             Fits (S.net self.now.scan.now).table desk.new }
     {
         let scan = self.scan;
-        let _shape = scan.shape();
+        scan.soundness();
         self.start_stop(desk, levels, origin, 0, steps)?;
         for path in scan.walks(origin) {
             self.start_stop(desk, levels, path.to, path.secs, steps)?;

@@ -11,7 +11,7 @@ pub(crate) fn walk_secs<S: Scan>(scan: &S, p: StopNo, q: StopNo) -> Option<u32>
     ensures walk { result ≡ walk (S.net scan.now).table p q }
     ensures at_most_a_day { IfSome result (λ secs. secs ≤ 86400) }
 {
-    let _shape = scan.shape();
+    scan.soundness();
     if p.index() == q.index() {
         return Some(0);
     }

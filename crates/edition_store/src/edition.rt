@@ -147,6 +147,10 @@ impl Edition {
 impl Scan for Edition {
     ghost net = { net_of };
 
+    fn soundness(&self) {
+        self.view().soundness();
+    }
+
     fn shape(&self) -> Shape {
         self.view().shape()
     }

@@ -37,7 +37,7 @@ fn line_departure<L: Ledger, S: Look<L>>(
         < length (line_indices_at (S.net scan.now).table (S.net scan.now).lines stop) }
     ensures { result ≡ line_departure (S.net scan.now) stop time berth }
 {
-    let _shape = scan.shape();
+    scan.soundness();
     match scan.boarding(stop, berth, time, steps) {
         Some(hop) => Some(table.event(hop.trip, hop.at).dep),
         None => None,
@@ -66,7 +66,7 @@ fn gather_line<L: Ledger, S: Look<L>>(
         (HaveJoined (λ n. IsWithin window.now n × IsLineDeparture (S.net scan.now) path.now.to berth
         (n +ℤ pos path.now.secs)) times.old.items times.new.items) }
 {
-    let _shape = scan.shape();
+    scan.soundness();
     let first = window.first + path.secs as i32;
     let mut next = line_departure(scan, table, path.to, berth, first, steps);
     while let Some(departure) = next {
@@ -98,7 +98,7 @@ fn gather_at<L: Ledger, S: Look<L>>(
         × DepartsAt table.now path.now.to (n +ℤ pos path.now.secs))
         times.old.items times.new.items) }
 {
-    let _shape = scan.shape();
+    scan.soundness();
     for berth in 0..scan.berths(path.to) {
         gather_line(scan, table, window, path, berth, times, steps)?;
     }

@@ -137,6 +137,7 @@ impl Desk {
         ensures segments { self.new.segments ≡ self.old.segments }
         ensures hits { self.new.hits ≡ self.old.hits }
     {
+        scan.soundness();
         let shape = scan.shape();
         self.marks.make_room(shape.trips)?;
         make_room_for(&mut self.segments, shape.events as usize)?;
@@ -164,7 +165,7 @@ impl Desk {
           hits = [];
         } }
     {
-        let _shape = scan.shape();
+        scan.soundness();
         self.marks.begin();
         self.segments.clear();
         self.hits.clear();
@@ -191,7 +192,7 @@ impl Desk {
         if end <= at {
             return false;
         }
-        let _shape = scan.shape();
+        scan.soundness();
         push_within(
             &mut self.segments,
             Segment {

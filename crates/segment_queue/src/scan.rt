@@ -33,14 +33,17 @@ pub trait Scan {
     /// The network: a timetable, its lines, and for each event the hops by which a search goes on.
     ghost net: { Self → NetData };
 
-    /// How large the timetable is. It is sound, and the lines are its trips, each once.
+    /// The timetable is sound, and the lines are its trips, each once.
+    fn soundness(&self)
+        ensures sound { IsSound (net self.now).table }
+        ensures divided { AreDividedInto (net self.now).table (net self.now).lines };
+
+    /// How large the timetable is.
     fn shape(&self) -> Shape
         ensures stops { result.stops ≡ length (net self.now).table.stops }
         ensures trips { result.trips ≡ length (net self.now).table.trips }
         ensures events { result.events ≡ event_total (net self.now).table }
-        ensures lines { result.lines ≡ length (net self.now).lines }
-        ensures sound { IsSound (net self.now).table }
-        ensures divided { AreDividedInto (net self.now).table (net self.now).lines };
+        ensures lines { result.lines ≡ length (net self.now).lines };
 
     /// The footpaths that leave a stop, by the numbers of the stops that they lead to.
     fn walks(&self, p: StopNo) -> &[Path]

@@ -95,10 +95,14 @@ fn boards(table: &Timetable, trip: TripNo, at: u32) -> bool
 impl<'a, O: OutSet> Scan for View<'a, O> {
     ghost net = { λ v. record { table = v.0; lines = v.1.lines; hops = O.hops v.2 } };
 
-    fn shape(&self) -> Shape {
+    fn soundness(&self) {
         line_split::laws::lines_divide();
         let table = self.table;
         table.soundness();
+    }
+
+    fn shape(&self) -> Shape {
+        let table = self.table;
         Shape {
             stops: table.stop_count(),
             trips: table.trip_count(),

@@ -10,7 +10,7 @@ ride_all-requires-clause-ridden g c =
 
 pub returns-clause-answered : goal.returns-clause-answered
 returns-clause-answered g c =
-    answered (g.S.Scan.net c.args.scan.now) c.args.query.now c.ride_all.new.desk c.ride_all.ensures.ridden.0 c.ride_all.ensures.ridden.1 c.shape-shape.ensures.sound c.requires.sufficient
+    answered (g.S.Scan.net c.args.scan.now) c.args.query.now c.ride_all.new.desk c.ride_all.ensures.ridden.0 c.ride_all.ensures.ridden.1 c.soundness.ensures.sound c.requires.sufficient
 
 pub returns-clause-steps : goal.returns-clause-steps
 returns-clause-steps g c =

@@ -17,4 +17,4 @@ returns g c =
     let path : Path = c.args.path.now in
     let all : c.loop-berth.berth ≡ length (line_indices_at N.table N.lines path.to) = omega (arith, c.berths-berth-end.ensures) in
     subst (λ U. HaveJoined (λ n. IsWithin c.args.window.now n × DepartsAt U path.to (n +ℤ pos path.secs)) c.args.times.now.items c.loop-berth.times.items) c.requires.table
-    (lines_gathered N c.args.window.now path c.shape-shape.ensures.divided c.loop-berth.berth c.args.times.now.items c.loop-berth.times.items all c.loop-berth.invariant)
+    (lines_gathered N c.args.window.now path c.soundness.ensures.divided c.loop-berth.berth c.args.times.now.items c.loop-berth.times.items all c.loop-berth.invariant)

@@ -66,7 +66,7 @@ weigh-best-requires-clause-stop g c =
     let T : TimetableData = (g.S.Scan.net c.args.self.now.scan.now).table in
     let same : segment_of c.args.desk.now.segments c.args.n ≡ c.in-Some.segment = get_or_from_slice_get c.args.desk.now.segments c.args.n c.in-Some.segment no_segment (sym c.in-Some.ensures) in
     let sound = subst (IsSoundSegment T) same (c.requires.queue.step.segments c.args.n no_segment c.requires.segment) in
-    let event = sound_event T c.in-Some.segment.trip (c.loop-before.before + 1) c.shape-shape.ensures.sound sound.trip (omega (arith, sound.within, c.loop-before-test.true)) in
+    let event = sound_event T c.in-Some.segment.trip (c.loop-before.before + 1) c.soundness.ensures.sound sound.trip (omega (arith, sound.within, c.loop-before-test.true)) in
     omega (arith, c.visit-visit.ensures.stop, event.stop)
 
 pub weigh-best-requires-clause-arr : goal.weigh-best-requires-clause-arr
@@ -74,7 +74,7 @@ weigh-best-requires-clause-arr g c =
     let T : TimetableData = (g.S.Scan.net c.args.self.now.scan.now).table in
     let same : segment_of c.args.desk.now.segments c.args.n ≡ c.in-Some.segment = get_or_from_slice_get c.args.desk.now.segments c.args.n c.in-Some.segment no_segment (sym c.in-Some.ensures) in
     let sound = subst (IsSoundSegment T) same (c.requires.queue.step.segments c.args.n no_segment c.requires.segment) in
-    let event = sound_event T c.in-Some.segment.trip (c.loop-before.before + 1) c.shape-shape.ensures.sound sound.trip (omega (arith, sound.within, c.loop-before-test.true)) in
+    let event = sound_event T c.in-Some.segment.trip (c.loop-before.before + 1) c.soundness.ensures.sound sound.trip (omega (arith, sound.within, c.loop-before-test.true)) in
     omega (arith, ints, c.visit-visit.ensures.arr, event.waits, event.latest)
 
 pub loop-before-preserved : goal.loop-before-preserved
@@ -149,9 +149,9 @@ returns-then-is_late g c =
     record {
       queue = c.loop-before.invariant.queue;
       extends = c.loop-before.invariant.extends;
-      followed = followed_late N Q D E n at c.args.round c.args.so_far c.loop-before.best c.weigh-best.result looked c.shape-shape.ensures.sound (c.requires.queue.step.segments n no_segment c.requires.segment) (c.if-is_late.ensures.0 refl);
-      bounded = bounded_late N Q D E n at c.args.round c.args.so_far c.loop-before.best c.weigh-best.result looked c.shape-shape.ensures.sound (c.requires.queue.step.segments n no_segment c.requires.segment) (c.if-is_late.ensures.0 refl);
-      improved = improved_late N Q D E n at c.args.round c.args.so_far c.loop-before.best c.weigh-best.result looked c.shape-shape.ensures.sound (c.requires.queue.step.segments n no_segment c.requires.segment) (c.if-is_late.ensures.0 refl);
+      followed = followed_late N Q D E n at c.args.round c.args.so_far c.loop-before.best c.weigh-best.result looked c.soundness.ensures.sound (c.requires.queue.step.segments n no_segment c.requires.segment) (c.if-is_late.ensures.0 refl);
+      bounded = bounded_late N Q D E n at c.args.round c.args.so_far c.loop-before.best c.weigh-best.result looked c.soundness.ensures.sound (c.requires.queue.step.segments n no_segment c.requires.segment) (c.if-is_late.ensures.0 refl);
+      improved = improved_late N Q D E n at c.args.round c.args.so_far c.loop-before.best c.weigh-best.result looked c.soundness.ensures.sound (c.requires.queue.step.segments n no_segment c.requires.segment) (c.if-is_late.ensures.0 refl);
       steps = omega (arith, c.loop-before.invariant.steps, c.visit-visit.ensures.step, ap (λ (s : Segment). s.board) looked.is, ap (λ (s : Segment). s.end) looked.is, c.loop-before-test.true);
     }
 

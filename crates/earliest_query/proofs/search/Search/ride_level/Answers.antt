@@ -41,14 +41,14 @@ pub weigh-best-requires-clause-stop : goal.weigh-best-requires-clause-stop
 weigh-best-requires-clause-stop g c =
     let same : segment_of c.args.desk.now.segments c.args.n ≡ c.in-Some.segment = get_or_from_slice_get c.args.desk.now.segments c.args.n c.in-Some.segment no_segment (sym c.in-Some.ensures) in
     let sound = subst (IsSoundSegment (g.S.Scan.net c.args.self.now.scan.now).table) same (c.requires.queue.sound c.args.n no_segment c.requires.segment) in
-    let event = sound_event (g.S.Scan.net c.args.self.now.scan.now).table c.in-Some.segment.trip (c.loop-before.before + 1) c.shape-shape.ensures.sound sound.trip (omega (arith, sound.within, c.loop-before-test.true)) in
+    let event = sound_event (g.S.Scan.net c.args.self.now.scan.now).table c.in-Some.segment.trip (c.loop-before.before + 1) c.soundness.ensures.sound sound.trip (omega (arith, sound.within, c.loop-before-test.true)) in
     omega (arith, c.visit-visit.ensures.stop, event.stop)
 
 pub weigh-best-requires-clause-arr : goal.weigh-best-requires-clause-arr
 weigh-best-requires-clause-arr g c =
     let same : segment_of c.args.desk.now.segments c.args.n ≡ c.in-Some.segment = get_or_from_slice_get c.args.desk.now.segments c.args.n c.in-Some.segment no_segment (sym c.in-Some.ensures) in
     let sound = subst (IsSoundSegment (g.S.Scan.net c.args.self.now.scan.now).table) same (c.requires.queue.sound c.args.n no_segment c.requires.segment) in
-    let event = sound_event (g.S.Scan.net c.args.self.now.scan.now).table c.in-Some.segment.trip (c.loop-before.before + 1) c.shape-shape.ensures.sound sound.trip (omega (arith, sound.within, c.loop-before-test.true)) in
+    let event = sound_event (g.S.Scan.net c.args.self.now.scan.now).table c.in-Some.segment.trip (c.loop-before.before + 1) c.soundness.ensures.sound sound.trip (omega (arith, sound.within, c.loop-before-test.true)) in
     omega (arith, ints, c.visit-visit.ensures.arr, event.waits, event.latest)
 
 pub follow_level-requires-clause-round : goal.follow_level-requires-clause-round
@@ -144,9 +144,9 @@ returns-then-is_late g c =
       queue = c.loop-before.invariant.queue;
       levels = c.loop-before.invariant.levels;
       extends = c.loop-before.invariant.extends;
-      followed = followed_late N Q D E n at c.args.round c.args.so_far c.loop-before.best c.weigh-best.result looked c.shape-shape.ensures.sound (c.requires.queue.sound n no_segment c.requires.segment) (c.if-is_late.ensures.0 refl);
-      bounded = bounded_late N Q D E n at c.args.round c.args.so_far c.loop-before.best c.weigh-best.result looked c.shape-shape.ensures.sound (c.requires.queue.sound n no_segment c.requires.segment) (c.if-is_late.ensures.0 refl);
-      improved = improved_late N Q D E n at c.args.round c.args.so_far c.loop-before.best c.weigh-best.result looked c.shape-shape.ensures.sound (c.requires.queue.sound n no_segment c.requires.segment) (c.if-is_late.ensures.0 refl);
+      followed = followed_late N Q D E n at c.args.round c.args.so_far c.loop-before.best c.weigh-best.result looked c.soundness.ensures.sound (c.requires.queue.sound n no_segment c.requires.segment) (c.if-is_late.ensures.0 refl);
+      bounded = bounded_late N Q D E n at c.args.round c.args.so_far c.loop-before.best c.weigh-best.result looked c.soundness.ensures.sound (c.requires.queue.sound n no_segment c.requires.segment) (c.if-is_late.ensures.0 refl);
+      improved = improved_late N Q D E n at c.args.round c.args.so_far c.loop-before.best c.weigh-best.result looked c.soundness.ensures.sound (c.requires.queue.sound n no_segment c.requires.segment) (c.if-is_late.ensures.0 refl);
       still = c.loop-before.invariant.still;
     }
 

@@ -9,18 +9,18 @@ use Rattle.earliest_query.proofs.search.Search.start_line.Goals as goal
 
 pub enter_level-requires-clause-trip : goal.enter_level-requires-clause-trip
 enter_level-requires-clause-trip g c =
-    let facts = boarding_facts (g.S.Scan.net c.args.self.now.scan.now).table (g.S.Scan.net c.args.self.now.scan.now).lines c.args.stop c.shape-shape.ensures.divided c.args.berth (to_z w32 (of_z w32 c.after-time.result)) c.in-Some.hop c.requires.berth (sym c.in-Some.ensures.hop) in
+    let facts = boarding_facts (g.S.Scan.net c.args.self.now.scan.now).table (g.S.Scan.net c.args.self.now.scan.now).lines c.args.stop c.soundness.ensures.divided c.args.berth (to_z w32 (of_z w32 c.after-time.result)) c.in-Some.hop c.requires.berth (sym c.in-Some.ensures.hop) in
     (MayBoard-inside (g.S.Scan.net c.args.self.now.scan.now).table c.in-Some.hop.trip c.in-Some.hop.at facts.boards).0
 
 pub enter_level-requires-clause-not_last : goal.enter_level-requires-clause-not_last
 enter_level-requires-clause-not_last g c =
-    (boarding_facts (g.S.Scan.net c.args.self.now.scan.now).table (g.S.Scan.net c.args.self.now.scan.now).lines c.args.stop c.shape-shape.ensures.divided c.args.berth (to_z w32 (of_z w32 c.after-time.result)) c.in-Some.hop c.requires.berth (sym c.in-Some.ensures.hop)).not_last
+    (boarding_facts (g.S.Scan.net c.args.self.now.scan.now).table (g.S.Scan.net c.args.self.now.scan.now).lines c.args.stop c.soundness.ensures.divided c.args.berth (to_z w32 (of_z w32 c.after-time.result)) c.in-Some.hop c.requires.berth (sym c.in-Some.ensures.hop)).not_last
 
 pub enter_level-requires-clause-boards : goal.enter_level-requires-clause-boards
 enter_level-requires-clause-boards g c =
     let T = (g.S.Scan.net c.args.self.now.scan.now).table in
     let fits : FitsSigned w32 c.after-time.result = search rules in
-    let facts = boarding_facts T (g.S.Scan.net c.args.self.now.scan.now).lines c.args.stop c.shape-shape.ensures.divided c.args.berth (to_z w32 (of_z w32 c.after-time.result)) c.in-Some.hop c.requires.berth (sym c.in-Some.ensures.hop) in
+    let facts = boarding_facts T (g.S.Scan.net c.args.self.now.scan.now).lines c.args.stop c.soundness.ensures.divided c.args.berth (to_z w32 (of_z w32 c.after-time.result)) c.in-Some.hop c.requires.berth (sym c.in-Some.ensures.hop) in
     record {
       boards = facts.boards;
       origin = c.requires.near.origin;

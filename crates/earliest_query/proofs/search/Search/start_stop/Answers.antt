@@ -29,6 +29,6 @@ loop-berth-preserved g c =
 pub returns-clause-boarded : goal.returns-clause-boarded
 returns-clause-boarded g c = λ t b boards not_last here in_time.
     let T = (g.S.Scan.net c.args.self.now.scan.now).table in
-    let s = served T (g.S.Scan.net c.args.self.now.scan.now).lines c.args.stop c.shape-shape.ensures.divided (c.args.self.now.query.now.leave +ℤ pos c.args.secs) t b boards not_last here in_time in
+    let s = served T (g.S.Scan.net c.args.self.now.scan.now).lines c.args.stop c.soundness.ensures.divided (c.args.self.now.query.now.leave +ℤ pos c.args.secs) t b boards not_last here in_time in
     let D = c.loop-berth.desk in
     covered-by T (round_segments D.segments) (length D.segments) 1 s.hop t b (c.loop-berth.invariant.reached s.index s.hop (omega (arith, s.inside, c.loop-berth-test.false, c.berths-berth-end.ensures)) s.is) s.trip s.at

@@ -59,4 +59,4 @@ returns-clause-found g c = λ w has.
     let values : List Value = c.args.self.now.values in
     let are : c.as_slice.result.now ≡ rode values = c.as_slice.ensures.value ∙ c.drop_walks.ensures ∙ ap (λ (s : SweepData). rode s.values) c.self.view_is in
     late_among F.hits values w.arrive w.rides (subst (λ (vs : List Value). IsLate (values_with F.hits vs) w.arrive w.rides) are
-    (round_found (g.S.Scan.net c.args.scan.now) c.args.query.now F c.ride_levels.new.levels c.as_slice.result.now ridden.0 ridden.1 c.shape-shape.ensures.sound c.requires.sufficient w has))
+    (round_found (g.S.Scan.net c.args.scan.now) c.args.query.now F c.ride_levels.new.levels c.as_slice.result.now ridden.0 ridden.1 c.soundness.ensures.sound c.requires.sufficient w has))

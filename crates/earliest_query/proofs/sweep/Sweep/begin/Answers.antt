@@ -14,4 +14,4 @@ returns-clause-begun g c =
     let levels : ◌≡◌ {A = List (List (Option ℕ))} c.begin-2.new.self _ = c.in_ok-begin.ensures.begun ∙ ap (λ n. replicate n none ∷ []) c.shape-shape.ensures.trips in
     subst (λ (vs : List Value). IsSweptSoFar N c.args.query.now D (record { levels = c.begin-2.new.self; values = vs })) (sym c.clear.ensures.items)
     (subst (λ ls. IsSweptSoFar N c.args.query.now D (record { levels = ls; values = [] })) (sym levels)
-    (swept_begun N c.shape-shape.ensures.sound c.shape-shape.ensures.divided c.args.query.now D (ap (λ (d : DeskData). d.segments) c.begin.ensures.emptied)))
+    (swept_begun N c.soundness.ensures.sound c.soundness.ensures.divided c.args.query.now D (ap (λ (d : DeskData). d.segments) c.begin.ensures.emptied)))
