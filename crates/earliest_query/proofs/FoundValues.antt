@@ -14,6 +14,7 @@ use Rattle.segment_queue.proofs.Distinct.{all_by_member}
 use Rattle.earliest_query.specs.Sweeping.{values_with}
 use Rattle.earliest_query.specs.UnderWay.{IsHit}
 use Rattle.earliest_query.proofs.Keeping.{value_member}
+use Rattle.tb_base.proofs.NumberFacts.{≤ℤ-refl}
 
 -- what `retain` keeps was there, and what it lets go has P, where the closure's `false` gives it
 module _ {X F : Type 0} (R : F → X → Bool → F → Type 0) (P : X → Type 0) (f : F) (h : (x : X) (b : Bool) (f' : F) → R f x b f' → (b ≡ false → P x) × (f' ≡ f)) where
@@ -51,10 +52,7 @@ abbrev values_of : List Hit → List Value
 values_of hits = map (λ (h : Hit). h.value) hits
 
 itself : (v : Value) → IsNoWorse v v
-itself v = (same v.arrive, omega arith)
-  where
-    same : (a : ℤ) → a ≤ℤ a
-    same a = omega (arith, ints)
+itself v = (≤ℤ-refl v.arrive, omega arith)
 
 module _ (hits : List Hit) (old kept new : List Value) (is : new ≡ kept ++ values_of hits) where
   -- the new values are old ones and those of the hits

@@ -4,7 +4,7 @@ use Rattle.std.specs.Prelude.{AllPairs, slice_get}
 use Rattle.std.specs.Option.{option_map}
 use Rattle.std.proofs.lemmas.Bool.Decides.{nat_tests}
 use Rattle.std.proofs.lemmas.Option.{get_or_from_slice_get}
-use Rattle.std.proofs.lemmas.Bool.{cases_eq}
+use Rattle.std.proofs.lemmas.Bool.{cases_eq, eq-eqb, ne_eqb}
 use Rattle.tb_base.specs.declared.table.Path.{Path}
 use Rattle.tb_base.specs.TimetableData.{TimetableData}
 use Rattle.tb_base.specs.BestValues.{QueryData}
@@ -25,21 +25,15 @@ boarded-kept T Q D D' stop secs e boarded = λ t b boards not_last here in_time.
 pub are_boarded-kept : (T : TimetableData) (Q : QueryData) (D D' : DeskData) (place : ℕ) → Extends D D' 1 → AreBoarded T Q D place → AreBoarded T Q D' place
 are_boarded-kept T Q D D' place e boarded = λ stop secs walks first. boarded-kept T Q D D' stop secs e (boarded stop secs walks first)
 
-number_same : (a b : ℕ) → a ≡ b → (a == b) ≡ true
-number_same a b h = grind (arith, nat_tests, h)
-
-number_other : (a b : ℕ) → (a ≡ b → ⊥) → (a == b) ≡ false
-number_other a b h = elim (cases_eq a b) [ inl e ↦ absurd (h e) | inr n ↦ grind (arith, nat_tests, n) ]
-
 -- along ascending paths a look-up finds the path at its place
 found_path : (paths : List Path) (k : ℕ) (f : Path) → AllPairs (λ (g h : Path). g.to < h.to) paths → k < length paths → ((d : Path) → get_or paths k d ≡ f) → find (λ (g : Path). g.to == f.to) paths ≡ Some f
 found_path [] k f ascending h is = absurd (omega (arith, h))
 found_path (g ∷ gs) zero f ascending h is =
-    let e : g ≡ f = is f in ap (λ b. cond b (Some g) (find (λ (x : Path). x.to == f.to) gs)) (number_same g.to f.to (ap (λ (x : Path). x.to) e)) ∙ ap (λ x. Some x) e
+    let e : g ≡ f = is f in ap (λ b. cond b (Some g) (find (λ (x : Path). x.to == f.to) gs)) (eq-eqb g.to f.to (ap (λ (x : Path). x.to) e)) ∙ ap (λ x. Some x) e
 found_path (g ∷ gs) (suc k) f ascending h is =
     let below : k < length gs = omega (arith, h) in
     let before : g.to < f.to = AllPairs-head (λ (x y : Path). x.to < y.to) g gs ascending f (k, below, is f) in
-    ap (λ b. cond b (Some g) (find (λ (x : Path). x.to == f.to) gs)) (number_other g.to f.to (λ e. omega (arith, before, e)))
+    ap (λ b. cond b (Some g) (find (λ (x : Path). x.to == f.to) gs)) (ne_eqb g.to f.to (λ e. omega (arith, before, e)))
     ∙ found_path gs k f (AllPairs-tail (λ (x y : Path). x.to < y.to) g gs ascending) below is
 
 -- a path is a walk

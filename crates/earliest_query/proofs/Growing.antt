@@ -1,6 +1,7 @@
 -- What stays true of a queue that grows.
 use Rattle.std.proofs.Common.{◌≡◌, ◌∙◌, ℕ, ◌<◌, ◌≤◌, ◌⊎◌, inl, inr, List, [], ◌++◌, length, refl, sym, ap, subst, arith, Option, None, Some, length-append}
 use Rattle.std.proofs.lemmas.List.{append_assoc, append-nil}
+use Rattle.std.proofs.lemmas.Bool.{cases_lt}
 use Rattle.tb_base.specs.Network.{NetData}
 use Rattle.tb_base.specs.TimetableData.{TimetableData}
 use Rattle.tb_base.specs.BestValues.{QueryData}
@@ -36,15 +37,12 @@ pub extends-trans : (D E F : DeskData) (round : ℕ) → Extends D E round → E
 extends-trans D E F round p q = record {
   more = p.more ++ q.more;
   segments = q.segments ∙ ap (λ xs. xs ++ q.more) p.segments ∙ append_assoc D.segments p.more q.more;
-  rounds = λ n h k. elim (before_or_not n (length E.segments)) [
+  rounds = λ n h k. elim (cases_lt n (length E.segments)) [
     | inl before ↦ ap (λ xs. round_of xs n) q.segments ∙ round_of-kept E.segments q.more n before ∙ p.rounds n h before
     | inr behind ↦ q.rounds n behind k
   ];
   hits = q.hits ∙ p.hits;
 }
-  where
-    before_or_not : (n m : ℕ) → (n < m) ⊎ (m ≤ n)
-    before_or_not n m = grind arith
 
 pub extends-long : (D D' : DeskData) (round : ℕ) → Extends D D' round → length D.segments ≤ length D'.segments
 extends-long D D' round e = omega (arith, ap length e.segments, length-append D.segments e.more)

@@ -5,6 +5,7 @@ use Rattle.std.proofs.lemmas.Bool.Decides.{nat_tests}
 use Rattle.std.proofs.lemmas.Int.{ints}
 use Rattle.std.proofs.lemmas.List.Elements.{All-append, All-nil, All-cons, All-weaker}
 use Rattle.std.proofs.lemmas.Option.{get_or_from_slice_get, slice_get_within}
+use Rattle.std.proofs.lemmas.Bool.{eq-eqb}
 use Rattle.tb_base.specs.Network.{NetData}
 use Rattle.tb_base.specs.TimetableData.{TimetableData, arrival_at, stop_at, MayAlight}
 use Rattle.tb_base.specs.Walking.{walk}
@@ -23,6 +24,7 @@ use Rattle.earliest_query.proofs.Growing.{extends-long, extends-reached, extends
 use Rattle.earliest_query.proofs.Following.{followed-kept}
 use Rattle.earliest_query.proofs.BestSoFar.{covers-kept, traced-kept}
 use Rattle.earliest_query.proofs.StopSums.{pairs_append}
+use Rattle.tb_base.proofs.NumberFacts.{lt-eqb}
 
 -- hits do not matter to the queue
 pub in_step-hits : (N : NetData) (D : DeskData) (hs : List Hit) → IsInStep N D → IsInStep N (record D { hits = hs })
@@ -57,18 +59,12 @@ value_member h [] m = m
 value_member h (x ∷ xs) (inl e) = inl (ap (λ (y : Hit). y.value) e)
 value_member h (x ∷ xs) (inr m) = inr (value_member h xs m)
 
-test_same : (a b : ℕ) → a ≡ b → (a == b) ≡ true
-test_same a b h = grind (arith, nat_tests, h)
-
-test_other : (a b : ℕ) → a < b → (a == b) ≡ false
-test_other a b h = grind (arith, nat_tests, h)
-
 pub hits_of-same : (round : ℕ) (h : Hit) → h.value.rides ≡ round → hits_of round (Some h) ≡ h ∷ []
-hits_of-same round h e = ap (λ b. cond b (h ∷ []) []) (test_same h.value.rides round e)
+hits_of-same round h e = ap (λ b. cond b (h ∷ []) []) (eq-eqb h.value.rides round e)
 
 hits_of-earlier : (round : ℕ) (best : Option Hit) → IfSome best (λ h. h.value.rides < round) → hits_of round best ≡ []
 hits_of-earlier round None less = refl
-hits_of-earlier round (Some h) less = ap (λ b. cond b (h ∷ []) []) (test_other h.value.rides round less)
+hits_of-earlier round (Some h) less = ap (λ b. cond b (h ∷ []) []) (lt-eqb h.value.rides round less)
 
 -- what a round adds to the hits of the rounds before, where the best so far was this when it began
 pub record Adds (T : TimetableData) (Q : QueryData) (E : DeskData) (hits : List Hit) (round : ℕ) (start best : Option Hit) (added : List Hit) : Type 0 where

@@ -15,6 +15,7 @@ use Rattle.earliest_query.specs.UnderWay.{Covers, Extends, IsBounded, IsDone, Is
 use Rattle.earliest_query.proofs.Growing.{extends-long, extends-refl, extends-segment}
 use Rattle.earliest_query.proofs.Following.{followed-kept, sound_event}
 use Rattle.earliest_query.proofs.BestSoFar.{arrives_by-improved, bounded-improved}
+use Rattle.tb_base.proofs.NumberFacts.{≤ℤ-same, ≤ℤ-trans, ≤ℤ-later}
 
 -- what the best arrives by, it arrives by later too
 pub arrives_by-later : (best : Option Hit) (a b : ℤ) → a ≤ℤ b → ArrivesBy best a → ArrivesBy best b
@@ -23,16 +24,10 @@ arrives_by-later (Some h) a b le by = omega (arith, ints, le, by)
 
 -- along a trip the arrivals never fall
 pub arrives_on : (T : TimetableData) (t i k : ℕ) → IsSound T → t < length T.trips → i ≤ k → k < length (events_of T t) → arrival_at T t i ≤ℤ arrival_at T t k
-arrives_on T t i k sound trip le inside = elim (same_or_less i k le) [ inl e ↦ same (ap (λ m. arrival_at T t m) e) | inr less ↦ chained _ _ _ (sound_event T t i sound trip (omega (arith, less, inside))).waits (departs_first T sound t i k trip less inside) ]
+arrives_on T t i k sound trip le inside = elim (same_or_less i k le) [ inl e ↦ ≤ℤ-same _ _ (ap (λ m. arrival_at T t m) e) | inr less ↦ ≤ℤ-trans _ _ _ (sound_event T t i sound trip (omega (arith, less, inside))).waits (departs_first T sound t i k trip less inside) ]
   where
     same_or_less : (i k : ℕ) → i ≤ k → (i ≡ k) ⊎ (i < k)
     same_or_less i k h = grind arith
-
-    same : {a b : ℤ} → a ≡ b → a ≤ℤ b
-    same e = omega (arith, ints, e)
-
-    chained : (a b c : ℤ) → a ≤ℤ b → b ≤ℤ c → a ≤ℤ c
-    chained a b c g h = omega (arith, ints, g, h)
 
 -- what has been done with an index stays done, with a better hit too
 pub done-kept : (N : NetData) (Q : QueryData) (D D' : DeskData) (joined round n i : ℕ) (a b : Option Hit) → Extends D D' joined → n < length D.segments → IsImproved N.table Q D' round a b → IsDone N D a n i → IsDone N D' b n i
@@ -42,10 +37,7 @@ done-kept N Q D D' joined round n i a b extends inside improved (inr late) =
 
 -- who arrives late is bounded, with a walk too
 pub late-bounded : (T : TimetableData) (Q : QueryData) (D : DeskData) (best : Option Hit) (n i : ℕ) → ArrivesBy best (arrival_at T (segment_of D.segments n).trip i) → IsBounded T Q D best n i
-late-bounded T Q D best n i late = λ q secs offer. arrives_by-later best _ _ (walked (arrival_at T (segment_of D.segments n).trip i) secs) late
-  where
-    walked : (a : ℤ) (n : ℕ) → a ≤ℤ (a +ℤ pos n)
-    walked a n = omega (arith, ints)
+late-bounded T Q D best n i late = λ q secs offer. arrives_by-later best _ _ (≤ℤ-later (arrival_at T (segment_of D.segments n).trip i) secs) late
 
 -- what has been ridden when the segment is left
 module _ (N : NetData) (Q : QueryData) (D E : DeskData) (n at top round : ℕ) (best result : Option Hit) (sound : IsSound N.table) (inside : n < length D.segments) (whole : IsSoundSegment N.table (segment_of D.segments n)) (extends : Extends D E top) (improved : IsImproved N.table Q E round best result)

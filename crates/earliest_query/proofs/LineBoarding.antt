@@ -5,7 +5,7 @@ use Rattle.std.specs.List.{concat}
 use Rattle.std.specs.Option.{option_map}
 use Rattle.std.proofs.lemmas.Bool.Decides.{nat_tests}
 use Rattle.std.proofs.lemmas.Int.{ints}
-use Rattle.std.proofs.lemmas.Bool.{and_parts}
+use Rattle.std.proofs.lemmas.Bool.{and_parts, eqb-true, ltb-true, lt-ltb, eq-eqb, and_from}
 use Rattle.tb_base.specs.declared.table.Event.{Event}
 use Rattle.tb_base.specs.declared.transfer.Hop.{Hop}
 use Rattle.tb_base.specs.TimetableData.{TimetableData, departure_at, event_at, events_of, stop_at, MayBoard}
@@ -16,14 +16,10 @@ use Rattle.tb_base.proofs.Events.{MayBoard-inside}
 use Rattle.tb_base.proofs.Ordered.{Member, Member-from_Contains}
 use Rattle.tb_laws.proofs.Exchange.{≤ℤ-trans}
 use Rattle.tb_base.proofs.LineFacts.{MayFollow, first_no_later, line_of, no_later}
-use Rattle.tb_base.proofs.Members.{find_first, find_found, Member-filter, Member-filter_back, Member-flat_map, Member-flat_map_back, Member-numbers_below}
+use Rattle.tb_base.proofs.Members.{find_first, find_found, Member-filter, Member-filter_back, Member-flat_map, Member-flat_map_back, Member-numbers_below, Member-map}
 use Rattle.segment_queue.specs.Scans.{LineIndex, boarding_hop, first_trip, indices_at, line_indices_at, no_line_index}
 use Rattle.segment_queue.proofs.Distinct.{of_member}
-
-member_map : {X Y : Type 0} (f : X → Y) (x : X) (xs : List X) → Member x xs → Member (f x) (map f xs)
-member_map f x [] h = h
-member_map f x (y ∷ ys) (inl e) = inl (ap f e)
-member_map f x (y ∷ ys) (inr h) = inr (member_map f x ys h)
+use Rattle.tb_base.proofs.NumberFacts.{int_le-true, le-int_le}
 
 pub member_map_back : {X Y : Type 0} (f : X → Y) (y : Y) (xs : List X) → Member y (map f xs) → (x : X) × Member x xs × (f x ≡ y)
 member_map_back f y [] h = absurd h
@@ -47,27 +43,6 @@ pub record Boards (T : TimetableData) (p : ℕ) (time : ℤ) (h : Hop) : Type 0 
   pub stop : stop_at T h.trip h.at ≡ p
   pub in_time : time ≤ℤ departure_at T h.trip h.at
 
-same_number : (a b : ℕ) → (a == b) ≡ true → a ≡ b
-same_number a b h = grind (arith, nat_tests, h)
-
-below_number : (a b : ℕ) → nat_lt a b ≡ true → a < b
-below_number a b h = grind (arith, nat_tests, h)
-
-number_below : (a b : ℕ) → a < b → nat_lt a b ≡ true
-number_below a b h = grind (arith, nat_tests, h)
-
-number_same : (a b : ℕ) → a ≡ b → (a == b) ≡ true
-number_same a b h = grind (arith, nat_tests, h)
-
-both : (a b : Bool) → a ≡ true → b ≡ true → (a && b) ≡ true
-both a b g h = cc
-
-time_le : (a b : ℤ) → int_le a b ≡ true → a ≤ℤ b
-time_le a b h = grind (arith, ints, h)
-
-le_time : (a b : ℤ) → a ≤ℤ b → int_le a b ≡ true
-le_time a b h = grind (arith, ints, h)
-
 module _ (T : TimetableData) (lines : List (List ℕ)) (p : ℕ) (divided : AreDividedInto T lines) where
   pairs : (line : List ℕ) → Member line lines → AllPairs (MayFollow T) line
   pairs line h = of_member (λ l. AllPairs (MayFollow T) l) lines line divided.ordered h
@@ -79,7 +54,7 @@ module _ (T : TimetableData) (lines : List (List ℕ)) (p : ℕ) (divided : AreD
       = member_map_back (λ j. record { line = r.0; at = j }) b (filter (λ j. stop_at T (first_trip r.0) j == p) (numbers_below (length (events_of T (first_trip r.0))))) r.2 in
       let f = Member-filter_back (λ j. stop_at T (first_trip r.0) j == p) m.0 (numbers_below (length (events_of T (first_trip r.0)))) m.1 in (
         subst (λ l. Member l lines) (ap (λ (x : LineIndex). x.line) m.2) r.1,
-        subst (λ (x : LineIndex). stop_at T (first_trip x.line) x.at ≡ p) m.2 (same_number _ _ f.1),
+        subst (λ (x : LineIndex). stop_at T (first_trip x.line) x.at ≡ p) m.2 (eqb-true _ _ f.1),
       )
 
   hop_facts : (b : LineIndex) (time : ℤ) (h : Hop) → Member b (line_indices_at T lines p) → boarding_hop T b time ≡ Some h → Boards T p time h
@@ -95,9 +70,9 @@ module _ (T : TimetableData) (lines : List (List ℕ)) (p : ℕ) (divided : AreD
           let tests = and_parts _ _ may in
           subst (Boards T p time) hop (record {
             boards = sym (like.at b.at).board ∙ tests.0;
-            not_last = omega (arith, like.long, below_number _ _ tests.1);
+            not_last = omega (arith, like.long, ltb-true _ _ tests.1);
             stop = sym (like.at b.at).stop ∙ facts.1;
-            in_time = time_le _ _ found.1;
+            in_time = int_le-true _ _ found.1;
           })
 
       by_test : (x : Bool) → x ≡ may_be_boarded T (first_trip b.line) b.at → cond x (option_map (λ u. record { trip = u; at = b.at }) (earliest_trip T b.line b.at time)) None ≡ Some h → Boards T p time h
@@ -132,7 +107,7 @@ module _ (T : TimetableData) (lines : List (List ℕ)) (p : ℕ) (divided : AreD
           let hop : record { trip = u; at = b.at } ≡ h = cc in
           let found = find_found (λ u. int_le time (departure_at T u b.at)) b.line u (sym e) in
           let in_time : since ≤ℤ departure_at T u b.at = subst (λ (x : Hop). since ≤ℤ departure_at T x.trip x.at) (sym hop) late in
-          let first = find_first (MayFollow T) (λ u. int_le since (departure_at T u b.at)) b.line u (pairs b.line (index_facts b (member_at (line_indices_at T lines p) k inside)).0) found.0 (le_time _ _ in_time) in
+          let first = find_first (MayFollow T) (λ u. int_le since (departure_at T u b.at)) b.line u (pairs b.line (index_facts b (member_at (line_indices_at T lines p) k inside)).0) found.0 (le-int_le _ _ in_time) in
           record {
             hop = record { trip = first.0; at = b.at };
             is = ap (λ x. cond x (option_map (λ u. record { trip = u; at = b.at }) (earliest_trip T b.line b.at since)) None) may ∙ ap (option_map (λ u. record { trip = u; at = b.at })) first.1;
@@ -157,12 +132,12 @@ module _ (T : TimetableData) (lines : List (List ℕ)) (p : ℕ) (divided : AreD
       let on : (line : List ℕ) × Member line lines × Member t line = line_of lines t (Member-from_Contains t (concat lines) (divided.complete t (MayBoard-inside T t b boards).0)) in
       let like : IsTripNoLater T (first_trip on.0) t = first_no_later T on.0 t (pairs on.0 on.1) on.2 in
       let at_stop : Member b (filter (λ j. stop_at T (first_trip on.0) j == p) (numbers_below (length (events_of T (first_trip on.0)))))
-      = Member-filter (λ j. stop_at T (first_trip on.0) j == p) b (numbers_below (length (events_of T (first_trip on.0)))) (Member-numbers_below b (length (events_of T (first_trip on.0))) (omega (arith, like.long, not_last))) (number_same (stop_at T (first_trip on.0) b) p ((like.at b).stop ∙ here)) in
+      = Member-filter (λ j. stop_at T (first_trip on.0) j == p) b (numbers_below (length (events_of T (first_trip on.0)))) (Member-numbers_below b (length (events_of T (first_trip on.0))) (omega (arith, like.long, not_last))) (eq-eqb (stop_at T (first_trip on.0) b) p ((like.at b).stop ∙ here)) in
       let index : Member (record { line = on.0; at = b }) (line_indices_at T lines p)
-      = Member-flat_map (indices_at T p) on.0 (record { line = on.0; at = b }) lines on.1 (member_map (λ j. record { line = on.0; at = j }) b (filter (λ j. stop_at T (first_trip on.0) j == p) (numbers_below (length (events_of T (first_trip on.0))))) at_stop) in
+      = Member-flat_map (indices_at T p) on.0 (record { line = on.0; at = b }) lines on.1 (Member-map (λ j. record { line = on.0; at = j }) b (filter (λ j. stop_at T (first_trip on.0) j == p) (numbers_below (length (events_of T (first_trip on.0))))) at_stop) in
       let found : (k : ℕ) × (k < length (line_indices_at T lines p)) × (get_or (line_indices_at T lines p) k no_line_index ≡ record { line = on.0; at = b }) = place_of (line_indices_at T lines p) (record { line = on.0; at = b }) index in
-      let first = find_first (MayFollow T) (λ u. int_le time (departure_at T u b)) on.0 t (pairs on.0 on.1) on.2 (le_time _ _ in_time) in
-      let may : may_be_boarded T (first_trip on.0) b ≡ true = both _ _ ((like.at b).board ∙ boards) (number_below (b + 1) (length (events_of T (first_trip on.0))) (omega (arith, like.long, not_last))) in
+      let first = find_first (MayFollow T) (λ u. int_le time (departure_at T u b)) on.0 t (pairs on.0 on.1) on.2 (le-int_le _ _ in_time) in
+      let may : may_be_boarded T (first_trip on.0) b ≡ true = and_from _ _ ((like.at b).board ∙ boards) (lt-ltb (b + 1) (length (events_of T (first_trip on.0))) (omega (arith, like.long, not_last))) in
       let hop : boarding_hop T (record { line = on.0; at = b }) time ≡ Some (record { trip = first.0; at = b })
       = ap (λ x. cond x (option_map (λ u. record { trip = u; at = b }) (earliest_trip T on.0 b time)) None) may ∙ ap (option_map (λ u. record { trip = u; at = b })) first.1 in
       record {

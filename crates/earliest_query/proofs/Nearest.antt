@@ -2,6 +2,7 @@
 use Rattle.std.proofs.Common.{◌≡◌, ℕ, ◌+◌, ◌<◌, ◌≤◌, ◌⊎◌, inl, inr, List, [], ◌∷◌, ◌++◌, Bool, true, false, cond, length, take, get_or, refl, sym, ap, subst, arith, Option, Some, None, nat_le}
 use Rattle.std.specs.Prelude.{Contains, IfSome, nat_lt}
 use Rattle.std.proofs.lemmas.Bool.Decides.{nat_tests}
+use Rattle.std.proofs.lemmas.Bool.{cases_lt}
 use Rattle.tb_base.specs.declared.table.Path.{Path}
 use Rattle.tb_base.specs.TimetableData.{TimetableData}
 use Rattle.tb_base.specs.Walking.{walk}
@@ -78,10 +79,7 @@ none_preferred T origins place stop secs within none = record {
 }
   where
     at_most : (s secs : ℕ) → (s < secs → ⊥) → secs ≤ s
-    at_most s secs h = elim (either s secs) [ inl k ↦ absurd (h k) | inr k ↦ k ]
-      where
-        either : (a b : ℕ) → (a < b) ⊎ (b ≤ a)
-        either a b = grind arith
+    at_most s secs h = elim (cases_lt s secs) [ inl k ↦ absurd (h k) | inr k ↦ k ]
 
     less : (s secs : ℕ) → secs ≤ s → (s ≡ secs → ⊥) → secs < s
     less s secs h k = elim (either s secs h) [ inl e ↦ absurd (k e) | inr l ↦ l ]

@@ -1,6 +1,7 @@
 -- A queue stays one when a trip is entered.
 use Rattle.std.proofs.Common.{Bool, true, false, IsTrue, ◌↔◌, MatchBool, ◌≡◌, ◌∙◌, ℕ, suc, ◌+◌, ◌<◌, ◌≤◌, ◌⊎◌, inl, inr, List, [], ◌∷◌, ◌++◌, length, refl, sym, ap, subst, arith, Option, Some, length-append}
 use Rattle.std.specs.Prelude.{Contains, min}
+use Rattle.std.proofs.lemmas.Bool.{cases_lt}
 use Rattle.tb_base.specs.Network.{NetData}
 use Rattle.tb_base.specs.TimetableData.{events_of}
 use Rattle.tb_base.specs.BestValues.{QueryData}
@@ -20,9 +21,6 @@ use Rattle.earliest_query.proofs.Growing.{covered-kept, entered-kept, extends-re
 
 below_or_last : (n k : ℕ) → n < k + 1 → (n < k) ⊎ (k ≡ n)
 below_or_last n k h = grind arith
-
-lower_or_not : (a b : ℕ) → (a < b) ⊎ (b ≤ a)
-lower_or_not a b = grind arith
 
 module _ (N : NetData) (Q : QueryData) (D : DeskData) (round trip at : ℕ) (parent : Option (ℕ × ℕ)) (divided : AreDividedInto N.table N.lines) (inside : trip < length N.table.trips) (queue : IsQueue N Q D round) where
   -- the index isn't below the trip's mark: a segment has reached the trip there
@@ -78,7 +76,7 @@ module _ (N : NetData) (Q : QueryData) (D : DeskData) (round trip at : ℕ) (par
     marked_all : (u : ℕ) → u < length N.table.trips → (length (events_of N.table u) ≤ suc (mark_of N.table D'.marks u)) ⊎ IsCovered N.table (round_segments all) (length all) round u (mark_of N.table D'.marks u)
     marked_all u h =
         elim (member_or_not u (trips_from N.lines trip)) [
-          | inl e ↦ by_mark (lower_or_not at (mark_of N.table D.marks u)) (enters.marks u h ∙ lowered-in (trips_from N.lines trip) at u (mark_of N.table D.marks u) e.1) (trips_no_later N.table N.lines trip u divided e.0)
+          | inl e ↦ by_mark (cases_lt at (mark_of N.table D.marks u)) (enters.marks u h ∙ lowered-in (trips_from N.lines trip) at u (mark_of N.table D.marks u) e.1) (trips_no_later N.table N.lines trip u divided e.0)
           | inr e ↦ old (enters.marks u h ∙ lowered-out (trips_from N.lines trip) at u (mark_of N.table D.marks u) e.1)
         ]
       where
@@ -183,4 +181,4 @@ module _ (N : NetData) (Q : QueryData) (D : DeskData) (round trip at : ℕ) (par
       (queue-entered D' step enters below same_round boards in_set, reached-entered D' step enters below same_round boards in_set, extends-entered D' step enters below same_round boards in_set)
   queue-reached false D' step told same same_round boards in_set not_last =
       subst (λ d. IsQueue N Q d round × IsReachedBy N.table d (length (DeskData.segments d)) round trip at × Extends D d round) (sym same)
-      (queue, reached_before (elim (lower_or_not at (mark_of N.table D.marks trip)) [ inl below ↦ absurd (let e : false ≡ true = told.1 below in cc) | inr low ↦ low ]) not_last, extends-refl D round)
+      (queue, reached_before (elim (cases_lt at (mark_of N.table D.marks trip)) [ inl below ↦ absurd (let e : false ≡ true = told.1 below in cc) | inr low ↦ low ]) not_last, extends-refl D round)

@@ -14,6 +14,7 @@ use Rattle.segment_queue.specs.declared.desk.LastLeg.{LastLeg}
 use Rattle.segment_queue.specs.declared.desk.LastLeg.TheVariants.{OnFoot, Aboard}
 use Rattle.segment_queue.specs.Traced.{IsEntered, IsTracedBy, IsTracedHit, round_of, segment_of}
 use Rattle.segment_queue.proofs.Rounds.{round_behind}
+use Rattle.tb_base.proofs.Values.{value_is}
 
 pub same_values : (a b : ℤ) (m n : ℕ) → a ≡ b → m ≡ n → ◌≡◌ {A = Value} (record { arrive = a; rides = m }) (record { arrive = b; rides = n })
 same_values a b m n e f = cc
@@ -48,18 +49,12 @@ module _ (T : TimetableData) (Q : QueryData) (segments : List Segment) (entered 
         record {
           journey = record { origin = k.origin; target = k.target; leads = subst (λ o. IsSome o) (sym k.walks) refl };
           leaves = tt;
-          value = same h.value _ _ (k.arrives ∙ ap (λ z. Q.leave +ℤ z) (sym (walk_secs-is T from to k.secs k.walks))) k.no_ride;
+          value = value_is h.value _ _ (k.arrives ∙ ap (λ z. Q.leave +ℤ z) (sym (walk_secs-is T from to k.secs k.walks))) k.no_ride;
         },
       )
-        where
-          same : (v : Value) (a : ℤ) (n : ℕ) → v.arrive ≡ a → v.rides ≡ n → v ≡ record { arrive = a; rides = n }
-          same v a n e f = same_values v.arrive a v.rides n e f
       by_leg (Aboard n i to) k =
-          subst (IsAttained T Q) (sym (same h.value _ _ (k.arrives ∙ ap (λ z. arrival_at T (segment_of segments n).trip i +ℤ z) (sym (walk_secs-is T (stop_at T (segment_of segments n).trip i) to k.secs k.walks))) k.rounds))
+          subst (IsAttained T Q) (sym (value_is h.value _ _ (k.arrives ∙ ap (λ z. arrival_at T (segment_of segments n).trip i +ℤ z) (sym (walk_secs-is T (stop_at T (segment_of segments n).trip i) to k.secs k.walks))) k.rounds))
           (reached_value T Q.from Q.leave Q refl refl (round_of segments n) (segment_of segments n).trip (segment_of segments n).board i to (reached_all n k.inside) k.onward k.alights k.target (subst (λ o. IsSome o) (sym k.walks) refl))
-        where
-          same : (v : Value) (a : ℤ) (n : ℕ) → v.arrive ≡ a → v.rides ≡ n → v ≡ record { arrive = a; rides = n }
-          same v a n e f = same_values v.arrive a v.rides n e f
 
 -- where there is no target there is no hit
 pub no_hits : (T : TimetableData) (Q : QueryData) (segments : List Segment) (hits : List Hit) → All (IsTracedHit T Q segments) hits → Q.to ≡ [] → hits ≡ []

@@ -34,6 +34,7 @@ use Rattle.earliest_query.proofs.Nearest.{contains_right}
 use Rattle.earliest_query.proofs.Reaching.{hit_attained}
 use Rattle.earliest_query.proofs.SweptRounds.{hit_late}
 use Rattle.earliest_query.proofs.SweptSearch.{swept_cover}
+use Rattle.tb_base.proofs.NumberFacts.{≤ℤ-trans}
 
 -- the values with rides
 abbrev pub rode : List Value → List Value
@@ -87,12 +88,9 @@ module _ (N : NetData) (Q : QueryData) (later : ℤ) (le : Q.leave ≤ℤ later)
   attained_earlier : (v : Value) → 0 < v.rides → IsAttained N.table Later v → IsAttained N.table Q v
   attained_earlier v some_ride (j, has) = by_rides j.origin j.rides j.target has.journey has.leaves has.value
     where
-      through : (a b c : ℤ) → a ≤ℤ b → b ≤ℤ c → a ≤ℤ c
-      through a b c g h = omega (arith, ints, g, h)
-
       by_rides : (o : ℕ) (rides : List Ride) (q : ℕ) → IsJourney N.table Q.from Q.to (record { origin = o; rides = rides; target = q }) → LeavesNoEarlier N.table later o rides → v ≡ value_of N.table later (record { origin = o; rides = rides; target = q }) → IsAttained N.table Q v
       by_rides o [] q journey leaves value = absurd (let e : v.rides ≡ 0 = ap (λ (w : Value). w.rides) value in omega (arith, e, some_ride))
-      by_rides o (r ∷ rest) q journey leaves value = (record { origin = o; rides = r ∷ rest; target = q }, record { journey = journey; leaves = through Q.leave later (leaving_time N.table o r) le leaves; value = value })
+      by_rides o (r ∷ rest) q journey leaves value = (record { origin = o; rides = r ∷ rest; target = q }, record { journey = journey; leaves = ≤ℤ-trans Q.leave later (leaving_time N.table o r) le leaves; value = value })
 
   -- a value without rides is that of a walk
   walked_later : (v : Value) → v.rides ≡ 0 → IsAttained N.table Later v → (p q secs : ℕ) × Contains Q.from p × Contains Q.to q × (walk N.table p q ≡ Some secs) × (v.arrive ≡ later +ℤ pos secs)

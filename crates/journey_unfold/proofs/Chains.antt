@@ -21,14 +21,13 @@ use Rattle.tb_laws.proofs.UTurnLaws.{some}
 use Rattle.segment_queue.proofs.Rounds.{round_behind}
 use Rattle.journey_unfold.specs.Unfolded.{IsChain, SpellEnding, ride_in}
 use Rattle.journey_unfold.proofs.Spelling.{reverse-ridden, reverse-walked, rides-of}
+use Rattle.tb_base.proofs.Lists.{some-IsSome}
+use Rattle.tb_base.proofs.Values.{same_value, value_is}
 
 -- how many segments there may be up to this one
 abbrev pub height : Option (ℕ × ℕ) → ℕ
 height None = 0
 height (Some p) = suc p.0
-
-some_is : (o : Option ℕ) (n : ℕ) → o ≡ Some n → IsSome o
-some_is o n is = subst (λ x. IsSome x) (sym is) refl
 
 -- the seconds to the nearest are no more than those of another
 no_more : (secs_to : ℕ → Option ℕ) (stops : List ℕ) (p q s : ℕ) → IsNearest secs_to stops p → Contains stops q → secs_to q ≡ Some s → unwrap_or (secs_to p) 0 ≤ s
@@ -39,12 +38,6 @@ arrival-last : (T : TimetableData) (r : Ride) (rest : List Ride) (target : ℕ) 
     arrival_after T r rest target ≡ alighting_time T (last_ride r rest) +ℤ walk_secs T (alighting_stop T (last_ride r rest)) target
 arrival-last T r [] target = refl
 arrival-last T r (s ∷ rest) target = arrival-last T s rest target
-
-same_parts : (a b : ℤ) (m n : ℕ) → a ≡ b → m ≡ n → ◌≡◌ {A = Value} (record { arrive = a; rides = m }) (record { arrive = b; rides = n })
-same_parts a b m n e f = cc
-
-same_values : (v : Value) (a : ℤ) (n : ℕ) → v.arrive ≡ a → v.rides ≡ n → v ≡ record { arrive = a; rides = n }
-same_values v a n e f = same_parts v.arrive a v.rides n e f
 
 in_time : (asked d : ℤ) (m n : ℕ) → m ≤ n → (asked +ℤ pos n) ≤ℤ d → asked ≤ℤ (d -ℤ pos m)
 in_time asked d m n h k = omega (arith, ints, h, k)
@@ -198,7 +191,7 @@ module _ (T : TimetableData) (Q : QueryData) (D : DeskData) (traced : IsTraced T
                 journey = record { origin = near_from.among; target = u.near.among; leads = (near_here.walks, u.ride, u.on) };
                 leaves = in_time Q.leave (departure_at T (seg u.n).trip (seg u.n).board) (unwrap_or (walk T origin (stop_at T (seg u.n).trip (seg u.n).board)) 0) boarded.secs
                     (no_more (λ o. walk T o (stop_at T (seg u.n).trip (seg u.n).board)) Q.from origin boarded.origin boarded.secs near_here boarded.from boarded.walks) boarded.in_time;
-                value = same_values v _ _
+                value = value_is v _ _
                     (hit.arrives ∙ ap (λ s. arrival_at T (seg e).trip i +ℤ pos s) secs
                     ∙ sym (arrival-last T first u.rest u.target ∙ ap (λ (r : Ride). alighting_time T r +ℤ walk_secs T (alighting_stop T r) u.target) u.last))
                     (omega (arith, hit.rounds, u.rounds, round_behind D.segments u.n u.inside None none_is tt));
@@ -214,9 +207,9 @@ module _ (T : TimetableData) (Q : QueryData) (D : DeskData) (traced : IsTraced T
   walk-ending from to v legs hit legs_are = record {
     by = record { origin = from; rides = []; target = to };
     has = record {
-      journey = record { origin = hit.origin; target = hit.target; leads = some_is (walk T from to) hit.secs hit.walks };
+      journey = record { origin = hit.origin; target = hit.target; leads = some-IsSome (walk T from to) hit.secs hit.walks };
       leaves = tt;
-      value = same_values v _ _ (hit.arrives ∙ ap (λ n. Q.leave +ℤ pos n) (sym (ap (λ o. unwrap_or o 0) hit.walks))) hit.no_ride;
+      value = value_is v _ _ (hit.arrives ∙ ap (λ n. Q.leave +ℤ pos n) (sym (ap (λ o. unwrap_or o 0) hit.walks))) hit.no_ride;
     };
     spelt = legs_are;
     shortest = tt;

@@ -30,9 +30,8 @@ use Rattle.plain_rounds.specs.Shown.{IsInside, IsNearest, SpellShortest}
 use Rattle.std.proofs.Math.ListN.{get_or-append}
 use Rattle.plain_rounds.proofs.RoundLemmas.{label_and, and_label, label_inside, arrivals-more, arrivals-all, arrivals-none, ready-more, ready-first}
 use Rattle.plain_rounds.proofs.ValueLemmas.{IsEnded, attained-ended, attained-walk, ended-attained, shown, first-walk, ridden-inside, ridden-some}
-
-≤-two : (a b c : ℤ) → a ≤ℤ b → b ≤ℤ c → a ≤ℤ c
-≤-two a b c g h = omega (arith, ints, g, h)
+use Rattle.tb_base.proofs.NumberFacts.{≤ℤ-trans, <ℤ-≤ℤ-trans, <ℤ-weaker, ≤ℤ-refl}
+use Rattle.tb_base.proofs.Lists.{IsSome-some}
 
 <-clash : (a b c : ℤ) → a <ℤ b → b ≤ℤ c → c ≤ℤ a → ⊥
 <-clash a b c g h k = omega (arith, ints, g, h, k)
@@ -91,18 +90,12 @@ module _ (T : TimetableData) (Q : QueryData) where
       earlier : (c : ChoiceData) → Contains cs c → new.value.arrive <ℤ c.value.arrive
       earlier c among = by_best best (a.least c among) better
         where
-          two : (x y z : ℤ) → x <ℤ y → y ≤ℤ z → x <ℤ z
-          two x y z g h = omega (arith, ints, g, h)
-
           by_best : (o : Option ℤ) → IsSomeAnd o (λ b. b ≤ℤ c.value.arrive) → IfSome o (λ b. new.value.arrive <ℤ b) → new.value.arrive <ℤ c.value.arrive
           by_best None h k = absurd h
-          by_best (Some b) h k = two new.value.arrive b c.value.arrive k h
+          by_best (Some b) h k = <ℤ-≤ℤ-trans new.value.arrive b c.value.arrive k h
 
       ≤-same : (x : ℤ) → x ≤ℤ x
       ≤-same x = omega (arith, ints)
-
-      <-weaker : (x y : ℤ) → x <ℤ y → x ≤ℤ y
-      <-weaker x y h = omega (arith, ints, h)
 
       kept : (c : ChoiceData) → Contains cs c → Contains (cs ++ new ∷ []) c
       kept c (k, below, is) = (k, omega (arith, length-append cs (new ∷ []), below), get_or-append cs (new ∷ []) c k below ∙ is)
@@ -119,7 +112,7 @@ module _ (T : TimetableData) (Q : QueryData) where
         shown = All-push (λ c. SpellShortest T Q (ChoiceData.legs c) (ChoiceData.value c)) cs new a.shown shown;
         few = All-push (λ c. (ChoiceData.value c).rides ≤ suc most) cs new (λ k d below. (let h : (ChoiceData.value (get_or cs k d)).rides ≤ most = a.few k d below in omega (arith, h))) (omega (arith, rides));
         stairs = subst (λ vs. AllPairs IsStep vs) (sym (map_push ChoiceData.value cs new)) (all_pairs_push IsStep (map ChoiceData.value cs) new.value a.stairs step);
-        least = λ c among. elim (Contains-push_cases cs new c among) [ inl k ↦ <-weaker new.value.arrive c.value.arrive (earlier c k) | inr e ↦ subst (λ (x : ChoiceData). new.value.arrive ≤ℤ x.value.arrive) e (≤-same new.value.arrive) ];
+        least = λ c among. elim (Contains-push_cases cs new c among) [ inl k ↦ <ℤ-weaker new.value.arrive c.value.arrive (earlier c k) | inr e ↦ subst (λ (x : ChoiceData). new.value.arrive ≤ℤ x.value.arrive) e (≤-same new.value.arrive) ];
         had = (new, Contains-push cs new, refl);
         covers = λ v attained within. by_case v attained (below_or_next v.rides within);
       }
@@ -144,14 +137,11 @@ module _ (T : TimetableData) (Q : QueryData) where
     shown = All-cons (λ c. SpellShortest T Q (ChoiceData.legs c) (ChoiceData.value c)) new [] shown (λ k d below. absurd (omega (arith, below)));
     few = All-cons (λ c. (ChoiceData.value c).rides ≤ 0) new [] (omega (arith, rides)) (λ k d below. absurd (omega (arith, below)));
     stairs = λ i j d before below. absurd (omega (arith, before, below));
-    least = λ c among. subst (λ (x : ChoiceData). new.value.arrive ≤ℤ x.value.arrive) (only c among) (≤-same new.value.arrive);
+    least = λ c among. subst (λ (x : ChoiceData). new.value.arrive ≤ℤ x.value.arrive) (only c among) (≤ℤ-refl new.value.arrive);
     had = (new, Contains-push [] new, refl);
     covers = λ v attained within. (new, Contains-push [] new, (least v attained (omega (arith, within)), omega (arith, rides)));
   }
     where
-      ≤-same : (x : ℤ) → x ≤ℤ x
-      ≤-same x = omega (arith, ints)
-
       only : (c : ChoiceData) → Contains (new ∷ []) c → new ≡ c
       only c among = elim (Contains-push_cases [] new c among) [ inl k ↦ absurd (omega (arith, k.1)) | inr e ↦ e ]
 
@@ -159,10 +149,6 @@ module _ (T : TimetableData) (Q : QueryData) where
   module _ (a : Arrivals) (v : Value) (e : IsEnded T Q v) where
     plus : (x y z : ℤ) (s : ℕ) → x ≤ℤ y → z ≡ (y +ℤ pos s) → (x +ℤ pos s) ≤ℤ z
     plus x y z s h e = omega (arith, ints, h, e)
-
-    is_some_some : (o : Option ℕ) → IsSome o → (n : ℕ) × (o ≡ Some n)
-    is_some_some None h = cc
-    is_some_some (Some n) h = (n, refl)
 
     secs_is : (o : Option ℕ) (n : ℕ) → o ≡ Some n → unwrap_or o 0 ≡ n
     secs_is o n e = ap (λ x. unwrap_or x 0) e
@@ -178,7 +164,7 @@ module _ (T : TimetableData) (Q : QueryData) where
     pub due_by : IsNoLaterAt a.labels.items (alighting_stop T e.last) (alighting_time T e.last) → IsDueBy
     due_by h =
         let l = label_and (λ l. l.time ≤ℤ alighting_time T e.last) (label_at a.labels.items (alighting_stop T e.last)) h in
-        let w = is_some_some (walk T (alighting_stop T e.last) e.target) e.walks in
+        let w = IsSome-some (walk T (alighting_stop T e.last) e.target) e.walks in
         record { label = l.0; at = l.1; secs = w.0; walks = w.1; early = plus l.0.time (alighting_time T e.last) v.arrive w.0 l.2 (e.arrives ∙ ap (λ n. alighting_time T e.last +ℤ pos n) (secs_is (walk T (alighting_stop T e.last) e.target) w.0 w.1)) }
 
     pub is_due : length a.labels.items ≡ length T.stops → (d : IsDueBy) → IsDueOf T Q.to a.labels.items (d.label.time +ℤ pos d.secs)
@@ -207,7 +193,7 @@ module _ (T : TimetableData) (Q : QueryData) where
       where
         weaker : (o : Option ℤ) (z d : ℤ) → h.arrive ≤ℤ d → d ≤ℤ z → IsSomeAnd o (λ b. b ≤ℤ h.arrive) → IsSomeAnd o (λ b. b ≤ℤ z)
         weaker None z d g k le = absurd le
-        weaker (Some b) z d g k le = ≤-two b h.arrive z le (≤-two h.arrive d z g k)
+        weaker (Some b) z d g k le = ≤ℤ-trans b h.arrive z le (≤ℤ-trans h.arrive d z g k)
 
     -- one is reached earlier
     pub answer-better : (h : TargetArrival) → ((time : ℤ) → IsDueOf T Q.to arrivals.labels.items time → h.arrive ≤ℤ time) → IfSome best (λ b. h.arrive <ℤ b) → (legs : List Leg) → IsShownWithin T Q (suc most) legs h.arrive →
@@ -216,7 +202,7 @@ module _ (T : TimetableData) (Q : QueryData) where
         let n_is : n ≡ suc most = exact most cs best a (record { arrive = h.arrive; rides = n }) (shown-attained legs (record { arrive = h.arrive; rides = n }) shows) few less in
         answer-more most cs best a (record { value = record { arrive = h.arrive; rides = suc most }; legs = legs })
         (subst (λ m. SpellShortest T Q legs (record { arrive = h.arrive; rides = m })) n_is shows) refl less
-        (λ v attained m. (let d = due_of (suc most) arrivals are v attained (omega (arith, m)) (omega (arith, m)) in ≤-two h.arrive d.0 v.arrive (least d.0 d.1) d.2))
+        (λ v attained m. (let d = due_of (suc most) arrivals are v attained (omega (arith, m)) (omega (arith, m)) in ≤ℤ-trans h.arrive d.0 v.arrive (least d.0 d.1) d.2))
 
   -- a hit of the arrivals
   pub arrival_hit : (most : ℕ) (a : Arrivals) → AreArrivals T Q most a → (h : TargetArrival) → IsHitOf T Q.to a.labels.items h → IsArrivalHit T Q a.ridden.items most h
@@ -292,7 +278,7 @@ module _ (T : TimetableData) (Q : QueryData) where
       early l is =
           let inside = MayAlight-inside T is.last.trip is.last.alight is.boarded.ride.alights in
           let event : IsSoundEvent (length T.stops) (event_at T is.last.trip is.last.alight) = (sound.trip is.last.trip (record { name = []; events = [] }) inside.0).events is.last.alight no_event inside.1 in
-          subst (λ z. z ≤ℤ pos 359999) is.time (≤-two (alighting_time T is.last) (event_at T is.last.trip is.last.alight).dep (pos 359999) event.waits event.latest)
+          subst (λ z. z ≤ℤ pos 359999) is.time (≤ℤ-trans (alighting_time T is.last) (event_at T is.last.trip is.last.alight).dep (pos 359999) event.waits event.latest)
 
       by_label : (o : Option StopLabel) → o ≡ label_at a.labels.items p → IfSome o (λ l. l.time ≤ℤ pos 359999)
       by_label None e = tt
@@ -353,7 +339,7 @@ module _ (T : TimetableData) (Q : QueryData) where
             where
               by_count : (c : ChoiceData) → Contains cs c → c.value.arrive ≤ℤ (d.label.time +ℤ pos d.secs) → (v.rides ≤ most) ⊎ (most < v.rides) → (c : ChoiceData) × Contains cs c × IsNoWorse c.value v
               by_count c among early (inl few) = a.covers v attained few
-              by_count c among early (inr many) = (c, among, (≤-two c.value.arrive (d.label.time +ℤ pos d.secs) v.arrive early d.early, omega (arith, few-choice most cs best a c among, many)))
+              by_count c among early (inr many) = (c, among, (≤ℤ-trans c.value.arrive (d.label.time +ℤ pos d.secs) v.arrive early d.early, omega (arith, few-choice most cs best a c among, many)))
 
           by_rides : (v.rides ≡ 0) ⊎ (0 < v.rides) → (c : ChoiceData) × Contains cs c × IsNoWorse c.value v
           by_rides (inl none) = a.covers v attained (omega (arith, none))

@@ -5,6 +5,7 @@ use Rattle.std.specs.Option.{option_map}
 use Rattle.std.proofs.lemmas.List.{get_or_default}
 use Rattle.std.proofs.lemmas.List.Elements.{All-contains}
 use Rattle.std.proofs.lemmas.Option.{get_or_from_slice_get, slice_get_within}
+use Rattle.std.proofs.lemmas.Bool.{eqb-true}
 use Rattle.tb_base.specs.declared.table.Path.{Path}
 use Rattle.tb_base.specs.TimetableData.{TimetableData}
 use Rattle.tb_base.specs.Walking.{footpath_secs}
@@ -16,9 +17,6 @@ use Rattle.tb_base.proofs.Walks.{leaving_sound}
 abbrev pub no_path : Path
 no_path = record { to = 0; secs = 0 }
 
-same_number : (a b : ℕ) → (a == b) ≡ true → a ≡ b
-same_number a b h = grind arith
-
 number_same : (a : ℕ) → (a == a) ≡ true
 number_same a = grind arith
 
@@ -26,7 +24,7 @@ number_same a = grind arith
 found_first : (row : List Path) → AllPairs (λ (f g : Path). f.to < g.to) row → (f : Path) → Member f row → find (λ (g : Path). g.to == f.to) row ≡ Some f
 found_first row up f member =
     let first = find_first (λ (f g : Path). f.to < g.to) (λ (g : Path). g.to == f.to) row f up member (number_same f.to) in
-    by_case first.0 first.1 (same_number first.0.to f.to first.3) first.4
+    by_case first.0 first.1 (eqb-true first.0.to f.to first.3) first.4
   where
     by_case : (g : Path) → find (λ (g : Path). g.to == f.to) row ≡ Some g → g.to ≡ f.to → (g ≡ f) ⊎ (g.to < f.to) → find (λ (g : Path). g.to == f.to) row ≡ Some f
     by_case g h e (inl same) = h ∙ ap (λ (x : Path). Some x) same
@@ -54,7 +52,7 @@ module _ (T : TimetableData) (sound : IsSound T) (p : ℕ) (inside : p < length 
           let found = find_found (λ (g : Path). g.to == q) row f (sym e) in
           let c : Contains row f = Contains-from_Member f row found.0 in
           let secs : f.secs ≡ s = cc in
-          (c.0, c.1, λ d. let here : get_or row c.0 d ≡ f = get_or_default row c.0 d f c.1 ∙ c.2 in (ap (λ (x : Path). x.to) here ∙ same_number f.to q found.1, ap (λ (x : Path). x.secs) here ∙ secs))
+          (c.0, c.1, λ d. let here : get_or row c.0 d ≡ f = get_or_default row c.0 d f c.1 ∙ c.2 in (ap (λ (x : Path). x.to) here ∙ eqb-true f.to q found.1, ap (λ (x : Path). x.secs) here ∙ secs))
 
 -- no footpath leads back to its own stop
 pub no_own_footpath : (T : TimetableData) → IsSound T → (p : ℕ) → p < length T.stops → (s : ℕ) → footpath_secs T.footpaths p p ≡ Some s → ⊥
@@ -65,4 +63,4 @@ no_own_footpath T sound p inside s h = by_option (find (λ (f : Path). f.to == p
     by_option (Some f) e g =
         let found = find_found (λ (g : Path). g.to == p) (slice_index_or T.footpaths.paths p []) f (sym e) in
         let path : IsSoundPath (length T.stops) p f = All-contains (IsSoundPath (length T.stops) p) (slice_index_or T.footpaths.paths p []) f (leaving_sound T p sound inside) (Contains-from_Member f (slice_index_or T.footpaths.paths p []) found.0) in
-        path.away (same_number f.to p found.1)
+        path.away (eqb-true f.to p found.1)

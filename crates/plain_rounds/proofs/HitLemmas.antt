@@ -12,9 +12,7 @@ use Rattle.plain_rounds.specs.Hits.{IsEarliest, IsHitFrom, IsDueFrom}
 use Rattle.plain_rounds.specs.Shown.{IsNearest, IsNearestOf}
 use Rattle.plain_rounds.proofs.Least.{below_or_at, get_or-inside}
 use Rattle.plain_rounds.proofs.NearLemmas.{nearest-shown}
-
-two : (a b c : ℤ) → a ≤ℤ b → b ≤ℤ c → a ≤ℤ c
-two a b c g h = omega (arith, ints, g, h)
+use Rattle.tb_base.proofs.NumberFacts.{≤ℤ-trans}
 
 pub earliest-same : (P Q : TargetArrival → Type 0) (D E : ℤ → Type 0) → ((h : TargetArrival) → P h → Q h) → ((t : ℤ) → E t → D t) → (o : Option TargetArrival) → IsEarliest P D o → IsEarliest Q E o
 earliest-same P Q D E f g None h = λ t due. h t (g t due)
@@ -41,7 +39,7 @@ earliest-then P Q D E a b (Some r) one first second h k = (had one, λ t due. wi
 
     within_one : (R : TargetArrival → Type 0) (F : ℤ → Type 0) (o : Option TargetArrival) → IfSome o (λ x. r.arrive ≤ℤ x.arrive) → IsEarliest R F o → (t : ℤ) → F t → r.arrive ≤ℤ t
     within_one R F None le h t due = absurd (h t due)
-    within_one R F (Some x) le h t due = two r.arrive x.arrive t le (h.1 t due)
+    within_one R F (Some x) le h t due = ≤ℤ-trans r.arrive x.arrive t le (h.1 t due)
 
     within : (t : ℤ) → D t ⊎ E t → r.arrive ≤ℤ t
     within t (inl d) = within_one P D a first h t d

@@ -3,6 +3,7 @@ use Rattle.std.proofs.Common.{◌≡◌, ℕ, ◌<◌, ◌≤◌, ◌-◌, ◌�
 use Rattle.std.specs.Prelude.{sum}
 use Rattle.std.proofs.lemmas.List.{get_or-map, get_or-replicate, get_or_past, length-replicate}
 use Rattle.std.proofs.lemmas.List.Sums.{sum-map, sum_by-le-sum_by, get_or-le-sum_by}
+use Rattle.std.proofs.lemmas.Bool.{cases_lt}
 use Rattle.tb_base.specs.TimetableData.{TripData, TimetableData, events_of}
 use Rattle.tb_base.specs.Soundness.{IsSound}
 use Rattle.tb_base.proofs.Events.{MayAlight-inside}
@@ -39,11 +40,8 @@ module _ (T : TimetableData) (sound : IsSound T) where
 
 -- there is no label
 pub no_label : (n p : ℕ) (l : StopLabel) → label_at (replicate n None) p ≡ Some l → ⊥
-no_label n p l h = by_case (inside_or_past p n)
+no_label n p l h = by_case (cases_lt p n)
   where
-    inside_or_past : (i n : ℕ) → (i < n) ⊎ (n ≤ i)
-    inside_or_past i n = grind arith
-
     by_case : (p < n) ⊎ (n ≤ p) → ⊥
     by_case (inl k) = let none : label_at (replicate n None) p ≡ None = get_or-replicate n p None None k in let no : None ≡ Some l = sym none ∙ h in cc
     by_case (inr k) = let none : label_at (replicate n None) p ≡ None = get_or_past (replicate n None) p None (omega (arith, length-replicate {A = Option StopLabel} n None)) in let no : None ≡ Some l = sym none ∙ h in cc

@@ -2,6 +2,7 @@
 use Rattle.std.proofs.Common.{◌≡◌, ℕ, ◌<◌, ◌==◌, ◌⊎◌, inl, inr, List, length, get_or, Bool, true, false, cond, refl, sym, ap, subst, ◌∙◌, arith, Option, Some, ℤ, pos, ◌+ℤ◌}
 use Rattle.std.specs.Prelude.{slice_get, IsSomeAnd}
 use Rattle.std.proofs.lemmas.Int.{ints}
+use Rattle.std.proofs.lemmas.Bool.{cases_eq}
 use Rattle.tb_base.specs.declared.table.Path.{Path}
 use Rattle.tb_base.specs.TimetableData.{TimetableData}
 use Rattle.tb_base.specs.Walking.{footpath_secs, change_time, walk, change}
@@ -38,12 +39,9 @@ module _ (T : TimetableData) (sound : IsSound T) (p : ℕ) (inside : p < length 
     -- the stop itself, and then its footpaths
     pub own_and_footpaths : Takes xs ys (λ q x. (q ≡ p) × IsOfferedIn own m x) → Takes ys zs (λ q x. IsOfferedIn (footpath_secs T.footpaths p q) m x) → Takes xs zs (λ q x. IsOfferedIn (secs_to q) m x)
     own_and_footpaths t u = Takes-same xs zs (λ q x. ((q ≡ p) × IsOfferedIn own m x) ⊎ IsOfferedIn (footpath_secs T.footpaths p q) m x) (λ q x. IsOfferedIn (secs_to q) m x)
-        (λ q x h. onto q x h) (λ q x h. back q x h (same_or_not q p))
+        (λ q x h. onto q x h) (λ q x h. back q x h (cases_eq q p))
         (Takes-then xs ys zs (λ q x. (q ≡ p) × IsOfferedIn own m x) (λ q x. IsOfferedIn (footpath_secs T.footpaths p q) m x) t u)
       where
-        same_or_not : (a b : ℕ) → (a ≡ b) ⊎ (a ≡ b → ⊥)
-        same_or_not a b = grind arith
-
         onto : (q : ℕ) (x : StopLabel) → ((q ≡ p) × IsOfferedIn own m x) ⊎ IsOfferedIn (footpath_secs T.footpaths p q) m x → IsOfferedIn (secs_to q) m x
         onto q x (inl h) = subst (λ o. IsOfferedIn o m x) (sym (ap secs_to h.0 ∙ here)) h.1
         onto q x (inr h) =

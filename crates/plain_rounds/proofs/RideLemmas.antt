@@ -3,6 +3,7 @@ use Rattle.std.proofs.Common.{◌≡◌, ◌≢◌, ℕ, zero, suc, ◌<◌, ◌
 use Rattle.std.specs.Prelude.{slice_get, IsSomeAnd, IfSome}
 use Rattle.std.proofs.lemmas.Int.{ints}
 use Rattle.std.proofs.lemmas.List.{length-set, get_or-set_same, get_or-set_other, length_push}
+use Rattle.std.proofs.lemmas.Bool.{cases_eq, cases_lt}
 use Rattle.tb_base.specs.TimetableData.{TimetableData, events_of, event_at, stop_at, arrival_at, MayAlight}
 use Rattle.tb_base.specs.Journeys.{alighting_stop, alighting_time}
 use Rattle.plain_rounds.specs.declared.arrivals.Arrivals.{Arrivals}
@@ -12,6 +13,7 @@ use Rattle.plain_rounds.specs.declared.labels.StopLabel.{StopLabel}
 use Rattle.plain_rounds.specs.Labels.{IsNoLaterAt, IsLaterAt, label_at}
 use Rattle.plain_rounds.specs.Rounds.{ride_of, LetsBoard, NoneBoards, IsBoardable, IsAlong, IsLabelOf, IsLeftBehind, TakesRides}
 use Rattle.plain_rounds.proofs.Least.{below_or_at}
+use Rattle.tb_base.proofs.NumberFacts.{≤ℤ-same}
 
 -- one more step at the end of the list
 slice_get-push : {X : Type 0} (xs : List X) (y x : X) (n : ℕ) → slice_get xs n ≡ Some x → slice_get (xs ++ y ∷ []) n ≡ Some x
@@ -23,12 +25,9 @@ slice_get-pushed : {X : Type 0} (xs : List X) (y : X) → slice_get (xs ++ y ∷
 slice_get-pushed [] y = refl
 slice_get-pushed (z ∷ zs) y = slice_get-pushed zs y
 
-same_or_other : (q p : ℕ) → (q ≡ p) ⊎ (q ≢ p)
-same_or_other q p = grind arith
-
 -- what holds of each number of a list, after a write of one
 pub set_each : (xs : List ℕ) (i x : ℕ) (P : ℕ → ℕ → Type 0) → i < length xs → P i x → ((k : ℕ) → P k (get_or xs k 0)) → (k : ℕ) → P k (get_or (set xs i x) k 0)
-set_each xs i x P inside here all k = by_case (same_or_other k i)
+set_each xs i x P inside here all k = by_case (cases_eq k i)
   where
     by_case : (k ≡ i) ⊎ (k ≢ i) → P k (get_or (set xs i x) k 0)
     by_case (inl e) = subst (λ j. P j (get_or (set xs i x) j 0)) (sym e) (subst (λ y. P i y) (sym (get_or-set_same xs i x 0 inside)) here)
@@ -43,7 +42,7 @@ module _ (xs : List (Option StopLabel)) (p : ℕ) (l : StopLabel) (inside : p < 
   old_label q far = get_or-set_other xs p q (Some l) None far
 
   set_kept : IsLaterAt xs p l.time → (q : ℕ) (time : ℤ) → IsNoLaterAt xs q time → IsNoLaterAt (set xs p (Some l)) q time
-  set_kept later q time h = by_case (same_or_other q p)
+  set_kept later q time h = by_case (cases_eq q p)
     where
       earlier : (o : Option StopLabel) → IfSome o (λ m. l.time <ℤ m.time) → IsSomeAnd o (λ m. m.time ≤ℤ time) → l.time ≤ℤ time
       earlier None g k = absurd k
@@ -58,17 +57,14 @@ module _ (xs : List (Option StopLabel)) (p : ℕ) (l : StopLabel) (inside : p < 
       by_case (inr far) = subst (λ o. IsSomeAnd o (λ m. m.time ≤ℤ time)) (sym (old_label q far)) h
 
   set_made : (q : ℕ) (m : StopLabel) → label_at (set xs p (Some l)) q ≡ Some m → (label_at xs q ≡ Some m) ⊎ ((q ≡ p) × (m ≡ l))
-  set_made q m h = by_case (same_or_other q p)
+  set_made q m h = by_case (cases_eq q p)
     where
       by_case : (q ≡ p) ⊎ (q ≢ p) → (label_at xs q ≡ Some m) ⊎ ((q ≡ p) × (m ≡ l))
       by_case (inl e) = let here : Some m ≡ Some l = sym h ∙ ap (λ n. label_at (set xs p (Some l)) n) e ∙ new_label in inr (e, cc)
       by_case (inr far) = inl (sym (old_label q far) ∙ h)
 
   set_there : (time : ℤ) → time ≡ l.time → IsNoLaterAt (set xs p (Some l)) p time
-  set_there time e = subst (λ o. IsSomeAnd o (λ m. m.time ≤ℤ time)) (sym new_label) (same l.time time (sym e))
-    where
-      same : (a b : ℤ) → a ≡ b → a ≤ℤ b
-      same a b e = omega (arith, ints, e)
+  set_there time e = subst (λ o. IsSomeAnd o (λ m. m.time ≤ℤ time)) (sym new_label) (≤ℤ-same l.time time (sym e))
 
 module _ (T : TimetableData) where
   -- the offered ridden by another word
@@ -162,8 +158,6 @@ module _ (T : TimetableData) where
       more = ap length ridden ∙ length_push a.ridden.items s
 
   module _ (ready : List (Option StopLabel)) (t until : ℕ) (a : Arrivals) (left : IsLeftBehind T a.labels.items t until) where
-    below_or_not : (m n : ℕ) → (m < n) ⊎ (n ≤ m)
-    below_or_not m n = grind arith
 
     within_or_behind : (m n : ℕ) → (m < n + 1) ⊎ (n < m)
     within_or_behind m n = grind arith
@@ -177,7 +171,7 @@ module _ (T : TimetableData) where
         by_case s h e (inr late) = subst (λ u. IsNoLaterAt a.labels.items (stop_at T u s.alight) (arrival_at T u s.alight)) (sym e) (left s.alight (omega (arith, late, h.onward)) (subst (λ u. MayAlight T u s.alight) e h.alights))
 
         by_trip : (s : PlainRide) → s.trip ≡ t → IsBoardable T ready s → IsNoLaterAt a.labels.items (alighting_stop T (ride_of s)) (alighting_time T (ride_of s))
-        by_trip s e h = by_case s h e (below_or_not s.board until)
+        by_trip s e h = by_case s h e (cases_lt s.board until)
 
     -- one that is boarded at its first event where it can be
     module _ (b : Arrivals) (f : Boarding) (takes : TakesRides T a b (IsAlong T t f until)) where
@@ -199,7 +193,7 @@ module _ (T : TimetableData) where
           by_case s e h (inr late) = subst (λ u. IsNoLaterAt b.labels.items (stop_at T u s.alight) (arrival_at T u s.alight)) (sym e) (left_from s.alight (omega (arith, late, h.onward)) (subst (λ u. MayAlight T u s.alight) e h.alights))
 
           back : (s : PlainRide) → s.trip ≡ t → IsBoardable T ready s → IsNoLaterAt b.labels.items (alighting_stop T (ride_of s)) (alighting_time T (ride_of s))
-          back s e h = by_case s e h (below_or_not s.board f.at)
+          back s e h = by_case s e h (cases_lt s.board f.at)
 
   -- the ridden of one more trip
   pub TakesRides-next : (a b c : Arrivals) (P : PlainRide → Type 0) (i : ℕ) → TakesRides T a b (λ s. (s.trip < i) × P s) → TakesRides T b c (λ s. (s.trip ≡ i) × P s) → TakesRides T a c (λ s. (s.trip < i + 1) × P s)

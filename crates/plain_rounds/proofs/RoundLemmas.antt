@@ -4,6 +4,7 @@ use Rattle.std.specs.Prelude.{slice_get, IsSomeAnd, IfSome}
 use Rattle.std.proofs.lemmas.Int.{ints}
 use Rattle.std.proofs.lemmas.Option.{slice_get_within}
 use Rattle.std.proofs.lemmas.List.{get_or_past}
+use Rattle.std.proofs.lemmas.Bool.{cases_lt}
 use Rattle.tb_base.specs.TimetableData.{TimetableData}
 use Rattle.tb_base.specs.Walking.{walk, change}
 use Rattle.tb_base.specs.Journeys.{Ride, boarding_stop, boarding_time, alighting_stop, alighting_time}
@@ -15,12 +16,7 @@ use Rattle.plain_rounds.specs.declared.labels.StopLabel.{StopLabel}
 use Rattle.plain_rounds.specs.Labels.{IsNoLaterAt, Takes, IsOfferedByChange, IsOfferedByOrigin, label_at, later}
 use Rattle.plain_rounds.specs.Rounds.{ride_of, IsBoardable, IsLabelOf, TakesRides}
 use Rattle.plain_rounds.specs.Rides.{IsBoarded, IsReadyAfter, IsTrace, IsReadyLabel, IsArrivalLabel, AreArrivals, AreReady}
-
-≤ℤ-two : (a b c : ℤ) → a ≤ℤ b → b ≤ℤ c → a ≤ℤ c
-≤ℤ-two a b c g h = omega (arith, ints, g, h)
-
-more_secs : (a b : ℤ) (n : ℕ) → a ≤ℤ b → (a +ℤ pos n) ≤ℤ (b +ℤ pos n)
-more_secs a b n h = omega (arith, ints, h)
+use Rattle.tb_base.proofs.NumberFacts.{≤ℤ-trans, ≤ℤ-plus}
 
 -- what is known of a label that is there
 pub label_and : (P : StopLabel → Type 0) (o : Option StopLabel) → IsSomeAnd o P → (l : StopLabel) × (o ≡ Some l) × P l
@@ -36,11 +32,8 @@ label_weaker P Q (Some l) f h = f l h
 
 -- only stops of the list have labels
 pub label_inside : (labels : List (Option StopLabel)) (p : ℕ) (l : StopLabel) → label_at labels p ≡ Some l → p < length labels
-label_inside labels p l h = by_case (inside_or_past p (length labels))
+label_inside labels p l h = by_case (cases_lt p (length labels))
   where
-    inside_or_past : (i n : ℕ) → (i < n) ⊎ (n ≤ i)
-    inside_or_past i n = grind arith
-
     by_case : (p < length labels) ⊎ (length labels ≤ p) → p < length labels
     by_case (inl k) = k
     by_case (inr k) = let none : label_at labels p ≡ None = get_or_past labels p None k in absurd (let no : None ≡ Some l = sym none ∙ h in cc)
@@ -107,7 +100,7 @@ module _ (T : TimetableData) (Q : QueryData) where
         let m = label_and (λ m. m.time ≤ℤ boards.ready) (label_at ready (boarding_stop T r)) (can (boarding_stop T r) boards.ready boards.at) in
         takes.taken (record { trip = r.trip; board = r.board; alight = r.alight; before = m.0.ride }) (record {
           onward = boards.ride.onward;
-          boards = (boards.ride.boards, and_label (λ l. (l.time ≤ℤ boarding_time T r) × (l.ride ≡ m.0.ride)) (label_at ready (boarding_stop T r)) m.0 m.1 (≤ℤ-two m.0.time boards.ready (boarding_time T r) m.2 boards.in_time, refl));
+          boards = (boards.ride.boards, and_label (λ l. (l.time ≤ℤ boarding_time T r) × (l.ride ≡ m.0.ride)) (label_at ready (boarding_stop T r)) m.0 m.1 (≤ℤ-trans m.0.time boards.ready (boarding_time T r) m.2 boards.in_time, refl));
           alights = boards.ride.alights;
         })
 
@@ -145,7 +138,7 @@ module _ (T : TimetableData) (Q : QueryData) where
             by_change : (m : StopLabel) → label_at a.labels.items (alighting_stop T s) ≡ Some m → m.time ≤ℤ alighting_time T s → (secs : ℕ) → change T (alighting_stop T s) p ≡ Some secs → time ≡ (alighting_time T s +ℤ pos secs) → IsNoLaterAt ready p time
             by_change m at early secs is e =
                 label_weaker (λ l. l.time ≤ℤ (m.time +ℤ pos secs)) (λ l. l.time ≤ℤ time) (label_at ready p)
-                (λ l h. subst (λ z. l.time ≤ℤ z) (sym e) (≤ℤ-two l.time (m.time +ℤ pos secs) (alighting_time T s +ℤ pos secs) h (more_secs m.time (alighting_time T s) secs early)))
+                (λ l h. subst (λ z. l.time ≤ℤ z) (sym e) (≤ℤ-trans l.time (m.time +ℤ pos secs) (alighting_time T s +ℤ pos secs) h (≤ℤ-plus m.time (alighting_time T s) secs early)))
                 (changed p (later m secs) (offered_by_change a.labels.items (alighting_stop T s) p m secs long at is))
 
   -- the labels by one more ride, after the changes from where one arrives
@@ -185,7 +178,7 @@ module _ (T : TimetableData) (Q : QueryData) where
         by_change : (s : Ride) (q : ℕ) (time : ℤ) (m : StopLabel) → label_at b.labels.items (alighting_stop T s) ≡ Some m → m.time ≤ℤ alighting_time T s → (secs : ℕ) → change T (alighting_stop T s) q ≡ Some secs → time ≡ (alighting_time T s +ℤ pos secs) → IsNoLaterAt new q time
         by_change s q time m at early secs is e =
             label_weaker (λ l. l.time ≤ℤ (m.time +ℤ pos secs)) (λ l. l.time ≤ℤ time) (label_at new q)
-            (λ l h. subst (λ z. l.time ≤ℤ z) (sym e) (≤ℤ-two l.time (m.time +ℤ pos secs) (alighting_time T s +ℤ pos secs) h (more_secs m.time (alighting_time T s) secs early)))
+            (λ l h. subst (λ z. l.time ≤ℤ z) (sym e) (≤ℤ-trans l.time (m.time +ℤ pos secs) (alighting_time T s +ℤ pos secs) h (≤ℤ-plus m.time (alighting_time T s) secs early)))
             (takes.taken q (later m secs) (offered_by_change b.labels.items (alighting_stop T s) q m secs arrive.long at is))
 
         covers : (back : List Ride) (p : ℕ) (time : ℤ) → length back ≤ suc most → IsReadyAfter T Q back p time → IsNoLaterAt new p time

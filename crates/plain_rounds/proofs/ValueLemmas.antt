@@ -17,6 +17,7 @@ use Rattle.plain_rounds.specs.declared.arrivals.PlainRide.{PlainRide}
 use Rattle.plain_rounds.specs.Rides.{IsBoarded, IsReadyAfter}
 use Rattle.plain_rounds.specs.Rounds.{ride_of}
 use Rattle.plain_rounds.specs.Shown.{IsNearest, IsInside, HasShortestWalks, SpellShortest, last_ride}
+use Rattle.tb_base.proofs.Lists.{some-IsSome, IsSome-some}
 
 -- rides the last one first, in order before others
 abbrev pub rev_onto : List Ride → List Ride → List Ride
@@ -38,13 +39,6 @@ abbrev last_or : Ride → List Ride → Ride
 last_or d [] = d
 last_or d (x ∷ xs) = last_ride x xs
 
-some_is : (o : Option ℕ) (n : ℕ) → o ≡ Some n → IsSome o
-some_is o n e = subst (λ x. IsSome x) (sym e) refl
-
-is_some_some : (o : Option ℕ) → IsSome o → (n : ℕ) × (o ≡ Some n)
-is_some_some None h = cc
-is_some_some (Some n) h = (n, refl)
-
 secs_is : (o : Option ℕ) (n : ℕ) → o ≡ Some n → unwrap_or o 0 ≡ n
 secs_is o n e = ap (λ x. unwrap_or x 0) e
 
@@ -59,7 +53,7 @@ module _ (T : TimetableData) (Q : QueryData) where
       by_walk : (o : ℕ) × Contains Q.from o × IsSomeAnd (walk T o (boarding_stop T r)) (λ secs. b.ready ≡ (Q.leave +ℤ pos secs)) → (o : ℕ) × Contains Q.from o × (Leads T o (r ∷ tail) q × LeavesNoEarlier T Q.leave o (r ∷ tail))
       by_walk (o, from, walks) =
           let w = some_and (λ secs. b.ready ≡ (Q.leave +ℤ pos secs)) (walk T o (boarding_stop T r)) walks in
-          (o, from, ((some_is (walk T o (boarding_stop T r)) w.0 w.1, b.ride, on), leaves Q.leave b.ready (boarding_time T r) w.0 (unwrap_or (walk T o (boarding_stop T r)) 0) w.2 b.in_time (secs_is (walk T o (boarding_stop T r)) w.0 w.1)))
+          (o, from, ((some-IsSome (walk T o (boarding_stop T r)) w.0 w.1, b.ride, on), leaves Q.leave b.ready (boarding_time T r) w.0 (unwrap_or (walk T o (boarding_stop T r)) 0) w.2 b.in_time (secs_is (walk T o (boarding_stop T r)) w.0 w.1)))
   leads_back (s ∷ back) r tail q b on = leads_back back s (r ∷ tail) q b.at.0 (can_change, b.ride, on)
     where
       in_time : (t d e : ℤ) → t ≡ e → t ≤ℤ d → e ≤ℤ d
@@ -108,7 +102,7 @@ module _ (T : TimetableData) (Q : QueryData) where
     pub first-walk : (f : PlainRide) (rest : List PlainRide) → rides ≡ f ∷ rest → (o s : ℕ) × (Contains Q.from o × (walk T o (stop_at T f.trip f.board) ≡ Some s))
     first-walk f rest e =
         let j : Leads T journey.0 (map ride_of (f ∷ rest)) target = subst (λ (xs : List PlainRide). Leads T journey.0 (map ride_of xs) target) e journey.2.0 in
-        let w = is_some_some (walk T journey.0 (stop_at T f.trip f.board)) j.0 in
+        let w = IsSome-some (walk T journey.0 (stop_at T f.trip f.board)) j.0 in
         (journey.0, w.0, (journey.1, w.1))
 
     -- from the nearest origin to the nearest target they are a journey that is shown
@@ -151,7 +145,7 @@ module _ (T : TimetableData) (Q : QueryData) where
         leaves : Q.leave ≤ℤ (boarding_time T (ride_of f) -ℤ walk_secs T o (stop_at T f.trip f.board))
         leaves =
             let early : LeavesNoEarlier T Q.leave journey.0 (map ride_of (f ∷ rest)) = subst (λ (xs : List PlainRide). LeavesNoEarlier T Q.leave journey.0 (map ride_of xs)) e journey.2.1 in
-            let w = is_some_some (walk T journey.0 (stop_at T f.trip f.board)) leads.0 in
+            let w = IsSome-some (walk T journey.0 (stop_at T f.trip f.board)) leads.0 in
             later Q.leave (boarding_time T (ride_of f)) (unwrap_or (walk T o (stop_at T f.trip f.board)) 0) (unwrap_or (walk T journey.0 (stop_at T f.trip f.board)) 0) early
             (subst (λ n. unwrap_or (walk T o (stop_at T f.trip f.board)) 0 ≤ n) (sym (secs_is (walk T journey.0 (stop_at T f.trip f.board)) w.0 w.1))
             (at_most (unwrap_or (walk T o (stop_at T f.trip f.board)) 0) w.0 journey.0 o (near_origin.first journey.0 w.0 journey.1 w.1)))
@@ -187,7 +181,7 @@ module _ (T : TimetableData) (Q : QueryData) where
       by_rides : (o : ℕ) (rides : List Ride) (q : ℕ) → Contains Q.from o → Contains Q.to q → Leads T o rides q → LeavesNoEarlier T Q.leave o rides → v.rides ≡ length rides → v.arrive ≡ arrival T Q.leave o rides q → IsEnded v
       by_rides o [] q from to leads leaves n e = absurd (omega (arith, n, some))
       by_rides o (r ∷ rest) q from to leads leaves n e =
-          let w = is_some_some (walk T o (boarding_stop T r)) leads.0 in
+          let w = IsSome-some (walk T o (boarding_stop T r)) leads.0 in
           on_last [] r rest q v to (record {
             ride = leads.1;
             ready = Q.leave +ℤ pos w.0;
@@ -200,7 +194,7 @@ module _ (T : TimetableData) (Q : QueryData) where
     where
       by_rides : (o : ℕ) (rides : List Ride) (q : ℕ) → Contains Q.from o → Contains Q.to q → Leads T o rides q → v.rides ≡ length rides → v.arrive ≡ arrival T Q.leave o rides q → (o : ℕ) × Contains Q.from o × ((q : ℕ) × Contains Q.to q × IsSomeAnd (walk T o q) (λ secs. v.arrive ≡ (Q.leave +ℤ pos secs)))
       by_rides o [] q from to leads n e =
-          let w = is_some_some (walk T o q) leads in
+          let w = IsSome-some (walk T o q) leads in
           (o, from, (q, to, and_some (λ secs. v.arrive ≡ (Q.leave +ℤ pos secs)) (walk T o q) w.0 w.1 (e ∙ ap (λ n. Q.leave +ℤ pos n) (secs_is (walk T o q) w.0 w.1))))
       by_rides o (r ∷ rest) q from to leads n e = absurd (omega (arith, n, none))
 
@@ -208,7 +202,7 @@ module _ (T : TimetableData) (Q : QueryData) where
   pub ended-attained : (back : List Ride) (last : Ride) → IsBoarded T (IsReadyAfter T Q back) last → (target : ℕ) → Contains Q.to target → (arrive : ℤ) (secs : ℕ) → walk T (alighting_stop T last) target ≡ Some secs → arrive ≡ (alighting_time T last +ℤ pos secs) →
       IsAttained T Q (record { arrive = arrive; rides = suc (length back) })
   ended-attained back last boarded target to arrive secs walks arrives =
-      let led = leads_back back last [] target boarded (some_is (walk T (alighting_stop T last) target) secs walks) in (
+      let led = leads_back back last [] target boarded (some-IsSome (walk T (alighting_stop T last) target) secs walks) in (
         record { origin = led.0; rides = rev_onto back (last ∷ []); target = target },
         record {
           journey = record { origin = led.1; target = to; leads = led.2.0 };

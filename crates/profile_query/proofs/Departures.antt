@@ -10,14 +10,12 @@ use Rattle.tb_base.specs.Lines.{AreDividedInto}
 use Rattle.segment_queue.specs.Scans.{LineIndex, boarding_hop, line_indices_at, no_line_index}
 use Rattle.earliest_query.proofs.LineBoarding.{boarded_sooner, boarding_facts, served}
 use Rattle.profile_query.specs.Leaving.{DepartsAt, IsLineDeparture, line_departure}
+use Rattle.tb_base.proofs.NumberFacts.{cases_ltℤ, ≤ℤ-refl, ≤ℤ-antisym, ≤ℤ-same_back}
 
 -- a time that is not past a limit
 pub not_past : (last time : ℤ) → (IsTrue false ↔ (last <ℤ time)) → time ≤ℤ last
-not_past last time h = by_case (before_or_from last time)
+not_past last time h = by_case (cases_ltℤ last time)
   where
-    before_or_from : (a b : ℤ) → (a <ℤ b) ⊎ (b ≤ℤ a)
-    before_or_from a b = grind (arith, ints)
-
     by_case : (last <ℤ time) ⊎ (time ≤ℤ last) → time ≤ℤ last
     by_case (inl k) = absurd (let no : IsTrue false = h.1 k in cc)
     by_case (inr k) = k
@@ -53,26 +51,14 @@ module _ (N : NetData) (stop : ℕ) (divided : AreDividedInto N.table N.lines) w
   -- who departs by a line index from some time on departs by it just then
   pub departs_then : (time : ℤ) (k : ℕ) (n : ℤ) → k < length (line_indices_at N.table N.lines stop) → line_departure N stop time k ≡ Some n → IsLineDeparture N stop k n
   departs_then time k n inside is =
-      let m : (m : ℤ) × (line_departure N stop n k ≡ Some m) × (m ≤ℤ n) = departs_sooner time n k n inside is (at_most n) in
-      m.1 ∙ ap Some (same m.0 n m.2 (line_departs n k m.0 inside m.1).0)
-    where
-      at_most : (a : ℤ) → a ≤ℤ a
-      at_most a = omega (arith, ints)
-
-      same : (a b : ℤ) → a ≤ℤ b → b ≤ℤ a → a ≡ b
-      same a b g h = omega (arith, ints, g, h)
+      let m : (m : ℤ) × (line_departure N stop n k ≡ Some m) × (m ≤ℤ n) = departs_sooner time n k n inside is (≤ℤ-refl n) in
+      m.1 ∙ ap Some (≤ℤ-antisym m.0 n m.2 (line_departs n k m.0 inside m.1).0)
 
   -- who departs at the stop departs by a line index
   pub departs_by_line : (n : ℤ) → DepartsAt N.table stop n → (k : ℕ) × (k < length (line_indices_at N.table N.lines stop)) × IsLineDeparture N stop k n
   departs_by_line n d =
-      let s = served N.table N.lines stop divided n d.trip d.board d.boards d.not_last d.here (at_least d.departs) in
+      let s = served N.table N.lines stop divided n d.trip d.board d.boards d.not_last d.here (≤ℤ-same_back _ _ d.departs) in
       let m : ℤ = departure_at N.table s.hop.trip s.hop.at in
       let is : line_departure N stop n s.index ≡ Some m = ap departure_of s.is in
       let late : m ≤ℤ n = subst (λ x. m ≤ℤ x) (ap (departure_at N.table d.trip) s.at ∙ d.departs) (s.trip.at s.hop.at).dep in
-      (s.index, s.inside, is ∙ ap Some (same m n late (line_departs n s.index m s.inside is).0))
-    where
-      at_least : {a b : ℤ} → a ≡ b → b ≤ℤ a
-      at_least e = omega (arith, ints, e)
-
-      same : (a b : ℤ) → a ≤ℤ b → b ≤ℤ a → a ≡ b
-      same a b g h = omega (arith, ints, g, h)
+      (s.index, s.inside, is ∙ ap Some (≤ℤ-antisym m n late (line_departs n s.index m s.inside is).0))

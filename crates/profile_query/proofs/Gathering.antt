@@ -15,6 +15,7 @@ use Rattle.profile_query.specs.Leaving.{AreLeavingTimes, DepartsAt, HaveJoined, 
 use Rattle.profile_query.proofs.Departures.{departs_by_line, departs_sooner, departs_then, line_departs}
 use Rattle.profile_query.proofs.FromOrigin.{LeavesBy, by_walk, leaves, no_path}
 use Rattle.profile_query.proofs.Joining.{joined_all, joined_none, joined_push, joined_same}
+use Rattle.tb_base.proofs.NumberFacts.{cases_ltℤ, ≤ℤ-same_back}
 
 -- how many seconds are left from the next time on
 abbrev pub seconds_to : ℤ → ℕ
@@ -31,9 +32,6 @@ fewer (pos m) (negsuc n) h k = absurd (omega (arith, ints, h))
 fewer (negsuc m) (pos n) h k = omega arith
 fewer (negsuc m) (negsuc n) h k = absurd (omega (arith, ints, h))
 
-before_or_from : (a b : ℤ) → (a <ℤ b) ⊎ (b ≤ℤ a)
-before_or_from a b = grind (arith, ints)
-
 -- one leaves within the window who takes the path, and departs by the line index with this number
 abbrev pub LeavesByLine : NetData → WindowData → Path → ℕ → ℤ → Type 0
 LeavesByLine N W path berth n = IsWithin W n × IsLineDeparture N path.to berth (n +ℤ pos path.secs)
@@ -49,14 +47,11 @@ module _ (N : NetData) (W : WindowData) (path : Path) (berth : ℕ) (divided : A
   pub gather_begun : (times : List ℤ) (since : ℤ) (next : Option ℤ) → since ≡ (W.first +ℤ pos path.secs) → next ≡ line_departure N path.to since berth → AreGathered N W path berth times times next
   gather_begun times since next e is = record {
     since = since;
-    from = at_most e;
+    from = ≤ℤ-same_back _ _ e;
     following = sym is;
     so_far = joined_none (λ n. LeavesByLine N W path berth n × ((n +ℤ pos path.secs) <ℤ since)) times (λ n p. clash W.first n since path.secs e p.0.0.0 p.1);
   }
     where
-      at_most : {a b : ℤ} → a ≡ b → b ≤ℤ a
-      at_most e = omega (arith, ints, e)
-
       clash : (a n b : ℤ) (s : ℕ) → b ≡ (a +ℤ pos s) → a ≤ℤ n → (n +ℤ pos s) <ℤ b → ⊥
       clash a n b s e h k = omega (arith, ints, e, h, k)
 
@@ -71,7 +66,7 @@ module _ (N : NetData) (W : WindowData) (path : Path) (berth : ℕ) (divided : A
     -- the times are complete where what may follow is not within the window
     complete_before : ((n : ℤ) → LeavesByLine N W path berth n → g.since ≤ℤ (n +ℤ pos path.secs) → ⊥) → HaveJoined (LeavesByLine N W path berth) old times
     complete_before none =
-        joined_same (λ n. LeavesByLine N W path berth n × ((n +ℤ pos path.secs) <ℤ g.since)) (LeavesByLine N W path berth) old times (λ n p. p.0) (λ n p. by_time n p (before_or_from (n +ℤ pos path.secs) g.since)) g.so_far
+        joined_same (λ n. LeavesByLine N W path berth n × ((n +ℤ pos path.secs) <ℤ g.since)) (LeavesByLine N W path berth) old times (λ n p. p.0) (λ n p. by_time n p (cases_ltℤ (n +ℤ pos path.secs) g.since)) g.so_far
       where
         by_time : (n : ℤ) → LeavesByLine N W path berth n → ((n +ℤ pos path.secs) <ℤ g.since) ⊎ (g.since ≤ℤ (n +ℤ pos path.secs)) → LeavesByLine N W path berth n × ((n +ℤ pos path.secs) <ℤ g.since)
         by_time n p (inl h) = (p, h)
@@ -105,7 +100,7 @@ module _ (N : NetData) (W : WindowData) (path : Path) (berth : ℕ) (divided : A
         from = on W.first g.since d since path.secs g.from is_next.0 next_is;
         following = sym then_is;
         so_far = joined_same (λ n. (LeavesByLine N W path berth n × ((n +ℤ pos path.secs) <ℤ g.since)) ⊎ (time ≡ n)) (λ n. LeavesByLine N W path berth n × ((n +ℤ pos path.secs) <ℤ since)) old (times ++ time ∷ [])
-            (λ n p. is_one n p) (λ n p. by_time n p (before_or_from (n +ℤ pos path.secs) g.since))
+            (λ n p. is_one n p) (λ n p. by_time n p (cases_ltℤ (n +ℤ pos path.secs) g.since))
             (joined_push (λ n. LeavesByLine N W path berth n × ((n +ℤ pos path.secs) <ℤ g.since)) old times time g.so_far);
       }
         where

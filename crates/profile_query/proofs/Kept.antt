@@ -6,35 +6,22 @@ use Rattle.std.proofs.lemmas.Int.{ints}
 use Rattle.std.proofs.lemmas.Bool.Decides.{nat_tests}
 use Rattle.std.proofs.lemmas.List.{get_or_default}
 use Rattle.std.proofs.lemmas.List.Elements.{All-contains, Contains-append_cases}
-use Rattle.std.proofs.lemmas.Bool.{and_parts}
+use Rattle.std.proofs.lemmas.Bool.{and_parts, leb-true, le-leb, and_from}
 use Rattle.tb_base.specs.declared.query.Value.{Value}
 use Rattle.tb_base.specs.TimetableData.{TimetableData}
 use Rattle.tb_base.specs.BestValues.{QueryData, IsAttained, IsBest, IsNoWorse, IsStep}
 use Rattle.tb_base.proofs.Ordered.{Member, Member-from_Contains}
 use Rattle.tb_laws.specs.Pruning.{IsLate}
 use Rattle.profile_query.specs.Slots.{AreFound, is_kept, is_no_worse}
+use Rattle.tb_base.proofs.NumberFacts.{int_le-true, le-int_le, ≤ℤ-trans, ≤ℤ-antisym}
+use Rattle.tb_base.proofs.Values.{IsNoWorse-trans, same_value}
 
 -- what the test says
 no_worse_is : (u v : Value) → is_no_worse u v ≡ true → IsNoWorse u v
-no_worse_is u v h = let p = and_parts (int_le u.arrive v.arrive) (nat_le u.rides v.rides) h in (at_most _ _ p.0, below _ _ p.1)
-  where
-    at_most : (a b : ℤ) → int_le a b ≡ true → a ≤ℤ b
-    at_most a b h = grind (arith, ints, h)
-
-    below : (m n : ℕ) → nat_le m n ≡ true → m ≤ n
-    below m n h = grind (arith, h)
+no_worse_is u v h = let p = and_parts (int_le u.arrive v.arrive) (nat_le u.rides v.rides) h in (int_le-true _ _ p.0, leb-true _ _ p.1)
 
 is_no_worse-from : (u v : Value) → IsNoWorse u v → is_no_worse u v ≡ true
-is_no_worse-from u v h = both (int_le u.arrive v.arrive) (nat_le u.rides v.rides) (at_most _ _ h.0) (below _ _ h.1)
-  where
-    at_most : (a b : ℤ) → a ≤ℤ b → int_le a b ≡ true
-    at_most a b h = grind (arith, ints, h)
-
-    below : (m n : ℕ) → m ≤ n → nat_le m n ≡ true
-    below m n h = grind (arith, h)
-
-    both : (a b : Bool) → a ≡ true → b ≡ true → (a && b) ≡ true
-    both a b g h = cc
+is_no_worse-from u v h = and_from (int_le u.arrive v.arrive) (nat_le u.rides v.rides) (le-int_le _ _ h.0) (le-leb _ _ h.1)
 
 -- what is kept has a ride, and none of the later ones is no worse
 pub kept_has_ride : (later : List Value) (v : Value) → is_kept later v ≡ true → 0 < v.rides
@@ -83,12 +70,6 @@ kept-from later v some_ride none = by_test (list_any (λ u. is_no_worse u v) lat
     by_test true e = absurd (let r = any_is later v (sym e) in none r.0 r.1 (no_worse_is r.0 v r.2))
     by_test false e = both (nat_lt 0 v.rides) (list_any (λ u. is_no_worse u v) later) (below some_ride) (sym e)
 
-through : (a b c : ℤ) → a ≤ℤ b → b ≤ℤ c → a ≤ℤ c
-through a b c g h = omega (arith, ints, g, h)
-
-no_worse_through : (u v w : Value) → IsNoWorse u v → IsNoWorse v w → IsNoWorse u w
-no_worse_through u v w g h = (through u.arrive v.arrive w.arrive g.0 h.0, omega (arith, g.1, h.1))
-
 -- of two values of a staircase none is no worse than the other, unless they are one
 one_step : (values : List Value) (u v : Value) → AllPairs IsStep values → Contains values u → Contains values v → IsNoWorse u v → u ≡ v
 one_step values u v stairs (i, in_i, is_u) (j, in_j, is_v) le = by_order (in_order i j)
@@ -121,17 +102,11 @@ module _ (T : TimetableData) (Q : QueryData) (later values : List Value) (are : 
     undominated = λ w has le. by_found w le (are.cover w has);
   }
     where
-      both_ways : (a b : ℤ) → a ≤ℤ b → b ≤ℤ a → a ≡ b
-      both_ways a b g h = omega (arith, ints, g, h)
-
-      same : (a b : ℤ) (m n : ℕ) → a ≡ b → m ≡ n → ◌≡◌ {A = Value} (record { arrive = a; rides = m }) (record { arrive = b; rides = n })
-      same a b m n e f = cc
-
       by_found : (w : Value) → IsNoWorse w v → IsLate (values ++ later) w.arrive w.rides → w ≡ v
       by_found w le (u, there, below) = elim (Contains-append_cases values later u there) [
-        | inl m ↦ (let back : IsNoWorse v w = subst (λ x. IsNoWorse x w) (one_step values u v are.stairs m one (no_worse_through u w v below le)) below in
-            same w.arrive v.arrive w.rides v.rides (both_ways w.arrive v.arrive le.0 back.0) (omega (arith, le.1, back.1)))
-        | inr m ↦ absurd (kept_beaten_by_none later u v kept m (no_worse_through u w v below le))
+        | inl m ↦ (let back : IsNoWorse v w = subst (λ x. IsNoWorse x w) (one_step values u v are.stairs m one (IsNoWorse-trans u w v below le)) below in
+            same_value w.arrive v.arrive w.rides v.rides (≤ℤ-antisym w.arrive v.arrive le.0 back.0) (omega (arith, le.1, back.1)))
+        | inr m ↦ absurd (kept_beaten_by_none later u v kept m (IsNoWorse-trans u w v below le))
       ]
 
   -- a best value that is kept is one of them

@@ -21,6 +21,7 @@ use Rattle.earliest_query.proofs.SweptSearch.{swept_cover}
 use Rattle.profile_query.specs.Leaving.{DepartsAt}
 use Rattle.profile_query.specs.Slots.{AreFound, AreLater}
 use Rattle.profile_query.proofs.Rest.{pairs-map}
+use Rattle.tb_base.proofs.NumberFacts.{≤ℤ-trans}
 
 -- at a time, a sweep has come down to it
 pub swept_so_far : (N : NetData) (Q : QueryData) (D : DeskData) (S : SweepData) → IsSweptTo N Q D S.levels S.values → IsSweptSoFar N Q D S
@@ -52,12 +53,9 @@ module _ (T : TimetableData) (sound : IsSound T) where
   pub departs_within : (stop : ℕ) (time : ℤ) → DepartsAt T stop time → (negsuc 86399 ≤ℤ time) × (time ≤ℤ pos 359999)
   departs_within stop time d =
       let e = sound_event d.trip d.board d.boards in (
-        subst (λ x. negsuc 86399 ≤ℤ x) d.departs (later (negsuc 86399) _ _ e.earliest e.waits),
+        subst (λ x. negsuc 86399 ≤ℤ x) d.departs (≤ℤ-trans (negsuc 86399) _ _ e.earliest e.waits),
         subst (λ x. x ≤ℤ pos 359999) d.departs e.latest,
       )
-    where
-      later : (a b c : ℤ) → a ≤ℤ b → b ≤ℤ c → a ≤ℤ c
-      later a b c g h = omega (arith, ints, g, h)
 
   -- nothing departs after the last second
   pub none_later : (Q : QueryData) → pos 359999 <ℤ Q.leave → AreLater T Q []

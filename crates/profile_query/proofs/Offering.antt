@@ -19,6 +19,7 @@ use Rattle.segment_queue.specs.declared.desk.Hit.{Hit}
 use Rattle.segment_queue.specs.declared.desk.Segment.{Segment}
 use Rattle.journey_unfold.specs.Unfolded.{SpellHit}
 use Rattle.profile_query.specs.Slots.{IsShown, is_kept, slot_at, slots_at}
+use Rattle.tb_base.proofs.NumberFacts.{≤ℤ-same_back}
 
 -- the slots of values in a row
 pub slots_at-append : (time : ℤ) (later us vs : List Value) → slots_at time later (us ++ vs) ≡ slots_at time later us ++ slots_at time later vs
@@ -33,9 +34,6 @@ hit_shown T Q segments h legs hops s follows = record { spelt = record { by = s.
 spell_slot : (T : TimetableData) (W : WindowData) (slot : Slot) (legs : List Leg) → IsProfileSlot T W slot → SpellValue T (record { from = W.from; to = W.to; leave = slot.leave }) legs (record { arrive = slot.arrive; rides = slot.rides }) → SpellSlot T W legs slot
 spell_slot T W slot legs is spelt = by_rides spelt.by.origin spelt.by.rides spelt.by.target spelt.has.journey spelt.has.leaves spelt.has.value spelt.spelt
   where
-    at_most : {a b : ℤ} → a ≡ b → b ≤ℤ a
-    at_most e = omega (arith, ints, e)
-
     by_rides : (o : ℕ) (rides : List Ride) (q : ℕ) → IsJourney T W.from W.to (record { origin = o; rides = rides; target = q }) → LeavesNoEarlier T slot.leave o rides →
         ◌≡◌ {A = Value} (record { arrive = slot.arrive; rides = slot.rides }) (value_of T slot.leave (record { origin = o; rides = rides; target = q })) → legs ≡ legs_of T o rides q → SpellSlot T W legs slot
     by_rides o [] q journey leaves value spelt = absurd (let e : slot.rides ≡ 0 = ap (λ (v : Value). v.rides) value in let some_ride = slot_has_ride T W slot is in omega (arith, e, some_ride))
@@ -43,7 +41,7 @@ spell_slot T W slot legs is spelt = by_rides spelt.by.origin spelt.by.rides spel
         let arrive = ap (λ (v : Value). v.arrive) value in
         let rides : slot.rides ≡ suc (length rest) = ap (λ (v : Value). v.rides) value in
         let same : slot_of T o r rest q ≡ slot = is.undominated (slot_of T o r rest q) (record { origin = o; first = r; rest = rest; target = q; journey = journey; is = refl })
-        (record { leave = leaves; arrive = at_most arrive; rides = omega (arith, rides) }) in
+        (record { leave = leaves; arrive = ≤ℤ-same_back _ _ arrive; rides = omega (arith, rides) }) in
         record {
           by = record { origin = o; first = r; rest = rest; target = q; journey = journey; is = sym same };
           spelt = spelt;

@@ -20,6 +20,7 @@ use Rattle.profile_query.specs.Leaving.{AreLeavingTimes, IsLeavingBefore, IsLeav
 use Rattle.profile_query.specs.Slots.{AreFound, AreLater, is_kept, slot_at, slots_at}
 use Rattle.profile_query.proofs.FromOrigin.{leaves_in_time}
 use Rattle.profile_query.proofs.Kept.{best_is_found, kept-from, kept_beaten_by_none, kept_has_ride, kept_is_best}
+use Rattle.tb_base.proofs.NumberFacts.{≤ℤ-trans, cases_ltℤ, ≤ℤ-refl}
 
 -- the query of a window at a time
 abbrev pub query_at : WindowData → ℤ → QueryData
@@ -47,12 +48,6 @@ pairs-map R S f g (x ∷ xs) p =
     (All-map (S (f x)) f xs (λ k d inside. g x (get_or xs k d) (p 0 (suc k) d (omega arith) (omega (arith, inside)))))
     (pairs-map R S f g xs (AllPairs-tail R x xs p))
 
-through : (a b c : ℤ) → a ≤ℤ b → b ≤ℤ c → a ≤ℤ c
-through a b c g h = omega (arith, ints, g, h)
-
-before_or_from : (a b : ℤ) → (a <ℤ b) ⊎ (b ≤ℤ a)
-before_or_from a b = grind (arith, ints)
-
 at_or_after : (a b : ℤ) → a ≤ℤ b → (a ≡ b) ⊎ (a <ℤ b)
 at_or_after a b h = grind (arith, ints, h)
 
@@ -61,7 +56,7 @@ module _ (T : TimetableData) (sound : IsSound T) (W : WindowData) (end time : �
     (are_later : AreLater T (query_at W end) later) (are_found : AreFound T (query_at W time) later values) where
   -- a journey with rides that leaves after the time leaves at the end or later
   leaves_late : (o : ℕ) (r : Ride) (rest : List Ride) (q : ℕ) → IsJourney T W.from W.to (record { origin = o; rides = r ∷ rest; target = q }) → (time +ℤ pos 1) ≤ℤ leaving_time T o r → end ≤ℤ leaving_time T o r
-  leaves_late o r rest q journey late = by_case (before_or_from (leaving_time T o r) end)
+  leaves_late o r rest q journey late = by_case (cases_ltℤ (leaving_time T o r) end)
     where
       next : (a b : ℤ) → (a +ℤ pos 1) ≤ℤ b → a <ℤ b
       next a b h = omega (arith, ints, h)
@@ -89,7 +84,7 @@ module _ (T : TimetableData) (sound : IsSound T) (W : WindowData) (end time : �
   kept_is_slot v in_values kept =
       profile_slot T sound W time v (kept_has_ride later v kept) (kept_is_best T (query_at W time) later values are_found v in_values kept)
       (λ w best some_ride le. (let u : (x : Value) × Contains later x × IsNoWorse x w = are_later.cover w (attained_late w some_ride best.attained) some_ride in
-      kept_beaten_by_none later u.0 v kept u.1 (through u.0.arrive w.arrive v.arrive u.2.0 le.0, omega (arith, u.2.1, le.1))))
+      kept_beaten_by_none later u.0 v kept u.1 (≤ℤ-trans u.0.arrive w.arrive v.arrive u.2.0 le.0, omega (arith, u.2.1, le.1))))
       one.not_before one.not_after
 
   -- a slot at the time beats all later values
@@ -134,16 +129,13 @@ module _ (T : TimetableData) (sound : IsSound T) (W : WindowData) (end time : �
     best = All-append (IsProfileSlot T W) slots (slots_at time later values) are.best (All-map (IsProfileSlot T W) (slot_at time) (filter (is_kept later) values) kept_slots);
     from = All-append (λ (s : Slot). time ≤ℤ s.leave) slots (slots_at time later values)
         (All-weaker (λ (s : Slot). end ≤ℤ s.leave) (λ (s : Slot). time ≤ℤ s.leave) (λ s h. onward time end s.leave one.before h) slots are.from)
-        (All-map (λ (s : Slot). time ≤ℤ s.leave) (slot_at time) (filter (is_kept later) values) (λ k d inside. at_most time));
+        (All-map (λ (s : Slot). time ≤ℤ s.leave) (slot_at time) (filter (is_kept later) values) (λ k d inside. ≤ℤ-refl time));
     complete = λ slot is from. by_time slot is (at_or_after time slot.leave from);
     ordered = pairs-append SlotPrecedes slots (slots_at time later values) are.ordered
         (pairs-map (λ (v w : Value). v.rides < w.rides) SlotPrecedes (slot_at time) (λ v w h. inr (refl, h)) (filter (is_kept later) values) (AllPairs-filter (λ (v w : Value). v.rides < w.rides) (is_kept later) values (λ i j d before below. (are_found.stairs i j d before below).0)))
         (λ s t in_slots in_new. inl (earlier t.leave s.leave (new_leaves t in_new) (All-contains (λ (s : Slot). end ≤ℤ s.leave) slots s are.from in_slots)));
   }
     where
-      at_most : (a : ℤ) → a ≤ℤ a
-      at_most a = omega (arith, ints)
-
       onward : (a b c : ℤ) → a <ℤ b → b ≤ℤ c → a ≤ℤ c
       onward a b c g h = omega (arith, ints, g, h)
 
@@ -187,7 +179,7 @@ module _ (T : TimetableData) (W : WindowData) where
   pub whole_profile : (end : ℤ) (slots : List Slot) → AreFrom T W end slots → AreLeavingTimes T W end [] → IsProfile T W slots
   whole_profile end slots are times = record {
     best = are.best;
-    complete = λ slot is. by_time slot is (before_or_from slot.leave end);
+    complete = λ slot is. by_time slot is (cases_ltℤ slot.leave end);
     ordered = are.ordered;
   }
     where

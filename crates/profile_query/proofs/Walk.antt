@@ -19,6 +19,7 @@ use Rattle.profile_query.specs.Slots.{AreFound, AreLater, IsShown, slots_at}
 use Rattle.profile_query.proofs.Gathering.{IsTaken, last_taken}
 use Rattle.profile_query.proofs.Offering.{all_spell}
 use Rattle.profile_query.proofs.Rest.{AreFrom, none_after, one_time_more, query_at, whole_profile}
+use Rattle.tb_base.proofs.NumberFacts.{≤ℤ-refl, <ℤ-weaker}
 
 -- The window has been walked from its end back to the time of the query: these times are left, these are the values of all
 -- who leave then or later, and these are the offers.
@@ -40,15 +41,12 @@ module _ (T : TimetableData) (sound : IsSound T) (W : WindowData) (hops : ℕ �
   walk_begun Q times later e are found =
       subst (λ q. IsWalked T W hops q times later []) (sym e) (record {
         query = refl;
-        within = at_most (W.last +ℤ pos 1);
+        within = ≤ℤ-refl (W.last +ℤ pos 1);
         left = are;
         found = subst (λ q. AreLater T q later) e found;
         slots = none_after T W;
         shown = All-nil (IsShown T W.from W.to hops);
       })
-    where
-      at_most : (a : ℤ) → a ≤ℤ a
-      at_most a = omega (arith, ints)
 
   -- The last of the times that are left is taken, and the query is asked again at it.
   module _ (Q new : QueryData) (times rest : List ℤ) (time : ℤ) (later : List Value) (offers : List OfferData) (walked : IsWalked T W hops Q times later offers) (popped : times ≡ rest ++ time ∷ []) (asked : new ≡ query_at W time) where
@@ -62,12 +60,9 @@ module _ (T : TimetableData) (sound : IsSound T) (W : WindowData) (hops : ℕ �
     pub asked_sooner : (N : NetData) (D : DeskData) (S : SweepData) → IsSweptSoFar N Q D S → (l : ℤ) × (new.leave ≤ℤ l) × IsSweptSoFar N (record { from = new.from; to = new.to; leave = l }) D S
     asked_sooner N D S swept = (
       Q.leave,
-      subst (λ q. q.leave ≤ℤ Q.leave) (sym asked) (at_most time Q.leave taken.one.before),
+      subst (λ q. q.leave ≤ℤ Q.leave) (sym asked) (<ℤ-weaker time Q.leave taken.one.before),
       subst (λ q. IsSweptSoFar N (record { from = q.from; to = q.to; leave = Q.leave }) D S) (sym asked) (subst (λ q. IsSweptSoFar N q D S) walked.query swept),
     )
-      where
-        at_most : (a b : ℤ) → a <ℤ b → a ≤ℤ b
-        at_most a b h = omega (arith, ints, h)
 
     -- so the window has been walked one time further
     pub walked_on : (values so_far : List Value) (more : List OfferData) → AreFound T new later values → AreLater T new so_far → map OfferData.slot more ≡ map OfferData.slot offers ++ slots_at new.leave later values →

@@ -2,12 +2,13 @@
 use Rattle.std.proofs.Common.{◌≡◌, ◌≢◌, ◌∙◌, ℕ, zero, suc, ◌+◌, ◌-◌, ◌<◌, ◌≤◌, ◌⊎◌, inl, inr, List, [], ◌∷◌, ◌++◌, length, length-set, get_or, set, refl, sym, ap, subst, arith, Option, length-append}
 use Rattle.std.specs.Prelude.{All, min}
 use Rattle.std.specs.List.{concat}
-use Rattle.std.proofs.lemmas.List.{get_or-set_other, get_or-set_same}
+use Rattle.std.proofs.lemmas.List.{get_or-set_other, get_or-set_same, get_or_default}
 use Rattle.tb_base.specs.Network.{NetData}
 use Rattle.tb_base.proofs.Ordered.{Member}
 use Rattle.std.proofs.lemmas.List.{get_or_append_left}
 use Rattle.std.proofs.lemmas.List.Elements.{All-push}
 use Rattle.std.proofs.Math.Seq.{get_or-append_seam}
+use Rattle.std.proofs.lemmas.Bool.{cases_lt, cases_eq}
 use Rattle.tb_base.specs.TimetableData.{TimetableData, events_of}
 use Rattle.tb_base.specs.Lines.{AreDividedInto, IsTripNoLater}
 use Rattle.tb_base.specs.Search.{IsCovered, RoundSegment, segment_at}
@@ -18,9 +19,6 @@ use Rattle.segment_queue.specs.Levels.{AreDescending, AreKept, EntersLevel, leve
 use Rattle.segment_queue.proofs.Distinct.{all_by_member, has_member, member_or_not, of_member, pairs_weaker}
 use Rattle.segment_queue.proofs.LineParts.{StaysBehind, later_too, member_concat, pairs_of, trips_no_later}
 use Rattle.segment_queue.proofs.LoweredMarks.{lowered-in, lowered-le, lowered-out}
-
-low_or_high : (m k : ℕ) → (m < k) ⊎ (k ≤ m)
-low_or_high m k = grind arith
 
 covered_more : (T : TimetableData) (segments : List RoundSegment) (s : RoundSegment) (n round t b : ℕ) → n ≤ length segments → IsCovered T segments n round t b → IsCovered T (segments ++ s ∷ []) (length (segments ++ s ∷ [])) round t b
 covered_more T segments s n round t b inside c =
@@ -69,10 +67,10 @@ module _ (N : NetData) (divided : AreDividedInto N.table N.lines) (levels : List
 
     -- all levels stay marks by the number of rides
     pub level_entered : AreKept N.table new all
-    level_entered m u there trip_inside = elim (low_or_high m k) [
+    level_entered m u there trip_inside = elim (cases_lt m k) [
       | inl low ↦ old (enters.below m u low trip_inside)
       | inr high ↦ elim (member_or_not u (trips_from N.lines trip)) [
-        | inl e ↦ by_mark high (low_or_high at (level_mark N.table levels m u)) (enters.from m u high there' trip_inside ∙ lowered-in (trips_from N.lines trip) at u (level_mark N.table levels m u) e.1) (trips_no_later N.table N.lines trip u divided e.0)
+        | inl e ↦ by_mark high (cases_lt at (level_mark N.table levels m u)) (enters.from m u high there' trip_inside ∙ lowered-in (trips_from N.lines trip) at u (level_mark N.table levels m u) e.1) (trips_no_later N.table N.lines trip u divided e.0)
         | inr e ↦ old (enters.from m u high there' trip_inside ∙ lowered-out (trips_from N.lines trip) at u (level_mark N.table levels m u) e.1)
       ]
     ]
@@ -93,7 +91,7 @@ module _ (N : NetData) (divided : AreDividedInto N.table N.lines) (levels : List
 
     -- and never rise with it
     pub level_descending : AreDescending N.table levels → AreDescending N.table new
-    level_descending descends i m u le there trip_inside = by_place (low_or_high i k) (low_or_high m k)
+    level_descending descends i m u le there trip_inside = by_place (cases_lt i k) (cases_lt m k)
       where
         there' : m < length levels
         there' = omega (arith, there, enters.long)
@@ -102,7 +100,7 @@ module _ (N : NetData) (divided : AreDividedInto N.table N.lines) (levels : List
         before = descends i m u le there' trip_inside
 
         lower : level_mark N.table new m u ≤ level_mark N.table levels m u
-        lower = elim (low_or_high m k) [
+        lower = elim (cases_lt m k) [
           | inl low ↦ omega (arith, enters.below m u low trip_inside)
           | inr high ↦ elim (member_or_not u (trips_from N.lines trip)) [
             | inl e ↦ omega (arith, enters.from m u high there' trip_inside, lowered-in (trips_from N.lines trip) at u (level_mark N.table levels m u) e.1)
@@ -141,7 +139,7 @@ module _ (T : TimetableData) (levels : List (List (Option ℕ))) (some : 0 < len
   copied m = min m (length levels - 1)
 
   made_at : (m : ℕ) → m < length (with_level levels) → get_or (with_level levels) m [] ≡ get_or levels (copied m) []
-  made_at m there = elim (low_or_high m (length levels)) [
+  made_at m there = elim (cases_lt m (length levels)) [
     | inl low ↦ get_or_append_left levels (last ∷ []) [] m low ∙ ap (λ k. get_or levels k []) (omega (arith, low, some))
     | inr high ↦ (let at : m ≡ length levels = omega (arith, high, there, length-append levels (last ∷ [])) in
         ap (λ k. get_or (with_level levels) k []) at ∙ get_or-append_seam levels last [] [] ∙ ap (λ k. get_or levels k []) (omega (arith, at, some)))
@@ -220,7 +218,7 @@ one_lowered N first k trip at old now marks new divided so_far from inside is lo
   long = length-set now k new ∙ so_far.long;
   untouched = λ m h. get_or-set_other now k m new [] (λ e. omega (arith, e, h, from)) ∙ so_far.untouched m h;
   left = λ m h. get_or-set_other now k m new [] (λ e. omega (arith, e, h)) ∙ so_far.left m (omega (arith, h));
-  done = λ m u a b there trip_inside. elim (low_or_high m k) [
+  done = λ m u a b there trip_inside. elim (cases_lt m k) [
     | inl low ↦ ap (λ ms. mark_of N.table ms u) (get_or-set_other now k m new [] (λ e. omega (arith, e, low))) ∙ so_far.done m u a low there trip_inside
     | inr high ↦ (let e : m ≡ k = omega (arith, high, b) in
         subst (λ i. level_mark N.table (set now k new) i u ≡ lowered (trips_from N.lines trip) at u (level_mark N.table old i u)) (sym e)
@@ -230,22 +228,14 @@ one_lowered N first k trip at old now marks new divided so_far from inside is lo
   falling = all_set (λ ms. All (IsFalling N.table ms) N.lines) now k new so_far.falling inside (falling_on N.table N.lines marks new trip at divided lowers (subst (λ ms. All (IsFalling N.table ms) N.lines) (sym is) (so_far.falling k marks inside)));
 }
   where
-    default : {X : Type 0} (xs : List X) (n : ℕ) (a b : X) → n < length xs → get_or xs n a ≡ get_or xs n b
-    default [] n a b h = absurd (omega (arith, h))
-    default (x ∷ xs) zero a b h = refl
-    default (x ∷ xs) (suc n) a b h = default xs n a b (omega (arith, h))
-
     marks_are : marks ≡ get_or now k []
-    marks_are = is ∙ default now k marks [] inside
+    marks_are = is ∙ get_or_default now k marks [] inside
 
     all_set : {X : Type 0} (P : X → Type 0) (xs : List X) (n : ℕ) (x : X) → All P xs → n < length xs → P x → All P (set xs n x)
-    all_set P xs n x all h p j d there = elim (same_or_not j n) [
+    all_set P xs n x all h p j d there = elim (cases_eq j n) [
       | inl e ↦ subst P (sym (ap (λ i. get_or (set xs n x) i d) e ∙ get_or-set_same xs n x d h)) p
       | inr other ↦ subst P (sym (get_or-set_other xs n j x d other)) (all j d (omega (arith, there, length-set xs n x)))
     ]
-      where
-        same_or_not : (j n : ℕ) → (j ≡ n) ⊎ (j ≢ n)
-        same_or_not j n = grind arith
 
 pub level_falls : (T : TimetableData) (lines : List (List ℕ)) (now : List (List (Option ℕ))) (k : ℕ) (marks : List (Option ℕ)) (t : ℕ) → All (λ ms. All (IsFalling T ms) lines) now → k < length now → marks ≡ get_or now k marks → IsFalling T marks (trips_from lines t)
 level_falls T lines now k marks t falling inside is = pairs_of (λ t u. mark_of T marks u ≤ mark_of T marks t) t lines (subst (λ ms. All (IsFalling T ms) lines) (sym is) (falling k marks inside))
@@ -253,7 +243,7 @@ level_falls T lines now k marks t falling inside is = pairs_of (λ t u. mark_of 
 -- no mark rises when a trip is entered
 pub level_falls_on : (N : NetData) (k trip at : ℕ) (old new : List (List (Option ℕ))) → EntersLevel N k trip at old new → (m u : ℕ) → m < length old → u < length N.table.trips → level_mark N.table new m u ≤ level_mark N.table old m u
 level_falls_on N k trip at old new enters m u there inside =
-    elim (low_or_high m k) [
+    elim (cases_lt m k) [
       | inl low ↦ omega (arith, enters.below m u low inside)
       | inr high ↦ omega (arith, enters.from m u high there inside, lowered-le (trips_from N.lines trip) at u (level_mark N.table old m u))
     ]

@@ -13,13 +13,14 @@ use Rattle.tb_base.specs.TimetableData.{TimetableData, event_total, events_of, s
 use Rattle.tb_base.specs.Lines.{AreDividedInto, AreLines, may_join, place_trip}
 use Rattle.tb_base.specs.Transfers.{earliest_trip, line_from, may_be_boarded, numbers_below}
 use Rattle.tb_base.proofs.Ordered.{Member, AllPairs-tail}
-use Rattle.tb_base.proofs.Members.{Member-left, Member-right, Member-filter_back, Member-flat_map_back, Member-numbers_below}
+use Rattle.tb_base.proofs.Members.{Member-concat_at, Member-filter_back, Member-flat_map_back, Member-from_slice_get, Member-map_back, Member-numbers_below, Member-numbers_below_back}
 use Rattle.line_split.specs.declared.lines.Berth.{Berth}
 use Rattle.line_split.specs.LinesOf.{berths_at, calls_at, line_events}
 use Rattle.segment_queue.specs.Scans.{LineIndex, boarding_hop, first_trip, indices_at, line_indices_at, no_line_index, trips_from}
 use Rattle.segment_queue.proofs.Distinct.{AreDistinct, before_member, has_member, in_one_part, member_or_not, of_member, pairs_left, pairs_right, same_or_other}
 use Rattle.segment_queue.proofs.LineParts.{line_from-other, line_from-same, trips_from-here, trips_from-past}
 use Rattle.segment_queue.proofs.Totals.{distinct_sum, all_events}
+use Rattle.tb_base.proofs.Lists.{map-flat_map, length-numbers_below}
 
 abbrev IsNonempty : List ℕ → Type 0
 IsNonempty line = 0 < length line
@@ -40,17 +41,9 @@ fold_nonempty T lines (t ∷ ts) all = fold_nonempty T (place_trip T lines t) ts
 pub nonempty : (T : TimetableData) (lines : List (List ℕ)) → AreLines T lines → All IsNonempty lines
 nonempty T lines are = subst (All IsNonempty) (sym are.placed) (fold_nonempty T [] are.order (All-nil IsNonempty))
 
-pub first_member : (line : List ℕ) → 0 < length line → Member (first_trip line) line
-first_member [] h = absurd (omega (arith, h))
-first_member (x ∷ xs) h = inl refl
-
 -- the line index at a berth
 abbrev pub index_of : List (List ℕ) → Berth → LineIndex
 index_of lines b = record { line = get_or lines b.line []; at = b.at }
-
-map-flat_map : {A B C : Type 0} (g : B → C) (f : A → List B) (xs : List A) → map g (flat_map f xs) ≡ flat_map (λ x. map g (f x)) xs
-map-flat_map g f [] = refl
-map-flat_map g f (x ∷ xs) = map-append g (f x) (flat_map f xs) ∙ ap (λ ys. map g (f x) ++ ys) (map-flat_map g f xs)
 
 by_numbers : {X : Type 0} (h : List ℕ → List X) (lines : List (List ℕ)) (n : ℕ) → n ≤ length lines → flat_map (λ l. h (get_or lines l [])) (numbers_below n) ≡ flat_map h (take n lines)
 by_numbers h lines zero b = refl
@@ -73,38 +66,19 @@ berths_are T lines p =
         ap (λ xs. xs ++ flat_map (λ l. map (index_of lines) (map (λ j. record { line = l; at = j }) (calls_at T (get_or lines l []) p))) ls) (map-map (index_of lines) (λ j. record { line = l; at = j }) (calls_at T (get_or lines l []) p))
         ∙ ap (λ ys. indices_at T p (get_or lines l []) ++ ys) (same ls)
 
-numbers_back : (k n : ℕ) → Member k (numbers_below n) → k < n
-numbers_back k zero h = absurd h
-numbers_back k (suc n) h = elim (split (numbers_below n) h) [ inl m ↦ omega (arith, numbers_back k n m) | inr e ↦ omega (arith, e) ]
-  where
-    split : (xs : List ℕ) → Member k (xs ++ n ∷ []) → Member k xs ⊎ (n ≡ k)
-    split [] (inl e) = inr e
-    split [] (inr none) = absurd none
-    split (x ∷ xs) (inl e) = inl (inl e)
-    split (x ∷ xs) (inr h) = elim (split xs h) [ inl m ↦ inl (inr m) | inr e ↦ inr e ]
-
-map_back : {X Y : Type 0} (f : X → Y) (y : Y) (xs : List X) → Member y (map f xs) → (x : X) × Member x xs × (f x ≡ y)
-map_back f y [] h = absurd h
-map_back f y (x ∷ xs) (inl e) = (x, inl refl, e)
-map_back {X} {Y} f y (x ∷ xs) (inr h) = let r : (z : X) × Member z xs × (f z ≡ y) = map_back f y xs h in (r.0, inr r.1, r.2)
-
 pub member_at : {X : Type 0} (xs : List X) (k : ℕ) (d : X) → k < length xs → Member (get_or xs k d) xs
 member_at [] k d h = absurd (omega (arith, h))
 member_at (x ∷ xs) zero d h = inl refl
 member_at (x ∷ xs) (suc k) d h = inr (member_at xs k d (omega (arith, h)))
 
 -- a berth is an index of a line
-pub berth_inside : (T : TimetableData) (lines : List (List ℕ)) (p : ℕ) (b : Berth) → Member b (berths_at T lines p) → (b.line < length lines) × (b.at < length (line_events T (get_or lines b.line [])))
+berth_inside : (T : TimetableData) (lines : List (List ℕ)) (p : ℕ) (b : Berth) → Member b (berths_at T lines p) → (b.line < length lines) × (b.at < length (line_events T (get_or lines b.line [])))
 berth_inside T lines p b h =
     let r : (l : ℕ) × Member l (numbers_below (length lines)) × Member b (map (λ j. record { line = l; at = j }) (calls_at T (get_or lines l []) p))
     = Member-flat_map_back (λ l. map (λ j. record { line = l; at = j }) (calls_at T (get_or lines l []) p)) b (numbers_below (length lines)) h in
-    let m : (j : ℕ) × Member j (calls_at T (get_or lines r.0 []) p) × (record { line = r.0; at = j } ≡ b) = map_back (λ j. record { line = r.0; at = j }) b (calls_at T (get_or lines r.0 []) p) r.2 in
+    let m : (j : ℕ) × Member j (calls_at T (get_or lines r.0 []) p) × (record { line = r.0; at = j } ≡ b) = Member-map_back (λ j. record { line = r.0; at = j }) b (calls_at T (get_or lines r.0 []) p) r.2 in
     let f = Member-filter_back (λ j. stop_at T (first_trip (get_or lines r.0 [])) j == p) m.0 (numbers_below (length (line_events T (get_or lines r.0 [])))) m.1 in
-    subst (λ (x : Berth). (x.line < length lines) × (x.at < length (line_events T (get_or lines x.line [])))) m.2 (numbers_back r.0 (length lines) r.1, numbers_back m.0 (length (line_events T (get_or lines r.0 []))) f.0)
-
-length-numbers : (n : ℕ) → length (numbers_below n) ≡ n
-length-numbers zero = refl
-length-numbers (suc n) = omega (arith, length-append (numbers_below n) (n ∷ []), length-numbers n)
+    subst (λ (x : Berth). (x.line < length lines) × (x.at < length (line_events T (get_or lines x.line [])))) m.2 (Member-numbers_below_back r.0 (length lines) r.1, Member-numbers_below_back m.0 (length (line_events T (get_or lines r.0 []))) f.0)
 
 filter_le : (test : ℕ → Bool) (xs : List ℕ) → length (filter test xs) ≤ length xs
 filter_le test [] = omega arith
@@ -126,7 +100,7 @@ indices_le T (line ∷ lines) p all =
       length-append (indices_at T p line) (line_indices_at T lines p),
       lengths calls,
       filter_le (λ j. stop_at T (first_trip line) j == p) (numbers_below (event_count T (first_trip line))),
-      length-numbers (event_count T (first_trip line)),
+      length-numbers_below (event_count T (first_trip line)),
       first_le T line (All-head IsNonempty line lines all),
       indices_le T lines p (All-tail IsNonempty line lines all),
       sum_by-append (event_count T) line (concat lines),
@@ -150,39 +124,20 @@ line_from-drop t [] k distinct is = cc
 line_from-drop t (x ∷ xs) zero distinct is = line_from-same t x xs (let e : x ≡ t = cc in elim (same_or_other x t) [ inl f ↦ f.1 | inr f ↦ absurd (f.0 e) ])
 line_from-drop t (x ∷ xs) (suc k) distinct is =
     elim (same_or_other x t) [
-      | inl e ↦ absurd (before_member (λ t u. t ≢ u) x xs t distinct (got xs k is) e.0)
+      | inl e ↦ absurd (before_member (λ t u. t ≢ u) x xs t distinct (Member-from_slice_get xs k t is) e.0)
       | inr e ↦ line_from-other t x xs e.1 ∙ line_from-drop t xs k (AllPairs-tail (λ t u. t ≢ u) x xs distinct) is
     ]
-  where
-    got : (ys : List ℕ) (k : ℕ) → slice_get ys k ≡ Some t → Member t ys
-    got [] k e = cc
-    got (y ∷ ys) zero e = inl (let f : y ≡ t = cc in f)
-    got (y ∷ ys) (suc k) e = inr (got ys k e)
-
-pub got_member : (ys : List ℕ) (k t : ℕ) → slice_get ys k ≡ Some t → Member t ys
-got_member [] k t e = cc
-got_member (y ∷ ys) zero t e = inl (let f : y ≡ t = cc in f)
-got_member (y ∷ ys) (suc k) t e = inr (got_member ys k t e)
 
 -- the trips from one on are the rest of its line
 pub trips_from-drop : (lines : List (List ℕ)) (t l k : ℕ) → AreDistinct (concat lines) → slice_get (get_or lines l []) k ≡ Some t → trips_from lines t ≡ drop k (get_or lines l [])
 trips_from-drop [] t l k distinct is = cc
 trips_from-drop (line ∷ lines) t zero k distinct is =
-    trips_from-here line lines t (has_member t line (got_member line k t is)) ∙ line_from-drop t line k (pairs_left (λ t u. t ≢ u) line (concat lines) distinct) is
+    trips_from-here line lines t (has_member t line (Member-from_slice_get line k t is)) ∙ line_from-drop t line k (pairs_left (λ t u. t ≢ u) line (concat lines) distinct) is
 trips_from-drop (line ∷ lines) t (suc l) k distinct is =
     elim (member_or_not t line) [
-      | inl e ↦ absurd (in_one_part t line (concat lines) distinct e.0 (in_rest lines l is))
+      | inl e ↦ absurd (in_one_part t line (concat lines) distinct e.0 (Member-concat_at lines l k t is))
       | inr e ↦ trips_from-past line lines t e.1 ∙ trips_from-drop lines t l k (pairs_right (λ t u. t ≢ u) line (concat lines) distinct) is
     ]
-  where
-    in_rest : (ls : List (List ℕ)) (l : ℕ) → slice_get (get_or ls l []) k ≡ Some t → Member t (concat ls)
-    in_rest [] l e = cc
-    in_rest (x ∷ xs) zero e = Member-left t x (concat xs) (got_member x k t e)
-    in_rest (x ∷ xs) (suc l) e = right x xs (in_rest xs l e)
-      where
-        right : (x : List ℕ) (xs : List (List ℕ)) → Member t (concat xs) → Member t (x ++ concat xs)
-        right [] xs m = m
-        right (y ∷ ys) xs m = inr (right ys xs m)
 
 pub second_of_drop : (xs : List ℕ) (k : ℕ) → slice_get (drop k xs) 1 ≡ slice_get xs (k + 1)
 second_of_drop xs zero = refl
@@ -197,19 +152,14 @@ stands_inside (x ∷ xs) (suc l) k t e = omega (arith, stands_inside xs l k t e)
 pub next_read : (xs list : List ℕ) (k t : ℕ) → list ≡ xs → k < length list → t ≡ get_or list k t → slice_get xs k ≡ Some t
 next_read xs list k t same h is = subst (λ l. slice_get l k ≡ Some t) same (slice_get_read list (length list) k t refl h is)
 
-pub next_inside : (lines : List (List ℕ)) (l k t : ℕ) → slice_get (get_or lines l []) k ≡ Some t → Member t (concat lines)
-next_inside [] l k t e = cc
-next_inside (x ∷ xs) zero k t e = Member-left t x (concat xs) (got_member x k t e)
-next_inside (x ∷ xs) (suc l) k t e = Member-right t x (concat xs) (next_inside xs l k t e)
-
-berths_count : (T : TimetableData) (lines : List (List ℕ)) (p : ℕ) → length (berths_at T lines p) ≡ length (line_indices_at T lines p)
+pub berths_count : (T : TimetableData) (lines : List (List ℕ)) (p : ℕ) → length (berths_at T lines p) ≡ length (line_indices_at T lines p)
 berths_count T lines p = sym (length-map (berths_at T lines p) (index_of lines)) ∙ ap length (berths_are T lines p)
 
 pub berth_below : (T : TimetableData) (lines : List (List ℕ)) (p k : ℕ) (list : List Berth) → list ≡ berths_at T lines p → k < length (line_indices_at T lines p) → k < length list
 berth_below T lines p k list same h = omega (arith, h, berths_count T lines p, ap length same)
 
 -- the berth with a number is the line index with that number
-pub at_berth : (T : TimetableData) (lines : List (List ℕ)) (p k : ℕ) (list : List Berth) (b : Berth) → list ≡ berths_at T lines p → k < length (line_indices_at T lines p) → b ≡ get_or list k b
+at_berth : (T : TimetableData) (lines : List (List ℕ)) (p k : ℕ) (list : List Berth) (b : Berth) → list ≡ berths_at T lines p → k < length (line_indices_at T lines p) → b ≡ get_or list k b
     → Member b (berths_at T lines p) × (get_or (line_indices_at T lines p) k no_line_index ≡ index_of lines b)
 at_berth T lines p k list b same h is =
     let found : b ≡ get_or (berths_at T lines p) k b = subst (λ (l : List Berth). b ≡ get_or l k b) same is in
@@ -218,15 +168,21 @@ at_berth T lines p k list b same h is =
       ap (λ l. get_or l k no_line_index) (sym (berths_are T lines p)) ∙ get_or-map (index_of lines) (berths_at T lines p) k b no_line_index inside ∙ ap (index_of lines) (sym found),
     )
 
--- the first trip of a berth's line
-pub first_read : (T : TimetableData) (lines : List (List ℕ)) (l t : ℕ) (list : List ℕ) → list ≡ get_or lines l [] → 0 < length list → t ≡ get_or list 0 t
-    → (t ≡ first_trip (get_or lines l [])) × Member t (concat lines)
-first_read T lines l t list same h is =
-    let read = next_read (get_or lines l []) list 0 t same h is in
-    (sym (get_or_from_slice_get (get_or lines l []) 0 t 0 read), next_inside lines l 0 t read)
+-- what is known of the berth with a number at a stop
+pub record BerthFacts (T : TimetableData) (lines : List (List ℕ)) (p n : ℕ) (b : Berth) : Type 0 where
+  pub read : get_or (line_indices_at T lines p) n no_line_index ≡ index_of lines b
+  pub line : b.line < length lines
+  pub at : b.at < length (line_events T (get_or lines b.line []))
 
-pub line_nonempty : (lines : List (List ℕ)) (l : ℕ) → All IsNonempty lines → l < length lines → 0 < length (get_or lines l [])
-line_nonempty lines l all h = of_member IsNonempty lines (get_or lines l []) all (member_at lines l [] h)
+pub berth_facts : (T : TimetableData) (lines : List (List ℕ)) (p n : ℕ) (list : List Berth) (b : Berth) → list ≡ berths_at T lines p → n < length (line_indices_at T lines p) → b ≡ get_or list n b
+    → BerthFacts T lines p n b
+berth_facts T lines p n list b same below is =
+    let at = at_berth T lines p n list b same below is in
+    let fits = berth_inside T lines p b at.0 in record {
+      read = at.1;
+      line = fits.0;
+      at = fits.1;
+    }
 
 -- nobody boards where boarding isn't allowed
 pub no_hop : (T : TimetableData) (k : LineIndex) (b : LineIndex) (time : ℤ) → k ≡ b → may_be_boarded T (first_trip b.line) b.at ≡ false → None ≡ boarding_hop T k time

@@ -6,13 +6,11 @@ use Rattle.std.proofs.lemmas.List.Elements.{All-head, All-tail, All-replicate}
 use Rattle.std.proofs.lemmas.Bool.Decides.{nat_tests}
 use Rattle.segment_queue.specs.declared.marks.Entry.{Entry}
 use Rattle.segment_queue.specs.Stamped.{mark_in}
-
-other_stamp : (a b : ℕ) → a < b → (a == b) ≡ false
-other_stamp a b h = grind (arith, nat_tests, h)
+use Rattle.tb_base.proofs.NumberFacts.{lt-eqb}
 
 -- an entry of an earlier stamp has no index
 earlier_none : (s : ℕ) (e : Entry) → e.stamp < s → mark_in s e ≡ None
-earlier_none s e h = ap (λ b. cond b (Some e.at) None) (other_stamp e.stamp s h)
+earlier_none s e h = ap (λ b. cond b (Some e.at) None) (lt-eqb e.stamp s h)
 
 pub none_marked : (s n : ℕ) (es : List Entry) → All (λ e. e.stamp < s) es → n ≡ length es → map (mark_in s) es ≡ replicate n None
 none_marked s zero [] older e = refl

@@ -11,9 +11,7 @@ use Rattle.tb_base.proofs.Members.{Member-append, Member-left, Member-right}
 use Rattle.segment_queue.proofs.Distinct.{before_member}
 use Rattle.segment_queue.specs.declared.desk.Segment.{Segment}
 use Rattle.segment_queue.specs.Queue.{IsSoundSegment, covered_indices, last_index, last_total}
-
-below_or_last : (t n : ℕ) → t < suc n → (t < n) ⊎ (t ≡ n)
-below_or_last t n h = grind arith
+use Rattle.tb_base.proofs.NumberFacts.{below_or_last}
 
 pub total_le : (f g : ℕ → ℕ) (n : ℕ) → ((k : ℕ) → k < n → g k ≤ f k) → sum_by g (numbers_below n) ≤ sum_by f (numbers_below n)
 total_le f g zero less = omega arith

@@ -1,8 +1,6 @@
 ghost use Rattle.std.specs.Prelude.{◌≡◌, ◌<◌, ◌+◌, ◌≤◌, ℕ, Some, All, AllPairs, IfSome, IsTrue, ◌↔◌, length, slice_get, slice_index_or};
 ghost use Rattle.tb_base.specs.Soundness.{IsSoundPath};
 ghost use Rattle.tb_base.specs.TimetableData.{arrival_at, event_at, events_of, stop_at};
-ghost use Rattle.tb_base.specs.Transfers.{may_be_boarded};
-ghost use Rattle.line_split.specs.LinesOf.{AreLinesOf};
 
 use super::scan::{Look, Scan, Shape, Visit};
 use super::steps::Steps;
@@ -23,20 +21,19 @@ impl<'a, O: OutSet> Model for View<'a, O> {
     ghost use Rattle.std.specs.Prelude.{◌≡◌};
     ghost use Rattle.tb_base.specs.TimetableData.{TimetableData};
     ghost use Rattle.line_split.specs.LinesData.{LinesData};
-    ghost use Rattle.line_split.specs.LinesOf.{AreLinesOf};
 
     ghost Value = { TimetableData × LinesData × O };
 
     ghost view = { λ v. (v.table.now, v.lines.now, v.set.now) };
 
-    ghost invariant = { λ v. AreLinesOf v.table.now v.lines.now
+    ghost invariant = { λ v. (v.lines.now.table ≡ v.table.now)
         × (O.table v.set.now ≡ v.table.now) };
 }
 
 impl<'a, O: OutSet> View<'a, O> {
     /// The view of a timetable, its lines and a set of hops for its events.
     pub fn new(table: &'a Timetable, lines: &'a Lines, set: &'a O) -> View<'a, O>
-        requires lines { AreLinesOf table.now lines.now }
+        requires lines { lines.now.table ≡ table.now }
         requires set { O.table set.now ≡ table.now }
         ensures table { result.0 ≡ table.now }
         ensures lines { result.1 ≡ lines.now }
@@ -79,24 +76,12 @@ impl<'a, O: OutSet> View<'a, O> {
     }
 }
 
-// Whether boarding is allowed at an index of a trip, which is not its last one.
-fn boards(table: &Timetable, trip: TripNo, at: u32) -> bool
-    requires { trip < length table.now.trips }
-    ensures { result ≡ may_be_boarded table.now trip at }
-{
-    let events = table.trip(trip).events.as_slice();
-    let at = at as usize;
-    if at >= events.len() {
-        return false;
-    }
-    events[at].board && at + 1 < events.len()
-}
-
 impl<'a, O: OutSet> Scan for View<'a, O> {
     ghost net = { λ v. record { table = v.0; lines = v.1.lines; hops = O.hops v.2 } };
 
     fn soundness(&self) {
-        line_split::laws::lines_divide();
+        let lines = self.lines;
+        lines.soundness();
         let table = self.table;
         table.soundness();
     }
@@ -116,10 +101,10 @@ impl<'a, O: OutSet> Scan for View<'a, O> {
     }
 
     fn berths(&self, p: StopNo) -> u32 {
-        line_split::laws::lines_divide();
+        let lines = self.lines;
+        lines.soundness();
         let table = self.table;
         table.soundness();
-        let lines = self.lines;
         lines.at(p).len() as u32
     }
 
@@ -131,8 +116,8 @@ impl<'a, O: OutSet> Scan for View<'a, O> {
     }
 
     fn after(&self, trip: TripNo) -> Option<TripNo> {
-        line_split::laws::lines_divide();
         let lines = self.lines;
+        lines.soundness();
         let (line, place) = lines.of(trip);
         let trips = lines.trips(line);
         let next = place as usize + 1;
@@ -151,12 +136,11 @@ impl<'a, O: OutSet, L: Ledger> Look<L> for View<'a, O> {
         time: Sec,
         steps: &mut Steps<L>,
     ) -> Option<Hop> {
-        line_split::laws::lines_divide();
         steps.tick();
         let table = self.table;
         let lines = self.lines;
         let berth = lines.at(p)[berth as usize];
-        if !boards(table, lines.trips(berth.line)[0], berth.at) {
+        if !lines.may_be_boarded(table, berth.line, berth.at) {
             return None;
         }
         match lines.earliest(table, berth.line, berth.at, time) {

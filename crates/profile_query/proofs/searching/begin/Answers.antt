@@ -5,6 +5,7 @@ use Rattle.tb_base.specs.declared.query.Value.{Value}
 use Rattle.profile_query.specs.Slots.{AreLater}
 use Rattle.profile_query.proofs.Laters.{none_later}
 use Rattle.profile_query.proofs.searching.begin.Goals as goal
+use Rattle.tb_base.proofs.NumberFacts.{≤ℤ-refl}
 
 pub returns-then-query-gt-LAST-clause-later : goal.returns-then-query-gt-LAST-clause-later
 returns-then-query-gt-LAST-clause-later g c =
@@ -15,10 +16,7 @@ returns-then-query-gt-LAST-clause-later g c =
     let past : pos 359999 <ℤ leave = grind (arith, ints, c.if-query-gt-LAST.true) in
     subst (λ (vs : List Value). AreLater T Q vs) (sym c.in_ok-begin.ensures.no_values) (none_later T c.soundness.ensures Q (subst (λ t. pos 359999 <ℤ t) fits past))
 
-at_most : (a : ℤ) → a ≤ℤ a
-at_most a = omega (arith, ints)
-
 pub search-requires-clause-later : goal.search-requires-clause-later
 search-requires-clause-later g c =
     let Q : QueryData = c.args.query.now in
-    (Q.leave, at_most Q.leave, c.in_ok-begin.ensures.begun)
+    (Q.leave, ≤ℤ-refl Q.leave, c.in_ok-begin.ensures.begun)

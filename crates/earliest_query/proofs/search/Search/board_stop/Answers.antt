@@ -5,9 +5,7 @@ use Rattle.segment_queue.specs.Traced.{round_segments}
 use Rattle.earliest_query.proofs.Growing.{extends-long, extends-reached, extends-trans}
 use Rattle.earliest_query.proofs.LineBoarding.{covered-by, served}
 use Rattle.earliest_query.proofs.search.Search.board_stop.Goals as goal
-
-below_or_at : (k i : ℕ) → k < i + 1 → (k < i) ⊎ (k ≡ i)
-below_or_at k i h = grind arith
+use Rattle.tb_base.proofs.NumberFacts.{below_or_at}
 
 pub loop-berth-preserved : goal.loop-berth-preserved
 loop-berth-preserved g c =
