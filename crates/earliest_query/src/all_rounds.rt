@@ -102,7 +102,8 @@ impl<S: Scan> Search<'_, S> {
         desk.segment_count() as u32
     }
 
-    // Rides a round of segments, and keeps its best hit. Answers how many segments have been ridden.
+    // Rides a round of segments, and keeps its best hit. Answers how many segments have been
+    // ridden.
     fn ride_next<L: Ledger>(
         &self,
         desk: &mut Desk,

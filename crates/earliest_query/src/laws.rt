@@ -13,8 +13,8 @@ ghost use Rattle.segment_queue.specs.declared.desk.Segment.{Segment};
 ghost use Rattle.earliest_query.specs.Sweeping.{IsSweptTo};
 
 /// A search over a sufficient set that goes on from everywhere, as one without targets does, finds
-/// for every stop each best value with rides: by alighting at an event of a segment that was entered
-/// in the round of so many rides.
+/// for every stop each best value with rides: by alighting at an event of a segment that was
+/// entered in the round of so many rides.
 pub fn best_values_at_every_stop()
     ensures { (N : NetData) (from : List ℕ) (leave : ℤ) (segments : List Segment) →
         IsPrunedSearch N.table N.hops from leave [] (round_segments segments) →

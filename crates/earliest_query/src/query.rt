@@ -12,11 +12,17 @@ use segment_queue::{Desk, Look, Steps};
 use std::sync::ledger::Ledger;
 use tb_base::Query;
 
-/// Searches over a set of hops that is sufficient, and leaves the answer in the desk: its hits have exactly the best values of
-/// the query, and its segments go by hops of the set. It goes on from everywhere but where it arrives no earlier than a hit with no
-/// more rides; so for a query without targets the segments serve every stop. It takes no memory, and steps at most once for each
-/// event and once for each line index at the stops with a walk from an origin.
-pub fn earliest<L: Ledger, S: Look<L>>(scan: &S, query: &Query, desk: &mut Desk, steps: &mut Steps<L>)
+/// Searches over a set of hops that is sufficient, and leaves the answer in the desk: its hits have
+/// exactly the best values of the query, and its segments go by hops of the set. It goes on from
+/// everywhere but where it arrives no earlier than a hit with no more rides; so for a query without
+/// targets the segments serve every stop. It takes no memory, and steps at most once for each event
+/// and once for each line index at the stops with a walk from an origin.
+pub fn earliest<L: Ledger, S: Look<L>>(
+    scan: &S,
+    query: &Query,
+    desk: &mut Desk,
+    steps: &mut Steps<L>,
+)
     requires fits { Fits (S.net scan.now).table desk.old }
     requires origins { All (λ p. p < length (S.net scan.now).table.stops) query.now.from }
     requires leave { query.now.leave ≤ℤ pos 359999 }

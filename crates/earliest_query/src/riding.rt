@@ -91,8 +91,9 @@ impl<S: Scan> Search<'_, S> {
         }
     }
 
-    // Rides a segment: looks at the indices that it covers one by one, weighs to alight there, and follows the hops from there. It
-    // ends where one gets no earlier than the best hit so far arrives.
+    // Rides a segment: looks at the indices that it covers one by one, weighs to alight there, and
+    // follows the hops from there. It ends where one gets no earlier than the best hit so far
+    // arrives.
     fn ride<L: Ledger>(
         &self,
         desk: &mut Desk,

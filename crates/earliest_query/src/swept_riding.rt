@@ -45,7 +45,8 @@ fn earlier_of(best: Option<Hit>, value: &Value, round: u32) -> Option<Hit>
     }
 }
 
-// The best so far when a round begins: the earlier of the last hit and the values with no more rides than the round.
+// The best so far when a round begins: the earlier of the last hit and the values with no more
+// rides than the round.
 fn best_before(desk: &Desk, values: &[Value], round: u32) -> Option<Hit>
     requires some_round { 1 ≤ round }
     requires fewer { All (λ (h : Hit). h.value.rides < round) desk.now.hits }
@@ -98,8 +99,9 @@ pub(crate) fn segment_total(desk: &Desk) -> Result<u32, Memory>
 }
 
 impl<S: Scan> Search<'_, S> {
-    // Rides a segment: looks at the indices that it covers one by one, weighs to alight there, and follows the hops from there, as
-    // rides for which there is a level. It ends where one gets no earlier than the best so far arrives.
+    // Rides a segment: looks at the indices that it covers one by one, weighs to alight there, and
+    // follows the hops from there, as rides for which there is a level. It ends where one gets no
+    // earlier than the best so far arrives.
     fn ride_level<L: Ledger>(
         &self,
         desk: &mut Desk,
@@ -191,7 +193,8 @@ impl<S: Scan> Search<'_, S> {
         Ok(best)
     }
 
-    // Rides a round of segments, and keeps its best hit. Answers how many segments have been ridden.
+    // Rides a round of segments, and keeps its best hit. Answers how many segments have been
+    // ridden.
     fn ride_next_level<L: Ledger>(
         &self,
         alloc: Global,
@@ -225,8 +228,8 @@ impl<S: Scan> Search<'_, S> {
         Ok(to)
     }
 
-    // Rides all segments from a number on, round by round. What it finds is bounded by the hits and by values of later departures. It
-    // needs memory; at a refusal the desk still fits.
+    // Rides all segments from a number on, round by round. What it finds is bounded by the hits and
+    // by values of later departures. It needs memory; at a refusal the desk still fits.
     pub(crate) fn ride_levels<L: Ledger>(
         &self,
         alloc: Global,

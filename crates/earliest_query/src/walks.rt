@@ -49,7 +49,8 @@ pub(crate) fn nearest<S: Scan>(scan: &S, p: StopNo, targets: &[StopNo]) -> Optio
     best
 }
 
-// Whether a walk is preferred to one of so many seconds, or to one of as many where it comes before.
+// Whether a walk is preferred to one of so many seconds, or to one of as many where it comes
+// before.
 fn is_preferred(walk: Option<u32>, secs: u32, before: bool) -> bool
     ensures { IsTrue result ↔ IsPreferred walk secs before }
 {

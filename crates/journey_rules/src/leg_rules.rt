@@ -27,7 +27,8 @@ fn has_numbers(table: &Timetable, leg: &Leg) -> bool
 }
 
 fn has_ride(table: &Timetable, trip: TripNo, board: u32, alight: u32) -> bool
-    ensures { IsTrue result ↔ ((trip < length table.now.trips) × (board < alight) × (alight < length (events_of table.now trip))) }
+    ensures { IsTrue result ↔ ((trip < length table.now.trips) × (board < alight)
+        × (alight < length (events_of table.now trip))) }
 {
     if trip.index() >= table.trip_count() as usize {
         return false;
@@ -114,7 +115,8 @@ fn begins_at_origin(
     leg: &Leg,
 ) -> bool
     requires { HasNumbers table.now leg.now }
-    ensures { IsTrue result ↔ BeginsAtOrigin table.now origins.now (option_copied previous.entry) leg.now }
+    ensures { IsTrue result ↔ BeginsAtOrigin table.now origins.now (option_copied previous.entry)
+        leg.now }
 {
     match previous {
         None => origins.contains(&start_of(table, leg)),
@@ -142,7 +144,8 @@ fn leaves_in_time(
     requires previous { IsKnown table.now (option_copied previous) }
     requires leg { HasNumbers table.now leg.now }
     ensures { IsTrue result
-        ↔ LeavesInTime table.now query.now.leave (option_copied previous.entry) (option_copied earlier.entry) leg.now }
+        ↔ LeavesInTime table.now query.now.leave (option_copied previous.entry)
+        (option_copied earlier.entry) leg.now }
 {
     let Leg::Ride { trip, board, .. } = leg else {
         return true;
@@ -176,7 +179,8 @@ fn can_change(table: &Timetable, from: &Event, to: &Event) -> bool
     requires to { to.now.stop < length table.now.stops }
     requires arrival { from.now.arr ≤ℤ pos 359999 }
     ensures { IsTrue result
-        ↔ IsSomeAnd (change table.now from.now.stop to.now.stop) (λ secs. (from.now.arr +ℤ pos secs) ≤ℤ to.now.dep) }
+        ↔ IsSomeAnd (change table.now from.now.stop to.now.stop) (λ secs.
+        (from.now.arr +ℤ pos secs) ≤ℤ to.now.dep) }
 {
     match table.change(from.stop, to.stop) {
         Some(secs) => from.arr + secs as i32 <= to.dep,
@@ -194,7 +198,8 @@ fn changes_in_time(
     requires previous { IsKnown table.now (option_copied previous) }
     requires earlier { IsKnown table.now (option_copied earlier) }
     requires leg { HasNumbers table.now leg.now }
-    ensures { IsTrue result ↔ ChangesInTime table.now (option_copied previous.entry) (option_copied earlier.entry) leg.now }
+    ensures { IsTrue result ↔ ChangesInTime table.now (option_copied previous.entry)
+        (option_copied earlier.entry) leg.now }
 {
     let Leg::Ride { trip, board, .. } = leg else {
         return true;
@@ -237,8 +242,10 @@ pub(crate) fn broken_rule(
     requires previous { IsKnown table.now (option_copied previous) }
     requires earlier { IsKnown table.now (option_copied earlier) }
     ensures rule { MatchOption result
-        ((rule : Rule) → KeepsRule table.now query.now (option_copied previous.entry) (option_copied earlier.entry) leg.now after.now rule)
-        (BreaksRule table.now query.now (option_copied previous.entry) (option_copied earlier.entry) leg.now after.now) }
+        ((rule : Rule) → KeepsRule table.now query.now (option_copied previous.entry)
+        (option_copied earlier.entry) leg.now after.now rule)
+        (BreaksRule table.now query.now (option_copied previous.entry)
+        (option_copied earlier.entry) leg.now after.now) }
     ensures known { IfNone result (IsKnownLeg table.now leg.now) }
 {
     if !has_numbers(table, leg) {

@@ -8,7 +8,8 @@ use tb_base::{Leg, Query, Rule, RuleBroken, StopNo, Timetable};
 
 // Whether some stop is origin and target.
 fn shares_a_stop(origins: &[StopNo], targets: &[StopNo]) -> bool
-    ensures { MatchBool result (SharesAStop origins.now targets.now) (SharesAStop origins.now targets.now → ⊥) }
+    ensures { MatchBool result (SharesAStop origins.now targets.now)
+        (SharesAStop origins.now targets.now → ⊥) }
 {
     origins.iter().any(|p| targets.contains(p))
 }
@@ -51,9 +52,10 @@ fn first_broken(table: &Timetable, query: &Query, legs: &[Leg]) -> Option<RuleBr
     None
 }
 
-/// The first rule that the legs break, by legs and at a leg in the order of the rules; none exactly where they spell a
-/// journey of the query that leaves no earlier than asked. No legs at all spell one where some stop is both origin and
-/// target, and else break the last rule at leg 0. Legs count from 0. Takes no memory; one pass over the legs.
+/// The first rule that the legs break, by legs and at a leg in the order of the rules; none exactly
+/// where they spell a journey of the query that leaves no earlier than asked. No legs at all spell
+/// one where some stop is both origin and target, and else break the last rule at leg 0. Legs count
+/// from 0. Takes no memory; one pass over the legs.
 pub fn fault(table: &Timetable, query: &Query, legs: &[Leg]) -> Option<RuleBroken>
     requires origins { All (λ p. p < length table.now.stops) query.now.from }
     requires count { length legs.now < 2 ^ 32 }

@@ -116,10 +116,11 @@ fn ride_legs(
     Ok(legs)
 }
 
-/// The legs of the journey of a hit, with exactly the hit's value. It leaves no earlier than asked; its rides are those of
-/// the chain of the hit's parents, so where each parent was reached by a hop of a set, its changes are by hops of that set.
-/// The walk to the first ride and the walk from the last one are the shortest, to the lowest number of equally near stops.
-/// The desk is traced for this timetable and this query. Takes time and memory by the number of rides, and time by the
+/// The legs of the journey of a hit, with exactly the hit's value. It leaves no earlier than asked;
+/// its rides are those of the chain of the hit's parents, so where each parent was reached by a hop
+/// of a set, its changes are by hops of that set. The walk to the first ride and the walk from the
+/// last one are the shortest, to the lowest number of equally near stops. The desk is traced for
+/// this timetable and this query. Takes time and memory by the number of rides, and time by the
 /// numbers of origins and targets. Refused only for want of memory.
 pub fn unfold(
     alloc: Global,

@@ -158,7 +158,6 @@ module _ (T : TimetableData) where
       more = ap length ridden ∙ length_push a.ridden.items s
 
   module _ (ready : List (Option StopLabel)) (t until : ℕ) (a : Arrivals) (left : IsLeftBehind T a.labels.items t until) where
-
     within_or_behind : (m n : ℕ) → (m < n + 1) ⊎ (n < m)
     within_or_behind m n = grind arith
 

@@ -58,8 +58,8 @@ fn offer_footpaths(
     requires from { from < length table.now.stops }
     requires rows { length labels.old ≡ length table.now.stops }
     requires time { label.time ≤ℤ pos 359999 }
-    ensures { Takes labels.old labels.new (λ q l. IsSomeAnd (footpath_secs table.now.footpaths from q)
-        (λ secs. l ≡ later label secs)) }
+    ensures { Takes labels.old labels.new (λ q l.
+        IsSomeAnd (footpath_secs table.now.footpaths from q) (λ secs. l ≡ later label secs)) }
 {
     table.soundness();
     let paths = table.paths(from);

@@ -22,7 +22,8 @@ fn is_past(window: &Window, time: Sec) -> bool
     time > window.last
 }
 
-// When the first trip from the time on departs that can be boarded at a stop on the line index with this number.
+// When the first trip from the time on departs that can be boarded at a stop on the line index with
+// this number.
 fn line_departure<L: Ledger, S: Look<L>>(
     scan: &S,
     table: &Timetable,

@@ -13,7 +13,8 @@ pub record AskData : Type 0 where
   pub to : List ℕ
   pub leave : ℤ
 
--- from which edition on, from which place to which, and within which window one leaves, both ends counted
+-- from which edition on, from which place to which, and within which window one leaves, both ends
+-- counted
 pub record ProfileData : Type 0 where
   pub since : ℕ
   pub from : List ℕ

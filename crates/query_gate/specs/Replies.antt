@@ -24,16 +24,19 @@ IsBetween T from to (between.Unknown name) = ends_between T from to ≡ Err name
 
 -- the stops are among so many
 abbrev pub AreWithin : ℕ → Between → Type 0
-AreWithin n (between.Stops origins targets) = All (λ p. p < n) origins.items × All (λ p. p < n) targets.items
+AreWithin n (between.Stops origins targets) = All (λ p. p < n) origins.items
+    × All (λ p. p < n) targets.items
 AreWithin n (between.Unknown name) = ⊤
 
--- The best values of a query in order, each with a journey that has it, by the shortest walks at both ends and by hops of the network.
+-- The best values of a query in order, each with a journey that has it, by the shortest walks at
+-- both ends and by hops of the network.
 pub record AreBestChoices (N : NetData) (Q : QueryData) (choices : List ChoiceData) : Type 0 where
   pub values : AreBestValues N.table Q (map ChoiceData.value choices)
   pub journeys : All (λ c. SpellShortest N.table Q (ChoiceData.legs c) (ChoiceData.value c)) choices
   pub hops : All (λ c. LegsFollow N.hops (ChoiceData.legs c)) choices
 
--- The slots of a window's profile in order, each with a journey that has it, by hops of the network.
+-- The slots of a window's profile in order, each with a journey that has it, by hops of the
+-- network.
 pub record AreBestOffers (N : NetData) (W : WindowData) (offers : List OfferData) : Type 0 where
   pub slots : IsProfile N.table W (map OfferData.slot offers)
   pub journeys : All (λ o. SpellSlot N.table W (OfferData.legs o) (OfferData.slot o)) offers
@@ -48,7 +51,8 @@ IsAskReply N q (Slots offers) = ⊥
 IsAskReply N q (UnknownStop name) = ends_between N.table q.from q.to ≡ Err name
 IsAskReply N q (Deferred number) = ⊥
 
--- What a reply leaves in the desk: with values the answer to the query, whose hits have these values; of other replies nothing is said.
+-- What a reply leaves in the desk: with values the answer to the query, whose hits have these
+-- values; of other replies nothing is said.
 abbrev pub LeavesAnswered : NetData → AskData → Reply → DeskData → Type 0
 LeavesAnswered N q (Values choices) D =
     (ends : Ends) × (ends_between N.table q.from q.to ≡ Ok ends)

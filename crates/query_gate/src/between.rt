@@ -14,8 +14,9 @@ pub enum Between<'n> {
     Unknown(&'n [u8]),
 }
 
-/// The stops of two named places of a timetable, each a stop or a station, which stands for its stops; or the first name that is no
-/// place, the origin's before the target's. Refused only for want of memory.
+/// The stops of two named places of a timetable, each a stop or a station, which stands for its
+/// stops; or the first name that is no place, the origin's before the target's. Refused only for
+/// want of memory.
 pub fn stops_between<'n>(
     alloc: Global,
     table: &Timetable,

@@ -12,9 +12,9 @@ use std::marker::Model;
 use std::sync::ledger::Ledger;
 use tb_base::{Memory, Name, Sec, Window};
 
-/// A question for a profile: from which edition on it may be answered, from which place to which, by
-/// the names of stops or stations, and within which window one leaves, both ends counted, in seconds
-/// since noon minus twelve hours.
+/// A question for a profile: from which edition on it may be answered, from which place to which,
+/// by the names of stops or stations, and within which window one leaves, both ends counted, in
+/// seconds since noon minus twelve hours.
 #[derive(Drop)]
 pub struct ProfileText {
     /// The number of an edition, from 1; 0 for any.
@@ -40,9 +40,9 @@ impl Model for ProfileText {
 }
 
 /// Answers a question for a profile over an edition, whatever its number is: `UnknownStop` exactly
-/// where it has no stop and no station with a name, the origin's tried first, else `Slots`. The desk
-/// may have served any network before; it is made to fit. Each look is a step on the counter, but no
-/// clause bounds how many there are. Refused only for want of memory.
+/// where it has no stop and no station with a name, the origin's tried first, else `Slots`. The
+/// desk may have served any network before; it is made to fit. Each look is a step on the counter,
+/// but no clause bounds how many there are. Refused only for want of memory.
 pub fn profile<L: Ledger>(
     alloc: Global,
     edition: &Edition,

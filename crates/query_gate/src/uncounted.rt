@@ -1,4 +1,5 @@
-//! Questions of callers without a counter: each call is the one of its name, on a counter of its own.
+//! Questions of callers without a counter: each call is the one of its name, on a counter of its
+//! own.
 ghost use Rattle.std.specs.Prelude.{◌≡◌, ◌<◌, ◌≤ℤ◌, All, IfOk, length, pos};
 ghost use Rattle.edition_store.specs.Editions.{net_of};
 ghost use Rattle.segment_queue.specs.Queue.{Fits};
