@@ -1,3 +1,5 @@
+pub mod Alone
 pub mod Best
 pub mod NamedEnds
 pub mod Numbers
+pub mod Sent

@@ -1,15 +1,18 @@
 //! One who asks, of the editions that are published.
-ghost use Rattle.std.specs.Prelude.{◌≡◌, ◌≤ℤ◌, true, IfErr, IfOk, length, pos};
-ghost use Rattle.history.specs.Lists.{Extends};
+ghost use Rattle.std.specs.Prelude.{◌≡◌, ◌≤◌, ◌≤ℤ◌, [], ◌∷◌, true, IfErr, IfOk, length, pos};
+ghost use Rattle.history.specs.Lists.{Shown, Extends};
 ghost use Rattle.edition_store.specs.Editions.{net_of};
-ghost use Rattle.query_gate.specs.Callers.{AnswersAsk, AnswersProfile, CallerData, IsAnsweredBy, IsProfiledBy, LeavesAnsweredBy};
+ghost use Rattle.edition_store.specs.Lists.{longer};
+ghost use Rattle.query_gate.specs.Callers.{AnswersAsk, AnswersProfile, CallerData};
+ghost use Rattle.query_gate.specs.Callers.{IsAnsweredBy, IsProfiledBy, LeavesAnsweredBy};
+ghost use Rattle.query_gate.specs.Callers.{HasLegNumbers, HasLegNumbersIn};
 ghost use Rattle.query_gate.specs.Replies.{LeavesAnswered};
 
 use crate::asking::AskText;
 use crate::profiling::ProfileText;
 use crate::reply::Reply;
 use crate::uncounted::{ask, profile};
-use edition_store::{Edition, Last, Naming, Pinned, Receipt, Seat};
+use edition_store::{Edition, Last, Naming, Opened, Pinned, Receipt, Seat, Shared, Store};
 use segment_queue::Desk;
 use std::alloc::Global;
 use std::marker::Model;
@@ -47,6 +50,7 @@ fn ask_of(
 ) -> Result<Reply, Memory>
     requires { text.now.leave ≤ℤ pos 359999 }
     ensures reply { IfOk result (AnswersAsk number edition.now text.now) }
+    ensures numbers { IfOk result (HasLegNumbers edition.now) }
     ensures desk { IfOk result
         (λ reply. LeavesAnswered (net_of edition.now) text.now reply desk.new) }
 {
@@ -65,7 +69,8 @@ fn profile_of(
     text: &ProfileText,
 ) -> Result<Reply, Memory>
     requires { text.now.last ≤ℤ pos 359999 }
-    ensures { IfOk result (AnswersProfile number edition.now text.now) }
+    ensures reply { IfOk result (AnswersProfile number edition.now text.now) }
+    ensures numbers { IfOk result (HasLegNumbers edition.now) }
 {
     if text.since > number {
         return Ok(Reply::Deferred(text.since));
@@ -84,6 +89,18 @@ impl<J: Naming> Caller<J> {
         }
     }
 
+    /// One who asks of this edition alone, to which none is ever added. `opened` has the name of
+    /// the store, as in `Store::closed`. Refused only for want of memory; the edition is dropped
+    /// then.
+    pub fn alone(alloc: Global, opened: Opened<Edition>, only: Edition) -> Result<Caller<J>, Memory>
+        requires { opened.seen.book ≡ J.book }
+        ensures { IfOk result
+            (λ c. CallerData.kept c ≡ record { list = only ∷ []; closed = true }) }
+    {
+        let seat = Store::closed::<J>(alloc, opened, Shared::new(alloc, only)?)?;
+        Ok(Caller::new(alloc, seat))
+    }
+
     /// Its desk.
     pub fn desk(&self) -> &Desk
         ensures { result.now ≡ self.now.desk }
@@ -91,17 +108,21 @@ impl<J: Naming> Caller<J> {
         &self.desk
     }
 
-    /// Pins the published list once, and answers a question for the best values of its last edition: `Deferred` exactly where a later
-    /// edition is asked for, else as `ask` does. The list extends that of each earlier answer. Waits for nobody. Refused only for want
-    /// of memory: then the caller's seat may have pinned a later list, and nothing is said of its desk.
+    /// Pins the published list once, and answers a question for the best values of its last
+    /// edition: `Deferred` exactly where a later edition is asked for, else as `ask` does. The list
+    /// extends that of each earlier answer. Waits for nobody. Refused only for want of memory: then
+    /// the caller's seat may have pinned a later list, and nothing is said of its desk.
     pub fn ask(&mut self, alloc: Global, text: &AskText) -> Result<Answer<J>, Memory>
         requires { text.now.leave ≤ℤ pos 359999 }
         ensures reply { IfOk result
             (λ a. IsAnsweredBy a.pinned.list (length a.pinned.list) text.now a.reply) }
+        ensures numbers { IfOk result
+            (λ a. HasLegNumbersIn a.pinned.list (length a.pinned.list) a.reply) }
         ensures desk { IfOk result
-            (λ a. LeavesAnsweredBy a.pinned.list (length a.pinned.list) text.now a.reply self.new.desk) }
+            (λ a. LeavesAnsweredBy a.pinned.list text.now a.reply self.new.desk) }
         ensures kept { IfOk result (λ a. self.new.kept ≡ a.pinned) }
         ensures later { Extends self.new.kept self.old.kept }
+        ensures number { length self.old.kept.list ≤ length self.new.kept.list }
         ensures last { self.old.kept.closed ≡ true → self.new.kept ≡ self.old.kept }
     {
         let pinned = self.seat.pin()?;
@@ -115,15 +136,19 @@ impl<J: Naming> Caller<J> {
         Ok(Answer { pinned, reply })
     }
 
-    /// Pins the published list once, and answers a question for a profile over its last edition: `Deferred` exactly where a later
-    /// edition is asked for, else as `profile` does. The list extends that of each earlier answer. Waits for nobody. Refused only for
-    /// want of memory: then the caller's seat may have pinned a later list.
+    /// Pins the published list once, and answers a question for a profile over its last edition:
+    /// `Deferred` exactly where a later edition is asked for, else as `profile` does. The list
+    /// extends that of each earlier answer. Waits for nobody. Refused only for want of memory: then
+    /// the caller's seat may have pinned a later list.
     pub fn profile(&mut self, alloc: Global, text: &ProfileText) -> Result<Answer<J>, Memory>
         requires { text.now.last ≤ℤ pos 359999 }
         ensures reply { IfOk result
             (λ a. IsProfiledBy a.pinned.list (length a.pinned.list) text.now a.reply) }
+        ensures numbers { IfOk result
+            (λ a. HasLegNumbersIn a.pinned.list (length a.pinned.list) a.reply) }
         ensures kept { IfOk result (λ a. self.new.kept ≡ a.pinned) }
         ensures later { Extends self.new.kept self.old.kept }
+        ensures number { length self.old.kept.list ≤ length self.new.kept.list }
         ensures last { self.old.kept.closed ≡ true → self.new.kept ≡ self.old.kept }
     {
         let pinned = self.seat.pin()?;
@@ -137,19 +162,20 @@ impl<J: Naming> Caller<J> {
         Ok(Answer { pinned, reply })
     }
 
-    /// From now on the caller's answers are of no less than the list of the receipt. Waits for nobody. Refused only for want of memory:
-    /// nothing is learned then.
+    /// From now on the caller's answers are of no less than the list of the receipt. Waits for
+    /// nobody. Refused only for want of memory: nothing is learned then.
     pub fn learn(&mut self, receipt: &Receipt<J>) -> Result<(), Memory>
         ensures later { IfOk result (λ _. Extends self.new.kept self.old.kept) }
         ensures told { IfOk result (λ _. Extends self.new.kept receipt.now) }
+        ensures longer { IfOk result (λ _. self.new.kept ≡ longer self.old.kept receipt.now) }
         ensures refused { IfErr result (λ _. self.new.kept ≡ self.old.kept) }
         ensures desk { self.new.desk ≡ self.old.desk }
     {
         self.seat.learn(receipt)
     }
 
-    /// From now on the caller's answers are of the whole list. Waits for nobody. Refused only for want of memory: nothing is learned
-    /// then.
+    /// From now on the caller's answers are of the whole list. Waits for nobody. Refused only for
+    /// want of memory: nothing is learned then.
     pub fn learn_last(&mut self, last: &Last<J>) -> Result<(), Memory>
         ensures later { IfOk result (λ _. Extends self.new.kept self.old.kept) }
         ensures whole { IfOk result

@@ -1,12 +1,10 @@
 //! Two editions of one day, and what is asked of them.
 use edition_store::{Edition, Shared, build_edition};
 use made_feeds::{Feed, timetable};
-use query_gate::uncounted::ask;
 use query_gate::{AskText, Reply};
-use segment_queue::Desk;
 use std::alloc::Global;
 use std::thread::Threads;
-use tb_base::{IdleGate, Memory, Name, Value};
+use tb_base::{IdleGate, Memory, Name, Sec, TripNo, Value};
 
 // The second trip reaches D at half past eight.
 const SLOW: &str = "trip_id,arrival_time,departure_time,stop_id,stop_sequence
@@ -53,26 +51,24 @@ pub fn fast<R: Threads + Sync>(rt: &R, alloc: Global) -> Result<Shared, Memory> 
     edition(rt, alloc, FAST)
 }
 
-/// What is answered to a question from A at eight o'clock.
-pub fn reply(alloc: Global, edition: &Edition, to: &[u8]) -> Result<Reply, Memory> {
-    let text = AskText {
-        since: 0,
+/// A question from A at eight o'clock, to be answered by an edition with this number or a later one.
+pub fn text_to(alloc: Global, to: &[u8], since: u32) -> Result<AskText, Memory> {
+    Ok(AskText {
+        since,
         from: Name::new(alloc, b"A".as_slice())?,
         to: Name::new(alloc, to)?,
         leave: 28_800,
-    };
-    let mut desk = Desk::new(alloc);
-    ask(alloc, edition, &mut desk, &text)
+    })
 }
 
-/// The best values from A to D at eight o'clock: the one with the fewest rides, and the one with the most.
-pub fn values(alloc: Global, edition: &Edition) -> Result<(Option<Value>, Option<Value>), Memory> {
-    match reply(alloc, edition, b"D".as_slice())? {
-        Reply::Values(choices) => Ok((
+/// The values of a reply: the one with the fewest rides, and the one with the most.
+pub fn values_of(reply: &Reply) -> (Option<Value>, Option<Value>) {
+    match reply {
+        Reply::Values(choices) => (
             choices.first().map(|choice| choice.value),
             choices.last().map(|choice| choice.value),
-        )),
-        Reply::Slots(_) | Reply::UnknownStop(_) | Reply::Deferred(_) => Err(Memory),
+        ),
+        Reply::Slots(_) | Reply::UnknownStop(_) | Reply::Deferred(_) => (None, None),
     }
 }
 
@@ -88,4 +84,13 @@ pub fn fast_values() -> (Option<Value>, Option<Value>) {
 
 fn value(arrive: i32, rides: u32) -> Option<Value> {
     Some(Value { arrive, rides })
+}
+
+/// When the second trip of an edition reaches D.
+pub fn second_arrival(edition: &Edition) -> Option<Sec> {
+    let table = edition.table();
+    if table.trip_count() < 2 {
+        return None;
+    }
+    table.trip(TripNo(1)).events.last().map(|event| event.arr)
 }

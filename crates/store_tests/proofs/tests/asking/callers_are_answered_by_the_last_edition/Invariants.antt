@@ -1,4 +1,4 @@
-use Rattle.store_tests.proofs.tests.asking.a_pin_stays_as_it_is_and_the_next_sees_what_was_published.Given as goal
+use Rattle.store_tests.proofs.tests.asking.callers_are_answered_by_the_last_edition.Given as goal
 
 -- the book that was just opened
 abbrev pub ghosts-told : goal.ghosts-told
