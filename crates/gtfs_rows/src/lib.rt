@@ -6,7 +6,7 @@
 //! of two equal names the first counts. Fields are cut of spaces and tabs at both ends. A row without anything in
 //! it is passed over and keeps its number. Want of memory is its own answer, [`RowsFault::Memory`].
 //!
-//! [`Lines`] gives the rows of one file one at a time, and stores none; [`RowReader`] is what a new kind of row needs.
+//! [`RowCursor`] gives the rows of one file one at a time, and stores none; [`RowReader`] is what a new kind of row needs.
 #![tactic(auto)]
 
 mod calendar;
@@ -15,7 +15,7 @@ mod dates;
 mod fault;
 mod fields;
 mod file_names;
-mod lines;
+mod cursor;
 mod numbers;
 mod records;
 mod stops;
@@ -28,7 +28,7 @@ pub use calendar::{CalendarReader, CalendarRow, calendar_rows};
 pub use civil::date_of;
 pub use dates::{DateReader, DateRow, date_rows};
 pub use fault::{FeedFault, FeedFile, Many, RowsFault, Spot};
-pub use lines::Lines;
+pub use cursor::RowCursor;
 pub use numbers::{number_of, time_of};
 pub use records::Records;
 pub use stops::{Kind, StopReader, StopRow, stop_rows};

@@ -10,6 +10,3 @@ mod services;
 
 pub use day::{BadDate, Day, day_of};
 pub use services::{Services, running};
-
-#[cfg(test)]
-mod tests;

@@ -11,8 +11,8 @@ use Rattle.trip_rides.specs.Times.{HasFileTimes}
 pub record AreGoodTimes (stops : List StopData) (trips : List TripData) (times : List StopTime)
     : Type 0 where
   pub few : length times ≤ 20000000
-  pub trip : All (λ r. StopTime.trip r < length trips) times
+  pub trip : All (λ r. StopTime.trip_row r < length trips) times
   pub stop : All (λ r. StopTime.stop r < length (platforms stops)) times
   pub given : All HasFileTimes times
   pub sequences : AllPairs
-      (λ r s. StopTime.trip r ≡ StopTime.trip s → StopTime.sequence r ≢ StopTime.sequence s) times
+      (λ r s. StopTime.trip_row r ≡ StopTime.trip_row s → StopTime.sequence r ≢ StopTime.sequence s) times

@@ -80,7 +80,7 @@ fn read_timetable<F: Folder>(
         Ok(rows) => rows,
         Err(fault) => return Err(fault),
     };
-    let told = match read_paths(alloc, folder, dir, rows.stops().table(), options) {
+    let told = match read_paths(alloc, folder, dir, rows.stops(), options) {
         Ok(told) => told,
         Err(fault) => return Err(fault),
     };

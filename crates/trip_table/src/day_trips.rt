@@ -13,7 +13,7 @@ use gtfs_rows::{FeedFault, Many, RowsFault, TripRow};
 use service_day::{Day, Services, running};
 use std::alloc::Global;
 use tb_base::{Event, Memory, Name, Trip};
-use trip_rides::{RidesFault, rides_of};
+use trip_rides::rides_of;
 
 const MOST_TRIPS: usize = 500_000;
 
@@ -119,8 +119,7 @@ pub(crate) fn trips_on(alloc: Global, rows: &FeedRows, day: &Day) -> Result<Vec<
     };
     let rides = match rides_of(alloc, rows.times(), runs.as_slice()) {
         Ok(rides) => rides,
-        Err(RidesFault::Feed(fault)) => return Err(RowsFault::Feed(fault)),
-        Err(RidesFault::Memory) => return Err(RowsFault::Memory),
+        Err(fault) => return Err(fault),
     };
     let Ok(trips) = trips_with(alloc, rows.trips().rows(), rides.as_slice()) else {
         return Err(RowsFault::Memory);

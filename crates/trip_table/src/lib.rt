@@ -9,16 +9,15 @@
 #![tactic(auto)]
 
 mod assemble;
-mod calendar;
 mod closing;
 mod day;
 mod day_fault;
 mod day_trips;
+mod distinct;
 mod feed;
 mod law;
 pub mod laws;
 mod paths;
-mod resolved;
 mod rows;
 mod seen;
 mod services;

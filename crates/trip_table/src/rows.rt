@@ -1,15 +1,17 @@
 //! The rows of a feed.
-ghost use Rattle.std.specs.Prelude.{◌≡◌, ◌<◌, ◌-◌, ◌^◌, IsSome};
+ghost use Rattle.std.specs.Prelude.{◌≡◌, ◌≢◌, ◌<◌, ◌-◌, ◌^◌, [], All, IsSome};
 ghost use Rattle.gtfs_rows.specs.Refused.{Yields};
+ghost use Rattle.gtfs_rows.specs.StopsFile.{StopData};
 ghost use Rattle.trip_table.specs.Answers.{IsRefused, Leaves, feed_of};
 ghost use Rattle.trip_table.specs.References.{rows_of};
 ghost use Rattle.trip_table.specs.GoodTimes.{AreGoodTimes};
 
 use crate::DayFault;
 use crate::services::{ServiceRows, read_services};
-use crate::stops::{StopRows, read_stops};
+use crate::stops::read_stops;
 use crate::times::read_times;
 use crate::trips::{TripTable, read_trips};
+use footpaths::StopTable;
 use std::alloc::Global;
 use std::marker::Model;
 use tb_io::Folder;
@@ -19,13 +21,15 @@ use trip_rides::StopTime;
 /// file, the stop times by the numbers of their trips and platforms.
 #[derive(Drop)]
 pub struct FeedRows {
-    stops: StopRows,
+    stops: StopTable,
     services: ServiceRows,
     trips: TripTable,
     times: Vec<StopTime>,
 }
 
 impl Model for FeedRows {
+    ghost use Rattle.std.specs.Prelude.{◌≢◌, [], All};
+    ghost use Rattle.gtfs_rows.specs.StopsFile.{StopData};
     ghost use Rattle.trip_table.specs.References.{Rows};
     ghost use Rattle.trip_table.specs.GoodTimes.{AreGoodTimes};
 
@@ -34,13 +38,15 @@ impl Model for FeedRows {
     ghost view = { λ r.
         record { stops = r.stops; services = r.services; trips = r.trips; times = r.times.items } };
 
-    ghost invariant = { λ r. AreGoodTimes r.stops r.trips r.times.items };
+    ghost invariant = { λ r.
+        AreGoodTimes r.stops r.trips r.times.items × All (λ s. StopData.id s ≢ []) r.stops };
 }
 
 impl FeedRows {
-    /// The rows of stops.txt.
-    pub fn stops(&self) -> &StopRows
-        ensures { result.now ≡ self.now.stops }
+    /// The rows of stops.txt: their ids aren't empty.
+    pub fn stops(&self) -> &StopTable
+        ensures stops { result.now ≡ self.now.stops }
+        ensures named { All (λ s. StopData.id s ≢ []) self.now.stops }
     {
         &self.stops
     }
@@ -92,7 +98,7 @@ pub fn read_rows<F: Folder>(alloc: Global, folder: &mut F, dir: &str) -> Result<
         Ok(trips) => trips,
         Err(fault) => return Err(fault),
     };
-    let times = match read_times(alloc, folder, dir, stops.table(), &trips) {
+    let times = match read_times(alloc, folder, dir, &stops, &trips) {
         Ok(times) => times,
         Err(fault) => return Err(fault),
     };
