@@ -90,8 +90,8 @@ table file bytes =
     Ok (raw_rows file records)))
 
 -- the typed rows, of which so many may come, or the first thing that is wrong with a row
-abbrev pub shape : {A : Type 0} → FeedFile → (RawRow → Result (Option A) FeedFault) → ℕ → List RawRow →
-    Result (List A) FeedFault
+abbrev pub shape : {A : Type 0} → FeedFile → (RawRow → Result (Option A) FeedFault) → ℕ →
+    List RawRow → Result (List A) FeedFault
 shape file read room [] = Ok []
 shape file read zero (raw ∷ rest) = Err (fault.TooMany (rows_of_file file) raw.row)
 shape file read (suc room) (raw ∷ rest) =

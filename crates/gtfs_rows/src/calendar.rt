@@ -10,8 +10,9 @@ use crate::{FeedFault, FeedFile, Name, RowCursor, RowReader, RowsFault, typed_ro
 use std::alloc::Global;
 use std::marker::Model;
 
-/// A row of calendar.txt: the days of the week on which a service runs, from Monday on, from its first date
-/// to its last one, both counted. A date is the number that its eight digits YYYYMMDD write.
+/// A row of calendar.txt: the days of the week on which a service runs, from Monday on, from its
+/// first date to its last one, both counted. A date is the number that its eight digits YYYYMMDD
+/// write.
 #[derive(Drop)]
 pub struct CalendarRow {
     pub row: u32,
@@ -46,11 +47,7 @@ fn flag_in(cursor: &RowCursor, column: u8) -> Result<bool, RowsFault>
 {
     match flag_of(cursor.cell(column)) {
         Some(flag) => Ok(flag),
-        None => Err(RowsFault::Feed(FeedFault::BadCode(spot(
-            cursor,
-            FeedFile::Calendar,
-            column,
-        )))),
+        None => Err(RowsFault::Feed(FeedFault::BadCode(spot(cursor, FeedFile::Calendar, column)))),
     }
 }
 

@@ -119,7 +119,8 @@ fn first_record<'a>(alloc: Global, bytes: &'a [u8]) -> Result<Records<'a>, Memor
     Ok(records)
 }
 
-// The positions of a file's columns in its first row, or the first required column that isn't there.
+// The positions of a file's columns in its first row, or the first required column that isn't
+// there.
 fn columns_of(
     alloc: Global,
     file: FeedFile,
@@ -158,7 +159,8 @@ impl<'a> Model for RowCursor<'a> {
 }
 
 impl<'a> RowCursor<'a> {
-    /// The position before the first row after the header, in a file that is text and has its columns.
+    /// The position before the first row after the header, in a file that is text and has its
+    /// columns.
     pub fn open(alloc: Global, file: FeedFile, bytes: &'a [u8]) -> Result<RowCursor<'a>, RowsFault>
         requires { length bytes.now ≤ 1_073_741_824 }
         ensures { Yields IsRefused result (λ c. c.left) (table file bytes.now) }
@@ -175,8 +177,8 @@ impl<'a> RowCursor<'a> {
         })
     }
 
-    /// Goes to the next row that has anything in it and answers `true`, or `false` where there is none. After `false` or
-    /// `Memory` no row is left.
+    /// Goes to the next row that has anything in it and answers `true`, or `false` where there is
+    /// none. After `false` or `Memory` no row is left.
     pub fn advance(&mut self) -> Result<bool, Memory>
         ensures next { IfOk result
             (λ more. MatchBool more (self.old.left ≡ self.new.current ∷ self.new.left)
@@ -199,7 +201,8 @@ impl<'a> RowCursor<'a> {
         self.row
     }
 
-    /// The row's cell in a column, which is a number from 1: empty where the row or the header lacks it.
+    /// The row's cell in a column, which is a number from 1: empty where the row or the header
+    /// lacks it.
     pub fn cell(&self, column: u8) -> &[u8]
         requires { 1 ≤ column }
         ensures { result.now ≡ cell self.now.current column }

@@ -57,8 +57,8 @@ impl<'a> Records<'a> {
         }
     }
 
-    /// Goes to the next record and answers `true`, or `false` where there is none. After `false` or `Memory` no record is
-    /// left.
+    /// Goes to the next record and answers `true`, or `false` where there is none. After `false` or
+    /// `Memory` no record is left.
     pub fn advance(&mut self) -> Result<bool, Memory>
         ensures fewer { length self.new.left ≤ length self.old.left }
         ensures next { IfOk result

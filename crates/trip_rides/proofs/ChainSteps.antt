@@ -4,26 +4,16 @@ use Rattle.std.specs.Prelude.{◌==◌, filter, slice_index, slice_index_or}
 use Rattle.std.proofs.lemmas.Bool.Decides.{nat_tests}
 use Rattle.std.proofs.lemmas.List.{append-nil, append_assoc, length-set, length_push, get_or-set_same, get_or-set_other, get_or_append_left, get_or_push, get_or_read, get_or_default, reverse-append, take_all}
 use Rattle.std.proofs.lemmas.List.Elements.{filter_more}
+use Rattle.std.proofs.lemmas.Bool.{cases_eq}
 use Rattle.trip_rides.specs.declared.stop_time.StopTime.{StopTime}
 use Rattle.trip_rides.specs.StopTimes.{is_of_trip}
 use Rattle.trip_rides.specs.Chains.{IsLastRow, AreChains}
-
-same_or_not : (a b : ℕ) → (a ≡ b) ⊎ (a ≢ b)
-same_or_not a b = grind arith
-
-before_or_at : (k i : ℕ) → k < i + 1 → (k < i) ⊎ (k ≡ i)
-before_or_at k i h = grind arith
+use Rattle.tb_base.proofs.NumberFacts.{below_or_at}
 
 -- what a row adds to those of a trip
 row_added : (rows : List StopTime) (trip i : ℕ) (r : StopTime) → i < length rows → r ≡ get_or rows i r
     → filter (is_of_trip trip) (take (i + 1) rows) ≡ filter (is_of_trip trip) (take i rows) ++ cond (r.trip_row == trip) (r ∷ []) []
 row_added rows trip i r h e = filter_more (is_of_trip trip) rows i r h ∙ ap (λ s. filter (is_of_trip trip) (take i rows) ++ cond (is_of_trip trip s) (s ∷ []) []) (sym e)
-
-own_row : (rows : List StopTime) (trip i : ℕ) (r : StopTime) → i < length rows → r ≡ get_or rows i r → r.trip_row ≡ trip
-    → filter (is_of_trip trip) (take (i + 1) rows) ≡ filter (is_of_trip trip) (take i rows) ++ r ∷ []
-own_row rows trip i r h e s =
-    let t : (r.trip_row == trip) ≡ true = grind (arith, nat_tests, s) in
-    row_added rows trip i r h e ∙ ap (λ b. filter (is_of_trip trip) (take i rows) ++ cond b (r ∷ []) []) t
 
 other_row : (rows : List StopTime) (trip i : ℕ) (r : StopTime) → i < length rows → r ≡ get_or rows i r → r.trip_row ≢ trip
     → filter (is_of_trip trip) (take (i + 1) rows) ≡ filter (is_of_trip trip) (take i rows)
@@ -56,8 +46,8 @@ chains_more : (rows : List StopTime) (i trips last_row : ℕ) (last earlier : Li
 chains_more rows i trips last_row last earlier r h e low at c = record {
   trip_count = length-set last r.trip_row (i + 1) ∙ c.trip_count;
   row_count = length_push earlier last_row ∙ ap (λ n. n + 1) c.row_count;
-  last = λ trip t. last_more trip (c.last trip t) (same_or_not r.trip_row trip);
-  earlier = λ k d t. earlier_more k d (before_or_at k i t);
+  last = λ trip t. last_more trip (c.last trip t) (cases_eq r.trip_row trip);
+  earlier = λ k d t. earlier_more k d (below_or_at k i t);
 }
   where
     last_more : (trip : ℕ) → IsLastRow rows trip i (slice_index last trip) → (r.trip_row ≡ trip) ⊎ (r.trip_row ≢ trip) → IsLastRow rows trip (i + 1) (slice_index (set last r.trip_row (i + 1)) trip)
@@ -98,14 +88,3 @@ back_start rows found trip last last_rows h l e n =
       at.own,
       rw n (append-nil (filter (is_of_trip trip) (take last rows)) ∙ sym at.none_after ∙ ap (filter (is_of_trip trip)) (take_all (length rows) rows (omega arith))),
     )
-
--- one row back
-pub back_more : (rows found : List StopTime) (trip row : ℕ) (r : StopTime) (earlier : ℕ) → row < length rows → r ≡ get_or rows row r → r.trip_row ≡ trip → IsLastRow rows trip row earlier
-    → filter (is_of_trip trip) (take (row + 1) rows) ++ reverse found ≡ filter (is_of_trip trip) rows
-    → filter (is_of_trip trip) (take earlier rows) ++ reverse (found ++ r ∷ []) ≡ filter (is_of_trip trip) rows
-back_more rows found trip row r earlier h e s l was =
-    rw (reverse-append found (r ∷ [])) (
-    ap (λ front. front ++ r ∷ reverse found) (sym l.none_after)
-    ∙ sym (append_assoc (filter (is_of_trip trip) (take row rows)) (r ∷ []) (reverse found))
-    ∙ ap (λ front. front ++ reverse found) (sym (own_row rows trip row r h e s))
-    ∙ was)

@@ -10,7 +10,8 @@ pub record IsLastRow (rows : List StopTime) (trip n last : ℕ) : Type 0 where
   pub within : last ≤ n
   pub none_after : filter (is_of_trip trip) (take n rows)
       ≡ filter (is_of_trip trip) (take last rows)
-  pub own : (k : ℕ) (d : StopTime) → last ≡ suc k → StopTime.trip_row (slice_index_or rows k d) ≡ trip
+  pub own : (k : ℕ) (d : StopTime) → last ≡ suc k →
+      StopTime.trip_row (slice_index_or rows k d) ≡ trip
 
 -- the last row of each trip among the first n rows, and for each of them the one before it of its
 -- trip

@@ -23,5 +23,6 @@ stop_times rows trip = in_sequence (filter (is_of_trip trip) rows)
 -- two rows of one trip have different sequence numbers
 abbrev pub DifferWithinTrips : List StopTime → Type 0
 DifferWithinTrips rows =
-    AllPairs (λ r s. StopTime.trip_row r ≡ StopTime.trip_row s → StopTime.sequence r ≢ StopTime.sequence s)
-    rows
+    AllPairs
+    (λ r s.
+    StopTime.trip_row r ≡ StopTime.trip_row s → StopTime.sequence r ≢ StopTime.sequence s) rows

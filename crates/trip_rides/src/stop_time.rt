@@ -1,7 +1,8 @@
 //! A stop time of a trip.
 use tb_base::{Sec, StopNo};
 
-/// A row of stop_times.txt whose trip and stop are named by numbers. Times are in seconds since noon minus twelve hours.
+/// A row of stop_times.txt whose trip and stop are named by numbers. Times are in seconds since
+/// noon minus twelve hours.
 #[derive(Clone, Copy)]
 pub struct StopTime {
     /// The row in its file, from 1.

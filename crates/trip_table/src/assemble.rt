@@ -69,8 +69,8 @@ fn stations_of(alloc: Global, stops: &StopTable) -> Result<Vec<Station>, Memory>
     Ok(stations)
 }
 
-/// The timetable of a day: its stops and stations, its trips, and change times and footpaths that keep the law.
-/// Refused only for want of memory; the trips and paths are dropped then.
+/// The timetable of a day: its stops and stations, its trips, and change times and footpaths that
+/// keep the law. Refused only for want of memory; the trips and paths are dropped then.
 pub(crate) fn assemble(
     alloc: Global,
     stops: &StopTable,

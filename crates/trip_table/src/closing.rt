@@ -48,8 +48,8 @@ fn refusal(alloc: Global, rows: &[StopRow], fault: CloseFault) -> RowsFault
     }
 }
 
-// Change times and footpaths closed over chains; else the fault that there would be too many footpaths, or else the first
-// two stops that are more than a day apart.
+// Change times and footpaths closed over chains; else the fault that there would be too many
+// footpaths, or else the first two stops that are more than a day apart.
 fn closed(alloc: Global, stops: &StopTable, paths: Paths) -> Result<Paths, RowsFault>
     requires sound { IsSoundFootpaths paths }
     requires many { length (FootpathData.change paths) ≡ length (platforms stops.now) }
@@ -66,8 +66,8 @@ fn closed(alloc: Global, stops: &StopTable, paths: Paths) -> Result<Paths, RowsF
     }
 }
 
-/// Change times and footpaths as they are asked for: closed over chains, or as they are, where they keep the law; else
-/// the first thing that is wrong with them.
+/// Change times and footpaths as they are asked for: closed over chains, or as they are, where they
+/// keep the law; else the first thing that is wrong with them.
 pub(crate) fn settled(
     alloc: Global,
     stops: &StopTable,

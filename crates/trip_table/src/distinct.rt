@@ -53,7 +53,8 @@ impl Identified for TripRow {
     }
 }
 
-/// The ids of rows, which all differ, or what is wrong with the first row that has the id of an earlier one.
+/// The ids of rows, which all differ, or what is wrong with the first row that has the id of an
+/// earlier one.
 pub fn distinct_ids<R: Identified>(alloc: Global, rows: &[R]) -> Result<NameIndex, RowsFault>
     ensures { MatchResult result
         (λ ids. (check_rows (λ _. wrong_twice R.id R.duplicate) rows.now ≡ Ok rows.now)

@@ -17,8 +17,8 @@ use std::marker::Model;
 use tb_io::Folder;
 use trip_rides::StopTime;
 
-/// The rows of a feed with which nothing is wrong up to the times of its trips. Contracts see it as the rows of each
-/// file, the stop times by the numbers of their trips and platforms.
+/// The rows of a feed with which nothing is wrong up to the times of its trips. Contracts see it as
+/// the rows of each file, the stop times by the numbers of their trips and platforms.
 #[derive(Drop)]
 pub struct FeedRows {
     stops: StopTable,
@@ -74,11 +74,12 @@ impl FeedRows {
     }
 }
 
-/// The rows of a feed in a directory of a folder, or the first thing that is wrong with a file: in the order of
-/// stops.txt, calendar.txt, calendar_dates.txt, trips.txt and stop_times.txt, and in each file its presence, its size,
-/// its text, its columns, its rows and what they name.
+/// The rows of a feed in a directory of a folder, or the first thing that is wrong with a file: in
+/// the order of stops.txt, calendar.txt, calendar_dates.txt, trips.txt and stop_times.txt, and in
+/// each file its presence, its size, its text, its columns, its rows and what they name.
 ///
-/// `ReadFault` comes only where the folder's count of faults rose. A file's bytes are dropped once its rows are read.
+/// `ReadFault` comes only where the folder's count of faults rose. A file's bytes are dropped once
+/// its rows are read.
 pub fn read_rows<F: Folder>(alloc: Global, folder: &mut F, dir: &str) -> Result<FeedRows, DayFault>
     requires { F.faults folder.old < 2 ^ 64 - 1 }
     ensures told { IsSome (F.files folder.old) →

@@ -13,7 +13,11 @@ use std::alloc::Global;
 use tb_io::Folder;
 
 /// The rows of stops.txt, with a look-up by id.
-pub fn read_stops<F: Folder>(alloc: Global, folder: &mut F, dir: &str) -> Result<StopTable, DayFault>
+pub fn read_stops<F: Folder>(
+    alloc: Global,
+    folder: &mut F,
+    dir: &str,
+) -> Result<StopTable, DayFault>
     requires { F.faults folder.old < 2 ^ 64 - 1 }
     ensures told { IsSome (F.files folder.old) →
         Yields IsRefused result (λ x. x) (stops_of (feed_of (F.files folder.old) dir.now)) }

@@ -67,8 +67,8 @@ impl RowReader for TimeReader<'_> {
     }
 }
 
-// The number of a platform; where no stop has the id, the number of platforms, and where one has it that is no
-// platform, one more.
+// The number of a platform; where no stop has the id, the number of platforms, and where one has it
+// that is no platform, one more.
 fn platform_number(stops: &StopTable, id: &[u8]) -> StopNo
     ensures { result ≡ platform_number (length (platforms stops.now)) (find_stop stops.now id.now) }
 {
@@ -80,7 +80,8 @@ fn platform_number(stops: &StopTable, id: &[u8]) -> StopNo
     }
 }
 
-// Refuses the first row that names no trip or no platform, or whose trip has had its `stop_sequence`.
+// Refuses the first row that names no trip or no platform, or whose trip has had its
+// `stop_sequence`.
 fn check_times(
     alloc: Global,
     stops: &StopTable,

@@ -1,6 +1,6 @@
 use Rattle.std.proofs.Common.{◌≡◌, ◌∙◌, ap, List, ℕ, length, map}
 use Rattle.std.specs.Prelude.{bytes_eq, position, Option, unwrap_or}
-use Rattle.names.proofs.Places.{position-map}
+use Rattle.tb_base.proofs.Lists.{position-map}
 use Rattle.gtfs_rows.specs.TripsFile.{TripData}
 use Rattle.trip_table.specs.References.{trip_id, has_trip_id, trip_number}
 use Rattle.trip_table.proofs.trips.TripTable.number.Goals as goal
