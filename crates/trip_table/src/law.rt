@@ -31,13 +31,19 @@ fn breach_fault(alloc: Global, rows: &[StopRow], breach: LawFault) -> Result<Fee
 {
     let stops = stops_of(alloc, rows)?;
     let stops = stops.as_slice();
-    let (LawFault::Absent(p, q, r) | LawFault::Long(p, q, r)) = breach;
-    let from = name_of(alloc, stops, p)?;
-    let over = name_of(alloc, stops, q)?;
-    let to = name_of(alloc, stops, r)?;
     match breach {
-        LawFault::Absent(..) => Ok(FeedFault::OpenFootpaths(from, over, to)),
-        LawFault::Long(..) => Ok(FeedFault::LongFootpath(from, over, to)),
+        LawFault::Absent(from, over, to) => {
+            let from = name_of(alloc, stops, from)?;
+            let over = name_of(alloc, stops, over)?;
+            let to = name_of(alloc, stops, to)?;
+            Ok(FeedFault::OpenFootpaths(from, over, to))
+        }
+        LawFault::Long(from, over, to) => {
+            let from = name_of(alloc, stops, from)?;
+            let over = name_of(alloc, stops, over)?;
+            let to = name_of(alloc, stops, to)?;
+            Ok(FeedFault::LongFootpath(from, over, to))
+        }
     }
 }
 

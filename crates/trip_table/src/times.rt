@@ -1,10 +1,9 @@
 //! The rows of stop_times.txt, by the numbers of what their ids name.
-ghost use Rattle.std.specs.Prelude.{◌≡◌, ◌<◌, ◌-◌, ◌^◌, IfOk, IsSome, length};
+ghost use Rattle.std.specs.Prelude.{◌≡◌, ◌<◌, ◌≤◌, ◌-◌, ◌^◌, IfOk, IsSome};
 ghost use Rattle.gtfs_rows.specs.Faults.{check_rows};
 ghost use Rattle.gtfs_rows.specs.Refused.{IsRefused, Yields};
 ghost use Rattle.gtfs_rows.specs.TimesFile.{time_data};
 ghost use Rattle.gtfs_rows.specs.declared.fault.FeedFile.TheVariants as file;
-ghost use Rattle.footpaths.specs.Stops.{find_stop, platforms};
 ghost use Rattle.trip_table.specs.Answers as day;
 ghost use Rattle.trip_table.specs.Answers.{Leaves, feed_of};
 ghost use Rattle.trip_table.specs.GoodTimes.{AreGoodTimes};
@@ -15,9 +14,7 @@ use crate::feed::{file_rows, spot};
 use crate::seen::{SeenKeys, SequenceKey};
 use crate::trips::TripTable;
 use footpaths::{Found, StopTable};
-use gtfs_rows::{
-    FeedFault, FeedFile, RowCursor, RowReader, RowsFault, TimeFields, time_fields,
-};
+use gtfs_rows::{FeedFault, FeedFile, RowCursor, RowReader, RowsFault, TimeFields, time_fields};
 use std::alloc::Global;
 use tb_base::StopNo;
 use tb_io::Folder;
@@ -35,10 +32,12 @@ impl TimeReader<'_> {
     fn numbered(&self, fields: &TimeFields) -> StopTime
         ensures { result ≡ numbered self.now.stops.now self.now.trips.now (time_data fields.now) }
     {
+        self.stops.soundness();
+        let found = self.stops.find(fields.stop);
         StopTime {
             row: fields.row,
             trip_row: self.trips.number(fields.trip),
-            stop: platform_number(self.stops, fields.stop),
+            stop: StopNo(platform_number(self.stops.platforms(), &found)),
             arr: fields.arr,
             dep: fields.dep,
             sequence: fields.sequence,
@@ -67,16 +66,17 @@ impl RowReader for TimeReader<'_> {
     }
 }
 
-// The number of a platform; where no stop has the id, the number of platforms, and where one has it
+// The number of a platform of so many; where no stop has the id, their count, and where one has it
 // that is no platform, one more.
-fn platform_number(stops: &StopTable, id: &[u8]) -> StopNo
-    ensures { result ≡ platform_number (length (platforms stops.now)) (find_stop stops.now id.now) }
+fn platform_number(count: u32, found: &Option<Found>) -> u32
+    requires { count ≤ 100000 }
+    ensures { result ≡ platform_number count found.now }
 {
-    stops.soundness();
-    match stops.find(id) {
-        Some(Found::Platform(stop)) => stop,
-        Some(Found::Station(_)) | Some(Found::Other) => StopNo(stops.platforms() + 1),
-        None => StopNo(stops.platforms()),
+    match found {
+        Some(Found::Platform(stop)) => stop.0,
+        Some(Found::Station(_)) => count + 1,
+        Some(Found::Other) => count + 1,
+        None => count,
     }
 }
 
