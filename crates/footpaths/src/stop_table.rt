@@ -200,6 +200,13 @@ impl StopTable {
         let _rows = &self.rows;
     }
 
+    /// The rows, in file order.
+    pub fn rows(&self) -> &[StopRow]
+        ensures { result.now ≡ self.now }
+    {
+        self.rows.as_slice()
+    }
+
     /// How many rows there are.
     pub fn row_count(&self) -> u32
         ensures { result ≡ length self.now }

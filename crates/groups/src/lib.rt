@@ -1,4 +1,4 @@
-//! Rows by their key, in linear time.
+//! The places of each key in a list of keys, in linear time.
 #![tactic(auto)]
 
 ghost use Rattle.std.specs.Prelude.{◌≡◌, ◌<◌, ◌≤◌, ◌+◌, ◌^◌, ◌++◌, ◌∷◌, [], ℕ, List, IfOk, OnOk, OnErr, length, map, replicate, set, get_or, slice_index};
@@ -11,7 +11,8 @@ use tb_base::Memory;
 #[cfg(test)]
 mod tests;
 
-/// For each key the places that have it.
+/// For each key the places that have it, from 0, in order. Contracts see it as the list of these
+/// lists.
 #[derive(Debug, Drop)]
 pub struct Groups {
     rows: Vec<Vec<u32>>,
@@ -24,12 +25,12 @@ impl Model for Groups {
 }
 
 impl Groups {
-    /// No place for any of so many keys.
+    // No place for any of so many keys.
     fn new(alloc: Global, keys: usize) -> Result<Groups, Memory>
         ensures { IfOk result (λ p. p ≡ replicate keys []) }
     {
         let mut rows: Vec<Vec<u32>> = Vec::new(alloc);
-        for _stop in 0..keys {
+        for _key in 0..keys {
             if rows.push(Vec::new(alloc)).is_err() {
                 return Err(Memory);
             }
@@ -38,12 +39,13 @@ impl Groups {
     }
 
     // Adds a place to a key.
-    fn add(&mut self, from: usize, place: u32) -> Result<(), Memory>
-        requires { from < length self.old }
-        ensures added { OnOk result (self.new ≡ set self.old from (get_or self.old from [] ++ place ∷ [])) }
+    fn add(&mut self, key: usize, place: u32) -> Result<(), Memory>
+        requires { key < length self.old }
+        ensures added { OnOk result
+            (self.new ≡ set self.old key (get_or self.old key [] ++ place ∷ [])) }
         ensures memory { OnErr result (self.new ≡ self.old) }
     {
-        let row = &mut self.rows[from];
+        let row = &mut self.rows[key];
         match row.push(place) {
             Ok(()) => Ok(()),
             Err(_) => Err(Memory),
@@ -63,7 +65,8 @@ impl Groups {
         requires keys { (i : ℕ) → i < length keys.now → slice_index keys.now i < count }
         requires fits { length keys.now < 2 ^ 32 }
         ensures length { IfOk result (λ g. length g ≡ count) }
-        ensures places { IfOk result (λ g. (key : ℕ) → key < count → get_or g key [] ≡ places_of keys.now key) }
+        ensures places { IfOk result
+            (λ g. (key : ℕ) → key < count → get_or g key [] ≡ places_of keys.now key) }
     {
         let mut groups = Groups::new(alloc, count)?;
         for i in 0..keys.len() {

@@ -4,7 +4,7 @@ use Rattle.gtfs_rows.specs.declared.fault.FeedFile.{FeedFile}
 use Rattle.gtfs_rows.specs.declared.fault.FeedFault.{FeedFault}
 use Rattle.gtfs_rows.specs.declared.fault.Spot.{Spot}
 
--- a place in a file
+-- a spot in a file: a row and a column, both from 1
 abbrev pub spot : FeedFile → ℕ → ℕ → Spot
 spot file row column = record { file = file; row = row; column = column }
 

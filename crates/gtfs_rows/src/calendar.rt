@@ -5,14 +5,15 @@ ghost use Rattle.gtfs_rows.specs.Refused.{IsRefused, Yields};
 ghost use Rattle.gtfs_rows.specs.declared.fault.FeedFile.TheVariants as file;
 
 use crate::civil::date_of;
-use crate::fields::{digit_of, good, id_in, spot};
-use crate::{FeedFault, FeedFile, Lines, Name, RowReader, RowsFault, typed_rows};
+use crate::fields::{digit_of, id_of, spot};
+use crate::{FeedFault, FeedFile, Name, RowCursor, RowReader, RowsFault, typed_rows};
 use std::alloc::Global;
 use std::marker::Model;
 
-/// A row of calendar.txt: the days of the week on which a service runs, from Monday on, from its first date
-/// to its last one, both counted. A date is the number that its eight digits YYYYMMDD write.
-#[derive(Debug, Drop)]
+/// A row of calendar.txt: the days of the week on which a service runs, from Monday on, from its
+/// first date to its last one, both counted. A date is the number that its eight digits YYYYMMDD
+/// write.
+#[derive(Drop)]
 pub struct CalendarRow {
     pub row: u32,
     pub service: Name,
@@ -40,34 +41,34 @@ fn flag_of(text: &[u8]) -> Option<bool>
     }
 }
 
-fn flag_in(lines: &Lines, column: u8) -> Result<bool, RowsFault>
+fn flag_in(cursor: &RowCursor, column: u8) -> Result<bool, RowsFault>
     requires { 1 ≤ column }
-    ensures { Yields IsRefused result (λ x. x) (flag_in lines.now.line column) }
+    ensures { Yields IsRefused result (λ x. x) (flag_in cursor.now.current column) }
 {
-    good(
-        flag_of(lines.cell(column)),
-        FeedFault::BadCode(spot(lines, FeedFile::Calendar, column)),
-    )
+    match flag_of(cursor.cell(column)) {
+        Some(flag) => Ok(flag),
+        None => Err(RowsFault::Feed(FeedFault::BadCode(spot(cursor, FeedFile::Calendar, column)))),
+    }
 }
 
 // The seven days of the week of a row, from Monday on.
-fn week_in(lines: &Lines) -> Result<[bool; 7], RowsFault>
-    ensures { Yields IsRefused result (λ x. x) (week_in lines.now.line) }
+fn week_in(cursor: &RowCursor) -> Result<[bool; 7], RowsFault>
+    ensures { Yields IsRefused result (λ x. x) (week_in cursor.now.current) }
 {
-    let monday = flag_in(lines, 2)?;
-    let tuesday = flag_in(lines, 3)?;
-    let wednesday = flag_in(lines, 4)?;
-    let thursday = flag_in(lines, 5)?;
-    let friday = flag_in(lines, 6)?;
-    let saturday = flag_in(lines, 7)?;
-    let sunday = flag_in(lines, 8)?;
+    let monday = flag_in(cursor, 2)?;
+    let tuesday = flag_in(cursor, 3)?;
+    let wednesday = flag_in(cursor, 4)?;
+    let thursday = flag_in(cursor, 5)?;
+    let friday = flag_in(cursor, 6)?;
+    let saturday = flag_in(cursor, 7)?;
+    let sunday = flag_in(cursor, 8)?;
     Ok([
         monday, tuesday, wednesday, thursday, friday, saturday, sunday,
     ])
 }
 
 /// Reads the rows of calendar.txt.
-#[derive(Debug, Clone, Copy, PartialEq, Eq)]
+#[derive(Clone, Copy)]
 pub struct CalendarReader;
 
 impl RowReader for CalendarReader {
@@ -81,22 +82,21 @@ impl RowReader for CalendarReader {
         FeedFile::Calendar
     }
 
-    fn read(&self, alloc: Global, lines: &Lines) -> Result<Option<CalendarRow>, RowsFault> {
+    fn read(&self, alloc: Global, cursor: &RowCursor) -> Result<Option<CalendarRow>, RowsFault> {
         let file = FeedFile::Calendar;
-        let row = lines.row();
-        let service = id_in(alloc, lines, file, 1)?;
-        let days = week_in(lines)?;
-        let start = good(
-            date_of(lines.cell(9)),
-            FeedFault::BadDate(spot(lines, file, 9)),
-        )?;
-        let end = good(
-            date_of(lines.cell(10)),
-            FeedFault::BadDate(spot(lines, file, 10)),
-        )?;
+        let Some(service) = id_of(cursor.cell(1)) else {
+            return Err(RowsFault::Feed(FeedFault::EmptyId(spot(cursor, file, 1))));
+        };
+        let days = week_in(cursor)?;
+        let Some(start) = date_of(cursor.cell(9)) else {
+            return Err(RowsFault::Feed(FeedFault::BadDate(spot(cursor, file, 9))));
+        };
+        let Some(end) = date_of(cursor.cell(10)) else {
+            return Err(RowsFault::Feed(FeedFault::BadDate(spot(cursor, file, 10))));
+        };
         Ok(Some(CalendarRow {
-            row,
-            service,
+            row: cursor.row(),
+            service: Name::new(alloc, service)?,
             days,
             start,
             end,

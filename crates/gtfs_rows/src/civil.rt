@@ -16,8 +16,8 @@ fn is_date(number: u32) -> bool
     year >= 1 && Date::new(year, month, day).is_ok()
 }
 
-/// The date that eight digits YYYYMMDD write, as the number of these digits: a day of the Gregorian calendar
-/// in the years 0001 to 9999. `None` for every other text.
+/// The date that eight digits YYYYMMDD write, as the number of these digits: a day of the Gregorian
+/// calendar in the years 0001 to 9999. `None` for every other text.
 pub fn date_of(text: &[u8]) -> Option<u32>
     ensures date { result ≡ date_of text.now }
     ensures known { IfSome result (λ number. is_date number ≡ true) }

@@ -59,8 +59,8 @@ fn after_hours(text: &[u8]) -> Option<u32>
     }
 }
 
-/// The time that a text writes: hours in one or two digits, then `:MM:SS`. In seconds from noon minus twelve hours,
-/// from 0 to 359,999. `None` for every other text.
+/// The time that a text writes: hours in one or two digits, then `:MM:SS`. In seconds from noon
+/// minus twelve hours, from 0 to 359,999. `None` for every other text.
 pub fn time_of(text: &[u8]) -> Option<Sec>
     ensures { result ≡ time_of text.now }
 {

@@ -1,14 +1,14 @@
 //! The records of a file, one at a time: one record is filled again and again.
 ghost use Rattle.std.specs.Prelude.{◌≡◌, ◌∷◌, [], ℕ, List, IfOk, OnErr, MatchBool, ◌≤◌, ◌+◌, length, get_or, false, if◌then◌else◌};
 ghost use Rattle.csv.specs.Records.{fields_of};
-ghost use Rattle.gtfs_rows.specs.Records.{file_records, records_left, Place, ReadsOn};
+ghost use Rattle.gtfs_rows.specs.Records.{file_records, records_left, RecordPosition, ReadsOn};
 
 use csv::{ByteRecord, Reader, ReaderBuilder};
 use std::alloc::Global;
 use std::marker::Model;
 use tb_base::Memory;
 
-/// A place among the records of a file: the record that was read last, and those that follow it.
+/// A position among the records of a file: the record that was read last, and those that follow it.
 #[derive(Drop)]
 pub struct Records<'a> {
     reader: Reader<&'a [u8]>,
@@ -17,7 +17,7 @@ pub struct Records<'a> {
 }
 
 impl<'a> Model for Records<'a> {
-    ghost Value = { Place };
+    ghost Value = { RecordPosition };
 
     ghost view = { λ r. record {
       current = fields_of r.record;
@@ -42,7 +42,7 @@ fn take_record(reader: &mut Reader<&[u8]>, row: &mut ByteRecord) -> Result<bool,
 }
 
 impl<'a> Records<'a> {
-    /// The place before the first record.
+    /// The position before the first record.
     pub fn new(alloc: Global, bytes: &'a [u8]) -> Records<'a>
         ensures { result.left ≡ file_records bytes.now }
     {
@@ -57,8 +57,8 @@ impl<'a> Records<'a> {
         }
     }
 
-    /// Goes to the next record and answers `true`, or `false` where there is none. After `false` or `Memory` no record is
-    /// left.
+    /// Goes to the next record and answers `true`, or `false` where there is none. After `false` or
+    /// `Memory` no record is left.
     pub fn advance(&mut self) -> Result<bool, Memory>
         ensures fewer { length self.new.left ≤ length self.old.left }
         ensures next { IfOk result

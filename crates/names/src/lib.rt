@@ -1,4 +1,7 @@
-//! Names and their places.
+//! Names, numbered in the order in which they came.
+//!
+//! [`NameIndex`] finds the position of a name, from 0, by a hash. The layer above numbers stops,
+//! trips and services by it.
 #![tactic(auto)]
 
 ghost use Rattle.std.specs.List.{list_any};
@@ -12,7 +15,7 @@ use tb_base::Memory;
 #[cfg(test)]
 mod tests;
 
-/// Names that differ, each with its place.
+/// Names that differ, each with its position, from 0. Contracts see it as the list of the names.
 #[derive(Drop)]
 pub struct NameIndex {
     ids: IndexSet<Vec<u8>>,
@@ -34,24 +37,27 @@ impl NameIndex {
         }
     }
 
-    /// The place of a name.
+    /// The position of a name. No memory is taken.
     pub fn find(&self, id: &[u8]) -> Option<usize>
         ensures { result ≡ position (bytes_eq id.now) self.now }
     {
         self.ids.get_index_of(id)
     }
 
-    /// Whether a name is there.
+    /// Whether a name is there. No memory is taken.
     pub fn contains(&self, id: &[u8]) -> bool
         ensures { result ≡ list_any (bytes_eq id.now) self.now }
     {
         self.ids.contains(id)
     }
 
-    /// Adds a name at the end, unless it is there.
+    /// Adds a name at the end, unless it is there, and answers whether it was added.
     pub fn add(&mut self, alloc: Global, id: &[u8]) -> Result<bool, Memory>
-        ensures members { OnOk result ((name : List ℕ) → list_any (bytes_eq name) self.new ≡ (list_any (bytes_eq name) self.old || bytes_eq name id.now)) }
-        ensures added { IfOk result (λ fresh. MatchBool fresh (self.new ≡ self.old ++ id.now ∷ []) (self.new ≡ self.old)) }
+        ensures members { OnOk result ((name : List ℕ) →
+            list_any (bytes_eq name) self.new
+            ≡ (list_any (bytes_eq name) self.old || bytes_eq name id.now)) }
+        ensures added { IfOk result
+            (λ fresh. MatchBool fresh (self.new ≡ self.old ++ id.now ∷ []) (self.new ≡ self.old)) }
         ensures fresh { IfOk result (λ fresh. fresh ≡ not (list_any (bytes_eq id.now) self.old)) }
         ensures memory { OnErr result (self.new ≡ self.old) }
     {
@@ -62,9 +68,11 @@ impl NameIndex {
         self.insert(own)
     }
 
-    /// Adds a name at the end, unless it is there.
+    // Adds a name at the end, unless it is there.
     fn insert(&mut self, id: Vec<u8>) -> Result<bool, Memory>
-        ensures added { IfOk result (λ fresh. MatchBool fresh (self.new ≡ self.old ++ id.items ∷ []) (self.new ≡ self.old)) }
+        ensures added { IfOk result
+            (λ fresh.
+            MatchBool fresh (self.new ≡ self.old ++ id.items ∷ []) (self.new ≡ self.old)) }
         ensures fresh { IfOk result (λ fresh. fresh ≡ not (list_any (bytes_eq id.items) self.old)) }
         ensures memory { OnErr result (self.new ≡ self.old) }
     {

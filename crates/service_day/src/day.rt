@@ -6,7 +6,8 @@ use gtfs_rows::date_of;
 use jiff::civil;
 use std::marker::Model;
 
-/// A day of the Gregorian calendar in the years 0001 to 9999, seen as the number that its eight digits YYYYMMDD write.
+/// A day of the Gregorian calendar in the years 0001 to 9999, seen as the number that its eight
+/// digits YYYYMMDD write.
 #[derive(Debug, Drop)]
 pub struct Day {
     date: u32,

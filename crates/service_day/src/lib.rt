@@ -1,8 +1,10 @@
-//! Which services run on a day, by calendar.txt and calendar_dates.txt of the GTFS Schedule Reference.
+//! Which services run on a day, by calendar.txt and calendar_dates.txt of the GTFS Schedule
+//! Reference.
 //!
-//! [`day_of`] reads a date, and [`running`] gives the [`Services`] of that day: a service runs where a row of
-//! calendar_dates.txt adds it on the day, or where a row of calendar.txt has the day, both ends of its range
-//! counted, and no row of calendar_dates.txt removes it. The layer above asks [`Services::runs`] for one service.
+//! [`day_of`] reads a date, and [`running`] gives the [`Services`] of that day: a service runs
+//! where a row of calendar_dates.txt adds it on the day, or where a row of calendar.txt has the
+//! day, both ends of its range counted, and no row of calendar_dates.txt removes it. The layer
+//! above asks [`Services::runs`] for one service.
 #![tactic(auto)]
 
 mod day;
@@ -10,6 +12,3 @@ mod services;
 
 pub use day::{BadDate, Day, day_of};
 pub use services::{Services, running};
-
-#[cfg(test)]
-mod tests;

@@ -17,10 +17,6 @@ abbrev Differ : List StopTime → Type 0
 Differ [] = ⊤
 Differ (r ∷ rest) = ((s : StopTime) → Member s rest → s.sequence ≢ r.sequence) × Differ rest
 
-by_first : (b : Bool) (x : StopTime) (xs ys : List StopTime) → Member x (if b then xs else ys) → Member x xs ⊎ Member x ys
-by_first true x xs ys h = inl h
-by_first false x xs ys h = inr h
-
 placed_old : (r x : StopTime) (xs : List StopTime) → Member x (placed r xs) → (r ≡ x) ⊎ Member x xs
 placed_old r x [] h = h
 placed_old r x (s ∷ rest) h =

@@ -42,12 +42,12 @@ length-filter-le trip (r ∷ rest) =
 pub length-stop_times-le : (rows : List StopTime) (trip : ℕ) → length (stop_times rows trip) ≤ length rows
 length-stop_times-le rows trip = rw length-in_sequence (length-filter-le trip rows)
 
-of_trip : (rows : List StopTime) (trip k : ℕ) (d : StopTime) → k < length (filter (is_of_trip trip) rows) → StopTime.trip (get_or (filter (is_of_trip trip) rows) k d) ≡ trip
+of_trip : (rows : List StopTime) (trip k : ℕ) (d : StopTime) → k < length (filter (is_of_trip trip) rows) → StopTime.trip_row (get_or (filter (is_of_trip trip) rows) k d) ≡ trip
 of_trip rows trip k d h = let t = filter_passes (is_of_trip trip) rows k d h in grind (arith, nat_tests, t)
 
 -- the rows of a trip have different sequence numbers, where two rows of one trip have
-pub apart_in_trip : (rows : List StopTime) (trip : ℕ) → AllPairs (λ r s. StopTime.trip r ≡ StopTime.trip s → StopTime.sequence r ≢ StopTime.sequence s) rows
+pub apart_in_trip : (rows : List StopTime) (trip : ℕ) → AllPairs (λ r s. StopTime.trip_row r ≡ StopTime.trip_row s → StopTime.sequence r ≢ StopTime.sequence s) rows
     → AllPairs (λ r s. StopTime.sequence r ≢ StopTime.sequence s) (filter (is_of_trip trip) rows)
 apart_in_trip rows trip h i j d before below =
-    AllPairs-filter (λ r s. StopTime.trip r ≡ StopTime.trip s → StopTime.sequence r ≢ StopTime.sequence s) (is_of_trip trip) rows h i j d before below
+    AllPairs-filter (λ r s. StopTime.trip_row r ≡ StopTime.trip_row s → StopTime.sequence r ≢ StopTime.sequence s) (is_of_trip trip) rows h i j d before below
     (of_trip rows trip i d (omega arith) ∙ sym (of_trip rows trip j d below))

@@ -10,7 +10,8 @@ pub record IsLastRow (rows : List StopTime) (trip n last : ℕ) : Type 0 where
   pub within : last ≤ n
   pub none_after : filter (is_of_trip trip) (take n rows)
       ≡ filter (is_of_trip trip) (take last rows)
-  pub own : (k : ℕ) (d : StopTime) → last ≡ suc k → StopTime.trip (slice_index_or rows k d) ≡ trip
+  pub own : (k : ℕ) (d : StopTime) → last ≡ suc k →
+      StopTime.trip_row (slice_index_or rows k d) ≡ trip
 
 -- the last row of each trip among the first n rows, and for each of them the one before it of its
 -- trip
@@ -20,7 +21,7 @@ pub record AreChains (rows : List StopTime) (n trips : ℕ) (last_rows earlier_r
   pub row_count : length earlier_rows ≡ n
   pub last : (trip : ℕ) → trip < trips → IsLastRow rows trip n (slice_index last_rows trip)
   pub earlier : (k : ℕ) (d : StopTime) → k < n →
-      IsLastRow rows (StopTime.trip (slice_index_or rows k d)) k (slice_index earlier_rows k)
+      IsLastRow rows (StopTime.trip_row (slice_index_or rows k d)) k (slice_index earlier_rows k)
 
 -- the rows of each of so many trips, from the last one back
 abbrev pub ChainsOf : List StopTime → ℕ → TripChains → Type 0

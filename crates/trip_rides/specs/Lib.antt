@@ -4,4 +4,3 @@ pub mod Faults
 pub mod TimeFaults
 pub mod Rides
 pub mod Chains
-pub mod Refused

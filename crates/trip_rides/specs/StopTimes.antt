@@ -4,7 +4,7 @@ use Rattle.trip_rides.specs.declared.stop_time.StopTime.{StopTime}
 
 -- a stop time of the trip
 abbrev pub is_of_trip : ℕ → StopTime → Bool
-is_of_trip trip r = r.trip == trip
+is_of_trip trip r = r.trip_row == trip
 
 -- a row put in its place among rows that stand in order
 abbrev pub placed : StopTime → List StopTime → List StopTime
@@ -23,5 +23,6 @@ stop_times rows trip = in_sequence (filter (is_of_trip trip) rows)
 -- two rows of one trip have different sequence numbers
 abbrev pub DifferWithinTrips : List StopTime → Type 0
 DifferWithinTrips rows =
-    AllPairs (λ r s. StopTime.trip r ≡ StopTime.trip s → StopTime.sequence r ≢ StopTime.sequence s)
-    rows
+    AllPairs
+    (λ r s.
+    StopTime.trip_row r ≡ StopTime.trip_row s → StopTime.sequence r ≢ StopTime.sequence s) rows

@@ -21,14 +21,14 @@ pub struct TripChains {
 impl TripChains {
     /// The chains of so many trips.
     pub fn new(alloc: Global, rows: &[StopTime], trips: usize) -> Result<TripChains, Memory>
-        requires trips { All (λ r. StopTime.trip r < trips) rows.now }
+        requires trips { All (λ r. StopTime.trip_row r < trips) rows.now }
         requires fits { length rows.now < 2 ^ 32 }
         ensures { IfOk result (ChainsOf rows.now trips) }
     {
         let mut last: Vec<u32> = vec![in alloc; 0; trips]?;
         let mut earlier: Vec<u32> = Vec::with_capacity(alloc, rows.len())?;
         for i in 0..rows.len() {
-            let trip = rows[i].trip as usize;
+            let trip = rows[i].trip_row as usize;
             earlier.push(last[trip])?;
             last[trip] = i as u32 + 1;
         }

@@ -15,8 +15,5 @@ mod rides;
 mod stop_time;
 mod times;
 
-pub use rides::{RidesFault, rides_of};
+pub use rides::rides_of;
 pub use stop_time::StopTime;
-
-#[cfg(test)]
-mod tests;

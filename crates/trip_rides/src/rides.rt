@@ -1,45 +1,20 @@
 //! The events that the stop times of each trip give.
 ghost use Rattle.std.specs.Prelude.{◌≡◌, ◌≤◌, ◌<◌, ◌^◌, ℕ, All, IfOk, length, map};
 ghost use Rattle.tb_base.specs.declared.table.Event.{Event};
-ghost use Rattle.gtfs_rows.specs.Refused.{Yields};
+ghost use Rattle.gtfs_rows.specs.Refused.{IsRefused, Yields};
 ghost use Rattle.trip_rides.specs.declared.stop_time.StopTime.{StopTime};
 ghost use Rattle.trip_rides.specs.StopTimes.{DifferWithinTrips};
 ghost use Rattle.trip_rides.specs.Times.{HasFileTimes};
 ghost use Rattle.trip_rides.specs.Rides.{event_of, events_in, ride_in, checked_rides, IsSoundRide};
-ghost use Rattle.trip_rides.specs.Refused.{IsRefused};
-ghost use Rattle.trip_rides.specs.declared.rides.RidesFault.TheVariants as why;
 
 use crate::StopTime;
 use crate::chains::TripChains;
 use crate::faults::trip_fault;
 use crate::order::stop_times;
 use crate::times::{Timepoint, Times, first_timed, nearest_after, nearest_before, times_at};
-use gtfs_rows::FeedFault;
-use std::alloc::{AllocFailed, Global};
+use gtfs_rows::RowsFault;
+use std::alloc::Global;
 use tb_base::{Event, Memory};
-
-/// Why there are no rides.
-#[derive(Debug, Drop)]
-pub enum RidesFault {
-    Feed(FeedFault),
-    Memory,
-}
-
-impl From<Memory> for RidesFault {
-    ghost from_gives = { λ _ fault. fault ≡ why.Memory };
-
-    fn from(_refusal: Memory) -> RidesFault {
-        RidesFault::Memory
-    }
-}
-
-impl<T: Drop> From<AllocFailed<T>> for RidesFault {
-    ghost from_gives = { λ _ fault. fault ≡ why.Memory };
-
-    fn from(_refusal: AllocFailed<T>) -> RidesFault {
-        RidesFault::Memory
-    }
-}
 
 /// The events of each trip, in the order of trips.txt: none where it doesn't run or has fewer than
 /// two stop times. `runs` says which trips run.
@@ -51,8 +26,8 @@ pub fn rides_of(
     alloc: Global,
     rows: &[StopTime],
     runs: &[bool],
-) -> Result<Vec<Vec<Event>>, RidesFault>
-    requires trips { All (λ r. StopTime.trip r < length runs.now) rows.now }
+) -> Result<Vec<Vec<Event>>, RowsFault>
+    requires trips { All (λ r. StopTime.trip_row r < length runs.now) rows.now }
     requires row_count { length rows.now ≤ 20000000 }
     requires trip_count { length runs.now ≤ 2000000 }
     requires sequences { DifferWithinTrips rows.now }
@@ -70,7 +45,7 @@ pub fn rides_of(
     for trip in 0..runs.len() {
         stop_times(&chains, rows, trip as u32, &mut ordered)?;
         if let Some(fault) = trip_fault(&ordered) {
-            return Err(RidesFault::Feed(fault));
+            return Err(RowsFault::Feed(fault));
         }
         let ride = ride_in(alloc, runs[trip], &ordered)?;
         rides.push(ride)?;

@@ -1,13 +1,14 @@
 //! A stop time of a trip.
 use tb_base::{Sec, StopNo};
 
-/// A row of stop_times.txt whose trip and stop are named by their numbers.
-#[derive(Debug, Clone, Copy, PartialEq, Eq)]
+/// A row of stop_times.txt whose trip and stop are named by numbers. Times are in seconds since
+/// noon minus twelve hours.
+#[derive(Clone, Copy)]
 pub struct StopTime {
     /// The row in its file, from 1.
     pub row: u32,
-    /// The place of the trip's row in trips.txt, from 0.
-    pub trip: u32,
+    /// The position of the trip's row in trips.txt, from 0.
+    pub trip_row: u32,
     /// The number of the stop.
     pub stop: StopNo,
     /// When the trip arrives, where the row says it.

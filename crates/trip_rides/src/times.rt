@@ -6,14 +6,14 @@ use crate::StopTime;
 use tb_base::Sec;
 
 /// When a trip arrives and departs at a stop time.
-#[derive(Debug, Clone, Copy, PartialEq, Eq)]
+#[derive(Clone, Copy)]
 pub struct Times {
     pub arr: Sec,
     pub dep: Sec,
 }
 
-/// A timed row of a trip: its place among the trip's rows, from 0, and its times.
-#[derive(Debug, Clone, Copy, PartialEq, Eq)]
+/// A timed row of a trip: its position among the trip's rows, from 0, and its times.
+#[derive(Clone, Copy)]
 pub struct Timepoint {
     pub at: u32,
     pub times: Times,
@@ -35,7 +35,7 @@ pub fn times_of(row: &StopTime) -> Option<Times>
     }
 }
 
-/// The first timed row from a place on.
+/// The first timed row from a position on.
 pub fn first_timed(rows: &[StopTime], from: usize) -> Option<Timepoint>
     requires within { from ≤ length rows.now }
     requires fits { length rows.now < 2 ^ 32 }
@@ -52,7 +52,7 @@ pub fn first_timed(rows: &[StopTime], from: usize) -> Option<Timepoint>
     None
 }
 
-/// The nearest timed row after a place, from the first one at it or after it.
+/// The nearest timed row after a position, from the first one at it or after it.
 pub fn nearest_after(rows: &[StopTime], k: usize, here: Option<Timepoint>) -> Option<Timepoint>
     requires within { k < length rows.now }
     requires fits { length rows.now < 2 ^ 32 }
@@ -65,7 +65,7 @@ pub fn nearest_after(rows: &[StopTime], k: usize, here: Option<Timepoint>) -> Op
     }
 }
 
-/// The nearest timed row before the next place, from the nearest one before this place.
+/// The nearest timed row before the next position, from the nearest one before this position.
 pub fn nearest_before(rows: &[StopTime], k: usize, earlier: Option<Timepoint>) -> Option<Timepoint>
     requires within { k < length rows.now }
     requires fits { length rows.now < 2 ^ 32 }
@@ -81,7 +81,7 @@ pub fn nearest_before(rows: &[StopTime], k: usize, earlier: Option<Timepoint>) -
     }
 }
 
-/// The times at a place: the row's own, or else those between the nearest timed rows.
+/// The times at a position: the row's own, or else those between the nearest timed rows.
 pub fn times_at(
     row: &StopTime,
     k: usize,
@@ -99,7 +99,7 @@ pub fn times_at(
     }
 }
 
-// The times at a place between two timed rows, by its distance in rows from the first.
+// The times at a position between two timed rows, by its distance in rows from the first.
 fn between(from: Option<Timepoint>, to: Option<Timepoint>, k: u32) -> Times
     requires from { IfSome from (λ i. (i.at < k) × AreFileTimes i.times) }
     requires to { IfSome to (λ j. (k < j.at) × AreFileTimes j.times) }

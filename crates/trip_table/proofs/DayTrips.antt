@@ -1,6 +1,7 @@
 -- The trips of a day, from the rows of trips.txt and the events of each.
-use Rattle.std.proofs.Common.{◌≡◌, ◌∙◌, sym, ap, refl, ℕ, suc, ◌<◌, ◌+◌, List, [], ◌∷◌, ◌++◌, length, map, drop, get_or, append_assoc, add-one, drop-cons, arith, Bool, Option, None, Some, Result, Ok, Err}
-use Rattle.std.specs.Prelude.{All, IfOk}
+use Rattle.std.proofs.Common.{◌≡◌, ◌∙◌, sym, ap, refl, ℕ, suc, ◌<◌, ◌+◌, List, [], ◌∷◌, ◌++◌, length, map, drop, set, get_or, append_assoc, add-one, drop-cons, arith, Option, None, Some, Ok, Err}
+use Rattle.std.specs.Prelude.{All}
+use Rattle.std.proofs.lemmas.List.{drop-set-lt, get_or-map, length-map, length-set, map-set}
 use Rattle.std.proofs.lemmas.List.Elements.{All-head, All-tail, All-cons}
 use Rattle.std.proofs.lemmas.List.FromFn.{length-map-range_with_len}
 use Rattle.tb_base.specs.declared.table.Event.{Event}
@@ -57,6 +58,19 @@ trips_with-step ts rs i t r done new all in_ts in_rs is_t is_r whole added =
     ∙ sym (append_assoc done (trips_with (t ∷ []) (r ∷ [])) (trips_with (drop (suc i) ts) (drop (suc i) rs)))
     ∙ ap (λ xs. xs ++ trips_with (drop (suc i) ts) (drop (suc i) rs)) (sym added))
 
-pub if_ok-map : {A E : Type 0} (r : Result A E) (P Q : A → Type 0) → ((x : A) → P x → Q x) → IfOk r P → IfOk r Q
-if_ok-map (Ok x) P Q f h = f x h
-if_ok-map (Err e) P Q f h = tt
+-- rides after one whose events are gone
+pub rest_same : {A V : Type 0} (f : V → List A) (rides : List V) (i : ℕ) (gone : V) → drop (i + 1) (map f (set rides i gone)) ≡ drop (i + 1) (map f rides)
+rest_same f rides i gone = ap (drop (i + 1)) (map-set f rides i gone) ∙ drop-set-lt (i + 1) (map f rides) i (f gone) (omega arith)
+
+-- the events of one ride more go over to its trip
+pub ride_moved : {V : Type 0} (f : V → List Event) (ts : List row.TripData) (rides : List V) (i : ℕ) (t : row.TripData) (ride events gone : V) (done new all : List TripData) →
+    i < length ts → length rides ≡ length ts → t ≡ get_or ts i t → ride ≡ get_or rides i ride → events ≡ ride → all ≡ done ++ trips_with (drop i ts) (drop i (map f rides)) →
+    new ≡ done ++ trips_with (t ∷ []) (f events ∷ []) → (length (set rides i gone) ≡ length ts) × (all ≡ new ++ trips_with (drop (i + 1) ts) (drop (i + 1) (map f (set rides i gone))))
+ride_moved f ts rides i t ride events gone done new all below many is_t is_ride same whole added =
+    let inside : i < length rides = omega (arith, below, many) in
+    let long = length-map rides f in
+    let at : f events ≡ get_or (map f rides) i (f events) = ap f same ∙ (ap f is_ride ∙ sym (get_or-map f rides i ride (f events) inside)) in (
+      length-set rides i gone ∙ many,
+      trips_with-step ts (map f rides) i t (f events) done new all below (omega (arith, inside, long)) is_t at whole added
+          ∙ ap (λ rest. new ++ trips_with (drop (i + 1) ts) rest) (sym (rest_same f rides i gone)),
+    )

@@ -5,16 +5,12 @@ use Rattle.std.specs.Char.{is_ascii_digit}
 use Rattle.std.specs.Bool.{if◌then◌else◌}
 use Rattle.std.proofs.lemmas.Bool.Decides.{nat_tests}
 use Rattle.std.proofs.lemmas.Int.{ints}
+use Rattle.std.proofs.lemmas.Bool.{and_parts}
 use Rattle.gtfs_rows.specs.Numbers.{number_of, sixtieth, after_hours, clock_of, time_of}
 use Rattle.gtfs_rows.specs.Fields.{or_empty}
 use Rattle.gtfs_rows.proofs.NumberTests.{is_number}
 use Rattle.gtfs_rows.proofs.Digits.{small}
 use Rattle.trip_rides.specs.Times.{IsFileTime}
-
-two : (a b : Bool) → (a && b) ≡ true → (a ≡ true) × (b ≡ true)
-two true true h = (refl, refl)
-two true false h = absurd (cc)
-two false b h = absurd (cc)
 
 -- where a test chooses a value, it passed
 pub chosen : {A : Type 0} (b : Bool) (o : Option A) (x : A) → (if b then o else None) ≡ Some x → (b ≡ true) × (o ≡ Some x)
@@ -24,9 +20,9 @@ chosen false o x e = absurd (cc)
 sixty : (a b n : ℕ) → sixtieth a b ≡ Some n → n < 60
 sixty a b n e =
     let c = chosen (is_ascii_digit a && is_ascii_digit b && nat_le a 53) (Some ((a - 48) * 10 + (b - 48))) n e in
-    let t = two (is_ascii_digit a && is_ascii_digit b) (nat_le a 53) c.0 in
-    let d = two (is_ascii_digit a) (is_ascii_digit b) t.0 in
-    let p = two (nat_le 48 b) (nat_le b 57) d.1 in
+    let t = and_parts (is_ascii_digit a && is_ascii_digit b) (nat_le a 53) c.0 in
+    let d = and_parts (is_ascii_digit a) (is_ascii_digit b) t.0 in
+    let p = and_parts (nat_le 48 b) (nat_le b 57) d.1 in
     let q : b ≤ 57 = grind (arith, nat_tests, p.1) in
     let r : a ≤ 53 = grind (arith, nat_tests, t.1) in
     let v : (a - 48) * 10 + (b - 48) ≡ n = cc (c.1) in
@@ -76,7 +72,7 @@ clock hours rest z short e =
 pub file_time : (text : List ℕ) (z : ℤ) → time_of text ≡ Some z → IsFileTime z
 file_time text z e =
     let c = chosen (nat_le 7 (length text) && nat_le (length text) 8) (clock_of (take (length text - 6) text) (drop (length text - 6) text)) z e in
-    let t = two (nat_le 7 (length text)) (nat_le (length text) 8) c.0 in
+    let t = and_parts (nat_le 7 (length text)) (nat_le (length text) 8) c.0 in
     let l : length text ≤ 8 = grind (arith, nat_tests, t.1) in
     let k = length-take (length text - 6) text in
     clock (take (length text - 6) text) (drop (length text - 6) text) z (omega (arith, l, k)) c.1

@@ -7,7 +7,7 @@ use Rattle.tb_base.specs.Walking.{KeepsFootpathLaw}
 use Rattle.gtfs_rows.specs.Steps.{and_then, prepend}
 use Rattle.gtfs_rows.specs.Columns.{row_limit}
 use Rattle.gtfs_rows.specs.Faults.{wrong_after}
-use Rattle.gtfs_rows.specs.Lines.{Line, shape, table, typed_rows}
+use Rattle.gtfs_rows.specs.RawRows.{RawRow, shape, table, typed_rows}
 use Rattle.gtfs_rows.specs.StopsFile.{StopData, stop_row, is_platform}
 use Rattle.gtfs_rows.specs.TransfersFile.{TransferData, transfer_row}
 use Rattle.gtfs_rows.specs.declared.fault.FeedFile.{FeedFile}
@@ -47,18 +47,18 @@ row_few (Ok (Some x)) (Err f) xs room h e = absurd (cc)
 row_few (Ok None) (Ok ys) xs room h e = let same : ys ≡ xs = cc in let few = h ys refl in omega (arith, few, ap length same)
 row_few (Ok (Some x)) (Ok ys) xs room h e = let same : x ∷ ys ≡ xs = cc in let few = h ys refl in omega (arith, few, ap length same)
 
-shape_few : {A : Type 0} (file : FeedFile) (read : Line → Result (Option A) FeedFault) (room : ℕ) (lines : List Line) (xs : List A) → shape file read room lines ≡ Ok xs → length xs ≤ room
+shape_few : {A : Type 0} (file : FeedFile) (read : RawRow → Result (Option A) FeedFault) (room : ℕ) (raw_rows : List RawRow) (xs : List A) → shape file read room raw_rows ≡ Ok xs → length xs ≤ room
 shape_few file read room [] xs e = let same : [] ≡ xs = cc in omega (arith, ap length same)
-shape_few file read zero (line ∷ rest) xs e = absurd (cc)
-shape_few file read (suc room) (line ∷ rest) xs e = row_few (read line) (shape file read room rest) xs room (shape_few file read room rest) e
+shape_few file read zero (raw ∷ rest) xs e = absurd (cc)
+shape_few file read (suc room) (raw ∷ rest) xs e = row_few (read raw) (shape file read room rest) xs room (shape_few file read room rest) e
 
-typed_few : {A : Type 0} (file : FeedFile) (read : Line → Result (Option A) FeedFault) (text : List ℕ) (xs : List A) → typed_rows file read text ≡ Ok xs → length xs ≤ row_limit file
+typed_few : {A : Type 0} (file : FeedFile) (read : RawRow → Result (Option A) FeedFault) (text : List ℕ) (xs : List A) → typed_rows file read text ≡ Ok xs → length xs ≤ row_limit file
 typed_few file read text xs e =
-    let lines = stepped (table file text) (shape file read (row_limit file)) xs e in
-    shape_few file read (row_limit file) lines.0 xs lines.2
+    let raw_rows = stepped (table file text) (shape file read (row_limit file)) xs e in
+    shape_few file read (row_limit file) raw_rows.0 xs raw_rows.2
 
 -- the bytes of which a file's rows come
-bytes_of : {A : Type 0} (file : FeedFile) (read : Line → Result (Option A) FeedFault) (bytes : Option (List ℕ)) (xs : List A) → rows_in file read bytes ≡ Ok (Some xs) → (text : List ℕ) × (typed_rows file read text ≡ Ok xs)
+bytes_of : {A : Type 0} (file : FeedFile) (read : RawRow → Result (Option A) FeedFault) (bytes : Option (List ℕ)) (xs : List A) → rows_in file read bytes ≡ Ok (Some xs) → (text : List ℕ) × (typed_rows file read text ≡ Ok xs)
 bytes_of file read None xs e = absurd (let c : (let r : Result (Option (List _)) FeedFault = Ok None in r) ≡ Ok (Some xs) = e in cc)
 bytes_of file read (Some text) xs e =
     let rows = stepped (typed_rows file read text) (λ rows. Ok (Some rows)) (Some xs) e in
@@ -66,7 +66,7 @@ bytes_of file read (Some text) xs e =
     let same : rows.0 ≡ xs = cc in
     (text, rows.1 ∙ ap Ok same)
 
-text_of : {A : Type 0} (feed : Feed) (file : FeedFile) (read : Line → Result (Option A) FeedFault) (xs : List A) → file_rows feed file read ≡ Ok (Some xs) → (text : List ℕ) × (typed_rows file read text ≡ Ok xs)
+text_of : {A : Type 0} (feed : Feed) (file : FeedFile) (read : RawRow → Result (Option A) FeedFault) (xs : List A) → file_rows feed file read ≡ Ok (Some xs) → (text : List ℕ) × (typed_rows file read text ≡ Ok xs)
 text_of feed file read xs e =
     let bytes = stepped (sized file (feed file)) (rows_in file read) (Some xs) e in
     bytes_of file read bytes.0 xs bytes.2

@@ -3,7 +3,7 @@ use Rattle.std.proofs.Common.{◌≡◌, ◌∙◌, sym, ap, refl, ℕ, ◌+◌,
 use Rattle.std.specs.Prelude.{bytes_eq, Err}
 use Rattle.std.specs.List.{list_any}
 use Rattle.std.proofs.lemmas.List.{map_more}
-use Rattle.names.proofs.Places.{list_any-over_map}
+use Rattle.tb_base.proofs.Lists.{list_any-over_map}
 use Rattle.gtfs_rows.proofs.NextRow.{next_row}
 use Rattle.gtfs_rows.specs.Faults.{unless_wrong, wrong_after}
 use Rattle.gtfs_rows.specs.declared.fault.FeedFault.{FeedFault}

@@ -4,7 +4,7 @@ use Rattle.std.specs.Prelude.{Result, Ok, Err, All, ok_or, option_to_list}
 use Rattle.std.proofs.lemmas.List.Elements.{All-cons, All-nil}
 use Rattle.gtfs_rows.specs.Steps.{and_then, prepend}
 use Rattle.gtfs_rows.specs.Columns.{row_limit}
-use Rattle.gtfs_rows.specs.Lines.{Line, cell, shape, table, typed_rows}
+use Rattle.gtfs_rows.specs.RawRows.{RawRow, cell, shape, table, typed_rows}
 use Rattle.gtfs_rows.specs.Fields.{id_of, kind_of}
 use Rattle.gtfs_rows.specs.StopsFile.{StopData, stop_row}
 use Rattle.gtfs_rows.specs.declared.stops.Kind.{Kind}
@@ -20,18 +20,18 @@ row_all P (Ok (Some x)) (Err f) xs p q e = absurd (cc)
 row_all P (Ok None) (Ok ys) xs p q e = let same : ys ≡ xs = cc in subst (λ (zs : List _). All P zs) same (q ys refl)
 row_all P (Ok (Some x)) (Ok ys) xs p q e = let same : x ∷ ys ≡ xs = cc in subst (λ (zs : List _). All P zs) same (All-cons P x ys (p x refl) (q ys refl))
 
-shape_all : {A : Type 0} (P : A → Type 0) (file : FeedFile) (read : Line → Result (Option A) FeedFault) → ((line : Line) (x : A) → read line ≡ Ok (Some x) → P x)
-    → (room : ℕ) (lines : List Line) (xs : List A) → shape file read room lines ≡ Ok xs → All P xs
+shape_all : {A : Type 0} (P : A → Type 0) (file : FeedFile) (read : RawRow → Result (Option A) FeedFault) → ((raw : RawRow) (x : A) → read raw ≡ Ok (Some x) → P x)
+    → (room : ℕ) (raw_rows : List RawRow) (xs : List A) → shape file read room raw_rows ≡ Ok xs → All P xs
 shape_all P file read each room [] xs e = let same : [] ≡ xs = cc in subst (λ (zs : List _). All P zs) same (All-nil P)
-shape_all P file read each zero (line ∷ rest) xs e = absurd (cc)
-shape_all P file read each (suc room) (line ∷ rest) xs e = row_all P (read line) (shape file read room rest) xs (each line) (shape_all P file read each room rest) e
+shape_all P file read each zero (raw ∷ rest) xs e = absurd (cc)
+shape_all P file read each (suc room) (raw ∷ rest) xs e = row_all P (read raw) (shape file read room rest) xs (each raw) (shape_all P file read each room rest) e
 
-of_table : {A : Type 0} (P : A → Type 0) (file : FeedFile) (read : Line → Result (Option A) FeedFault) → ((line : Line) (x : A) → read line ≡ Ok (Some x) → P x)
-    → (found : Result (List Line) FeedFault) (xs : List A) → and_then found (shape file read (row_limit file)) ≡ Ok xs → All P xs
+of_table : {A : Type 0} (P : A → Type 0) (file : FeedFile) (read : RawRow → Result (Option A) FeedFault) → ((raw : RawRow) (x : A) → read raw ≡ Ok (Some x) → P x)
+    → (found : Result (List RawRow) FeedFault) (xs : List A) → and_then found (shape file read (row_limit file)) ≡ Ok xs → All P xs
 of_table P file read each (Err f) xs e = absurd (cc)
-of_table P file read each (Ok lines) xs e = shape_all P file read each (row_limit file) lines xs e
+of_table P file read each (Ok raw_rows) xs e = shape_all P file read each (row_limit file) raw_rows xs e
 
-pub rows_all : {A : Type 0} (P : A → Type 0) (file : FeedFile) (read : Line → Result (Option A) FeedFault) → ((line : Line) (x : A) → read line ≡ Ok (Some x) → P x)
+pub rows_all : {A : Type 0} (P : A → Type 0) (file : FeedFile) (read : RawRow → Result (Option A) FeedFault) → ((raw : RawRow) (x : A) → read raw ≡ Ok (Some x) → P x)
     → (text : List ℕ) (xs : List A) → typed_rows file read text ≡ Ok xs → All P xs
 rows_all P file read each text xs e = of_table P file read each (table file text) xs e
 
@@ -52,8 +52,8 @@ stop_parts row parent (Some id) (Some kind) f g s e = by_option (Some (record { 
     by_option : (a b : Option StopData) → a ≡ b → id_in a ≡ id_in b
     by_option a b q = ap id_in q
 
-named_row : (line : Line) (s : StopData) → stop_row line ≡ Ok (Some s) → s.id ≢ []
-named_row line s e = id_filled (cell line 1) s.id (stop_parts line.row (cell line 3) (id_of (cell line 1)) (kind_of (cell line 2)) _ _ s e)
+named_row : (raw : RawRow) (s : StopData) → stop_row raw ≡ Ok (Some s) → s.id ≢ []
+named_row raw s e = id_filled (cell raw 1) s.id (stop_parts raw.row (cell raw 3) (id_of (cell raw 1)) (kind_of (cell raw 2)) _ _ s e)
 
 -- the ids of stops aren't empty
 pub stops_named : (text : List ℕ) (stops : List StopData) → typed_rows file.Stops stop_row text ≡ Ok stops → All (λ s. StopData.id s ≢ []) stops

@@ -65,21 +65,6 @@ told_many stops options rows m n =
     counted (check_transfers stops rows) rows (given_footpaths stops options) (fault.TooMany m n) (unless_wrong-value (wrong_after (wrong_transfer stops rows) [] rows) rows)
     (no_count stops rows [] rows rows m n)
 
--- a fault of the rows is a fault of the footpaths that isn't their number
-pub told_fault : (stops : List StopData) (options : Options) (rows : List TransferData) (f : FeedFault) → ((m : Many) (n : ℕ) → f ≢ fault.TooMany m n) → footpaths stops options rows ≡ Err f → check_transfers stops rows ≡ Err f
-unfolding given_footpaths
-told_fault stops options rows f other e = by_checked (check_transfers stops rows) e
-  where
-    by_count : (b : Bool) (paths : FootpathData) (m : Many) → unless_wrong (fault_if b (fault.TooMany m 0) ∷ []) paths ≡ Err f → ⊥
-    by_count true paths m q = other m 0 (cc)
-    by_count false paths m q = absurd (cc)
-
-    by_checked : (checked : Result (List TransferData) FeedFault) → and_then checked (given_footpaths stops options) ≡ Err f → checked ≡ Err f
-    by_checked (Err g) q = cc
-    by_checked (Ok good) q =
-        let paths = paths_of (length (platforms stops)) (changes stops good options) in
-        absurd (by_count (nat_lt 2000000 (path_total paths)) paths many.Footpaths q)
-
 -- there is a change time for each platform
 pub change_count : (stops : List StopData) (options : Options) (rows : List TransferData) (paths : FootpathData) → given_footpaths stops options rows ≡ Ok paths → length paths.change ≡ length (platforms stops)
 unfolding given_footpaths

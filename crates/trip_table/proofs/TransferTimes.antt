@@ -3,7 +3,7 @@ use Rattle.std.proofs.Common.{◌≡◌, refl, ℕ, ◌≤◌, List, [], ◌∷�
 use Rattle.std.specs.Prelude.{◌==◌, Result, Ok, All, IfSome, nat_le}
 use Rattle.std.specs.Bool.{if◌then◌else◌}
 use Rattle.std.proofs.lemmas.Bool.Decides.{nat_tests}
-use Rattle.gtfs_rows.specs.Lines.{Line, cell, typed_rows}
+use Rattle.gtfs_rows.specs.RawRows.{RawRow, cell, typed_rows}
 use Rattle.gtfs_rows.specs.Numbers.{number_of}
 use Rattle.gtfs_rows.specs.Fields.{id_of, or_empty, secs_of, within_a_day, transfer_type}
 use Rattle.gtfs_rows.specs.TransfersFile.{TransferData, is_passed_over, rule_of, transfer_row}
@@ -49,15 +49,15 @@ row_typed : {A : Type 0} (b : Bool) (o : Result (Option A) FeedFault) (x : A) �
 row_typed true o x e = absurd (cc)
 row_typed false o x e = e
 
-row_day : (line : Line) (r : TransferData) → transfer_row line ≡ Ok (Some r) → TakesAtMostADay r.rule
-row_day line r e =
-    let k = opened (transfer_type (cell line 3)) _ _ _ e in
-    let t = row_typed (is_passed_over k.0 line) _ r k.2 in
-    let a = opened (id_of (cell line 1)) _ _ _ t in
-    let b = opened (id_of (cell line 2)) _ _ _ a.2 in
-    let c = opened (or_empty secs_of (cell line 4)) _ _ _ b.2 in
-    let same = inner (record { row = line.row; from = a.0; to = b.0; rule = rule_of k.0 c.0 }) r c.2 in
-    Rattle.std.proofs.Common.subst (λ (x : TransferData). TakesAtMostADay x.rule) same (rule_day k.0 c.0 (secs_or_none (cell line 4) c.0 c.1))
+row_day : (raw : RawRow) (r : TransferData) → transfer_row raw ≡ Ok (Some r) → TakesAtMostADay r.rule
+row_day raw r e =
+    let k = opened (transfer_type (cell raw 3)) _ _ _ e in
+    let t = row_typed (is_passed_over k.0 raw) _ r k.2 in
+    let a = opened (id_of (cell raw 1)) _ _ _ t in
+    let b = opened (id_of (cell raw 2)) _ _ _ a.2 in
+    let c = opened (or_empty secs_of (cell raw 4)) _ _ _ b.2 in
+    let same = inner (record { row = raw.row; from = a.0; to = b.0; rule = rule_of k.0 c.0 }) r c.2 in
+    Rattle.std.proofs.Common.subst (λ (x : TransferData). TakesAtMostADay x.rule) same (rule_day k.0 c.0 (secs_or_none (cell raw 4) c.0 c.1))
 
 pub rows_day : (text : List ℕ) (rows : List TransferData) → typed_rows file.Transfers transfer_row text ≡ Ok rows → All (λ r. TakesAtMostADay (TransferData.rule r)) rows
 rows_day = rows_all (λ r. TakesAtMostADay (TransferData.rule r)) file.Transfers transfer_row row_day

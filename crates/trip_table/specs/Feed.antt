@@ -3,7 +3,7 @@ use Rattle.std.specs.Prelude.{ℕ, List, ◌++◌, length, codes, nat_le, is_som
 use Rattle.tb_io.specs.Files.{FileList, file_at}
 use Rattle.gtfs_rows.specs.Steps.{and_then}
 use Rattle.gtfs_rows.specs.FileNames.{file_name}
-use Rattle.gtfs_rows.specs.Lines.{Line, typed_rows}
+use Rattle.gtfs_rows.specs.RawRows.{RawRow, typed_rows}
 use Rattle.gtfs_rows.specs.declared.fault.FeedFile.{FeedFile}
 use Rattle.gtfs_rows.specs.declared.fault.FeedFault.{FeedFault}
 use Rattle.gtfs_rows.specs.declared.fault.FeedFault.TheVariants as fault
@@ -30,13 +30,13 @@ sized file None = Ok None
 sized file (Some bytes) = and_then (check_size file bytes) (λ text. Ok (Some text))
 
 -- the rows in a file's bytes, where it is there
-abbrev pub rows_in : {A : Type 0} → FeedFile → (Line → Result (Option A) FeedFault) →
+abbrev pub rows_in : {A : Type 0} → FeedFile → (RawRow → Result (Option A) FeedFault) →
     Option (List ℕ) → Result (Option (List A)) FeedFault
 rows_in file read None = Ok None
 rows_in file read (Some bytes) = and_then (typed_rows file read bytes) (λ rows. Ok (Some rows))
 
 -- the typed rows of a file, where it is there
-abbrev pub file_rows : {A : Type 0} → Feed → FeedFile → (Line → Result (Option A) FeedFault) →
+abbrev pub file_rows : {A : Type 0} → Feed → FeedFile → (RawRow → Result (Option A) FeedFault) →
     Result (Option (List A)) FeedFault
 file_rows feed file read = and_then (sized file (feed file)) (rows_in file read)
 
@@ -45,7 +45,7 @@ or_missing file None = Err (fault.MissingFile file)
 or_missing file (Some rows) = Ok rows
 
 -- the typed rows of a file that has to be there
-abbrev pub required : {A : Type 0} → Feed → FeedFile → (Line → Result (Option A) FeedFault) →
+abbrev pub required : {A : Type 0} → Feed → FeedFile → (RawRow → Result (Option A) FeedFault) →
     Result (List A) FeedFault
 required feed file read = and_then (file_rows feed file read) (or_missing file)
 

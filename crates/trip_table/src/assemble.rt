@@ -1,5 +1,5 @@
 //! The timetable of trips over the stops of a feed.
-ghost use Rattle.std.specs.Prelude.{◌≡◌, ◌≤◌, ◌++◌, ◌∷◌, [], ℕ, IfOk, OnOk, All, length, map, sum_by};
+ghost use Rattle.std.specs.Prelude.{◌≡◌, ◌≢◌, ◌≤◌, ◌++◌, ◌∷◌, [], ℕ, IfOk, OnOk, All, length, map, sum_by};
 ghost use Rattle.tb_base.specs.TimetableData.{TripData, FootpathData};
 ghost use Rattle.tb_base.specs.Soundness.{IsSoundTrip, IsSoundFootpaths};
 ghost use Rattle.tb_base.specs.Walking.{KeepsFootpathLaw};
@@ -7,8 +7,7 @@ ghost use Rattle.gtfs_rows.specs.StopsFile.{StopData, is_platform, is_station};
 ghost use Rattle.footpaths.specs.Stops.{platforms, stations};
 ghost use Rattle.trip_table.specs.Day.{stations_from, timetable};
 
-use crate::stops::StopRows;
-use footpaths::Paths;
+use footpaths::{Paths, StopTable};
 use gtfs_rows::StopRow;
 use std::alloc::Global;
 use tb_base::{Memory, Name, Parts, Station, Stop, StopNo, Timetable, Trip};
@@ -57,28 +56,28 @@ fn add_stop(station: &mut Station, stop: StopNo) -> Result<(), Memory>
 }
 
 // The stations, each with the platforms that name it as their parent: one pass over the platforms.
-fn stations_of(alloc: Global, stops: &StopRows) -> Result<Vec<Station>, Memory>
+fn stations_of(alloc: Global, stops: &StopTable) -> Result<Vec<Station>, Memory>
     ensures { IfOk result (λ v. v.items ≡ stations_from stops.now 0 (stations stops.now)) }
 {
-    let table = stops.table();
     let mut stations = empty_stations(alloc, stops.rows())?;
-    for p in 0..table.platforms() {
+    for p in 0..stops.platforms() {
         let stop = StopNo(p);
-        if let Some(n) = table.station_of(stop) {
+        if let Some(n) = stops.station_of(stop) {
             add_stop(&mut stations[n as usize], stop)?;
         }
     }
     Ok(stations)
 }
 
-/// The timetable of a day: its stops and stations, its trips, and change times and footpaths that keep the law.
-/// Refused only for want of memory; the trips and paths are dropped then.
+/// The timetable of a day: its stops and stations, its trips, and change times and footpaths that
+/// keep the law. Refused only for want of memory; the trips and paths are dropped then.
 pub(crate) fn assemble(
     alloc: Global,
-    stops: &StopRows,
+    stops: &StopTable,
     paths: Paths,
     trips: Vec<Trip>,
 ) -> Result<Timetable, Memory>
+    requires named { All (λ s. StopData.id s ≢ []) stops.now }
     requires paths { IsSoundFootpaths paths }
     requires many { length (FootpathData.change paths) ≡ length (platforms stops.now) }
     requires law { KeepsFootpathLaw paths }
@@ -90,7 +89,7 @@ pub(crate) fn assemble(
         ≡ timetable (record { stops = stops.now; footpaths = paths; trips = trips.items })
         paths) }
 {
-    stops.table().soundness();
+    stops.soundness();
     let stations = stations_of(alloc, stops)?;
     let stops = stops_of(alloc, stops.rows())?;
     let Paths { change, paths } = paths;

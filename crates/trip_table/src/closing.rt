@@ -11,10 +11,9 @@ ghost use Rattle.trip_table.specs.Day.{platform_id, AreClosed, AreClosedOrTested
 
 use crate::assemble::stops_of;
 use crate::law::{name_of, tested};
-use crate::stops::StopRows;
 use foot_close::laws::closed_keeps_law;
 use foot_close::{CloseFault, close};
-use footpaths::Paths;
+use footpaths::{Paths, StopTable};
 use gtfs_rows::{FeedFault, Many, RowsFault, StopRow};
 use std::alloc::Global;
 use tb_base::{Memory, StopNo};
@@ -49,9 +48,9 @@ fn refusal(alloc: Global, rows: &[StopRow], fault: CloseFault) -> RowsFault
     }
 }
 
-// Change times and footpaths closed over chains; else the fault that there would be too many footpaths, or else the first
-// two stops that are more than a day apart.
-fn closed(alloc: Global, stops: &StopRows, paths: Paths) -> Result<Paths, RowsFault>
+// Change times and footpaths closed over chains; else the fault that there would be too many
+// footpaths, or else the first two stops that are more than a day apart.
+fn closed(alloc: Global, stops: &StopTable, paths: Paths) -> Result<Paths, RowsFault>
     requires sound { IsSoundFootpaths paths }
     requires many { length (FootpathData.change paths) ≡ length (platforms stops.now) }
     ensures told { GivesRows (AreClosed stops.now paths) result }
@@ -67,11 +66,11 @@ fn closed(alloc: Global, stops: &StopRows, paths: Paths) -> Result<Paths, RowsFa
     }
 }
 
-/// Change times and footpaths as they are asked for: closed over chains, or as they are, where they keep the law; else
-/// the first thing that is wrong with them.
+/// Change times and footpaths as they are asked for: closed over chains, or as they are, where they
+/// keep the law; else the first thing that is wrong with them.
 pub(crate) fn settled(
     alloc: Global,
-    stops: &StopRows,
+    stops: &StopTable,
     paths: Paths,
     close: bool,
 ) -> Result<Paths, RowsFault>

@@ -23,8 +23,8 @@ use std::alloc::Global;
 use tb_base::{Memory, Timetable};
 use tb_io::Folder;
 
-// The timetable of the rows of a feed on a day, or the first thing that is wrong with the times of a trip, with the size
-// of the day, or with its footpaths.
+// The timetable of the rows of a feed on a day, or the first thing that is wrong with the times of
+// a trip, with the size of the day, or with its footpaths.
 fn timetable_of(
     alloc: Global,
     rows: &FeedRows,
@@ -55,8 +55,8 @@ fn timetable_of(
     }
 }
 
-// The timetable of a day, from the files of a feed in a directory of a folder, or the first thing that is wrong with the
-// feed.
+// The timetable of a day, from the files of a feed in a directory of a folder, or the first thing
+// that is wrong with the feed.
 fn read_timetable<F: Folder>(
     alloc: Global,
     folder: &mut F,
@@ -80,7 +80,7 @@ fn read_timetable<F: Folder>(
         Ok(rows) => rows,
         Err(fault) => return Err(fault),
     };
-    let told = match read_paths(alloc, folder, dir, rows.stops().table(), options) {
+    let told = match read_paths(alloc, folder, dir, rows.stops(), options) {
         Ok(told) => told,
         Err(fault) => return Err(fault),
     };
@@ -91,12 +91,13 @@ fn read_timetable<F: Folder>(
     }
 }
 
-/// The timetable of a day, from the files of a feed in a directory of a folder, or the first thing that is wrong with
-/// the feed: with a file, then with the times of a trip, then with the size of the day, then with its footpaths.
+/// The timetable of a day, from the files of a feed in a directory of a folder, or the first thing
+/// that is wrong with the feed: with a file, then with the times of a trip, then with the size of
+/// the day, then with its footpaths.
 ///
-/// Footpaths are closed over chains where the options ask for it; else they have to keep the law. `ReadFault` comes only
-/// where the folder's count of faults rose, and where it stands, the answer is the day's or want of memory. The seconds of
-/// the options are at most a day.
+/// Footpaths are closed over chains where the options ask for it; else they have to keep the law.
+/// `ReadFault` comes only where the folder's count of faults rose, and where it stands, the answer
+/// is the day's or want of memory. The seconds of the options are at most a day.
 pub fn read_day<F: Folder>(
     alloc: Global,
     folder: &mut F,

@@ -2,7 +2,8 @@
 use gtfs_rows::{FeedFault, RowsFault};
 use tb_base::Memory;
 
-/// Why there is no timetable: something is wrong with the feed, the folder failed, or memory was wanting.
+/// Why there is no timetable: something is wrong with the feed, the folder failed, or memory was
+/// wanting.
 #[derive(Debug, Drop)]
 pub enum DayFault {
     Feed(FeedFault),

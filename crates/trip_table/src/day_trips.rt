@@ -12,8 +12,9 @@ use crate::rows::FeedRows;
 use gtfs_rows::{FeedFault, Many, RowsFault, TripRow};
 use service_day::{Day, Services, running};
 use std::alloc::Global;
+use std::mem;
 use tb_base::{Event, Memory, Name, Trip};
-use trip_rides::{RidesFault, rides_of};
+use trip_rides::rides_of;
 
 const MOST_TRIPS: usize = 500_000;
 
@@ -53,29 +54,30 @@ fn add_trip(
     alloc: Global,
     trips: &mut Vec<Trip>,
     row: &TripRow,
-    events: &[Event],
+    events: Vec<Event>,
 ) -> Result<(), Memory>
     ensures { OnOk result
-        (trips.new.items ≡ trips.old.items ++ trips_with (row.now ∷ []) (events.now ∷ [])) }
+        (trips.new.items ≡ trips.old.items ++ trips_with (row.now ∷ []) (events.items ∷ [])) }
 {
     if events.is_empty() {
         return Ok(());
     }
     let name = Name::new(alloc, row.id.bytes())?;
-    let events = Vec::from_slice(alloc, events)?;
     trips.push(Trip { name, events })?;
     Ok(())
 }
 
-// The trips with events.
-fn trips_with(alloc: Global, rows: &[TripRow], rides: &[Vec<Event>]) -> Result<Vec<Trip>, Memory>
-    requires { length rows.now ≡ length rides.now }
+// The trips with events. The events of each ride go over to its trip.
+fn trips_with(alloc: Global, rows: &[TripRow], given: Vec<Vec<Event>>) -> Result<Vec<Trip>, Memory>
+    requires { length rows.now ≡ length given.items }
     ensures { IfOk result
-        (λ trips. trips.items ≡ trips_with rows.now (map (λ ride. ride.items) rides.now)) }
+        (λ trips. trips.items ≡ trips_with rows.now (map (λ ride. ride.items) given.items)) }
 {
+    let mut rides = given;
     let mut trips: Vec<Trip> = Vec::new(alloc);
-    for i in 0..rides.len() {
-        add_trip(alloc, &mut trips, &rows[i], rides[i].as_slice())?;
+    for i in 0..rows.len() {
+        let events = mem::replace(&mut rides[i], Vec::new(alloc));
+        add_trip(alloc, &mut trips, &rows[i], events)?;
     }
     Ok(trips)
 }
@@ -105,7 +107,8 @@ fn size_fault(trips: &[Trip]) -> Option<FeedFault>
     None
 }
 
-/// The trips of a day, or the first thing that is wrong with the times of a trip or with the size of the day.
+/// The trips of a day, or the first thing that is wrong with the times of a trip or with the size
+/// of the day.
 pub(crate) fn trips_on(alloc: Global, rows: &FeedRows, day: &Day) -> Result<Vec<Trip>, RowsFault>
     ensures trips { Yields IsRefused result (λ trips. trips.items) (trips_on rows.now day.now) }
     ensures trip_count { IfOk result (λ trips. length trips.items ≤ 500000) }
@@ -119,10 +122,9 @@ pub(crate) fn trips_on(alloc: Global, rows: &FeedRows, day: &Day) -> Result<Vec<
     };
     let rides = match rides_of(alloc, rows.times(), runs.as_slice()) {
         Ok(rides) => rides,
-        Err(RidesFault::Feed(fault)) => return Err(RowsFault::Feed(fault)),
-        Err(RidesFault::Memory) => return Err(RowsFault::Memory),
+        Err(fault) => return Err(fault),
     };
-    let Ok(trips) = trips_with(alloc, rows.trips().rows(), rides.as_slice()) else {
+    let Ok(trips) = trips_with(alloc, rows.trips().rows(), rides) else {
         return Err(RowsFault::Memory);
     };
     match size_fault(trips.as_slice()) {

@@ -1,7 +1,7 @@
 //! The files of a feed, taken from a folder.
 ghost use Rattle.std.specs.Prelude.{◌≡◌, ◌≤◌, ◌<◌, ◌-◌, ◌^◌, ℕ, List, Ok, Some, None, IfOk, IfSome, IsSome, option_map, length, string_bytes, is_some, false};
 ghost use Rattle.gtfs_rows.specs.Refused.{Yields};
-ghost use Rattle.gtfs_rows.specs.Lines.{typed_rows};
+ghost use Rattle.gtfs_rows.specs.RawRows.{typed_rows};
 ghost use Rattle.gtfs_rows.specs.Columns.{row_limit};
 ghost use Rattle.gtfs_rows.specs.Faults.{spot};
 ghost use Rattle.gtfs_rows.specs.Refused as rows;

@@ -9,8 +9,7 @@ ghost use Rattle.trip_table.specs.Answers.{GivesRows, IsAmong};
 ghost use Rattle.trip_table.specs.Day.{breach_fault, platform_id, KeepTheLaw};
 
 use crate::assemble::stops_of;
-use crate::stops::StopRows;
-use footpaths::{LawFault, Paths, test_law};
+use footpaths::{LawFault, Paths, StopTable, test_law};
 use gtfs_rows::{FeedFault, Name, RowsFault, StopRow};
 use std::alloc::Global;
 use tb_base::{Memory, Stop, StopNo};
@@ -49,7 +48,7 @@ fn breach_fault(alloc: Global, rows: &[StopRow], breach: LawFault) -> Result<Fee
 }
 
 /// Change times and footpaths as they are, where they keep the law; else the first breach.
-pub fn tested(alloc: Global, stops: &StopRows, paths: Paths) -> Result<Paths, RowsFault>
+pub fn tested(alloc: Global, stops: &StopTable, paths: Paths) -> Result<Paths, RowsFault>
     requires sound { IsSoundFootpaths paths }
     requires many { length (FootpathData.change paths) ≡ length (platforms stops.now) }
     ensures told { GivesRows (KeepTheLaw stops.now paths) result }

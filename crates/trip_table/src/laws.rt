@@ -6,13 +6,15 @@ ghost use Rattle.footpaths.specs.declared.paths.Options.{Options};
 ghost use Rattle.trip_table.specs.Feed.{Feed};
 ghost use Rattle.trip_table.specs.Day.{IsTimetableOf};
 
-/// A feed, a day and options have at most one timetable or first fault, never both: what `read_day` gives is determined.
+/// A feed, a day and options have at most one timetable or first fault, never both: what `read_day`
+/// gives is determined.
 pub fn timetable_determined()
     ensures { (feed : Feed) (day : ℕ) (options : Options) (a b : Result TimetableData FeedFault) →
         IsTimetableOf feed day options a → IsTimetableOf feed day options b → a ≡ b }
 {}
 
-/// A feed, a day and options have a timetable or a first fault, where the seconds of the options are at most a day.
+/// A feed, a day and options have a timetable or a first fault, where the seconds of the options
+/// are at most a day.
 pub fn timetable_given()
     ensures { (feed : Feed) (day : ℕ) (options : Options) → options.change ≤ 86400
         → IfSome options.station (λ secs. secs ≤ 86400)

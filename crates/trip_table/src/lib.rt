@@ -1,24 +1,25 @@
-//! The timetable of a day of service, from the files of a feed, as the GTFS Schedule Reference describes them.
+//! The timetable of a day of service, from the files of a feed, as the GTFS Schedule Reference
+//! describes them.
 //!
-//! [`read_day`] takes the files from a folder, one after another, and gives exactly the timetable of the day, or exactly
-//! the first thing that is wrong: a file that isn't read yet, then stops.txt, calendar.txt, calendar_dates.txt, trips.txt,
-//! stop_times.txt and transfers.txt, and in each its presence, its size, its text, its columns, its rows and what they
-//! name; then the times of a trip, running or not; then the size of the day; then the number of footpaths; then, where
-//! footpaths are closed, their number again and pairs that are more than a day apart, and else the law that they keep.
-//! The definition of the whole is `IsTimetableOf` in specs/Day.antt.
+//! [`read_day`] takes the files from a folder, one after another, and gives exactly the timetable
+//! of the day, or exactly the first thing that is wrong: a file that isn't read yet, then
+//! stops.txt, calendar.txt, calendar_dates.txt, trips.txt, stop_times.txt and transfers.txt, and in
+//! each its presence, its size, its text, its columns, its rows and what they name; then the times
+//! of a trip, running or not; then the size of the day; then the number of footpaths; then, where
+//! footpaths are closed, their number again and pairs that are more than a day apart, and else the
+//! law that they keep. The definition of the whole is `IsTimetableOf` in specs/Day.antt.
 #![tactic(auto)]
 
 mod assemble;
-mod calendar;
 mod closing;
 mod day;
 mod day_fault;
 mod day_trips;
+mod distinct;
 mod feed;
 mod law;
 pub mod laws;
 mod paths;
-mod resolved;
 mod rows;
 mod seen;
 mod services;

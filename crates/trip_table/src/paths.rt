@@ -72,9 +72,9 @@ fn given_footpaths(
     }
 }
 
-/// The change times and footpaths between the platforms of a feed, as transfers.txt and the options tell them, or the
-/// first thing that is wrong with the file. None where the footpaths are too many, which is no fault yet: the times of
-/// trips come before it.
+/// The change times and footpaths between the platforms of a feed, as transfers.txt and the options
+/// tell them, or the first thing that is wrong with the file. None where the footpaths are too
+/// many, which is no fault yet: the times of trips come before it.
 pub fn read_paths<F: Folder>(
     alloc: Global,
     folder: &mut F,

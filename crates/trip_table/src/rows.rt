@@ -1,31 +1,35 @@
 //! The rows of a feed.
-ghost use Rattle.std.specs.Prelude.{◌≡◌, ◌<◌, ◌-◌, ◌^◌, IsSome};
+ghost use Rattle.std.specs.Prelude.{◌≡◌, ◌≢◌, ◌<◌, ◌-◌, ◌^◌, [], All, IsSome};
 ghost use Rattle.gtfs_rows.specs.Refused.{Yields};
+ghost use Rattle.gtfs_rows.specs.StopsFile.{StopData};
 ghost use Rattle.trip_table.specs.Answers.{IsRefused, Leaves, feed_of};
 ghost use Rattle.trip_table.specs.References.{rows_of};
 ghost use Rattle.trip_table.specs.GoodTimes.{AreGoodTimes};
 
 use crate::DayFault;
 use crate::services::{ServiceRows, read_services};
-use crate::stops::{StopRows, read_stops};
+use crate::stops::read_stops;
 use crate::times::read_times;
 use crate::trips::{TripTable, read_trips};
+use footpaths::StopTable;
 use std::alloc::Global;
 use std::marker::Model;
 use tb_io::Folder;
 use trip_rides::StopTime;
 
-/// The rows of a feed with which nothing is wrong up to the times of its trips. Contracts see it as the rows of each
-/// file, the stop times by the numbers of their trips and platforms.
+/// The rows of a feed with which nothing is wrong up to the times of its trips. Contracts see it as
+/// the rows of each file, the stop times by the numbers of their trips and platforms.
 #[derive(Drop)]
 pub struct FeedRows {
-    stops: StopRows,
+    stops: StopTable,
     services: ServiceRows,
     trips: TripTable,
     times: Vec<StopTime>,
 }
 
 impl Model for FeedRows {
+    ghost use Rattle.std.specs.Prelude.{◌≢◌, [], All};
+    ghost use Rattle.gtfs_rows.specs.StopsFile.{StopData};
     ghost use Rattle.trip_table.specs.References.{Rows};
     ghost use Rattle.trip_table.specs.GoodTimes.{AreGoodTimes};
 
@@ -34,13 +38,15 @@ impl Model for FeedRows {
     ghost view = { λ r.
         record { stops = r.stops; services = r.services; trips = r.trips; times = r.times.items } };
 
-    ghost invariant = { λ r. AreGoodTimes r.stops r.trips r.times.items };
+    ghost invariant = { λ r.
+        AreGoodTimes r.stops r.trips r.times.items × All (λ s. StopData.id s ≢ []) r.stops };
 }
 
 impl FeedRows {
-    /// The rows of stops.txt.
-    pub fn stops(&self) -> &StopRows
-        ensures { result.now ≡ self.now.stops }
+    /// The rows of stops.txt: their ids aren't empty.
+    pub fn stops(&self) -> &StopTable
+        ensures stops { result.now ≡ self.now.stops }
+        ensures named { All (λ s. StopData.id s ≢ []) self.now.stops }
     {
         &self.stops
     }
@@ -68,11 +74,12 @@ impl FeedRows {
     }
 }
 
-/// The rows of a feed in a directory of a folder, or the first thing that is wrong with a file: in the order of
-/// stops.txt, calendar.txt, calendar_dates.txt, trips.txt and stop_times.txt, and in each file its presence, its size,
-/// its text, its columns, its rows and what they name.
+/// The rows of a feed in a directory of a folder, or the first thing that is wrong with a file: in
+/// the order of stops.txt, calendar.txt, calendar_dates.txt, trips.txt and stop_times.txt, and in
+/// each file its presence, its size, its text, its columns, its rows and what they name.
 ///
-/// `ReadFault` comes only where the folder's count of faults rose. A file's bytes are dropped once its rows are read.
+/// `ReadFault` comes only where the folder's count of faults rose. A file's bytes are dropped once
+/// its rows are read.
 pub fn read_rows<F: Folder>(alloc: Global, folder: &mut F, dir: &str) -> Result<FeedRows, DayFault>
     requires { F.faults folder.old < 2 ^ 64 - 1 }
     ensures told { IsSome (F.files folder.old) →
@@ -92,7 +99,7 @@ pub fn read_rows<F: Folder>(alloc: Global, folder: &mut F, dir: &str) -> Result<
         Ok(trips) => trips,
         Err(fault) => return Err(fault),
     };
-    let times = match read_times(alloc, folder, dir, stops.table(), &trips) {
+    let times = match read_times(alloc, folder, dir, &stops, &trips) {
         Ok(times) => times,
         Err(fault) => return Err(fault),
     };

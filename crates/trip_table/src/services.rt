@@ -1,15 +1,13 @@
 //! The rows of calendar.txt and calendar_dates.txt.
-ghost use Rattle.std.specs.Prelude.{◌≡◌, ◌<◌, ◌-◌, ◌^◌, ◌&&◌, not, List, IsSome, option_map, is_none, is_some, unwrap_or, []};
+ghost use Rattle.std.specs.Prelude.{◌≡◌, ◌<◌, ◌-◌, ◌^◌, Ok, Err, MatchResult, IsSome, option_map, unwrap_or, []};
 ghost use Rattle.gtfs_rows.specs.Refused.{Yields};
-ghost use Rattle.gtfs_rows.specs.CalendarFile.{CalendarData};
-ghost use Rattle.gtfs_rows.specs.DatesFile.{DateData};
 ghost use Rattle.gtfs_rows.specs.Faults.{check_rows};
 ghost use Rattle.gtfs_rows.specs.Refused as rows;
 ghost use Rattle.trip_table.specs.Answers.{IsRefused, Leaves, feed_of};
-ghost use Rattle.trip_table.specs.References.{wrong_calendar, services_of};
+ghost use Rattle.trip_table.specs.References.{wrong_calendar, calendar_of, check_services, services_of};
 
 use crate::DayFault;
-use crate::calendar::check_calendar;
+use crate::distinct::distinct_ids;
 use crate::feed::file_rows;
 use gtfs_rows::{CalendarReader, CalendarRow, DateReader, DateRow, FeedFault, FeedFile, RowsFault};
 use std::alloc::Global;
@@ -31,12 +29,68 @@ impl Model for ServiceRows {
     ghost view = { λ s. record { calendar = s.calendar.items; dates = s.dates.items } };
 }
 
-fn or_none<T: Drop>(alloc: Global, rows: Option<Vec<T>>) -> Vec<T>
-    ensures { result.items ≡ unwrap_or (option_map (λ v. v.items) rows) [] }
+// Refuses the first row of calendar.txt whose service has an earlier row.
+fn check_calendar(alloc: Global, calendar: &Option<Vec<CalendarRow>>) -> Result<(), RowsFault>
+    ensures { Yields rows.IsRefused result
+        (λ _. unwrap_or (option_map (λ v. v.items) calendar.now) [])
+        (check_rows wrong_calendar (unwrap_or (option_map (λ v. v.items) calendar.now) [])) }
 {
-    match rows {
-        Some(rows) => rows,
-        None => Vec::new(alloc),
+    let Some(rows) = calendar else {
+        return Ok(());
+    };
+    match distinct_ids(alloc, rows.as_slice()) {
+        Ok(_) => Ok(()),
+        Err(fault) => Err(fault),
+    }
+}
+
+// The rows of calendar.txt, where it is there.
+fn read_calendar<F: Folder>(
+    alloc: Global,
+    folder: &mut F,
+    dir: &str,
+) -> Result<Option<Vec<CalendarRow>>, DayFault>
+    requires { F.faults folder.old < 2 ^ 64 - 1 }
+    ensures told { IsSome (F.files folder.old) →
+        Yields IsRefused result (option_map (λ v. v.items))
+        (calendar_of (feed_of (F.files folder.old) dir.now)) }
+    ensures leaves { Leaves (F.files folder.old) (F.files folder.new) (F.faults folder.old)
+        (F.faults folder.new) result }
+{
+    let calendar = match file_rows(alloc, folder, dir, &CalendarReader) {
+        Ok(rows) => rows,
+        Err(fault) => return Err(fault),
+    };
+    match check_calendar(alloc, &calendar) {
+        Ok(()) => Ok(calendar),
+        Err(RowsFault::Feed(fault)) => Err(DayFault::Feed(fault)),
+        Err(RowsFault::Memory) => Err(DayFault::Memory),
+    }
+}
+
+// The rows of both files, of which one has to be there.
+fn services(
+    alloc: Global,
+    calendar: Option<Vec<CalendarRow>>,
+    dates: Option<Vec<DateRow>>,
+) -> Result<ServiceRows, FeedFault>
+    ensures { MatchResult result
+        (λ services. check_services (option_map (λ v. v.items) calendar)
+        (option_map (λ v. v.items) dates) ≡ Ok services)
+        (λ f. check_services (option_map (λ v. v.items) calendar)
+        (option_map (λ v. v.items) dates) ≡ Err f) }
+{
+    match (calendar, dates) {
+        (None, None) => Err(FeedFault::MissingFile(FeedFile::Calendar)),
+        (None, Some(dates)) => Ok(ServiceRows {
+            calendar: Vec::new(alloc),
+            dates,
+        }),
+        (Some(calendar), None) => Ok(ServiceRows {
+            calendar,
+            dates: Vec::new(alloc),
+        }),
+        (Some(calendar), Some(dates)) => Ok(ServiceRows { calendar, dates }),
     }
 }
 
@@ -52,24 +106,16 @@ pub fn read_services<F: Folder>(
     ensures leaves { Leaves (F.files folder.old) (F.files folder.new) (F.faults folder.old)
         (F.faults folder.new) result }
 {
-    let calendar = match file_rows(alloc, folder, dir, &CalendarReader) {
+    let calendar = match read_calendar(alloc, folder, dir) {
         Ok(rows) => rows,
         Err(fault) => return Err(fault),
     };
-    let there = calendar.is_some();
-    let calendar = or_none(alloc, calendar);
-    match check_calendar(alloc, calendar.as_slice()) {
-        Ok(()) => {}
-        Err(RowsFault::Feed(fault)) => return Err(DayFault::Feed(fault)),
-        Err(RowsFault::Memory) => return Err(DayFault::Memory),
-    }
     let dates = match file_rows(alloc, folder, dir, &DateReader) {
         Ok(rows) => rows,
         Err(fault) => return Err(fault),
     };
-    if !there && dates.is_none() {
-        return Err(DayFault::Feed(FeedFault::MissingFile(FeedFile::Calendar)));
+    match services(alloc, calendar, dates) {
+        Ok(services) => Ok(services),
+        Err(fault) => Err(DayFault::Feed(fault)),
     }
-    let dates = or_none(alloc, dates);
-    Ok(ServiceRows { calendar, dates })
 }

@@ -1,5 +1,5 @@
 //! The rows of stops.txt.
-ghost use Rattle.std.specs.Prelude.{◌≡◌, ◌≢◌, ◌<◌, ◌-◌, ◌^◌, [], All, IsSome};
+ghost use Rattle.std.specs.Prelude.{◌≢◌, ◌<◌, ◌-◌, ◌^◌, [], All, IfOk, IsSome};
 ghost use Rattle.gtfs_rows.specs.Refused.{Yields};
 ghost use Rattle.gtfs_rows.specs.StopsFile.{StopData};
 ghost use Rattle.trip_table.specs.Answers.{IsRefused, Leaves, feed_of};
@@ -8,52 +8,20 @@ ghost use Rattle.trip_table.specs.References.{stops_of};
 use crate::DayFault;
 use crate::feed::{file_rows, spot};
 use footpaths::{StopTable, StopsFault};
-use gtfs_rows::{FeedFault, FeedFile, StopReader, StopRow};
+use gtfs_rows::{FeedFault, FeedFile, StopReader};
 use std::alloc::Global;
-use std::marker::Model;
 use tb_io::Folder;
 
-/// The rows of stops.txt with a look-up by id. Contracts see it as the list of the rows.
-#[derive(Drop)]
-pub struct StopRows {
-    rows: Vec<StopRow>,
-    table: StopTable,
-}
-
-impl Model for StopRows {
-    ghost use Rattle.std.specs.Prelude.{◌≡◌, ◌≢◌, List, [], All};
-    ghost use Rattle.gtfs_rows.specs.StopsFile.{StopData};
-
-    ghost Value = { List StopData };
-
-    ghost view = { λ s. s.rows.items };
-
-    ghost invariant = { λ s.
-        (s.table ≡ s.rows.items) × All (λ r. StopData.id r ≢ []) s.rows.items };
-}
-
-impl StopRows {
-    /// The look-up by id.
-    pub fn table(&self) -> &StopTable
-        ensures { result.now ≡ self.now }
-    {
-        &self.table
-    }
-
-    /// The rows, in file order: their ids aren't empty.
-    pub fn rows(&self) -> &[StopRow]
-        ensures rows { result.now ≡ self.now }
-        ensures named { All (λ s. StopData.id s ≢ []) self.now }
-    {
-        self.rows.as_slice()
-    }
-}
-
-/// The rows of stops.txt.
-pub fn read_stops<F: Folder>(alloc: Global, folder: &mut F, dir: &str) -> Result<StopRows, DayFault>
+/// The rows of stops.txt, with a look-up by id.
+pub fn read_stops<F: Folder>(
+    alloc: Global,
+    folder: &mut F,
+    dir: &str,
+) -> Result<StopTable, DayFault>
     requires { F.faults folder.old < 2 ^ 64 - 1 }
     ensures told { IsSome (F.files folder.old) →
         Yields IsRefused result (λ x. x) (stops_of (feed_of (F.files folder.old) dir.now)) }
+    ensures named { IfOk result (λ stops. All (λ s. StopData.id s ≢ []) stops) }
     ensures leaves { Leaves (F.files folder.old) (F.files folder.new) (F.faults folder.old)
         (F.faults folder.new) result }
 {
@@ -63,7 +31,7 @@ pub fn read_stops<F: Folder>(alloc: Global, folder: &mut F, dir: &str) -> Result
         Err(fault) => return Err(fault),
     };
     match StopTable::new(alloc, rows.as_slice()) {
-        Ok(table) => Ok(StopRows { rows, table }),
+        Ok(table) => Ok(table),
         Err(StopsFault::DuplicateId(row)) => Err(DayFault::Feed(FeedFault::DuplicateId(spot(
             FeedFile::Stops,
             row,

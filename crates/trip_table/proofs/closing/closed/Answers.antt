@@ -15,10 +15,10 @@ returns-in-Ok-clause-many c = closing_count c.args.paths c.in-Ok.closed c.in-Ok.
 pub refusal-requires : goal.refusal-requires
 refusal-requires c =
     let inside = refused_inside c.args.paths c.in-Err.fault c.requires.sound c.in-Err.ensures.told in
-    subst (λ n. AreThere n c.in-Err.fault) (c.requires.many ∙ sym (ap (λ (rows : List StopData). length (platforms rows)) c.rows.ensures.rows)) inside
+    subst (λ n. AreThere n c.in-Err.fault) (c.requires.many ∙ sym (ap (λ (rows : List StopData). length (platforms rows)) c.rows.ensures)) inside
 
 pub returns-in-Err-clause-told : goal.returns-in-Err-clause-told
-returns-in-Err-clause-told c = subst (λ (rows : List StopData). IsRowsFault (AreClosed rows c.args.paths) c.refusal.result) c.rows.ensures.rows (c.refusal.ensures c.args.paths c.in-Err.ensures.told)
+returns-in-Err-clause-told c = subst (λ (rows : List StopData). IsRowsFault (AreClosed rows c.args.paths) c.refusal.result) c.rows.ensures (c.refusal.ensures c.args.paths c.in-Err.ensures.told)
 
 pub returns-in-Ok-clause-law : goal.returns-in-Ok-clause-law
 returns-in-Ok-clause-law c = c.closed_keeps_law.ensures c.args.paths c.in-Ok.closed.paths c.in-Ok.ensures.closed

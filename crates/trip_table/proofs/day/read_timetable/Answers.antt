@@ -14,22 +14,22 @@ returns-in-Err-read_rows-clause-told g c =
 
 pub returns-in-Err-read_paths-clause-told : goal.returns-in-Err-read_paths-clause-told
 returns-in-Err-read_paths-clause-told g c =
-    transfers_fault _ _ _ c.args.dir.now c.args.day.now c.args.options.now c.in-Ok-read_rows.rows c.table.result.now c.in-Err-read_paths.fault
-    c.in-Ok.ensures.leaves.files c.in-Ok-read_rows.ensures.leaves.files (c.table.ensures ∙ c.stops.ensures) c.in-Ok.ensures.told c.in-Ok-read_rows.ensures.told c.in-Err-read_paths.ensures.told
+    transfers_fault _ _ _ c.args.dir.now c.args.day.now c.args.options.now c.in-Ok-read_rows.rows c.stops.result.now c.in-Err-read_paths.fault
+    c.in-Ok.ensures.leaves.files c.in-Ok-read_rows.ensures.leaves.files c.stops.ensures.stops c.in-Ok.ensures.told c.in-Ok-read_rows.ensures.told c.in-Err-read_paths.ensures.told
 
 pub returns-in-Ok-timetable_of-clause-told : goal.returns-in-Ok-timetable_of-clause-told
 returns-in-Ok-timetable_of-clause-told g c = λ known.
     let there = subst (λ (o : Option FileList). IsSome o) (sym (c.in-Ok-read_rows.ensures.leaves.files ∙ c.in-Ok.ensures.leaves.files)) known in
     let told = c.in-Ok-read_paths.ensures.told there in
-    day_is _ _ _ c.args.dir.now c.args.day.now c.args.options.now c.in-Ok-read_rows.rows c.table.result.now told.0 (Ok c.in-Ok-timetable_of.table)
-    c.in-Ok.ensures.leaves.files c.in-Ok-read_rows.ensures.leaves.files (c.table.ensures ∙ c.stops.ensures) c.in-Ok.ensures.told c.in-Ok-read_rows.ensures.told known told.1
-    (c.in-Ok-timetable_of.ensures (given_footpaths c.table.result.now c.args.options.now told.0) told.2)
+    day_is _ _ _ c.args.dir.now c.args.day.now c.args.options.now c.in-Ok-read_rows.rows c.stops.result.now told.0 (Ok c.in-Ok-timetable_of.table)
+    c.in-Ok.ensures.leaves.files c.in-Ok-read_rows.ensures.leaves.files c.stops.ensures.stops c.in-Ok.ensures.told c.in-Ok-read_rows.ensures.told known told.1
+    (c.in-Ok-timetable_of.ensures (given_footpaths c.stops.result.now c.args.options.now told.0) told.2)
 
 pub returns-in-Err-Feed-clause-told : goal.returns-in-Err-Feed-clause-told
 returns-in-Err-Feed-clause-told g c = λ known.
     let there = subst (λ (o : Option FileList). IsSome o) (sym (c.in-Ok-read_rows.ensures.leaves.files ∙ c.in-Ok.ensures.leaves.files)) known in
     let told = c.in-Ok-read_paths.ensures.told there in
-    let made = c.in-Err-Feed.ensures (given_footpaths c.table.result.now c.args.options.now told.0) told.2 in
-    day_is _ _ _ c.args.dir.now c.args.day.now c.args.options.now c.in-Ok-read_rows.rows c.table.result.now told.0 (Err c.in-Err-Feed.fault)
-    c.in-Ok.ensures.leaves.files c.in-Ok-read_rows.ensures.leaves.files (c.table.ensures ∙ c.stops.ensures) c.in-Ok.ensures.told c.in-Ok-read_rows.ensures.told known told.1
+    let made = c.in-Err-Feed.ensures (given_footpaths c.stops.result.now c.args.options.now told.0) told.2 in
+    day_is _ _ _ c.args.dir.now c.args.day.now c.args.options.now c.in-Ok-read_rows.rows c.stops.result.now told.0 (Err c.in-Err-Feed.fault)
+    c.in-Ok.ensures.leaves.files c.in-Ok-read_rows.ensures.leaves.files c.stops.ensures.stops c.in-Ok.ensures.told c.in-Ok-read_rows.ensures.told known told.1
     (rw c.in-Err-Feed.field-0-is at made)

@@ -15,13 +15,12 @@ trips_with-requires c =
     let long = c.in-Ok.ensures.long in
     let runs = ap length c.as_slice.ensures.value in
     let many = as_many c.times.result.now c.as_slice.result.now (map (λ (ride : Vec Event Global). ride.items) c.in-Ok-rides_of.rides.items) c.in-Ok-rides_of.ensures.meant in
-    let rides = ap length c.as_slice-2.ensures.value in
-    grind (arith, common_steps, rows, long, runs, many, rides)
+    grind (arith, common_steps, rows, long, runs, many)
 
 pub returns-clause-sound : goal.returns-clause-sound
 returns-clause-sound c =
     let n = length (platforms c.args.rows.now.stops) in
     let stops : All (λ (r : StopTime). r.stop < n) c.times.result.now = rw c.times.ensures.times c.times.ensures.good.stop in
-    rw (c.in-Ok-trips_with.ensures, c.as_slice-2.ensures.value)
+    rw c.in-Ok-trips_with.ensures
     (sound_trips n c.rows.result.now (map (λ (ride : Vec Event Global). ride.items) c.in-Ok-rides_of.rides.items)
     (All-map (IsSoundRide n) (λ (ride : Vec Event Global). ride.items) c.in-Ok-rides_of.rides.items (c.in-Ok-rides_of.ensures.sound n stops)))

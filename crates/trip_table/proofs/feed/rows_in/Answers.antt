@@ -1,5 +1,5 @@
 use Rattle.std.specs.Prelude.{Ok, Some}
-use Rattle.gtfs_rows.specs.Lines.{typed_rows}
+use Rattle.gtfs_rows.specs.RawRows.{typed_rows}
 use Rattle.trip_table.proofs.Told.{rows_refused}
 use Rattle.trip_table.proofs.feed.rows_in.Goals as goal
 

@@ -1,9 +1,9 @@
 use Rattle.trip_table.proofs.GoodRows.{good_times}
 use Rattle.trip_table.proofs.times.read_times.Goals as goal
 
-pub returns-in-Ok-all_numbered-clause-good : goal.returns-in-Ok-all_numbered-clause-good
-returns-in-Ok-all_numbered-clause-good g c =
+pub returns-in-Ok-clause-good : goal.returns-in-Ok-clause-good
+returns-in-Ok-clause-good g c =
     let h = rw c.in-Ok-Some.field-0-is at c.in-Ok-Some.ensures.some_bytes in
     let few = rw c.in-Ok-Some.field-0-is at c.in-Ok-Some.ensures.few in
     let checked = rw c.as_slice.ensures.value at c.in-Ok.ensures in
-    rw (c.in-Ok-all_numbered.ensures, c.as_slice-2.ensures.value) (good_times c.args.stops.now c.args.trips.now h.0 c.in-Ok-Some.rows.items few h.1 checked)
+    good_times c.args.stops.now c.args.trips.now h.0 c.in-Ok-Some.times.items few h.1 checked

@@ -7,7 +7,7 @@ use Rattle.trip_rides.proofs.chains.TripChains.rows_of.Given as goal
 abbrev pub invariant-loop-end : goal.invariant-loop-end
 invariant-loop-end l = record {
   within : l.end ≤ length l.rows;
-  own : (k : ℕ) (d : StopTime) → l.end ≡ suc k → StopTime.trip (slice_index_or l.rows k d) ≡ l.trip;
+  own : (k : ℕ) (d : StopTime) → l.end ≡ suc k → StopTime.trip_row (slice_index_or l.rows k d) ≡ l.trip;
   found : filter (is_of_trip l.trip) (take l.end l.rows) ++ reverse l.found.items ≡ filter (is_of_trip l.trip) l.rows;
 }
 

@@ -1,0 +1,73 @@
+//! Rows whose ids differ.
+ghost use Rattle.std.specs.Prelude.{◌≡◌, ℕ, List, Ok, MatchResult, map};
+ghost use Rattle.gtfs_rows.specs.Faults.{check_rows};
+ghost use Rattle.gtfs_rows.specs.Refused.{IsRefused};
+ghost use Rattle.gtfs_rows.specs.declared.fault.FeedFault.{FeedFault};
+ghost use Rattle.trip_table.specs.References.{service_id, duplicate_service, trip_id, duplicate_trip, wrong_twice};
+
+use crate::feed::spot;
+use gtfs_rows::{CalendarRow, FeedFault, FeedFile, RowsFault, TripRow};
+use names::NameIndex;
+use std::alloc::Global;
+
+/// A row with an id that no other row of its file may have.
+pub trait Identified {
+    ghost id: { Self → List ℕ };
+
+    ghost duplicate: { Self → FeedFault };
+
+    /// Its id.
+    fn id(&self) -> &[u8]
+        ensures { result.now ≡ id self.now };
+
+    /// What is wrong with it where an earlier row has its id.
+    fn duplicate(&self) -> FeedFault
+        ensures { result ≡ duplicate self.now };
+}
+
+impl Identified for CalendarRow {
+    ghost id = { service_id };
+
+    ghost duplicate = { duplicate_service };
+
+    fn id(&self) -> &[u8] {
+        self.service.bytes()
+    }
+
+    fn duplicate(&self) -> FeedFault {
+        FeedFault::DuplicateId(spot(FeedFile::Calendar, self.row, 1))
+    }
+}
+
+impl Identified for TripRow {
+    ghost id = { trip_id };
+
+    ghost duplicate = { duplicate_trip };
+
+    fn id(&self) -> &[u8] {
+        self.id.bytes()
+    }
+
+    fn duplicate(&self) -> FeedFault {
+        FeedFault::DuplicateId(spot(FeedFile::Trips, self.row, 2))
+    }
+}
+
+/// The ids of rows, which all differ, or what is wrong with the first row that has the id of an
+/// earlier one.
+pub fn distinct_ids<R: Identified>(alloc: Global, rows: &[R]) -> Result<NameIndex, RowsFault>
+    ensures { MatchResult result
+        (λ ids. (check_rows (λ _. wrong_twice R.id R.duplicate) rows.now ≡ Ok rows.now)
+        × (ids ≡ map R.id rows.now))
+        (IsRefused (check_rows (λ _. wrong_twice R.id R.duplicate) rows.now)) }
+{
+    let mut ids = NameIndex::new(alloc);
+    for row in rows {
+        match ids.add(alloc, row.id()) {
+            Ok(true) => {}
+            Ok(false) => return Err(RowsFault::Feed(row.duplicate())),
+            Err(_) => return Err(RowsFault::Memory),
+        }
+    }
+    Ok(ids)
+}
