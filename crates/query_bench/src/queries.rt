@@ -6,8 +6,7 @@ ghost use Rattle.tb_base.specs.Profiles.{WindowData};
 use edition_store::Edition;
 use made_feeds::Draw;
 use plain_rounds::plain_ask;
-use profile_query::profile;
-use query_gate::best_choices;
+use query_gate::uncounted::{best_choices, offers};
 use segment_queue::Desk;
 use std::alloc::Global;
 use tb_base::{Choice, Memory, Offer, Query, Sec, StopNo, Timetable, Window};
@@ -80,7 +79,6 @@ fn window(alloc: Global, table: &Timetable, draw: &mut Draw) -> Result<Window, M
 
 /// What so many profiles of 24 hours find.
 pub fn by_profiles(alloc: Global, edition: &Edition, count: u32) -> Result<Found, Memory> {
-    edition.soundness();
     let table = edition.table();
     let mut desk = Desk::new(alloc);
     desk.make_room(edition)?;
@@ -91,15 +89,14 @@ pub fn by_profiles(alloc: Global, edition: &Edition, count: u32) -> Result<Found
     }
     for _turn in 0..count {
         let window = window(alloc, table, &mut draw)?;
-        let offers = profile(alloc, edition, table, &window, &mut desk)?;
-        found.add_offers(offers.as_slice());
+        let slots = offers(alloc, edition, &window, &mut desk)?;
+        found.add_offers(slots.as_slice());
     }
     Ok(found)
 }
 
 /// What so many queries find by a search over the kept transfers.
 pub fn by_search(alloc: Global, edition: &Edition, count: u32) -> Result<Found, Memory> {
-    edition.soundness();
     let table = edition.table();
     let mut desk = Desk::new(alloc);
     desk.make_room(edition)?;
@@ -110,7 +107,7 @@ pub fn by_search(alloc: Global, edition: &Edition, count: u32) -> Result<Found, 
     }
     for _turn in 0..count {
         let query = query(alloc, table, &mut draw)?;
-        let choices = best_choices(alloc, edition, table, &query, &mut desk)?;
+        let choices = best_choices(alloc, edition, &query, &mut desk)?;
         found.add(choices.as_slice());
     }
     Ok(found)
