@@ -7,7 +7,8 @@ ghost use Rattle.router_cli.specs.Answers.{IsInquiryText, IsProfileText, ShowsKe
 use crate::words::{Inquiry, WindowInquiry};
 use answer_text::{choices_text, offers_text, unknown_text};
 use edition_store::Edition;
-use query_gate::{AskText, ProfileText, Reply, ask, profile};
+use query_gate::uncounted::{ask, profile};
+use query_gate::{AskText, ProfileText, Reply};
 use segment_queue::Desk;
 use std::alloc::Global;
 use tb_base::{Memory, Name, Timetable};
