@@ -1,10 +1,13 @@
-//! The program `query_bench`: many random queries over one day of a feed inside one process, for measuring.
+//! The program `query_bench`: many random queries over one day of a feed inside one process, for
+//! measuring.
 //!
-//! `query_bench DIR DATE COUNT METHOD` asks for the best values of COUNT pairs of stops, drawn by a generator with a fixed seed,
-//! at random times of the day: with the method `search` over the kept transfers, with the method `plain` round by round. It
-//! writes how many choices were found and the sum of their arrivals, so both methods can be compared. With the method `profile` it
-//! asks for profiles of 24 hours instead, and writes the same of their slots. How long a query takes is the time of a run less
-//! that of a run with COUNT 0. Nothing is promised of it but that it is safe and ends.
+//! `query_bench DIR DATE COUNT METHOD` asks for the best values of COUNT pairs of stops, drawn by a
+//! generator with a fixed seed, at random times of the day: with the method `search` over the kept
+//! transfers, with the method `plain` round by round. It writes how many choices were found and the
+//! sum of their arrivals, so both methods can be compared. With the method `profile` it asks for
+//! profiles of 24 hours instead, and writes the same of their slots. How long a query takes is the
+//! time of a run less that of a run with COUNT 0. Nothing is promised of it but that it is safe and
+//! ends.
 #![tactic(auto)]
 
 mod queries;

@@ -79,7 +79,6 @@ fn window(alloc: Global, table: &Timetable, draw: &mut Draw) -> Result<Window, M
 
 /// What so many profiles of 24 hours find.
 pub fn by_profiles(alloc: Global, edition: &Edition, count: u32) -> Result<Found, Memory> {
-    edition.soundness();
     let table = edition.table();
     let mut desk = Desk::new(alloc);
     desk.make_room(edition)?;
@@ -98,7 +97,6 @@ pub fn by_profiles(alloc: Global, edition: &Edition, count: u32) -> Result<Found
 
 /// What so many queries find by a search over the kept transfers.
 pub fn by_search(alloc: Global, edition: &Edition, count: u32) -> Result<Found, Memory> {
-    edition.soundness();
     let table = edition.table();
     let mut desk = Desk::new(alloc);
     desk.make_room(edition)?;

@@ -3,6 +3,7 @@ ghost use Rattle.std.specs.Prelude.{◌<◌, ◌≤ℤ◌, pos, All, IfOk, lengt
 ghost use Rattle.tb_base.specs.Profiles.{WindowData};
 ghost use Rattle.segment_queue.specs.Queue.{Fits};
 
+use super::hops::try_hops;
 use super::profiles::same_slots;
 use super::queries::same_values;
 use super::tally::{Difference, FeedName, Refused, Tally, read};
@@ -12,6 +13,7 @@ use segment_queue::Desk;
 use std::alloc::Global;
 use std::thread::Threads;
 use tb_base::{IdleGate, Memory, Place, Query, Sec, StopNo, Timetable, Window};
+use trip_table::DayFault;
 
 // A window is a quarter of an hour.
 const SECONDS: u32 = 900;
@@ -117,6 +119,21 @@ impl Asked {
     }
 }
 
+// Compares all over a feed that is made by hand.
+fn try_feed<R: Threads + Sync>(
+    rt: &R,
+    alloc: Global,
+    table: Result<Timetable, DayFault>,
+    asked: Asked,
+    desk: &mut Desk,
+    tally: &mut Tally,
+) -> Result<(), Refused> {
+    let table = read(table, asked.feed)?;
+    let edition = Edition::build(rt, alloc, table, 1, &IdleGate)?;
+    try_hops(rt, alloc, &edition, asked.feed)?;
+    asked.try_all(alloc, &edition, desk, tally)
+}
+
 /// Compares over both feeds that are made by hand.
 pub fn try_made_feeds<R: Threads + Sync>(
     rt: &R,
@@ -124,16 +141,14 @@ pub fn try_made_feeds<R: Threads + Sync>(
     desk: &mut Desk,
     tally: &mut Tally,
 ) -> Result<(), Refused> {
-    let town_asked = Asked {
+    let asked = Asked {
         feed: FeedName::Town,
         first: 28_700,
     };
-    let ring_asked = Asked {
+    try_feed(rt, alloc, town(alloc), asked, desk, tally)?;
+    let asked = Asked {
         feed: FeedName::Ring,
         first: 30_000,
     };
-    let town = Edition::build(rt, alloc, read(town(alloc), town_asked.feed)?, 1, &IdleGate)?;
-    town_asked.try_all(alloc, &town, desk, tally)?;
-    let ring = Edition::build(rt, alloc, read(ring(alloc), ring_asked.feed)?, 1, &IdleGate)?;
-    ring_asked.try_all(alloc, &ring, desk, tally)
+    try_feed(rt, alloc, ring(alloc), asked, desk, tally)
 }

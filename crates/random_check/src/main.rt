@@ -1,13 +1,16 @@
-//! The program `random_check`: small feeds, over each of which one way to an answer is held against another.
+//! The program `random_check`: small feeds, over each of which one way to an answer is held against
+//! another.
 //!
-//! `random_check COUNT [SEED]` takes the two feeds of `made_feeds` that are made by hand and so many that look random, and asks many
-//! queries over each, between all stops of the former: the search over kept transfers and the plain rounds have the same values,
-//! the legs of each choice break no rule of a journey, and the profile of a window has the slots that asking at each of its seconds
-//! gives. One desk serves all feeds. It writes what was compared, or where the first difference is, with status 1. Nothing is
-//! promised of it but that it is safe and ends.
+//! `random_check COUNT [SEED]` takes the two feeds of `made_feeds` that are made by hand and so
+//! many that look random, and asks many queries over each, between all stops of the former: the
+//! search over kept transfers and the plain rounds have the same values, the legs of each choice
+//! break no rule of a journey, and the profile of a window has the slots that asking at each of its
+//! seconds gives. One desk serves all feeds. It writes what was compared, or where the first
+//! difference is, with status 1. Nothing is promised of it but that it is safe and ends.
 #![tactic(auto)]
 
 mod between_all;
+mod hops;
 mod profiles;
 mod queries;
 mod tally;

@@ -25,7 +25,8 @@ fn is_new(value: Value, later: &[Value]) -> bool {
     !later.iter().any(|other| other.arrive <= value.arrive && other.rides <= value.rides)
 }
 
-// Adds the slots that leave at a time: of its best values those that no value of a second later is as good as.
+// Adds the slots that leave at a time: of its best values those that no value of a second later is
+// as good as.
 fn add_slots(
     slots: &mut Vec<Slot>,
     leave: Sec,
@@ -80,7 +81,8 @@ fn slots_by_seconds(
     Ok(slots)
 }
 
-/// How many slots a window of so many seconds has, and none where its profile differs from asking at each second.
+/// How many slots a window of so many seconds has, and none where its profile differs from asking
+/// at each second.
 pub fn same_slots(
     alloc: Global,
     edition: &Edition,
@@ -95,11 +97,10 @@ pub fn same_slots(
     requires seconds { seconds ≤ 86400 }
     ensures fits { Fits edition.now.table desk.new }
 {
-    edition.soundness();
     let table = edition.table();
     let asked = slots_by_seconds(alloc, table, window, seconds)?;
-    let found = offers(alloc, edition, window, desk)?;
-    let same = found
+    let offers = offers(alloc, edition, window, desk)?;
+    let same = offers
         .iter()
         .map(|offer| offer.slot)
         .eq(asked.iter().copied());

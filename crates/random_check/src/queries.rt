@@ -27,7 +27,8 @@ pub fn some_stops(alloc: Global, draw: &mut Draw, stops: u32) -> Result<Vec<Stop
     Ok(vec![in alloc; first]?)
 }
 
-/// A time up to ten minutes before a departure, the first of some trip more often than a later one, or a second after such a time.
+/// A time up to ten minutes before a departure, the first of some trip more often than a later one,
+/// or a second after such a time.
 pub fn some_time(draw: &mut Draw, table: &Timetable) -> Sec
     ensures { result ≤ℤ pos 359999 }
 {
@@ -67,7 +68,8 @@ fn break_no_rule(table: &Timetable, query: &Query, choices: &[Choice]) -> bool
     true
 }
 
-/// How many best values a query has, and none where the two ways differ or the legs of a choice break a rule.
+/// How many best values a query has, and none where the two ways differ or the legs of a choice
+/// break a rule.
 pub fn same_values(
     alloc: Global,
     edition: &Edition,
@@ -80,13 +82,15 @@ pub fn same_values(
     requires time { query.now.leave ≤ℤ pos 359999 }
     ensures fits { Fits edition.now.table desk.new }
 {
-    edition.soundness();
     let table = edition.table();
     let searched = best_choices(alloc, edition, query, desk)?;
     let plain = plain_ask(alloc, table, query)?;
     let same = have_same_values(searched.as_slice(), plain.as_slice());
-    if same && break_no_rule(table, query, searched.as_slice()) {
-        return Ok(Some(plain.len()));
-    }
-    Ok(None)
+    let lawful = break_no_rule(table, query, searched.as_slice())
+        && break_no_rule(table, query, plain.as_slice());
+    Ok(if same && lawful {
+        Some(plain.len())
+    } else {
+        None
+    })
 }

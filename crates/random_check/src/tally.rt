@@ -49,14 +49,17 @@ pub enum FeedName {
     Seed(u32),
 }
 
-/// What differs: the values of a query, or the legs of a choice break a rule; or the slots of a window.
+/// What differs: the hops of an event; the values of a query, or the legs of a choice break a rule;
+/// or the slots of a window.
 #[derive(Clone, Copy, Debug, PartialEq, Eq)]
 pub enum Difference {
+    Hops,
     Values,
     Slots,
 }
 
-/// Why a comparison ends early: something differs over a feed, a feed has no timetable, or memory was wanting.
+/// Why a comparison ends early: something differs over a feed, a feed has no timetable, or memory
+/// was wanting.
 #[derive(Clone, Copy, Debug, PartialEq, Eq)]
 pub enum Refused {
     Differs(Difference, FeedName),

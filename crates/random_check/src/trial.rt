@@ -2,6 +2,7 @@
 ghost use Rattle.std.specs.Prelude.{◌<◌, length};
 ghost use Rattle.segment_queue.specs.Queue.{Fits};
 
+use super::hops::try_hops;
 use super::profiles::same_slots;
 use super::queries::{same_values, some_stops, some_time};
 use super::tally::{Difference, FeedName, Refused, Tally, read};
@@ -113,6 +114,7 @@ impl Trial {
     ) -> Result<(), Refused> {
         let table = self.timetable(alloc)?;
         let edition = Edition::build(rt, alloc, table, WORKERS, &IdleGate)?;
+        try_hops(rt, alloc, &edition, self.feed)?;
         desk.make_room(&edition)?;
         if edition.table().stop_count() == 0 {
             return Ok(());

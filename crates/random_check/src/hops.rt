@@ -1,0 +1,51 @@
+//! The packed set of an edition's hops, and the plain one.
+ghost use Rattle.std.specs.Prelude.{◌≡◌, ◌<◌, IfOk, length};
+
+use super::tally::{Difference, FeedName, Refused};
+use edition_store::Edition;
+use reduce_workers::reduce_all;
+use std::alloc::Global;
+use std::thread::Threads;
+use tb_base::{IdleGate, Memory, OutSet, Rows, Timetable, TripNo};
+use transfer_pack::Set;
+
+// Whether both sets have the same hops, in the same order, from each event of a trip.
+fn same_from(plain: &Rows, packed: &Set, table: &Timetable, trip: TripNo) -> bool
+    requires plain { plain.now.table ≡ table.now }
+    requires packed { packed.now.table ≡ table.now }
+    requires trip { trip < length table.now.trips }
+{
+    table.soundness();
+    for at in 0..table.trip(trip).events.len() {
+        if plain.out(trip, at as u32) != packed.out(trip, at as u32) {
+            return false;
+        }
+    }
+    true
+}
+
+// The plain set of an edition's kept transfers.
+fn plain_set<R: Threads + Sync>(rt: &R, alloc: Global, edition: &Edition) -> Result<Rows, Memory>
+    ensures { IfOk result (λ rows. rows.table ≡ edition.now.table) }
+{
+    let table = edition.table();
+    let reduced = reduce_all(rt, alloc, table, edition.lines(), 1, &IdleGate)?;
+    Rows::new(alloc, table, reduced.rows)
+}
+
+/// Holds the hops of an edition's packed set against those of the plain one, from each event.
+pub fn try_hops<R: Threads + Sync>(
+    rt: &R,
+    alloc: Global,
+    edition: &Edition,
+    feed: FeedName,
+) -> Result<(), Refused> {
+    let plain = plain_set(rt, alloc, edition)?;
+    let table = edition.table();
+    for t in 0..table.trip_count() {
+        if !same_from(&plain, edition.set(), table, TripNo(t)) {
+            return Err(Refused::Differs(Difference::Hops, feed));
+        }
+    }
+    Ok(())
+}

@@ -1,4 +1,0 @@
-mod reduction;
-mod ring_values;
-mod sets;
-mod workers;
