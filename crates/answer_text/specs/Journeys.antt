@@ -18,7 +18,8 @@ trip_name T t = TripData.name (slice_index_or T.trips t (record { name = []; eve
 -- `  walk STOP STOP SECONDS`
 abbrev pub walk_text : TimetableData → ℕ → ℕ → ℕ → List ℕ
 walk_text T from to secs =
-    codes "  walk" ++ (codes " " ++ stop_name T from) ++ (codes " " ++ stop_name T to) ++ codes " " ++ decimal secs ++ codes "\n"
+    codes "  walk" ++ (codes " " ++ stop_name T from) ++ (codes " " ++ stop_name T to)
+    ++ codes " " ++ decimal secs ++ codes "\n"
 
 -- ` STOP TIME`
 abbrev pub place_text : TimetableData → ℕ → ℤ → List ℕ

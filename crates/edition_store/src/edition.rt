@@ -173,13 +173,7 @@ impl Scan for Edition {
 }
 
 impl<L: Ledger> Look<L> for Edition {
-    fn boarding(
-        &self,
-        p: StopNo,
-        berth: u32,
-        time: Sec,
-        steps: &mut Steps<L>,
-    ) -> Option<Hop> {
+    fn boarding(&self, p: StopNo, berth: u32, time: Sec, steps: &mut Steps<L>) -> Option<Hop> {
         self.view().boarding(p, berth, time, steps)
     }
 

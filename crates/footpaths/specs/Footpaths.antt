@@ -66,7 +66,8 @@ longest (r ∷ rules) = longer r (longest rules)
 -- what the fitting rows of a rank say of a pair
 abbrev pub said : List StopData → List Link → ℕ → ℕ → ℕ → Rule
 said stops links p q k =
-    longest (map (λ l. rule_of (Link.secs l)) (filter (λ l. fits stops p q l && (rank l == k)) links))
+    longest
+    (map (λ l. rule_of (Link.secs l)) (filter (λ l. fits stops p q l && (rank l == k)) links))
 
 -- of two rules the first that says anything
 abbrev pub first_said : Rule → Rule → Rule

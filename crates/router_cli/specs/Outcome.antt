@@ -26,6 +26,7 @@ status_code status.Memory = 6
 abbrev pub status_text : Status → List ℕ
 status_text status.Done = []
 status_text status.Usage =
+    -- one line, as it is written
     codes "usage: router [--change SECS] [--station SECS] [--close] [--workers N] [--plain] COMMAND WORDS\n"
 status_text (status.FeedRefused f) = codes "router: feed refused: " ++ fault_text f ++ codes "\n"
 status_text status.ReadFault = codes "router: read fault\n"

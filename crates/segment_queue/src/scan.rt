@@ -74,13 +74,7 @@ pub trait Scan {
 /// all its looks where its caller counts, since no counter that it makes is of this ledger.
 pub trait Look<L: Ledger>: Scan {
     /// Who boards the line at the line index with this number at the stop, no earlier than the time. It is a step.
-    fn boarding(
-        &self,
-        p: StopNo,
-        berth: u32,
-        time: Sec,
-        steps: &mut Steps<L>,
-    ) -> Option<Hop>
+    fn boarding(&self, p: StopNo, berth: u32, time: Sec, steps: &mut Steps<L>) -> Option<Hop>
         requires stop { p < length (Self.net self.now).table.stops }
         requires berth { berth
             < length (line_indices_at (Self.net self.now).table (Self.net self.now).lines p) }

@@ -129,13 +129,7 @@ impl<'a, O: OutSet> Scan for View<'a, O> {
 }
 
 impl<'a, O: OutSet, L: Ledger> Look<L> for View<'a, O> {
-    fn boarding(
-        &self,
-        p: StopNo,
-        berth: u32,
-        time: Sec,
-        steps: &mut Steps<L>,
-    ) -> Option<Hop> {
+    fn boarding(&self, p: StopNo, berth: u32, time: Sec, steps: &mut Steps<L>) -> Option<Hop> {
         steps.tick();
         let table = self.table;
         let lines = self.lines;

@@ -43,9 +43,6 @@ pub <ℤ-weaker : (a b : ℤ) → a <ℤ b → a ≤ℤ b
 pub <ℤ-≤ℤ-trans : (a b c : ℤ) → a <ℤ b → b ≤ℤ c → a <ℤ c
 <ℤ-≤ℤ-trans a b c g h = omega (arith, ints, g, h)
 
-pub less_or_sameℤ : (a b : ℤ) → a ≤ℤ b → (a <ℤ b) ⊎ (a ≡ b)
-less_or_sameℤ a b h = grind (arith, ints, h)
-
 pub cases_ltℤ : (a b : ℤ) → (a <ℤ b) ⊎ (b ≤ℤ a)
 cases_ltℤ a b = grind (arith, ints)
 

@@ -48,9 +48,6 @@ change_time_within T p own sound is =
     (sound.footpaths.change_secs p None (slice_get_within T.footpaths.change p own is))
 
 -- the footpath from p to q, read in the row of p
-pub read_footpath : (F : FootpathData) (p q : ℕ) (row : List Path) → slice_get F.paths p ≡ Some row → footpath_secs F p q ≡ option_map (λ (f : Path). f.secs) (find (λ (f : Path). f.to == q) row)
-read_footpath F p q row is = ap (λ fs. option_map (λ (f : Path). f.secs) (find (λ (f : Path). f.to == q) fs)) (get_or_from_slice_get F.paths p row [] is)
-
 -- walks and changes, within one stop and between two
 pub walk-same : (T : TimetableData) (p : ℕ) → walk T p p ≡ Some 0
 walk-same T p = ap (λ b. cond b (Some 0) (footpath_secs T.footpaths p p)) (eq-eqb p p refl)

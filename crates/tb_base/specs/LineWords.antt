@@ -27,8 +27,8 @@ is_separator b = (b == 32) || (b == 9)
 abbrev pub is_quote : ℕ → Bool
 is_quote b = b == 34
 
--- What one has read with the next byte. A quote at a word's begin opens it. In a quoted word a quote
--- closes it where a separator follows; two quotes stand for one; else the word is ill formed.
+-- What one has read with the next byte. A quote at a word's begin opens it. In a quoted word a
+-- quote closes it where a separator follows; two quotes stand for one; else the word is ill formed.
 abbrev pub after_byte : List (List ℕ) → Within → ℕ → Option Reading
 after_byte words Between b =
     if is_separator b then Some (record { words = words; within = Between })
@@ -67,9 +67,10 @@ is_comment (b ∷ rest) = b == 35
 abbrev pub is_line : List ℕ → Bool
 is_line line = nat_le (length line) 1024 && is_utf8 line
 
--- The words of a line, which are separated by one or more spaces or tabs. A word that begins with a
--- double quote runs to its closing quote; two quotes in it stand for one. A line whose first byte is
--- `#` has no words. None where the line is too long, isn't UTF-8 or has a word that isn't closed.
+-- The words of a line, which are separated by one or more spaces or tabs. A word that begins with
+-- a double quote runs to its closing quote; two quotes in it stand for one. A line whose first byte
+-- is `#` has no words. None where the line is too long, isn't UTF-8 or has a word that isn't
+-- closed.
 abbrev pub line_words : List ℕ → Option (List (List ℕ))
 line_words line =
     if is_line line

@@ -128,7 +128,8 @@ is_sooner (Some x) (Some y) = int_lt x y
 -- by these seconds the events of a are at stop p sooner than those of each earlier alternative
 abbrev pub is_soonest : (ℕ → ℕ → Option ℕ) → List (List Event) → List Event → ℕ → Bool
 is_soonest secs_to earlier events p =
-    list_all (λ es. is_sooner (earliest_offer secs_to events p) (earliest_offer secs_to es p)) earlier
+    list_all (λ es. is_sooner (earliest_offer secs_to events p) (earliest_offer secs_to es p))
+    earlier
 
 -- at some stop the arrival, or the time for a change, is sooner than that of each earlier
 -- alternative
@@ -153,4 +154,5 @@ kept_alternatives T lines t = improving_alternatives T t [] (alternatives T line
 -- the hops that are kept at t@i, in their order
 abbrev pub kept_hops : TimetableData → List (List ℕ) → ℕ → ℕ → List Hop
 kept_hops T lines t i =
-    filter_map (λ (a : Alternative). if a.at == i then a.hop else None) (kept_alternatives T lines t)
+    filter_map (λ (a : Alternative). if a.at == i then a.hop else None)
+    (kept_alternatives T lines t)

@@ -21,7 +21,8 @@ enum WordPlace {
     Closed,
 }
 
-// A reader of a line: the words so far, where it is, and the bytes so far of the word that it is in.
+// A reader of a line: the words so far, where it is, and the bytes so far of the word that it is
+// in.
 #[derive(Drop)]
 struct WordReader {
     alloc: Global,
@@ -200,10 +201,11 @@ fn is_comment(line: &[u8]) -> bool
     }
 }
 
-/// The words of a line, given without its end: separated by one or more spaces or tabs. A word that begins with a double quote
-/// runs to its closing quote, and two quotes in it stand for one. A line whose first byte is `#` has no words. `None` exactly where
-/// the line has more than 1,024 bytes, isn't UTF-8, or has a word that isn't closed, or goes on behind its closing quote.
-/// Refused only for want of memory.
+/// The words of a line, given without its end: separated by one or more spaces or tabs. A word that
+/// begins with a double quote runs to its closing quote, and two quotes in it stand for one. A line
+/// whose first byte is `#` has no words. `None` exactly where the line has more than 1,024 bytes,
+/// isn't UTF-8, or has a word that isn't closed, or goes on behind its closing quote. Refused only
+/// for want of memory.
 pub fn line_words(alloc: Global, line: &[u8]) -> Result<Option<Vec<Name>>, Memory>
     ensures { IfOk result (λ found. option_map (λ v. v.items) found ≡ line_words line.now) }
 {
