@@ -17,7 +17,7 @@ module _ {A : Type 0} where
     cases true = i
     cases false = h
 
-  starts_length : (xs ys : List A) → StartsWith xs ys → length ys ≤ length xs
+  pub starts_length : (xs ys : List A) → StartsWith xs ys → length ys ≤ length xs
   starts_length xs ys h = omega (arith, length-take (length ys) xs, sym (ap length h))
 
   open_same : (x y : Shown A) → x.closed ≡ false → y.closed ≡ false → x.list ≡ y.list → x ≡ y
