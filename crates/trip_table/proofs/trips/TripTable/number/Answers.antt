@@ -1,4 +1,6 @@
-use Rattle.std.proofs.Common.{◌≡◌, ◌∙◌, ap, List, ℕ, length, map}
+use Rattle.std.proofs.Common.{◌≡◌, ◌∙◌, ap, List, ℕ, length, map, arith}
+use Rattle.std.proofs.lemmas.Grind.{common_steps}
+use Rattle.std.specs.Vec.{vec_len}
 use Rattle.std.specs.Prelude.{bytes_eq, position, Option, unwrap_or}
 use Rattle.tb_base.proofs.Lists.{position-map}
 use Rattle.gtfs_rows.specs.TripsFile.{TripData}
@@ -12,4 +14,6 @@ pub returns-in-Some : goal.returns-in-Some
 returns-in-Some c = rw (← c.self.view_is) (number_is _ c.args.id.now _ _ c.in-Some.ensures c.self.invariant.0)
 
 pub returns-in-None : goal.returns-in-None
-returns-in-None c = rw (← c.self.view_is) (number_is _ c.args.id.now _ _ c.in-None.ensures c.self.invariant.0)
+returns-in-None c =
+    let same : vec_len c.self.inside.rows ≡ length c.self.inside.rows.items = grind (arith, common_steps) in
+    rw (← c.self.view_is) (c.len.ensures ∙ same ∙ number_is _ c.args.id.now _ _ c.in-None.ensures c.self.invariant.0)
