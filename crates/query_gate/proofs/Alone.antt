@@ -12,7 +12,7 @@ use Rattle.query_gate.specs.declared.reply.Reply.TheVariants.{Values, Slots, Unk
 abbrev pub alone : EditionData → Shown EditionData
 alone e = record { list = e ∷ []; closed = true }
 
-value_or : EditionData → Option EditionData → EditionData
+abbrev value_or : EditionData → Option EditionData → EditionData
 value_or d None = d
 value_or d (Some x) = x
 
@@ -32,18 +32,22 @@ by_profile e q (Slots offers) z h = h.1
 by_profile e q (UnknownStop name) z h = h.1
 by_profile e q (Deferred number) z h = absurd (let late = h.0 in omega (arith, late, z))
 
+asked_by : (e : EditionData) (q : AskData) (reply : Reply) → q.since ≡ 0 → IsAnsweredBy (e ∷ []) 1 q reply → IsAskReply (net_of e) q reply
+asked_by e q reply z h = by_ask e q reply z (subst (λ (x : EditionData). AnswersAsk 1 x q reply) (sym (only_one e h.0 h.1)) h.2)
+
+profiled_by : (e : EditionData) (q : ProfileData) (reply : Reply) → q.since ≡ 0 → IsProfiledBy (e ∷ []) 1 q reply → IsProfileReply (net_of e) q reply
+profiled_by e q reply z h = by_profile e q reply z (subst (λ (x : EditionData). AnswersProfile 1 x q reply) (sym (only_one e h.0 h.1)) h.2)
+
 -- the reply is the edition's
 pub asked_alone : (e : EditionData) (p : Shown EditionData) (q : AskData) (reply : Reply) → p ≡ alone e → q.since ≡ 0 →
     IsAnsweredBy p.list (length p.list) q reply → IsAskReply (net_of e) q reply
-asked_alone e p q reply same z by =
-    let h = subst (λ (s : Shown EditionData). IsAnsweredBy s.list (length s.list) q reply) same by in
-    by_ask e q reply z (subst (λ (x : EditionData). AnswersAsk 1 x q reply) (sym (only_one e h.0 h.1.0)) h.1.1)
+asked_alone e p q reply same z =
+    subst (λ (s : Shown EditionData). IsAnsweredBy s.list (length s.list) q reply → IsAskReply (net_of e) q reply) (sym same) (asked_by e q reply z)
 
 pub profiled_alone : (e : EditionData) (p : Shown EditionData) (q : ProfileData) (reply : Reply) → p ≡ alone e → q.since ≡ 0 →
     IsProfiledBy p.list (length p.list) q reply → IsProfileReply (net_of e) q reply
-profiled_alone e p q reply same z by =
-    let h = subst (λ (s : Shown EditionData). IsProfiledBy s.list (length s.list) q reply) same by in
-    by_profile e q reply z (subst (λ (x : EditionData). AnswersProfile 1 x q reply) (sym (only_one e h.0 h.1.0)) h.1.1)
+profiled_alone e p q reply same z =
+    subst (λ (s : Shown EditionData). IsProfiledBy s.list (length s.list) q reply → IsProfileReply (net_of e) q reply) (sym same) (profiled_by e q reply z)
 
 is_first : (e : EditionData) → IsEditionOf (e ∷ []) 1 e
 is_first e = (omega arith, refl)

@@ -4,7 +4,7 @@ use Rattle.std.specs.Prelude.{All, IfOk}
 use Rattle.tb_base.specs.BestValues.{AreBestValues, ChoiceData, QueryData}
 use Rattle.tb_base.specs.Network.{NetData}
 use Rattle.tb_base.specs.JourneyRules.{SpellSlot}
-use Rattle.tb_base.specs.Profiles.{IsProfile, OfferData}
+use Rattle.tb_base.specs.Profiles.{IsProfile, OfferData, WindowData}
 use Rattle.tb_base.specs.TimetableData.{TimetableData}
 use Rattle.tb_base.specs.declared.query.Value.{Value}
 use Rattle.tb_base.specs.declared.transfer.Hop.{Hop}
@@ -40,3 +40,17 @@ best_offers N T same ends a first b last is_first is_last offers slots journeys 
       journeys = subst (λ t. All (λ o. SpellSlot t (window_at ends a b) (OfferData.legs o) (OfferData.slot o)) offers) same journeys;
       hops = hops;
     }))
+
+-- An edition's offers, by a timetable that is known by another term, are the best offers.
+pub offers_best : (N : NetData) (T : TimetableData) → T ≡ N.table → (W : WindowData) →
+    {A E : Type 0} (items : A → List OfferData) (r : Result A E) →
+    IfOk r (λ os. IsProfile T W (map OfferData.slot (items os))) →
+    IfOk r (λ os. All (λ o. SpellSlot T W (OfferData.legs o) (OfferData.slot o)) (items os)) →
+    IfOk r (λ os. All (λ o. LegsFollow N.hops (OfferData.legs o)) (items os)) →
+    IfOk r (λ os. AreBestOffers N W (items os))
+offers_best N T same W items (Ok os) slots journeys hops = record {
+  slots = subst (λ t. IsProfile t W (map OfferData.slot (items os))) same slots;
+  journeys = subst (λ t. All (λ o. SpellSlot t W (OfferData.legs o) (OfferData.slot o)) (items os)) same journeys;
+  hops = hops;
+}
+offers_best N T same W items (Err e) slots journeys hops = tt

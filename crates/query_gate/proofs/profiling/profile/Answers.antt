@@ -13,7 +13,7 @@ use Rattle.query_gate.proofs.NamedEnds.{between_by}
 use Rattle.query_gate.proofs.profiling.profile.Goals as goal
 
 pub returns-in_ok-offers-in-Stops-clause-reply : goal.returns-in_ok-offers-in-Stops-clause-reply
-returns-in_ok-offers-in-Stops-clause-reply c =
+returns-in_ok-offers-in-Stops-clause-reply g c =
     let ends : Ends = record { from = c.in-Stops.from.items; to = c.in-Stops.to.items } in
     let is = c.text.view_is in
     let fits : FitsSigned w32 c.text.inside.first = search rules in
@@ -29,7 +29,7 @@ returns-in_ok-offers-in-Stops-clause-reply c =
     )
 
 pub returns-in_ok-offers-in-Stops-clause-numbers : goal.returns-in_ok-offers-in-Stops-clause-numbers
-returns-in_ok-offers-in-Stops-clause-numbers c =
+returns-in_ok-offers-in-Stops-clause-numbers g c =
     let there = subst (AreWithin (length c.table-table.result.now.stops)) c.in-Stops.is c.in_ok-name.ensures.within in
     let same = c.table-table.ensures in
     let offers = c.in_ok-offers-in-Stops.offers.items in
