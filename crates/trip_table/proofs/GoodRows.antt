@@ -1,13 +1,13 @@
 -- Stop times whose trips and stops are there.
-use Rattle.std.proofs.Common.{◌≡◌, ◌≢◌, ◌∙◌, refl, sym, subst, ℕ, ◌+◌, ◌<◌, ◌≤◌, suc, List, [], ◌∷◌, ◌++◌, ◌&&◌, ◌||◌, length, Option, Some, None, Bool, true, false, inl, inr, arith}
+use Rattle.std.proofs.Common.{◌≡◌, ◌≢◌, ◌∙◌, refl, sym, subst, ℕ, ◌<◌, ◌≤◌, List, [], ◌∷◌, ◌++◌, ◌||◌, length, Option, Some, None, Bool, true, false, inl, inr, arith}
 use Rattle.std.specs.Prelude.{Result, Ok, Err, All, AllPairs, ok_or, option_map, IfSome, ◌==◌, nat_le, nat_lt, if◌then◌else◌}
 use Rattle.std.specs.List.{list_any}
-use Rattle.std.proofs.lemmas.Bool.{eq-eqb, and_from, leb-false, ltb-false, eqb-true}
+use Rattle.std.proofs.lemmas.Bool.{eq-eqb, and_from, leb-false, ltb-false}
 use Rattle.std.proofs.lemmas.List.Elements.{All-cons, All-nil}
 use Rattle.std.proofs.lemmas.List.Kept.{AllPairs-cons}
 use Rattle.tb_base.proofs.Ordered.{Member}
 use Rattle.gtfs_rows.specs.Steps.{and_then}
-use Rattle.gtfs_rows.specs.Faults.{unless_wrong, wrong_after, fault_if, check_rows, spot}
+use Rattle.gtfs_rows.specs.Faults.{unless_wrong, wrong_after, fault_if, check_rows}
 use Rattle.gtfs_rows.specs.RawRows.{RawRow, cell, typed_rows}
 use Rattle.gtfs_rows.specs.Numbers.{number_of, time_of}
 use Rattle.gtfs_rows.specs.Fields.{id_of, or_empty, mark_of}

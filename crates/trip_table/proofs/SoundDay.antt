@@ -10,7 +10,7 @@ use Rattle.std.proofs.lemmas.List.Kept.{AllPairs-cons, AllPairs-filter}
 use Rattle.std.proofs.lemmas.Slice.Eq.{bytes_eq-Decides}
 use Rattle.tb_base.specs.declared.table.Stop.{Stop}
 use Rattle.tb_base.specs.TimetableData.{TripData, StationData, FootpathData}
-use Rattle.tb_base.specs.Soundness.{IsSound, IsSoundPath, IsSoundStation, IsSoundTrip, place_names, IsSoundFootpaths}
+use Rattle.tb_base.specs.Soundness.{IsSound, IsSoundStation, IsSoundTrip, place_names, IsSoundFootpaths}
 use Rattle.tb_base.specs.Walking.{KeepsFootpathLaw}
 use Rattle.tb_base.proofs.Ordered.{AllPairs-tail}
 use Rattle.gtfs_rows.specs.StopsFile.{StopData, is_platform, is_station}

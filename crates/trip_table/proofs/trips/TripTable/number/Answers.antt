@@ -4,7 +4,7 @@ use Rattle.std.specs.Vec.{vec_len}
 use Rattle.std.specs.Prelude.{bytes_eq, position, Option, unwrap_or}
 use Rattle.tb_base.proofs.Lists.{position-map}
 use Rattle.gtfs_rows.specs.TripsFile.{TripData}
-use Rattle.trip_table.specs.References.{trip_id, has_trip_id, trip_number}
+use Rattle.trip_table.specs.References.{trip_id, trip_number}
 use Rattle.trip_table.proofs.trips.TripTable.number.Goals as goal
 
 number_is : (o : Option ℕ) (id : List ℕ) (ids : List (List ℕ)) (rows : List TripData) → o ≡ position (bytes_eq id) ids → ids ≡ map trip_id rows → unwrap_or o (length rows) ≡ trip_number rows id
