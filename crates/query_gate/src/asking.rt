@@ -37,8 +37,8 @@ impl Model for AskText {
 /// Answers a question for the best values over an edition, whatever its number is: `UnknownStop`
 /// exactly where it has no stop and no station with a name, the origin's tried first, else
 /// `Values`; and then the desk holds the answer, whose hits have these values. The desk may have
-/// served any network before; it is made to fit. Between two places it looks at most once at each
-/// event, and once at each line of the stops near an origin. Refused only for want of memory.
+/// served any network before; it is made to fit. Between two places it looks at most as often as
+/// there are events and, at the stops near an origin, lines. Refused only for want of memory.
 pub fn ask<L: Ledger>(
     alloc: Global,
     edition: &Edition,

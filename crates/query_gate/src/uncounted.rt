@@ -1,8 +1,10 @@
 //! Questions of callers without a counter: each call is the one of its name, on a counter of its
 //! own.
-ghost use Rattle.std.specs.Prelude.{◌≡◌, ◌<◌, ◌≤ℤ◌, All, IfOk, length, pos};
+ghost use Rattle.std.specs.Prelude.{◌≡◌, ◌<◌, ◌≤ℤ◌, [], All, IfOk, OnErr, length, map, pos};
+ghost use Rattle.tb_base.specs.BestValues.{ChoiceData};
 ghost use Rattle.edition_store.specs.Editions.{net_of};
 ghost use Rattle.segment_queue.specs.Queue.{Fits};
+ghost use Rattle.segment_queue.specs.Traced.{IsAnswered};
 ghost use Rattle.query_gate.specs.Replies.{AreBestChoices, AreBestOffers, HaveNumbers, IsAskReply, IsProfileReply, LeavesAnswered};
 
 use crate::asking::AskText;
@@ -101,7 +103,10 @@ fn best_choices_on<L: Ledger>(
     requires targets { All (λ p. p < length edition.now.table.stops) query.now.to }
     requires leave { query.now.leave ≤ℤ pos 359999 }
     ensures best { IfOk result (λ cs. AreBestChoices (net_of edition.now) query.now cs.items) }
+    ensures hits { IfOk result (λ cs.
+        map ChoiceData.value cs.items ≡ map (λ h. h.value) desk.new.hits) }
     ensures fits { Fits edition.now.table desk.new }
+    ensures answered { IsAnswered (net_of edition.now) query.now desk.new }
 {
     edition.soundness();
     let mut steps = Steps::<L>::new(blank);
@@ -120,7 +125,10 @@ pub fn best_choices(
     requires targets { All (λ p. p < length edition.now.table.stops) query.now.to }
     requires leave { query.now.leave ≤ℤ pos 359999 }
     ensures best { IfOk result (λ cs. AreBestChoices (net_of edition.now) query.now cs.items) }
+    ensures hits { IfOk result (λ cs.
+        map ChoiceData.value cs.items ≡ map (λ h. h.value) desk.new.hits) }
     ensures fits { Fits edition.now.table desk.new }
+    ensures answered { IsAnswered (net_of edition.now) query.now desk.new }
 {
     best_choices_on::<Brand>(alloc, edition, query, desk, Blank::new(1))
 }
@@ -142,6 +150,7 @@ fn offers_on<L: Ledger>(
     requires last { window.now.last ≤ℤ pos 359999 }
     ensures best { IfOk result (λ os. AreBestOffers (net_of edition.now) window.now os.items) }
     ensures fits { Fits edition.now.table desk.new }
+    ensures emptied { OnErr result (desk.new.segments ≡ []) }
 {
     edition.soundness();
     let mut steps = Steps::<L>::new(blank);
@@ -161,6 +170,7 @@ pub fn offers(
     requires last { window.now.last ≤ℤ pos 359999 }
     ensures best { IfOk result (λ os. AreBestOffers (net_of edition.now) window.now os.items) }
     ensures fits { Fits edition.now.table desk.new }
+    ensures emptied { OnErr result (desk.new.segments ≡ []) }
 {
     offers_on::<Brand>(alloc, edition, window, desk, Blank::new(1))
 }
