@@ -1,0 +1,5 @@
+mod Scripts
+mod Times
+mod Runs
+mod Answering
+mod Plans

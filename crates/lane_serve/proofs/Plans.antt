@@ -1,0 +1,80 @@
+-- A plan grows by one item.
+use Rattle.std.proofs.Common.{◌≡◌, ℕ, zero, suc, ◌+◌, ◌<◌, ◌≤◌, List, [], ◌∷◌, ◌++◌, take, length, get_or, refl, sym, ap, subst, ◌∙◌, Option, Result, Ok, Err, arith}
+use Rattle.std.specs.Prelude.{IfOk}
+use Rattle.gtfs_rows.specs.declared.fault.FeedFault.{FeedFault}
+use Rattle.std.proofs.lemmas.List.{take_more, length-take, length-append, append-nil}
+use Rattle.tb_io.specs.Files.{FileList}
+use Rattle.footpaths.specs.declared.paths.Options.{Options}
+use Rattle.edition_store.specs.Editions.{EditionData}
+use Rattle.lane_serve.specs.declared.plan.Outcome.{Outcome}
+use Rattle.lane_serve.specs.declared.plan.Outcome.TheVariants.{Published, Refused}
+use Rattle.lane_serve.specs.Plans.{AreOutcomes, BeginsPublished, IsEditionOfItem, ItemData, ItemGives, Takes, outcome_of}
+use Rattle.lane_serve.specs.declared.plan.Stop.{Stop}
+
+outcomes_append : (files : Option FileList) (options : Options) (n : ℕ) (xs ys : List ItemData) (os ps : List Outcome) (es fs : List EditionData) →
+    AreOutcomes files options n xs os es → AreOutcomes files options (n + length es) ys ps fs →
+    AreOutcomes files options n (xs ++ ys) (os ++ ps) (es ++ fs)
+outcomes_append files options n [] ys [] ps [] fs h k = let z : n + 0 ≡ n = omega arith in subst (λ m. AreOutcomes files options m ys ps fs) z k
+outcomes_append files options n [] ys [] ps (e ∷ es) fs h k = absurd h
+outcomes_append files options n [] ys (o ∷ os) ps es fs h k = absurd h
+outcomes_append files options n (x ∷ xs) ys [] ps es fs h k = absurd h
+outcomes_append files options n (x ∷ xs) ys (Refused f ∷ os) ps es fs h k = (h.0, outcomes_append files options n xs ys os ps es fs h.1 k)
+outcomes_append files options n (x ∷ xs) ys (Published number trips lines kept ∷ os) ps [] fs h k = absurd h
+outcomes_append files options n (x ∷ xs) ys (Published number trips lines kept ∷ os) ps (e ∷ es) fs h k =
+    let z : n + suc (length es) ≡ n + 1 + length es = omega arith in
+    (h.0, h.1, outcomes_append files options (n + 1) xs ys os ps es fs h.2 (subst (λ m. AreOutcomes files options m ys ps fs) z k))
+
+few_editions : (files : Option FileList) (options : Options) (n : ℕ) (xs : List ItemData) (os : List Outcome) (es : List EditionData) →
+    AreOutcomes files options n xs os es → length es ≤ length xs
+few_editions files options n [] [] [] h = omega arith
+few_editions files options n [] [] (e ∷ es) h = absurd h
+few_editions files options n [] (o ∷ os) es h = absurd h
+few_editions files options n (x ∷ xs) [] es h = absurd h
+few_editions files options n (x ∷ xs) (Refused f ∷ os) es h = let r = few_editions files options n xs os es h.1 in omega arith
+few_editions files options n (x ∷ xs) (Published number trips lines kept ∷ os) [] h = absurd h
+few_editions files options n (x ∷ xs) (Published number trips lines kept ∷ os) (e ∷ es) h = let r = few_editions files options (n + 1) xs os es h.2 in omega arith
+
+-- there is room for one more edition
+pub has_room : (files : Option FileList) (options : Options) (plan : List ItemData) (i : ℕ) (os : List Outcome) (es : List EditionData) →
+    AreOutcomes files options 0 (take i plan) os es → i < length plan → length plan ≤ 100 → length es < 100
+has_room files options plan i os es h lt le =
+    let few = few_editions files options 0 (take i plan) os es h in
+    omega (arith, few, length-take i plan)
+
+-- the outcomes with those of the next item
+pub outcomes_more : (files now : Option FileList) (options : Options) (plan : List ItemData) (i : ℕ) (d : ItemData) (os told : List Outcome) (es gone : List EditionData) →
+    now ≡ files → AreOutcomes files options 0 (take i plan) os es → i < length plan → Takes now options (get_or plan i d) es gone os told →
+    AreOutcomes files options 0 (take (i + 1) plan) told gone
+outcomes_more files now options plan i d os told es gone same h lt t =
+    let new = t.0 in
+    let o = t.1 in
+    let one = subst (λ f. AreOutcomes f options (length es) (get_or plan i d ∷ []) (o ∷ []) new) same t.4 in
+    let z : length es ≡ 0 + length es = omega arith in
+    let grown = outcomes_append files options 0 (take i plan) (get_or plan i d ∷ []) os (o ∷ []) es new h
+    (subst (λ m. AreOutcomes files options m (get_or plan i d ∷ []) (o ∷ []) new) z one) in
+    subst (λ xs. AreOutcomes files options 0 xs told gone) (sym (take_more plan i d lt))
+    (subst (λ l. AreOutcomes files options 0 (take i plan ++ get_or plan i d ∷ []) l gone) (sym t.3)
+    (subst (λ l. AreOutcomes files options 0 (take i plan ++ get_or plan i d ∷ []) (os ++ o ∷ []) l) (sym t.2) grown))
+
+still_published : (os ps : List Outcome) → BeginsPublished os → BeginsPublished (os ++ ps)
+still_published [] ps h = absurd h
+still_published (Refused f ∷ os) ps h = absurd h
+still_published (Published number trips lines kept ∷ os) ps h = tt
+
+pub begins_more : (files : Option FileList) (options : Options) (item : ItemData) (os told : List Outcome) (es gone : List EditionData) →
+    Takes files options item es gone os told → BeginsPublished os → BeginsPublished told
+begins_more files options item os told es gone t h = subst (λ l. BeginsPublished l) (sym t.3) (still_published os (t.1 ∷ []) h)
+
+-- the first item alone
+pub first_outcome : (files : Option FileList) (options : Options) (plan : List ItemData) (d : ItemData) (e : EditionData) → 0 < length plan →
+    IsEditionOfItem files options (get_or plan 0 d) e →
+    AreOutcomes files options 0 (take 1 plan) (outcome_of 1 e ∷ []) (e ∷ [])
+first_outcome files options [] d e some h = absurd (omega arith)
+first_outcome files options (x ∷ xs) d e some h = (h, refl, tt)
+
+-- an item that was refused adds no edition
+pub took_fault : (files : Option FileList) (options : Options) (item : ItemData) (es : List EditionData) (os told : List Outcome) (f : FeedFault)
+    (result : Result (List EditionData) Stop) → ItemGives files options item (Err f) → IfOk result (λ p. p ≡ es) →
+    IfOk result (λ _. told ≡ os ++ Refused f ∷ []) → IfOk result (λ p. Takes files options item es p os told)
+took_fault files options item es os told f (Ok p) gives same more = ([], Refused f, same ∙ sym (append-nil es), more, (gives, tt))
+took_fault files options item es os told f (Err e) gives same more = tt

@@ -1,0 +1,89 @@
+-- What a lane is answered, over a list of published editions.
+use Rattle.std.specs.Prelude.{◌≡◌, ℕ, ◌+◌, ◌≤◌, ◌==◌, ◌||◌, List, [], ◌∷◌, ◌++◌, Bool, length, codes, nat_lt, ⊤, if◌then◌else◌}
+use Rattle.std.specs.Fmt.{decimal}
+use Rattle.tb_base.specs.TimetableData.{TimetableData}
+use Rattle.answer_text.specs.Journeys.{choices_text, offers_text, unknown_text}
+use Rattle.edition_store.specs.Editions.{EditionData}
+use Rattle.query_gate.specs.Callers.{AnswersAsk, AnswersProfile, IsEditionOf}
+use Rattle.query_gate.specs.declared.reply.Reply.{Reply}
+use Rattle.query_gate.specs.declared.reply.Reply.TheVariants.{Values, Slots, UnknownStop, Deferred}
+use Rattle.lane_serve.specs.declared.script.Line.{Line}
+use Rattle.lane_serve.specs.declared.script.Line.TheVariants as line
+use Rattle.lane_serve.specs.declared.lane.ReplyText.{ReplyText}
+
+-- a lane's name, and replies to requests of it
+pub record ReportData : Type 0 where
+  pub name : List ℕ
+  pub replies : List ReplyText
+
+-- `deferred N`
+abbrev pub deferred_text : ℕ → List ℕ
+deferred_text number = codes "deferred " ++ decimal number ++ codes "\n"
+
+-- the lines of a reply over a timetable
+abbrev pub reply_text : TimetableData → Reply → List ℕ
+reply_text T (Values choices) = choices_text T choices.items
+reply_text T (Slots offers) = offers_text T offers.items
+reply_text T (UnknownStop name) = unknown_text name
+reply_text T (Deferred number) = deferred_text number
+
+-- the edition from which on a request may be answered
+abbrev pub wanted : Line → ℕ
+wanted (line.Ask q) = q.since
+wanted (line.Profile q) = q.since
+
+-- the right reply of edition n to a request: deferred exactly where a later edition is wanted
+abbrev pub Answers : ℕ → EditionData → Line → Reply → Type 0
+Answers n e (line.Ask q) reply = AnswersAsk n e q reply
+Answers n e (line.Profile q) reply = AnswersProfile n e q reply
+
+-- the same of edition n of a list
+abbrev pub IsReplyOf : List EditionData → ℕ → Line → Reply → Type 0
+IsReplyOf es n request reply =
+    (e : EditionData) × IsEditionOf es n e × Answers n e request reply
+
+-- the text is that of the right reply of the edition of a list that it names
+pub record IsAnswered (es : List EditionData) (request : Line) (r : ReplyText) : Type 0 where
+  pub by : EditionData
+  pub edition : IsEditionOf es r.edition by
+  pub reply : Reply
+  pub right : Answers r.edition by request reply
+  pub text : r.text ≡ reply_text by.table reply
+
+-- one reply for each request in order, numbered from k on; no edition is before the one of the reply
+-- before it, nor the first before `least`
+abbrev pub RunsFrom : List EditionData → ℕ → ℕ → List Line → List ReplyText → Type 0
+RunsFrom es k least [] [] = ⊤
+RunsFrom es k least [] (r ∷ rs) = ⊥
+RunsFrom es k least (q ∷ qs) [] = ⊥
+RunsFrom es k least (q ∷ qs) (r ∷ rs) =
+    (r.line ≡ k) × (least ≤ r.edition) × IsAnswered es q r × RunsFrom es (k + 1) r.edition qs rs
+
+-- the replies to a lane's requests, as a run over a list of editions gives them
+abbrev pub IsLaneRun : List EditionData → List Line → List ReplyText → Type 0
+IsLaneRun es requests replies = RunsFrom es 1 0 requests replies
+
+-- a request, with its number in its lane
+pub record Due : Type 0 where
+  pub line : ℕ
+  pub request : Line
+
+-- the first request, and each that was deferred: whose edition is before the one that is wanted
+abbrev pub is_due : ℕ → Line → ReplyText → Bool
+is_due k request r = (k == 1) || nat_lt r.edition (wanted request)
+
+-- those of a lane's requests that are answered once more, numbered from k on
+abbrev pub to_close : ℕ → List Line → List ReplyText → List Due
+to_close k [] rs = []
+to_close k (q ∷ qs) [] = []
+to_close k (q ∷ qs) (r ∷ rs) =
+    if is_due k q r then record { line = k; request = q } ∷ to_close (k + 1) qs rs
+    else to_close (k + 1) qs rs
+
+-- one reply for each of them in order, by the last edition
+abbrev pub IsClosing : List EditionData → List Due → List ReplyText → Type 0
+IsClosing es [] [] = ⊤
+IsClosing es [] (c ∷ cs) = ⊥
+IsClosing es (d ∷ ds) [] = ⊥
+IsClosing es (d ∷ ds) (c ∷ cs) =
+    (c.line ≡ d.line) × (c.edition ≡ length es) × IsAnswered es d.request c × IsClosing es ds cs

@@ -1,0 +1,186 @@
+-- What a script says: lanes of requests, or the first bad line.
+use Rattle.std.specs.Prelude.{◌≡◌, ℕ, ◌+◌, ◌-◌, ◌<◌, ◌≤◌, ◌==◌, List, [], ◌∷◌, ◌++◌, take, drop, length, codes, bytes_eq, nat_lt, sum_by, ℤ, ◌≤ℤ◌, pos, Option, Some, None, Result, Ok, Err, MatchResult, All, ⊤, if◌then◌else◌}
+use Rattle.std.specs.Option.{option_and_then, option_map}
+use Rattle.gtfs_rows.specs.Numbers.{number_of, time_of}
+use Rattle.gtfs_rows.specs.Steps.{and_then}
+use Rattle.tb_base.specs.LineWords.{line_words}
+use Rattle.query_gate.specs.Questions.{AskData, ProfileData}
+use Rattle.lane_serve.specs.declared.said.Said.{Said}
+use Rattle.lane_serve.specs.declared.said.Said.TheVariants as said
+use Rattle.lane_serve.specs.declared.script.Line.{Line}
+use Rattle.lane_serve.specs.declared.script.Line.TheVariants as line
+use Rattle.lane_serve.specs.declared.script.ScriptFault.{ScriptFault}
+use Rattle.lane_serve.specs.declared.script.ScriptFault.TheVariants as fault
+
+-- a lane: its name, and its requests in order
+pub record LaneData : Type 0 where
+  pub name : List ℕ
+  pub lines : List Line
+
+-- a line without a carriage return at its end
+abbrev pub without_cr : List ℕ → List ℕ
+without_cr text =
+    if bytes_eq (drop (length text - 1) text) (13 ∷ []) then take (length text - 1) text else text
+
+-- what stands behind the last line feed is a line, unless it is empty
+abbrev pub last_line : List ℕ → List (List ℕ)
+last_line [] = []
+last_line (b ∷ begun) = without_cr (b ∷ begun) ∷ []
+
+-- the lines of a text behind those bytes of a line, each up to a line feed or the text's end
+abbrev pub lines_from : List ℕ → List ℕ → List (List ℕ)
+lines_from begun [] = last_line begun
+lines_from begun (b ∷ rest) =
+    if b == 10 then without_cr begun ∷ lines_from [] rest else lines_from (begun ++ b ∷ []) rest
+
+-- FROM TO TIME: a request for the best values, which is none where the time isn't one
+abbrev pub ask_of : ℕ → List (List ℕ) → Option Said
+ask_of since (from ∷ to ∷ time ∷ []) = Some (said.Request (option_map
+    (λ t. line.Ask (record { since = since; from = from; to = to; leave = t })) (time_of time)))
+ask_of since words = None
+
+-- FROM TO FIRST LAST: a request for a profile, which is none where a time isn't one
+abbrev pub profile_of : ℕ → List (List ℕ) → Option Said
+profile_of since (from ∷ to ∷ first ∷ last ∷ []) = Some (said.Request (option_and_then
+    (λ t. option_map
+    (λ u. line.Profile
+    (record { since = since; from = from; to = to; first = t; last = u })) (time_of last))
+    (time_of first)))
+profile_of since words = None
+
+-- `ask FROM TO TIME` or `profile FROM TO FIRST LAST`
+abbrev pub request_of : ℕ → List (List ℕ) → Option Said
+request_of since [] = None
+request_of since (word ∷ words) =
+    if bytes_eq word (codes "ask") then ask_of since words
+    else if bytes_eq word (codes "profile") then profile_of since words
+    else None
+
+-- N and a request, which wants edition N or a later one
+abbrev pub since_of : List (List ℕ) → Option Said
+since_of [] = None
+since_of (number ∷ words) = option_and_then (λ n. request_of n words) (number_of number)
+
+-- NAME, which begins a lane
+abbrev pub lane_of : List (List ℕ) → Option Said
+lane_of (name ∷ []) = Some (said.Lane name)
+lane_of words = None
+
+-- What the words of a line say: nothing, `lane NAME`, `since N` and a request, or a request of any
+-- edition. None where they have no such form.
+abbrev pub said_of : List (List ℕ) → Option Said
+said_of [] = Some said.Nothing
+said_of (word ∷ words) =
+    if bytes_eq word (codes "lane") then lane_of words
+    else if bytes_eq word (codes "since") then since_of words
+    else request_of 0 (word ∷ words)
+
+-- what a script says up to a line: how many lines that is, how many requests, and the lanes
+pub record SoFar : Type 0 where
+  pub lines : ℕ
+  pub requests : ℕ
+  pub lanes : List LaneData
+
+-- the lanes with one more request in the last one
+abbrev pub with_request : Line → List LaneData → List LaneData
+with_request request [] = []
+with_request request (lane ∷ []) =
+    record { name = lane.name; lines = lane.lines ++ request ∷ [] } ∷ []
+with_request request (lane ∷ next ∷ rest) = lane ∷ with_request request (next ∷ rest)
+
+-- with line n, which begins a lane: at most 64 do
+abbrev pub after_lane : SoFar → ℕ → List ℕ → Result SoFar ScriptFault
+after_lane s n name =
+    if nat_lt (length s.lanes) 64
+    then Ok (record {
+      lines = n;
+      requests = s.requests;
+      lanes = s.lanes ++ record { name = name; lines = [] } ∷ [];
+    })
+    else Err (fault.TooManyLanes n)
+
+-- with line n, which is a request in place, with good times or not
+abbrev pub after_timed : SoFar → ℕ → Option Line → Result SoFar ScriptFault
+after_timed s n None = Err (fault.BadTime n)
+after_timed s n (Some request) = Ok (record {
+  lines = n;
+  requests = s.requests + 1;
+  lanes = with_request request s.lanes;
+})
+
+-- with line n, which is a request: it stands in a lane, and at most 20,000 lines are requests
+abbrev pub after_request : SoFar → ℕ → Option Line → Result SoFar ScriptFault
+after_request s n request =
+    if length s.lanes == 0 then Err (fault.BadLine n)
+    else if nat_lt s.requests 20000 then after_timed s n request
+    else Err (fault.TooManyLines n)
+
+-- with line n, which says this
+abbrev pub after_said : SoFar → ℕ → Option Said → Result SoFar ScriptFault
+after_said s n None = Err (fault.BadLine n)
+after_said s n (Some said.Nothing) =
+    Ok (record { lines = n; requests = s.requests; lanes = s.lanes })
+after_said s n (Some (said.Lane name)) = after_lane s n name
+after_said s n (Some (said.Request request)) = after_request s n request
+
+-- With one more line, or the fault of that line: its length, its text or its words are bad; it is
+-- the 65th lane; it is the 20,001st request; a time of it isn't one.
+abbrev pub after_line : SoFar → List ℕ → Result SoFar ScriptFault
+after_line s text =
+    after_said s (s.lines + 1) (option_and_then (λ words. said_of words) (line_words text))
+
+-- a script has a lane
+abbrev pub at_end : SoFar → Result (List LaneData) ScriptFault
+at_end s = if length s.lanes == 0 then Err (fault.BadLine 0) else Ok s.lanes
+
+-- the lanes with these further lines, or the first fault
+abbrev pub script_from : SoFar → List (List ℕ) → Result (List LaneData) ScriptFault
+script_from s [] = at_end s
+script_from s (text ∷ rest) = and_then (after_line s text) (λ next. script_from next rest)
+
+-- The lanes that a script of at most 33,554,432 bytes says, or its first fault. Lines are counted
+-- from 1; where every line is good and there is no lane, line 0 is bad.
+abbrev pub script_of : List ℕ → Result (List LaneData) ScriptFault
+script_of bytes =
+    if nat_lt 33554432 (length bytes) then Err fault.TooLong
+    else script_from (record { lines = 0; requests = 0; lanes = [] }) (lines_from [] bytes)
+
+-- the fault is the script's; want of memory says nothing
+abbrev pub IsRefused : {A : Type 0} → ScriptFault → Result A ScriptFault → Type 0
+IsRefused (fault.BadLine n) meant = meant ≡ Err (fault.BadLine n)
+IsRefused (fault.TooManyLanes n) meant = meant ≡ Err (fault.TooManyLanes n)
+IsRefused (fault.TooManyLines n) meant = meant ≡ Err (fault.TooManyLines n)
+IsRefused (fault.BadTime n) meant = meant ≡ Err (fault.BadTime n)
+IsRefused fault.TooLong meant = meant ≡ Err fault.TooLong
+IsRefused fault.Memory meant = ⊤
+
+-- a reader has taken a line, or is refused with its fault
+abbrev pub Reads : SoFar → Result Unit ScriptFault → Result SoFar ScriptFault → Type 0
+Reads now result meant = MatchResult result (λ _. meant ≡ Ok now) (λ f. IsRefused f meant)
+
+-- the times of a request are at most 99:59:59
+abbrev pub HasTimes : Line → Type 0
+HasTimes (line.Ask q) = q.leave ≤ℤ pos 359999
+HasTimes (line.Profile q) = q.last ≤ℤ pos 359999
+
+-- a line that is a request, if it is one, has such times
+abbrev pub SaysTimes : Option Said → Type 0
+SaysTimes None = ⊤
+SaysTimes (Some said.Nothing) = ⊤
+SaysTimes (Some (said.Lane name)) = ⊤
+SaysTimes (Some (said.Request None)) = ⊤
+SaysTimes (Some (said.Request (Some request))) = HasTimes request
+
+-- how many requests the lanes have
+abbrev pub request_count : List LaneData → ℕ
+request_count lanes = sum_by (λ l. length (LaneData.lines l)) lanes
+
+-- at most 64 lanes with at most 20,000 requests in all, whose times are good
+pub record IsWithinLimits (lanes : List LaneData) : Type 0 where
+  pub few : length lanes ≤ 64
+  pub requests : request_count lanes ≤ 20000
+  pub times : All (λ l. All HasTimes (LaneData.lines l)) lanes
+
+-- the same, with at least one lane
+abbrev pub IsScript : List LaneData → Type 0
+IsScript lanes = (0 < length lanes) × IsWithinLimits lanes

@@ -1,0 +1,160 @@
+//! One lane.
+ghost use Rattle.std.specs.Prelude.{◌≡◌, ◌<◌, ◌≤◌, ◌+◌, ◌^◌, ◌-◌, All, List, true, length, IfOk};
+ghost use Rattle.history.specs.Lists.{Extends, StartsWith};
+ghost use Rattle.edition_store.specs.Editions.{EditionData};
+ghost use Rattle.query_gate.specs.Callers.{HasLegNumbersIn};
+ghost use Rattle.lane_serve.specs.Script.{HasTimes};
+ghost use Rattle.lane_serve.specs.Lanes.{IsAnswered, IsClosing, IsLaneRun, IsReplyOf, is_due, to_close, wanted};
+
+use crate::reply::reply_text;
+use crate::script::Line;
+use edition_store::{Last, Naming};
+use query_gate::{Answer, Caller};
+use std::alloc::Global;
+use std::marker::Model;
+use tb_base::{Gate, Memory, Name, Work};
+
+/// The reply to a request: the request's number in its lane, from 1; the number of the edition that
+/// it was answered by, from 1; and the reply's lines.
+#[derive(Drop)]
+pub struct ReplyText {
+    pub line: u32,
+    pub edition: u32,
+    pub text: Name,
+}
+
+/// A lane's name, and replies to requests of it, in order.
+#[derive(Drop)]
+pub struct LaneReport {
+    pub name: Name,
+    pub replies: Vec<ReplyText>,
+}
+
+impl Model for LaneReport {
+    ghost use Rattle.lane_serve.specs.Lanes.{ReportData};
+
+    ghost Value = { ReportData };
+
+    ghost view = { λ r. record { name = r.name; replies = r.replies.items } };
+}
+
+// What a request is answered.
+fn asked<J: Naming>(
+    alloc: Global,
+    caller: &mut Caller<J>,
+    request: &Line,
+) -> Result<Answer<J>, Memory>
+    requires { HasTimes request.now }
+    ensures reply { IfOk result
+        (λ a. IsReplyOf a.pinned.list (length a.pinned.list) request.now a.reply) }
+    ensures numbers { IfOk result
+        (λ a. HasLegNumbersIn a.pinned.list (length a.pinned.list) a.reply) }
+    ensures kept { IfOk result (λ a. caller.new.kept ≡ a.pinned) }
+    ensures later { Extends caller.new.kept caller.old.kept }
+    ensures last { caller.old.kept.closed ≡ true → caller.new.kept ≡ caller.old.kept }
+{
+    match request {
+        Line::Ask(text) => caller.ask(alloc, text),
+        Line::Profile(text) => caller.profile(alloc, text),
+    }
+}
+
+// The reply to request k of a lane, by the last edition of the list that the caller then keeps.
+fn answer<J: Naming>(
+    alloc: Global,
+    caller: &mut Caller<J>,
+    k: u32,
+    request: &Line,
+) -> Result<ReplyText, Memory>
+    requires { HasTimes request.now }
+    ensures line { IfOk result (λ r. r.line ≡ k) }
+    ensures edition { IfOk result (λ r. r.edition ≡ length caller.new.kept.list) }
+    ensures right { IfOk result (IsAnswered caller.new.kept.list request.now) }
+    ensures later { Extends caller.new.kept caller.old.kept }
+    ensures last { caller.old.kept.closed ≡ true → caller.new.kept ≡ caller.old.kept }
+{
+    let answer = asked(alloc, caller, request)?;
+    let text = reply_text(alloc, answer.pinned.edition(), &answer.reply)?;
+    Ok(ReplyText {
+        line: k,
+        edition: answer.pinned.number(),
+        text: Name::new(alloc, text.as_slice())?,
+    })
+}
+
+/// Answers the requests of a lane in order. The gate is told of each, before it is asked and when
+/// it is answered. The replies are a lane's run over the list that the caller keeps afterwards, and
+/// over each longer one. Waits for nobody but the gate. Refused only for want of memory.
+pub fn run_lane<J: Naming, G: Gate>(
+    alloc: Global,
+    gate: &G,
+    lane: u32,
+    caller: &mut Caller<J>,
+    requests: &[Line],
+) -> Result<Vec<ReplyText>, Memory>
+    requires few { length requests.now ≤ 20000 }
+    requires times { All HasTimes requests.now }
+    ensures run { IfOk result (λ v. IsLaneRun caller.new.kept.list requests.now v.items) }
+    ensures longer { IfOk result (λ v. (es : List EditionData) →
+        StartsWith es caller.new.kept.list → IsLaneRun es requests.now v.items) }
+    ensures later { Extends caller.new.kept caller.old.kept }
+{
+    let mut replies = Vec::new(alloc);
+    for i in 0..requests.len() {
+        let line = i as u32;
+        gate.begin(Work::Request { lane, line });
+        let reply = answer(alloc, caller, line + 1, &requests[i]);
+        gate.done(Work::Request { lane, line });
+        let Ok(()) = replies.push(reply?) else {
+            return Err(Memory);
+        };
+    }
+    Ok(replies)
+}
+
+// The edition from which on a request may be answered.
+fn wanted(request: &Line) -> u32
+    ensures { result ≡ wanted request.now }
+{
+    match request {
+        Line::Ask(text) => text.since,
+        Line::Profile(text) => text.since,
+    }
+}
+
+// Whether request k is answered once more: the first one, and each that was deferred.
+fn is_due(k: u32, request: &Line, reply: &ReplyText) -> bool
+    ensures { result ≡ is_due k request.now reply.now }
+{
+    k == 1 || reply.edition < wanted(request)
+}
+
+/// Answers the first request of a lane and each that was deferred once more, by the last edition.
+/// Waits for nobody. Refused only for want of memory.
+pub fn close_lane<J: Naming>(
+    alloc: Global,
+    caller: &mut Caller<J>,
+    last: &Last<J>,
+    requests: &[Line],
+    replies: &[ReplyText],
+) -> Result<Vec<ReplyText>, Memory>
+    requires few { length requests.now ≤ 20000 }
+    requires times { All HasTimes requests.now }
+    requires replies { length replies.now ≡ length requests.now }
+    ensures closing { IfOk result
+        (λ v. IsClosing last.now (to_close 1 requests.now replies.now) v.items) }
+    ensures known { IfOk result (λ _. StartsWith last.now caller.old.kept.list) }
+{
+    caller.learn_last(last)?;
+    let mut closing = Vec::new(alloc);
+    for i in 0..requests.len() {
+        let k = i as u32 + 1;
+        if is_due(k, &requests[i], &replies[i]) {
+            let reply = answer(alloc, caller, k, &requests[i])?;
+            let Ok(()) = closing.push(reply) else {
+                return Err(Memory);
+            };
+        }
+    }
+    Ok(closing)
+}

@@ -1,0 +1,258 @@
+//! A plan of days of feeds, which are read, built and published one after another.
+ghost use Rattle.std.specs.Prelude.{◌≡◌, ◌<◌, ◌≤◌, ◌∷◌, [], ◌++◌, ◌+◌, ◌-◌, ◌^◌, IfErr, IfOk, length, take};
+ghost use Rattle.lane_serve.specs.Plans.{AreOptions, AreOutcomes, AreWorkers, BeginsPublished, HasStopped, IsBuilt, Takes, outcome_of};
+ghost use Rattle.lane_serve.specs.declared.plan.Outcome.TheVariants.{Refused};
+ghost use Rattle.lane_serve.specs.declared.plan.Stop.TheVariants as stop;
+
+use edition_store::{Edition, Naming, Publisher, Shared, build_edition};
+use footpaths::Options;
+use gtfs_rows::FeedFault;
+use service_day::Day;
+use std::alloc::Global;
+use std::marker::Model;
+use std::sync::Wait;
+use std::thread::Threads;
+use tb_base::{Gate, Memory, Work};
+use tb_io::Folder;
+use trip_table::{DayFault, read_day};
+
+/// An item of a plan: a directory of the folder that has a feed, the word that names it with its
+/// day, and the day.
+#[derive(Drop)]
+pub struct PlanItem {
+    pub dir: String,
+    pub word: String,
+    pub day: Day,
+}
+
+impl Model for PlanItem {
+    ghost use Rattle.std.specs.Prelude.{string_bytes};
+    ghost use Rattle.lane_serve.specs.Plans.{ItemData};
+
+    ghost Value = { ItemData };
+
+    ghost view = { λ i. record {
+      dir = string_bytes i.dir;
+      word = string_bytes i.word;
+      day = i.day;
+    } };
+}
+
+/// What became of an item.
+#[derive(Drop)]
+pub enum Outcome {
+    /// It was published as the edition of this number, from 1, with so many trips, lines and kept
+    /// transfers.
+    Published {
+        number: u32,
+        trips: u32,
+        lines: u32,
+        kept: u64,
+    },
+    /// The first thing that is wrong with its feed.
+    Refused(FeedFault),
+}
+
+// What an item is found to be.
+#[derive(Drop)]
+pub(crate) enum Built {
+    Edition(Shared),
+    Refused(FeedFault),
+}
+
+// Why a plan isn't followed to its end.
+#[derive(Drop)]
+pub(crate) enum Stop {
+    ReadFault,
+    Memory,
+}
+
+/// How the feeds of a plan are read and built: what is said of their footpaths, and how many
+/// workers share the reduction of transfers, 1 to 64.
+#[derive(Clone, Copy)]
+pub(crate) struct Building {
+    pub options: Options,
+    pub workers: u32,
+}
+
+// An item's edition, or the first thing that is wrong with its feed.
+pub(crate) fn build_item<F: Folder, G: Gate, R: Threads + Sync>(
+    rt: &R,
+    alloc: Global,
+    gate: &G,
+    building: Building,
+    folder: &mut F,
+    item: &PlanItem,
+) -> Result<Built, Stop>
+    requires options { AreOptions building.options }
+    requires workers { AreWorkers building.workers }
+    requires count { F.faults folder.old < 2 ^ 64 - 1 }
+    ensures files { F.files folder.new ≡ F.files folder.old }
+    ensures faults { IfOk result (λ _. F.faults folder.new ≡ F.faults folder.old) }
+    ensures stop { IfErr result (HasStopped (F.faults folder.old) (F.faults folder.new)) }
+    ensures built { IfOk result (IsBuilt (F.files folder.old) building.options item.now) }
+{
+    match read_day(
+        alloc,
+        folder,
+        item.dir.as_str(),
+        &item.day,
+        &building.options,
+    ) {
+        Ok(table) => match build_edition(rt, alloc, table, building.workers, gate) {
+            Ok(edition) => {
+                edition.edition().soundness();
+                Ok(Built::Edition(edition))
+            }
+            Err(Memory) => Err(Stop::Memory),
+        },
+        Err(DayFault::Feed(fault)) => Ok(Built::Refused(fault)),
+        Err(DayFault::ReadFault) => Err(Stop::ReadFault),
+        Err(DayFault::Memory) => Err(Stop::Memory),
+    }
+}
+
+// The outcome of an item that is published as the edition of this number.
+pub(crate) fn outcome_of(number: u32, edition: &Edition) -> Outcome
+    ensures { result ≡ outcome_of number edition.now }
+{
+    Outcome::Published {
+        number,
+        trips: edition.table().trip_count(),
+        lines: edition.lines().count(),
+        kept: edition.kept(),
+    }
+}
+
+// Publishes the edition of item i. The gate is told just before and right after.
+fn publish<J: Naming, G: Gate, R: Wait>(
+    rt: &R,
+    gate: &G,
+    i: u32,
+    edition: Shared,
+    publisher: Publisher<J>,
+) -> Result<Publisher<J>, Memory>
+    requires { length publisher < 100 }
+    ensures { IfOk result (λ p. p ≡ publisher ++ edition ∷ []) }
+{
+    gate.begin(Work::Publication(i));
+    let published = publisher.publish(rt, edition);
+    gate.done(Work::Publication(i));
+    let (publisher, _receipt) = published?;
+    Ok(publisher)
+}
+
+// Publishes item i, with its outcome.
+fn take_edition<J: Naming, G: Gate, R: Wait>(
+    rt: &R,
+    gate: &G,
+    i: u32,
+    edition: Shared,
+    outcomes: &mut Vec<Outcome>,
+    publisher: Publisher<J>,
+) -> Result<Publisher<J>, Stop>
+    requires { length publisher < 100 }
+    ensures list { IfOk result (λ p. p ≡ publisher ++ edition ∷ []) }
+    ensures outcome { IfOk result (λ _. outcomes.new.items
+        ≡ outcomes.old.items ++ outcome_of (length publisher + 1) edition ∷ []) }
+    ensures stop { IfErr result (λ e. e ≡ stop.Memory) }
+{
+    let outcome = outcome_of(publisher.count() + 1, edition.edition());
+    let Ok(()) = outcomes.push(outcome) else {
+        let _last = publisher.finish(rt);
+        return Err(Stop::Memory);
+    };
+    match publish(rt, gate, i, edition, publisher) {
+        Ok(publisher) => Ok(publisher),
+        Err(Memory) => Err(Stop::Memory),
+    }
+}
+
+// Refuses an item.
+fn take_fault<J: Naming, R: Wait>(
+    rt: &R,
+    fault: FeedFault,
+    outcomes: &mut Vec<Outcome>,
+    publisher: Publisher<J>,
+) -> Result<Publisher<J>, Stop>
+    ensures list { IfOk result (λ p. p ≡ publisher) }
+    ensures outcome { IfOk result (λ _. outcomes.new.items
+        ≡ outcomes.old.items ++ Refused fault ∷ []) }
+    ensures stop { IfErr result (λ e. e ≡ stop.Memory) }
+{
+    let Ok(()) = outcomes.push(Outcome::Refused(fault)) else {
+        let _last = publisher.finish(rt);
+        return Err(Stop::Memory);
+    };
+    Ok(publisher)
+}
+
+// Reads, builds and publishes item i, or refuses it.
+fn take_item<J: Naming, F: Folder, G: Gate, R: Threads + Wait + Sync>(
+    rt: &R,
+    alloc: Global,
+    gate: &G,
+    building: Building,
+    folder: &mut F,
+    i: u32,
+    item: &PlanItem,
+    outcomes: &mut Vec<Outcome>,
+    publisher: Publisher<J>,
+) -> Result<Publisher<J>, Stop>
+    requires options { AreOptions building.options }
+    requires workers { AreWorkers building.workers }
+    requires count { F.faults folder.old < 2 ^ 64 - 1 }
+    requires room { length publisher < 100 }
+    ensures files { F.files folder.new ≡ F.files folder.old }
+    ensures faults { IfOk result (λ _. F.faults folder.new ≡ F.faults folder.old) }
+    ensures stop { IfErr result (HasStopped (F.faults folder.old) (F.faults folder.new)) }
+    ensures taken { IfOk result (λ p. Takes (F.files folder.old) building.options item.now
+        publisher p outcomes.old.items outcomes.new.items) }
+{
+    match build_item(rt, alloc, gate, building, folder, item) {
+        Ok(Built::Edition(edition)) => take_edition(rt, gate, i, edition, outcomes, publisher),
+        Ok(Built::Refused(fault)) => take_fault(rt, fault, outcomes, publisher),
+        Err(stop) => {
+            let _last = publisher.finish(rt);
+            Err(stop)
+        }
+    }
+}
+
+// Reads, builds and publishes the plan's further items in order, behind the first one, which is
+// published.
+pub(crate) fn publish_rest<J: Naming, F: Folder, G: Gate, R: Threads + Wait + Sync>(
+    rt: &R,
+    alloc: Global,
+    gate: &G,
+    building: Building,
+    folder: &mut F,
+    plan: &[PlanItem],
+    outcomes: &mut Vec<Outcome>,
+    publisher: Publisher<J>,
+) -> Result<Publisher<J>, Stop>
+    requires options { AreOptions building.options }
+    requires workers { AreWorkers building.workers }
+    requires count { F.faults folder.old < 2 ^ 64 - 1 }
+    requires plan { length plan.now ≤ 100 }
+    requires first { AreOutcomes (F.files folder.old) building.options 0 (take 1 plan.now)
+        outcomes.old.items publisher }
+    requires begins { BeginsPublished outcomes.old.items }
+    ensures files { F.files folder.new ≡ F.files folder.old }
+    ensures faults { IfOk result (λ _. F.faults folder.new ≡ F.faults folder.old) }
+    ensures stop { IfErr result (HasStopped (F.faults folder.old) (F.faults folder.new)) }
+    ensures outcomes { IfOk result (AreOutcomes (F.files folder.old) building.options 0 plan.now
+        outcomes.new.items) }
+    ensures begins { IfOk result (λ _. BeginsPublished outcomes.new.items) }
+{
+    let mut publisher = publisher;
+    for i in 1..plan.len() {
+        publisher = match take_item(
+            rt, alloc, gate, building, folder, i as u32, &plan[i], outcomes, publisher,
+        ) {
+            Ok(next) => next,
+            Err(stop) => return Err(stop),
+        };
+    }
+    Ok(publisher)
+}

@@ -1,0 +1,275 @@
+//! Scripts.
+ghost use Rattle.std.specs.Prelude.{◌≡◌, ◌<◌, ◌^◌, ◌+◌, ◌-◌, [], Ok, IfOk, IfSome, OnErr, OnOk, MatchResult, length};
+ghost use Rattle.std.specs.Option.{option_and_then};
+ghost use Rattle.tb_base.specs.LineWords.{line_words};
+ghost use Rattle.lane_serve.specs.Script.{HasTimes, IsRefused, IsScript, Reads, SaysTimes, after_lane, after_line, after_request, after_said, at_end, last_line, said_of, script_from, script_of, with_request, without_cr};
+
+use crate::said::{Said, said_of};
+use query_gate::{AskText, ProfileText};
+use std::alloc::Global;
+use std::marker::Model;
+use tb_base::{Memory, Name, line_words};
+
+const MOST_BYTES: usize = 33_554_432;
+
+const MOST_LANES: usize = 64;
+
+const MOST_REQUESTS: u32 = 20_000;
+
+/// A request.
+#[derive(Drop)]
+pub enum Line {
+    /// For the best values.
+    Ask(AskText),
+    /// For a profile.
+    Profile(ProfileText),
+}
+
+/// A lane: its name, and its requests in order.
+#[derive(Drop)]
+pub struct Lane {
+    pub name: Name,
+    pub lines: Vec<Line>,
+}
+
+impl Model for Lane {
+    ghost use Rattle.lane_serve.specs.Script.{LaneData};
+
+    ghost Value = { LaneData };
+
+    ghost view = { λ l. record { name = l.name; lines = l.lines.items } };
+}
+
+/// A script: its lanes in order.
+#[derive(Drop)]
+pub struct Script {
+    pub lanes: Vec<Lane>,
+}
+
+impl Model for Script {
+    ghost use Rattle.std.specs.Prelude.{List};
+    ghost use Rattle.lane_serve.specs.Script.{LaneData};
+
+    ghost Value = { List LaneData };
+
+    ghost view = { λ s. s.lanes.items };
+}
+
+/// Why a script is refused, with the number of the line, from 1. In the order in which they are
+/// tried at one line.
+#[derive(Debug, Clone, Copy, PartialEq, Eq)]
+pub enum ScriptFault {
+    /// A line is too long, isn't UTF-8, has a word that isn't closed, or has no form of a script's
+    /// line; or it is a request before the first lane. 0 where there is no lane.
+    BadLine(u32),
+    /// The 65th lane.
+    TooManyLanes(u32),
+    /// The 20,001st request.
+    TooManyLines(u32),
+    /// A time isn't one.
+    BadTime(u32),
+    /// More than 33,554,432 bytes.
+    TooLong,
+    /// Want of memory, which may come at any time.
+    Memory,
+}
+
+impl From<Memory> for ScriptFault {
+    ghost use Rattle.std.specs.Prelude.{◌≡◌};
+    ghost use Rattle.lane_serve.specs.declared.script.ScriptFault.TheVariants as why;
+
+    ghost from_gives = { λ _ fault. fault ≡ why.Memory };
+
+    fn from(_refusal: Memory) -> ScriptFault {
+        ScriptFault::Memory
+    }
+}
+
+// A reader of a script: how many lines and requests it has read, and the lanes so far.
+#[derive(Drop)]
+struct ScriptReader {
+    alloc: Global,
+    lines: u32,
+    requests: u32,
+    lanes: Vec<Lane>,
+}
+
+impl Model for ScriptReader {
+    ghost use Rattle.std.specs.Prelude.{◌≡◌};
+    ghost use Rattle.lane_serve.specs.Script.{IsWithinLimits, SoFar, request_count};
+
+    ghost Value = { SoFar };
+
+    ghost view = { λ r. record { lines = r.lines; requests = r.requests; lanes = r.lanes.items } };
+
+    ghost invariant = { λ r. (r.requests ≡ request_count r.lanes.items) × IsWithinLimits r.lanes.items };
+}
+
+// Adds a request to the last lane.
+fn add_request(lanes: &mut Vec<Lane>, request: Line) -> Result<(), Memory>
+    requires { 0 < length lanes.old.items }
+    ensures ok { OnOk result (lanes.new.items ≡ with_request request lanes.old.items) }
+    ensures refused { OnErr result (lanes.new.items ≡ lanes.old.items) }
+{
+    let last = lanes.len() - 1;
+    lanes[last].lines.push(request)?;
+    Ok(())
+}
+
+// A line without a carriage return at its end.
+fn without_cr(text: &[u8]) -> &[u8]
+    ensures { result.now ≡ without_cr text.now }
+{
+    let before = text.len().saturating_sub(1);
+    if &text[before..] == b"\r".as_slice() {
+        &text[..before]
+    } else {
+        text
+    }
+}
+
+impl ScriptReader {
+    // A reader at the start of a script.
+    fn new(alloc: Global) -> ScriptReader
+        ensures { result ≡ record { lines = 0; requests = 0; lanes = [] } }
+    {
+        ScriptReader {
+            alloc,
+            lines: 0,
+            requests: 0,
+            lanes: Vec::new(alloc),
+        }
+    }
+
+    // A line that begins a lane.
+    fn take_lane(&mut self, line: u32, name: Name) -> Result<(), ScriptFault>
+        ensures reads { Reads self.new result (after_lane self.old line name) }
+        ensures lines { OnOk result (self.new.lines ≡ line) }
+    {
+        if self.lanes.len() >= MOST_LANES {
+            return Err(ScriptFault::TooManyLanes(line));
+        }
+        let lines = Vec::new(self.alloc);
+        if self.lanes.push(Lane { name, lines }).is_err() {
+            return Err(ScriptFault::Memory);
+        }
+        self.lines = line;
+        Ok(())
+    }
+
+    // A line that is a request.
+    fn take_request(&mut self, line: u32, request: Option<Line>) -> Result<(), ScriptFault>
+        requires { IfSome request HasTimes }
+        ensures reads { Reads self.new result (after_request self.old line request) }
+        ensures lines { OnOk result (self.new.lines ≡ line) }
+    {
+        if self.lanes.is_empty() {
+            return Err(ScriptFault::BadLine(line));
+        }
+        if self.requests >= MOST_REQUESTS {
+            return Err(ScriptFault::TooManyLines(line));
+        }
+        let Some(request) = request else {
+            return Err(ScriptFault::BadTime(line));
+        };
+        add_request(&mut self.lanes, request)?;
+        self.requests += 1;
+        self.lines = line;
+        Ok(())
+    }
+
+    // A line that says this.
+    fn take_said(&mut self, line: u32, said: Option<Said>) -> Result<(), ScriptFault>
+        requires { SaysTimes said }
+        ensures reads { Reads self.new result (after_said self.old line said) }
+        ensures lines { OnOk result (self.new.lines ≡ line) }
+    {
+        match said {
+            None => Err(ScriptFault::BadLine(line)),
+            Some(Said::Nothing) => {
+                self.lines = line;
+                Ok(())
+            }
+            Some(Said::Lane(name)) => self.take_lane(line, name),
+            Some(Said::Request(request)) => self.take_request(line, request),
+        }
+    }
+
+    // The next line.
+    fn take(&mut self, text: &[u8]) -> Result<(), ScriptFault>
+        requires { self.old.lines < 2 ^ 32 - 1 }
+        ensures reads { Reads self.new result (after_line self.old text.now) }
+        ensures lines { OnOk result (self.new.lines ≡ self.old.lines + 1) }
+    {
+        let said = match line_said(self.alloc, text) {
+            Ok(said) => said,
+            Err(Memory) => return Err(ScriptFault::Memory),
+        };
+        self.take_said(self.lines + 1, said)
+    }
+
+    // The lanes, at the end of the script.
+    fn end(self) -> Result<Script, ScriptFault>
+        ensures script { MatchResult result (λ s. at_end self ≡ Ok s)
+            (λ f. IsRefused f (at_end self)) }
+        ensures good { IfOk result (λ s. IsScript s) }
+    {
+        if self.lanes.is_empty() {
+            return Err(ScriptFault::BadLine(0));
+        }
+        Ok(Script { lanes: self.lanes })
+    }
+
+    // The lanes, at the end of a script with these bytes behind its last line feed.
+    fn end_behind(self, text: &[u8]) -> Result<Script, ScriptFault>
+        requires { self.lines < 2 ^ 32 - 1 }
+        ensures script { MatchResult result (λ s. script_from self (last_line text.now) ≡ Ok s)
+            (λ f. IsRefused f (script_from self (last_line text.now))) }
+        ensures good { IfOk result (λ s. IsScript s) }
+    {
+        if text.is_empty() {
+            return self.end();
+        }
+        let mut reader = self;
+        match reader.take(without_cr(text)) {
+            Ok(()) => reader.end(),
+            Err(fault) => Err(fault),
+        }
+    }
+}
+
+// What a line of a script says, or none.
+fn line_said(alloc: Global, text: &[u8]) -> Result<Option<Said>, Memory>
+    ensures said { IfOk result
+        (λ said. said ≡ option_and_then (λ words. said_of words) (line_words text.now)) }
+    ensures times { IfOk result SaysTimes }
+{
+    match line_words(alloc, text)? {
+        Some(words) => said_of(alloc, words.as_slice()),
+        None => Ok(None),
+    }
+}
+
+/// The lanes of a script, or exactly its first fault: bytes in lines, which a line feed ends, or a
+/// carriage return and a line feed. The words of a line are those of `line_words`; a line without
+/// words, and one whose first byte is `#`, is passed over. `lane NAME` begins a lane; `ask FROM TO
+/// TIME` and `profile FROM TO FIRST LAST` are requests of it; `since N` before either, with N of 1
+/// to 9 digits, wants edition N or a later one.
+pub fn read_script(alloc: Global, bytes: &[u8]) -> Result<Script, ScriptFault>
+    ensures script { MatchResult result (λ s. script_of bytes.now ≡ Ok s)
+        (λ f. IsRefused f (script_of bytes.now)) }
+    ensures good { IfOk result (λ s. IsScript s) }
+{
+    if bytes.len() > MOST_BYTES {
+        return Err(ScriptFault::TooLong);
+    }
+    let mut reader = ScriptReader::new(alloc);
+    let mut from = 0;
+    for at in 0..bytes.len() {
+        if bytes[at] == b'\n' {
+            reader.take(without_cr(&bytes[from..at]))?;
+            from = at + 1;
+        }
+    }
+    reader.end_behind(&bytes[from..])
+}
