@@ -3,7 +3,3 @@ mod Times
 mod Runs
 mod Answering
 mod Plans
-mod Reports
-mod OutcomeLines
-mod Sent
-mod Causes

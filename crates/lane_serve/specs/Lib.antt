@@ -1,6 +1,3 @@
 pub mod Script
 pub mod Lanes
 pub mod Plans
-pub mod Served
-pub mod Seats
-pub mod Texts

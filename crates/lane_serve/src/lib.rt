@@ -13,11 +13,7 @@ mod plan;
 mod reply;
 mod said;
 mod script;
-mod run;
-mod texts;
 
 pub use lane::{LaneReport, ReplyText, close_lane, run_lane};
 pub use plan::{Outcome, PlanItem};
 pub use script::{Lane, Line, Script, ScriptFault, read_script};
-pub use run::{ServeFault, Served, serve};
-pub use texts::served_text;

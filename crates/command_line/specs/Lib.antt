@@ -1,3 +1,0 @@
-pub mod Inquiries
-pub mod Arguments
-pub mod Requests
