@@ -1,4 +1,6 @@
 //! Two editions of one day, and what is asked of them.
+ghost use Rattle.std.specs.Prelude.{◌≤ℤ◌, IfOk, pos};
+
 use edition_store::{Edition, Shared, build_edition};
 use made_feeds::{Feed, timetable};
 use query_gate::{AskText, Reply};
@@ -51,8 +53,11 @@ pub fn fast<R: Threads + Sync>(rt: &R, alloc: Global) -> Result<Shared, Memory> 
     edition(rt, alloc, FAST)
 }
 
-/// A question from A at eight o'clock, to be answered by an edition with this number or a later one.
-pub fn text_to(alloc: Global, to: &[u8], since: u32) -> Result<AskText, Memory> {
+/// A question from A at eight o'clock, to be answered by an edition with this number or a later
+/// one.
+pub fn text_to(alloc: Global, to: &[u8], since: u32) -> Result<AskText, Memory>
+    ensures { IfOk result (λ text. text.leave ≤ℤ pos 359999) }
+{
     Ok(AskText {
         since,
         from: Name::new(alloc, b"A".as_slice())?,
