@@ -15,8 +15,8 @@ use tb_base::Query;
 /// Searches over a set of hops that is sufficient, and leaves the answer in the desk: its hits have
 /// exactly the best values of the query, and its segments go by hops of the set. It goes on from
 /// everywhere but where it arrives no earlier than a hit with no more rides; so for a query without
-/// targets the segments serve every stop. It takes no memory, and steps at most once for each event
-/// and once for each line index at the stops with a walk from an origin.
+/// targets the segments serve every stop. It takes no memory, and at most as many steps as there
+/// are events and, at the stops with a walk from an origin, line indices.
 pub fn earliest<L: Ledger, S: Look<L>>(
     scan: &S,
     query: &Query,

@@ -10,9 +10,9 @@
 //! A `Store` gives one `Publisher`, which appends editions to one list and closes it in the end,
 //! and its seats, which pin the list in other threads and never wait for it: two copies of the list
 //! are kept, and readers are moved from one to the other (`left_right`). What is pinned stays as it
-//! is for as long as it is held. To the layer above the crate promises that a pinned list was
-//! published, that it begins with all that its seat has pinned or learned before, and that the
-//! whole list begins with it; a seat that has learned the whole list pins that. Which list a seat
+//! is for as long as it is held. To the layer above the crate promises that a pinned list
+//! begins with all that its seat has pinned or learned before, and that the whole list, once the
+//! seat learns it, begins with what it pinned; a seat that has learned the whole list pins that. Which list a seat
 //! that learned nothing meets, and when, it does not promise. The types of one store carry its name
 //! `J`.
 #![tactic(auto)]

@@ -1,4 +1,4 @@
--- BestRules at the stops from which one stop can be reached.
+-- The best verdict at each stop from which one stop can be reached.
 use Rattle.std.specs.Prelude.{◌≢◌, ℕ, ◌<◌, ◌==◌, List, length, Option, Some, None, Contains, All, Bool, true, false, nat_lt, max, if◌then◌else◌, slice_index_or}
 use Rattle.footpaths.specs.declared.best_rules.Verdict.{Verdict}
 use Rattle.gtfs_rows.specs.StopsFile.{StopData}

@@ -8,6 +8,7 @@
 #![tactic(auto)]
 
 ghost use Rattle.std.specs.Prelude.{◌≡◌, IfOk};
+ghost use Rattle.tb_base.specs.Lines.{AreLines};
 
 mod berths;
 mod departures;
@@ -32,7 +33,8 @@ use tb_base::{Memory, Timetable};
 /// another. Each trip, in the order of all times and then of the numbers, joins the first line
 /// whose last trip is nowhere later, else it opens the next line.
 pub fn split(alloc: Global, table: &Timetable) -> Result<Lines, Memory>
-    ensures { IfOk result (λ lines. lines.table ≡ table.now) }
+    ensures table { IfOk result (λ lines. lines.table ≡ table.now) }
+    ensures lines { IfOk result (λ lines. AreLines table.now lines.lines) }
 {
     table.soundness();
     let order = trip_order(alloc, table)?;
@@ -40,5 +42,7 @@ pub fn split(alloc: Global, table: &Timetable) -> Result<Lines, Memory>
     let places = places_of(alloc, table.trip_count(), &lines)?;
     let berths = berths_of(alloc, table, &lines)?;
     let (starts, departures) = departures_of(alloc, table, &lines)?;
-    Ok(Lines::new(table, lines, places, berths, starts, departures))
+    let split = Lines::new(table, lines, places, berths, starts, departures);
+    split.soundness();
+    Ok(split)
 }

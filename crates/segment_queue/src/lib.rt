@@ -1,6 +1,6 @@
 //! The queue of a search by trip segments (Witt, Trip-Based Public Transit Routing, ESA 2015), and what the search looks at.
 //!
-//! A `Scan` shows a timetable, its lines and a set of hops, one event at a time, and counts each look. A `Desk` holds the
+//! A `Scan` shows a timetable, its lines and a set of hops, a `Look` one event at a time, and counts each look. A `Desk` holds the
 //! segments that a search has entered, a mark for each trip, and the hits. To the layer above it promises that segments of
 //! one trip cover no event twice, that marks along a line never rise, and that a desk that fits needs no more memory.
 #![tactic(auto)]

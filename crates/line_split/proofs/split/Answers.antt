@@ -14,8 +14,8 @@ places_of-requires-clause-trips c =
     rows-all (λ t. t < c.trip_count.result) c.in_ok-lines.lines
     (subst (λ n. All (λ t. t < n) (concat c.in_ok-lines.lines)) (sym c.trip_count.ensures) (lines_divide T c.in_ok-lines.lines are).trips)
 
-pub new-requires : goal.new-requires
-new-requires c =
+pub new-split-requires : goal.new-split-requires
+new-split-requires c =
     let T = c.args.table.now in
     let placed : c.in_ok-lines.lines ≡ fold (place_trip c.args.table.now) [] c.in_ok-order.order.items = c.in_ok-lines.ensures.placed ∙ ap (fold (place_trip T) []) c.as_slice.ensures.value in
     let are : AreLines T c.in_ok-lines.lines = record { order = c.in_ok-order.order.items; in_order = c.in_ok-order.ensures.order; placed = placed } in
