@@ -1,0 +1,46 @@
+//! A made city, for measuring.
+//!
+//! `city` gives the timetable of a square grid of stops, with trips along its rows and its columns
+//! both ways, of any size up to 40 by 40 stops: 14,400 trips with 576,000 events. To the layer above
+//! it promises every part of it: each name, number, time and stop. Times are those of a service day
+//! of the GTFS Schedule Reference, in seconds from noon minus twelve hours.
+#![tactic(auto)]
+
+ghost use Rattle.std.specs.Prelude.{◌≡◌, ◌<◌, ◌≤◌, IfOk};
+ghost use Rattle.feed_maker.specs.City.{city};
+
+mod grid;
+mod heading;
+mod lines;
+
+use std::alloc::Global;
+use tb_base::{Memory, Parts, Timetable};
+
+// The parts of the city with so many rows and columns.
+fn parts(alloc: Global, side: u32) -> Result<Parts, Memory>
+    requires some { 0 < side }
+    requires few { side ≤ 40 }
+    ensures { IfOk result (λ parts. parts ≡ city side) }
+{
+    let count = (side * side) as usize;
+    Ok(Parts {
+        stops: grid::stops(alloc, side)?,
+        stations: Vec::new(alloc),
+        trips: lines::trips(alloc, side)?,
+        change: grid::change_times(alloc, count)?,
+        paths: grid::no_footpaths(alloc, count)?,
+    })
+}
+
+/// The city with so many rows and columns: the stop in column x and row y has the name `Sx-y`;
+/// along each of them 90 trips head each way, from 06:00:00 on or up to nine minutes later, one
+/// every ten minutes and a minute and a half from stop to stop. To change takes a minute at every
+/// stop. Takes time and memory by the number of events. Refused only for want of memory.
+#[tactic(auto, using(crate::proofs::Sound::city_sound))]
+pub fn city(alloc: Global, side: u32) -> Result<Timetable, Memory>
+    requires some { 2 ≤ side }
+    requires few { side ≤ 40 }
+    ensures { IfOk result (λ table. table ≡ city side) }
+{
+    Timetable::new(alloc, parts(alloc, side)?)
+}
