@@ -38,7 +38,6 @@ pub fn report<G: Gate, R: Threads + Sync>(
     ensures { IfOk result (λ text. IsReport table.now list text.items) }
 {
     let lines = split(alloc, table)?;
-    lines.soundness();
     let reduced = reduce_all(rt, alloc, table, &lines, workers, gate)?;
     let counts = counts_of(&lines, &reduced);
     if list {

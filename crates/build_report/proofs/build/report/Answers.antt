@@ -1,8 +1,6 @@
 use Rattle.std.proofs.Common.{◌∙◌, sym, ap, subst, map}
 use Rattle.std.proofs.lemmas.Result.{IfOk-weaker}
-use Rattle.tb_base.specs.Lines.{AreLines}
 use Rattle.tb_base.specs.OutSets.{AreRowsOf}
-use Rattle.tb_base.specs.TimetableData.{TimetableData}
 use Rattle.reduce_workers.specs.Reductions.{ReducedData}
 use Rattle.build_report.proofs.Named.{all_named}
 use Rattle.build_report.proofs.Reporting.{report_listed, report_unlisted}
@@ -17,9 +15,9 @@ pub returns-then-list : goal.returns-then-list
 returns-then-list g c =
     let rows = ap (map (λ row. row.items)) c.as_slice.ensures.value ∙ ap (λ (r : ReducedData). r.rows) c.reduced.view_is in
     let same = report_listed c.args.table.now c.in_ok-lines.lines.lines c.args.list c.in_ok-reduced.reduced c.in_ok-reduced.ensures.reduced c.counts_of-counts.result c.counts_of-counts.ensures _ rows c.if-list.true in
-    IfOk-weaker c.build_list_text.result _ _ (λ text written. record { lines = c.in_ok-lines.lines.lines; are_lines = subst (λ (T : TimetableData). AreLines T c.in_ok-lines.lines.lines) c.in_ok-lines.ensures c.soundness.ensures.lines; text = written ∙ same }) c.build_list_text.ensures
+    IfOk-weaker c.build_list_text.result _ _ (λ text written. record { lines = c.in_ok-lines.lines.lines; are_lines = c.in_ok-lines.ensures.lines; text = written ∙ same }) c.build_list_text.ensures
 
 pub returns : goal.returns
 returns g c =
     let same = report_unlisted c.args.table.now c.in_ok-lines.lines.lines c.args.list c.in_ok-reduced.reduced c.in_ok-reduced.ensures.reduced c.counts_of-counts.result c.counts_of-counts.ensures c.if-list.false in
-    IfOk-weaker c.build_text.result _ _ (λ text written. record { lines = c.in_ok-lines.lines.lines; are_lines = subst (λ (T : TimetableData). AreLines T c.in_ok-lines.lines.lines) c.in_ok-lines.ensures c.soundness.ensures.lines; text = written ∙ same }) c.build_text.ensures
+    IfOk-weaker c.build_text.result _ _ (λ text written. record { lines = c.in_ok-lines.lines.lines; are_lines = c.in_ok-lines.ensures.lines; text = written ∙ same }) c.build_text.ensures
