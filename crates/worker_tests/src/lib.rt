@@ -1,4 +1,4 @@
-//! Tests of the workers that share a reduction, over a feed in memory.
+//! Tests of the workers that share a reduction, over a made city.
 #![tactic(auto)]
 
 #[cfg(test)]
