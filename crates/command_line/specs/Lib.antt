@@ -1,0 +1,6 @@
+pub mod Inquiries
+pub mod Arguments
+pub mod Settings
+pub mod DayCommands
+pub mod Plans
+pub mod Requests

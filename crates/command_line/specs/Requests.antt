@@ -1,0 +1,33 @@
+-- What the words of a command line mean.
+use Rattle.std.specs.Prelude.{List, [], ◌∷◌, codes, bytes_eq, Option, None, if◌then◌else◌}
+use Rattle.std.specs.Option.{option_and_then, option_map, unwrap_or}
+use Rattle.clap.specs.Words.{Row, Text, all_of}
+use Rattle.command_line.specs.Arguments.{given}
+use Rattle.command_line.specs.DayCommands.{day_request_from}
+use Rattle.command_line.specs.Plans.{serve_request}
+use Rattle.command_line.specs.Settings.{settings_given}
+use Rattle.command_line.specs.declared.request.Request.{Request}
+use Rattle.command_line.specs.declared.request.Request.TheVariants as request
+use Rattle.command_line.specs.declared.settings.Settings.{Settings}
+
+-- a request by the command's name and the words behind it: `serve DIR@DATE ..`, or
+-- `NAME DIR DATE WORDS`
+abbrev pub request_named : Settings → Text → List Text → Option Request
+request_named s name words =
+    if bytes_eq name (codes "serve") then option_map request.Serve (serve_request s words)
+    else option_map request.Day (day_request_from s name words)
+
+-- a request by the words that are neither options nor their values
+abbrev pub request_from : Settings → List Text → Option Request
+request_from s [] = None
+request_from s (name ∷ words) = request_named s name words
+
+-- a request by what is given for each argument
+abbrev pub request_by : List Row → Option Request
+request_by rows =
+    option_and_then (λ settings. request_from settings (unwrap_or (all_of (codes "words") rows) []))
+    (settings_given rows)
+
+-- the words of a command line, but for the program's name
+abbrev pub request_of : List Text → Option Request
+request_of words = option_and_then request_by (given words)

@@ -1,0 +1,71 @@
+-- What the options of a command line say.
+use Rattle.std.specs.Prelude.{ℕ, ◌<◌, ◌≤◌, ◌&&◌, nat_lt, nat_le, List, codes, bytes_eq, Bool, false, Option, Some, None, IfSome, if◌then◌else◌}
+use Rattle.std.specs.Option.{option_and_then, option_map}
+use Rattle.clap.specs.Words.{Row, Text, first_of}
+use Rattle.footpaths.specs.declared.paths.Options.{Options}
+use Rattle.gtfs_rows.specs.Fields.{secs_of}
+use Rattle.gtfs_rows.specs.Numbers.{number_of}
+use Rattle.command_line.specs.declared.settings.Settings.{Settings}
+
+-- no time is longer than a day
+pub record AreWithinADay (o : Options) : Type 0 where
+  pub change : o.change ≤ 86400
+  pub station : IfSome o.station (λ secs. secs ≤ 86400)
+
+-- a number of workers is from 1 to 64
+pub record AreWorkers (n : ℕ) : Type 0 where
+  pub some : 0 < n
+  pub most : n ≤ 64
+
+pub record AreSettings (s : Settings) : Type 0 where
+  pub options : AreWithinADay s.options
+  pub workers : AreWorkers s.workers
+
+abbrev pub one_to_64 : ℕ → Option ℕ
+one_to_64 n = if nat_lt 0 n && nat_le n 64 then Some n else None
+
+abbrev pub worker_count : Text → Option ℕ
+worker_count text = option_and_then one_to_64 (number_of text)
+
+-- the default change time: 0 seconds without `--change`
+abbrev pub change_given : Option Text → Option ℕ
+change_given None = Some 0
+change_given (Some text) = secs_of text
+
+-- the seconds between platforms of one station: none without `--station`
+abbrev pub station_given : Option Text → Option (Option ℕ)
+station_given None = Some None
+station_given (Some text) = option_map Some (secs_of text)
+
+-- the number of workers: 4 without `--workers`
+abbrev pub workers_given : Option Text → Option ℕ
+workers_given None = Some 4
+workers_given (Some text) = worker_count text
+
+abbrev pub is_true : Option Text → Bool
+is_true None = false
+is_true (Some text) = bytes_eq text (codes "true")
+
+-- a flag was given
+abbrev pub is_given : Text → List Row → Bool
+is_given name rows = is_true (first_of name rows)
+
+-- what is said of footpaths
+abbrev pub options_given : List Row → Option Options
+options_given rows =
+    option_and_then (λ change. option_map (λ station. record {
+      change = change;
+      station = station;
+      close = is_given (codes "close") rows;
+    }) (station_given (first_of (codes "station") rows)))
+    (change_given (first_of (codes "change") rows))
+
+-- what all options say; none has an effect where the command doesn't use it
+abbrev pub settings_given : List Row → Option Settings
+settings_given rows =
+    option_and_then (λ options. option_map (λ workers. record {
+      options = options;
+      workers = workers;
+      plain = is_given (codes "plain") rows;
+    }) (workers_given (first_of (codes "workers") rows)))
+    (options_given rows)

@@ -1,0 +1,63 @@
+//! What is planned by the words of a run of several days.
+ghost use Rattle.std.specs.Prelude.{◌≡◌, IfOk, IfSome, length, map, option_map};
+ghost use Rattle.command_line.specs.Plans.{day_between, plan_of, planned_day, planned_days, serve_request};
+ghost use Rattle.command_line.specs.Settings.{AreSettings};
+
+use crate::request::{PlannedDay, ServeRequest};
+use crate::settings::Settings;
+use service_day::day_of;
+use std::alloc::Global;
+use tb_base::Memory;
+
+// The day that `DIR@DATE` names.
+fn planned_day(word: &str) -> Option<PlannedDay<'_>>
+    ensures { result ≡ planned_day word.now }
+{
+    let (dir, date) = word.rsplit_once('@')?;
+    if dir.is_empty() {
+        return None;
+    }
+    match day_of(date.as_bytes()) {
+        Ok(day) => Some(PlannedDay { dir, word, day }),
+        Err(_) => None,
+    }
+}
+
+// The days that these words name, where each of them names one.
+fn planned_days<'a>(alloc: Global, words: &[&'a str]) -> Result<Option<Vec<PlannedDay<'a>>>, Memory>
+    ensures days { IfOk result (λ days. option_map (λ v. v.items) days
+        ≡ planned_days (map (λ word. word.now) words.now)) }
+    ensures count { IfOk result (λ days. IfSome days (λ v. length v.items ≡ length words.now)) }
+{
+    let mut days = Vec::new(alloc);
+    for word in words {
+        let Some(day) = planned_day(word) else {
+            return Ok(None);
+        };
+        days.push(day)?;
+    }
+    Ok(Some(days))
+}
+
+/// A request by the words that name the days of its plan: 1 to 100.
+pub(crate) fn serve_request<'a>(
+    alloc: Global,
+    settings: Settings,
+    words: &[&'a str],
+) -> Result<Option<ServeRequest<'a>>, Memory>
+    requires { AreSettings settings }
+    ensures { IfOk result (λ request.
+        request ≡ serve_request settings (map (λ word. word.now) words.now)) }
+{
+    if words.is_empty() || words.len() > 100 {
+        return Ok(None);
+    }
+    match planned_days(alloc, words)? {
+        Some(plan) => Ok(Some(ServeRequest {
+            options: settings.options,
+            workers: settings.workers,
+            plan,
+        })),
+        None => Ok(None),
+    }
+}

@@ -1,0 +1,153 @@
+//! What is asked for.
+use footpaths::Options;
+use service_day::Day;
+use std::marker::Model;
+use tb_base::Sec;
+
+/// From where to where a journey is asked for, and from when on. The names are those of stops or
+/// stations.
+#[derive(Drop)]
+pub struct Inquiry<'a> {
+    pub from: &'a str,
+    pub to: &'a str,
+    /// In seconds since noon minus twelve hours.
+    pub time: Sec,
+}
+
+impl<'a> Model for Inquiry<'a> {
+    ghost use Rattle.trip_rides.specs.Times.{IsFileTime};
+    ghost use Rattle.command_line.specs.Inquiries.{InquiryData};
+
+    ghost Value = { InquiryData };
+
+    ghost view = { λ i. record { from = i.from.now; to = i.to.now; time = i.time } };
+
+    ghost invariant = { λ i. IsFileTime i.time };
+}
+
+/// From where to where journeys are asked for that leave within a window, both ends counted. The
+/// names are those of stops or stations.
+#[derive(Drop)]
+pub struct WindowInquiry<'a> {
+    pub from: &'a str,
+    pub to: &'a str,
+    /// In seconds since noon minus twelve hours.
+    pub first: Sec,
+    /// In seconds since noon minus twelve hours.
+    pub last: Sec,
+}
+
+impl<'a> Model for WindowInquiry<'a> {
+    ghost use Rattle.trip_rides.specs.Times.{IsFileTime};
+    ghost use Rattle.command_line.specs.Inquiries.{WindowInquiryData};
+
+    ghost Value = { WindowInquiryData };
+
+    ghost view = { λ i. record {
+      from = i.from.now;
+      to = i.to.now;
+      first = i.first;
+      last = i.last;
+    } };
+
+    ghost invariant = { λ i. IsFileTime i.first × IsFileTime i.last };
+}
+
+/// What is asked about one day of a feed.
+#[derive(Drop)]
+pub enum Command<'a> {
+    /// The earliest arrival by one ride.
+    Direct(Inquiry<'a>),
+    /// Every best trade-off between arrival and number of rides.
+    Ask(Inquiry<'a>),
+    /// Every best trade-off between late departure, early arrival and number of rides.
+    Profile(WindowInquiry<'a>),
+    /// What is built of the timetable: its sizes and counts, and where asked for, the list of the
+    /// kept transfers.
+    Build {
+        /// Whether with the list.
+        list: bool,
+    },
+}
+
+/// A request about one day of a feed.
+#[derive(Drop)]
+pub struct DayRequest<'a> {
+    pub options: Options,
+    /// How many workers reduce the transfers: 1 to 64.
+    pub workers: u32,
+    /// Round by round, in place of the search over the kept transfers.
+    pub plain: bool,
+    pub dir: &'a str,
+    pub day: Day,
+    pub command: Command<'a>,
+}
+
+impl<'a> Model for DayRequest<'a> {
+    ghost use Rattle.command_line.specs.DayCommands.{DayRequestData};
+    ghost use Rattle.command_line.specs.Settings.{AreWithinADay, AreWorkers};
+
+    ghost Value = { DayRequestData };
+
+    ghost view = { λ r. record {
+      options = r.options;
+      workers = r.workers;
+      plain = r.plain;
+      dir = r.dir.now;
+      date = r.day;
+      command = r.command;
+    } };
+
+    ghost invariant = { λ r. AreWithinADay r.options × AreWorkers r.workers };
+}
+
+/// A day of a feed: its folder, the day, and the word DIR@DATE that names both.
+#[derive(Drop)]
+pub struct PlannedDay<'a> {
+    pub dir: &'a str,
+    pub word: &'a str,
+    pub day: Day,
+}
+
+impl<'a> Model for PlannedDay<'a> {
+    ghost use Rattle.command_line.specs.Plans.{PlannedDayData};
+
+    ghost Value = { PlannedDayData };
+
+    ghost view = { λ p. record { dir = p.dir.now; word = p.word.now; date = p.day } };
+}
+
+/// A request to publish several days one after another, while a script is answered.
+#[derive(Drop)]
+pub struct ServeRequest<'a> {
+    pub options: Options,
+    /// How many workers reduce the transfers of a day: 1 to 64.
+    pub workers: u32,
+    /// 1 to 100 days, in the order of their publication.
+    pub plan: Vec<PlannedDay<'a>>,
+}
+
+impl<'a> Model for ServeRequest<'a> {
+    ghost use Rattle.command_line.specs.Plans.{IsPlan, ServeRequestData};
+    ghost use Rattle.command_line.specs.Settings.{AreWithinADay, AreWorkers};
+
+    ghost Value = { ServeRequestData };
+
+    ghost view = { λ r. record {
+      options = r.options;
+      workers = r.workers;
+      plan = r.plan.items;
+    } };
+
+    ghost invariant = { λ r.
+        AreWithinADay r.options × AreWorkers r.workers × IsPlan r.plan.items };
+}
+
+/// What the words of a command line ask for.
+#[derive(Drop)]
+pub enum Request<'a> {
+    /// Something about one day of a feed.
+    Day(DayRequest<'a>),
+    /// The replies to a script, while the days of a plan are published.
+    Serve(ServeRequest<'a>),
+}

@@ -1,0 +1,120 @@
+//! What the options of a command line say.
+ghost use Rattle.std.specs.Prelude.{◌≡◌, ◌≤◌, IfSome, option_map};
+ghost use Rattle.clap.specs.Words.{first_of, found_of, rows_of};
+ghost use Rattle.gtfs_rows.specs.Fields.{secs_of};
+ghost use Rattle.command_line.specs.Settings.{AreSettings, AreWithinADay, AreWorkers, change_given, is_given, options_given, settings_given, station_given, worker_count, workers_given};
+
+use clap::ArgMatches;
+use footpaths::Options;
+use gtfs_rows::number_of;
+
+/// What all options say. None has an effect where the command doesn't use it.
+#[derive(Clone, Copy)]
+pub(crate) struct Settings {
+    pub options: Options,
+    /// How many workers reduce the transfers: 1 to 64.
+    pub workers: u32,
+    /// Round by round, in place of the search over the kept transfers.
+    pub plain: bool,
+}
+
+// Seconds that are no more than a day.
+fn secs_of(text: &str) -> Option<u32>
+    ensures secs { result ≡ secs_of text.now }
+    ensures most { IfSome result (λ secs. secs ≤ 86400) }
+{
+    match number_of(text.as_bytes()) {
+        Some(secs) if secs <= 86_400 => Some(secs),
+        _ => None,
+    }
+}
+
+// From 1 to 64 workers.
+fn worker_count(text: &str) -> Option<u32>
+    ensures count { result ≡ worker_count text.now }
+    ensures within { IfSome result AreWorkers }
+{
+    match number_of(text.as_bytes()) {
+        Some(count) if 0 < count && count <= 64 => Some(count),
+        _ => None,
+    }
+}
+
+// The default change time: 0 seconds where none is given.
+fn change_given(text: Option<&str>) -> Option<u32>
+    ensures secs { result ≡ change_given (option_map (λ t. t.now) text.entry) }
+    ensures most { IfSome result (λ secs. secs ≤ 86400) }
+{
+    match text {
+        None => Some(0),
+        Some(text) => secs_of(text),
+    }
+}
+
+// The seconds between platforms of one station: none where none are given.
+fn station_given(text: Option<&str>) -> Option<Option<u32>>
+    ensures secs { result ≡ station_given (option_map (λ t. t.now) text.entry) }
+    ensures most { IfSome result (λ station. IfSome station (λ secs. secs ≤ 86400)) }
+{
+    match text {
+        None => Some(None),
+        Some(text) => Some(Some(secs_of(text)?)),
+    }
+}
+
+// The number of workers: 4 where none is given.
+fn workers_given(text: Option<&str>) -> Option<u32>
+    ensures count { result ≡ workers_given (option_map (λ t. t.now) text.entry) }
+    ensures within { IfSome result AreWorkers }
+{
+    match text {
+        None => Some(4),
+        Some(text) => worker_count(text),
+    }
+}
+
+// The first value that is given for an argument.
+fn value_of<'a>(matches: &ArgMatches<'a>, name: &str) -> Option<&'a str>
+    ensures { option_map (λ text. text.now) result
+        ≡ first_of name.now (rows_of (found_of matches.now)) }
+{
+    matches.get_str(name)
+}
+
+// Whether a flag was given.
+fn is_given(matches: &ArgMatches<'_>, name: &str) -> bool
+    ensures { result ≡ is_given name.now (rows_of (found_of matches.now)) }
+{
+    match value_of(matches, name) {
+        None => false,
+        Some(text) => text == "true",
+    }
+}
+
+// What is said of footpaths.
+fn options_given(matches: &ArgMatches<'_>) -> Option<Options>
+    ensures options { result ≡ options_given (rows_of (found_of matches.now)) }
+    ensures within { IfSome result AreWithinADay }
+{
+    let change = change_given(value_of(matches, "change"))?;
+    let station = station_given(value_of(matches, "station"))?;
+    Some(Options {
+        change,
+        station,
+        close: is_given(matches, "close"),
+    })
+}
+
+/// What all options say, by what is given for each.
+pub(crate) fn settings_given(matches: &ArgMatches<'_>) -> Option<Settings>
+    ensures settings { result ≡ settings_given (rows_of (found_of matches.now)) }
+    ensures within { IfSome result AreSettings }
+{
+    let options = options_given(matches)?;
+    let workers = workers_given(value_of(matches, "workers"))?;
+    Some(Settings {
+        options,
+        workers,
+        plain: is_given(matches, "plain"),
+    })
+}

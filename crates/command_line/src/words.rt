@@ -1,0 +1,83 @@
+//! What the words of a command line mean.
+ghost use Rattle.std.specs.Prelude.{◌≡◌, IfOk, map, string_bytes};
+ghost use Rattle.clap.specs.Words.{found_of, rows_of};
+ghost use Rattle.command_line.specs.Requests.{request_by, request_from, request_named, request_of};
+ghost use Rattle.command_line.specs.Settings.{AreSettings};
+
+use crate::arguments::router_arguments;
+use crate::day::day_request_from;
+use crate::plan::serve_request;
+use crate::request::Request;
+use crate::settings::{Settings, settings_given};
+use clap::ArgMatches;
+use clap::error::ErrorKind;
+use std::alloc::Global;
+use tb_base::Memory;
+
+// A request by the command's name and the words behind it.
+fn request_named<'a>(
+    alloc: Global,
+    settings: Settings,
+    name: &str,
+    words: &[&'a str],
+) -> Result<Option<Request<'a>>, Memory>
+    requires { AreSettings settings }
+    ensures { IfOk result (λ request.
+        request ≡ request_named settings name.now (map (λ word. word.now) words.now)) }
+{
+    match name {
+        "serve" => match serve_request(alloc, settings, words)? {
+            Some(request) => Ok(Some(Request::Serve(request))),
+            None => Ok(None),
+        },
+        _ => match day_request_from(settings, name, words) {
+            Some(request) => Ok(Some(Request::Day(request))),
+            None => Ok(None),
+        },
+    }
+}
+
+// A request by the words that are neither options nor their values.
+fn request_from<'a>(
+    alloc: Global,
+    settings: Settings,
+    words: &[&'a str],
+) -> Result<Option<Request<'a>>, Memory>
+    requires { AreSettings settings }
+    ensures { IfOk result (λ request.
+        request ≡ request_from settings (map (λ word. word.now) words.now)) }
+{
+    match words {
+        [name, words @ ..] => request_named(alloc, settings, name, words),
+        [] => Ok(None),
+    }
+}
+
+// A request by what is given for each argument.
+fn request_by<'a>(alloc: Global, matches: &ArgMatches<'a>) -> Result<Option<Request<'a>>, Memory>
+    ensures { IfOk result (λ request. request ≡ request_by (rows_of (found_of matches.now))) }
+{
+    let Some(settings) = settings_given(matches) else {
+        return Ok(None);
+    };
+    request_from(alloc, settings, matches.get_strs("words").unwrap_or(&[]))
+}
+
+/// What the words mean, the program's name left out: `COMMAND WORDS` with the options `--change
+/// SECS`, `--station SECS`, `--workers N` and the flags `--close` and `--plain`, each at most once
+/// and anywhere before `--`; behind `--` every word is taken as it is. The commands are `direct DIR
+/// DATE FROM TO TIME`, `ask DIR DATE FROM TO TIME`, `profile DIR DATE FROM TO FIRST LAST`, `build
+/// DIR DATE`, `build DIR DATE list`, and `serve DIR@DATE ..` of 1 to 100 days. `None` comes exactly
+/// where the words have no meaning, `Memory` only for want of it.
+pub fn request_of<'a>(alloc: Global, words: &'a [String]) -> Result<Option<Request<'a>>, Memory>
+    ensures { IfOk result (λ request. request ≡ request_of (map string_bytes words.now)) }
+{
+    let Ok(arguments) = router_arguments(alloc) else {
+        return Err(Memory);
+    };
+    match arguments.try_get_matches_from(words) {
+        Ok(matches) => request_by(alloc, &matches),
+        Err(e) if e.kind() == ErrorKind::OutOfMemory => Err(Memory),
+        Err(_) => Ok(None),
+    }
+}
