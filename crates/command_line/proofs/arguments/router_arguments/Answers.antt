@@ -1,8 +1,8 @@
-use Rattle.std.proofs.Common.{◌≡◌, ◌∙◌, ap, ap₂, codes, true}
+use Rattle.std.proofs.Common.{◌≡◌, ◌∙◌, ap, ap₂, codes}
 use Rattle.std.proofs.lemmas.Result.{IfOk-weaker}
 use Rattle.clap.specs.Simple.{app_of_fields}
-use Rattle.clap.specs.Words.{App, app_of, with_rule}
-use Rattle.command_line.specs.Arguments.{flag_rule, no_arguments, option_rule, with_options, without_name}
+use Rattle.clap.specs.Words.{app_of, with_rule}
+use Rattle.command_line.specs.Arguments.{no_arguments, option_rule, with_options, without_name}
 use Rattle.command_line.proofs.arguments.router_arguments.Goals as goal
 
 pub returns : goal.returns

@@ -1,4 +1,4 @@
-use Rattle.std.proofs.Common.{◌≡◌, ◌+◌, length, drop, map, option_map, ◌++◌}
+use Rattle.std.proofs.Common.{◌≡◌, length, drop, map, option_map, ◌++◌}
 use Rattle.command_line.specs.Plans.{planned_days}
 use Rattle.command_line.proofs.plan.planned_days.Given as goal
 
