@@ -1,0 +1,5 @@
+pub mod Offering
+pub mod Spread
+pub mod Starting
+pub mod Counting
+pub mod Reached

@@ -1,0 +1,4 @@
+pub mod Reach
+pub mod Text
+pub mod Arriving
+pub mod Spreading

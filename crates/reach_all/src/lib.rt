@@ -1,0 +1,21 @@
+//! The best values to every stop, by one search over trip segments (Witt, Trip-Based Public Transit
+//! Routing, ESA 2015).
+//!
+//! `reach_all` asks, from some origins and at one time, for every stop at once. To the layer above
+//! it promises, for every sufficient set of hops, exactly the best values of the query to each stop
+//! alone, within the steps of one search. Each segment is ridden once, and what is found there is
+//! offered to the stop and to those with a walk from it. `reach_text` shows the answer, one line a
+//! stop. Times are those of the service day, as the GTFS Schedule Reference counts them.
+#![tactic(auto)]
+
+mod arrivals;
+mod boarding;
+mod following;
+mod one_to_all;
+mod query;
+mod riding;
+mod text;
+mod walking;
+
+pub use query::reach_all;
+pub use text::reach_text;
