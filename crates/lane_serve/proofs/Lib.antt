@@ -3,3 +3,7 @@ mod Times
 mod Runs
 mod Answering
 mod Plans
+mod Reports
+mod OutcomeLines
+mod Sent
+mod Causes

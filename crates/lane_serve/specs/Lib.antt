@@ -1,3 +1,6 @@
 pub mod Script
 pub mod Lanes
 pub mod Plans
+pub mod Served
+pub mod Seats
+pub mod Texts

@@ -11,9 +11,13 @@
 mod lane;
 mod plan;
 mod reply;
+mod run;
 mod said;
 mod script;
+mod texts;
 
 pub use lane::{LaneReport, ReplyText, close_lane, run_lane};
 pub use plan::{Outcome, PlanItem};
+pub use run::{ServeFault, Served, serve};
 pub use script::{Lane, Line, Script, ScriptFault, read_script};
+pub use texts::served_text;

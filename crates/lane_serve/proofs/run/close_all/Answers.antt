@@ -1,0 +1,38 @@
+use Rattle.std.proofs.Common.{◌≡◌, ◌∷◌, [], ◌++◌, ◌+◌, ◌<◌, ◌∙◌, ap, sym, subst, length, get_or, arith, rules, append_assoc}
+use Rattle.std.proofs.lemmas.List.{length-append}
+use Rattle.lane_serve.specs.Served.{HasRun, IsServedLane}
+use Rattle.lane_serve.specs.Script.{LaneData}
+use Rattle.lane_serve.proofs.Reports.{run_at, served_more}
+use Rattle.lane_serve.proofs.run.close_all.Goals as goal
+
+pub close_seated-requires-clause-run : goal.close_seated-requires-clause-run
+close_seated-requires-clause-run g c =
+    let inv = c.loop-seated.invariant in
+    let past = c.loop-seated.yielded in
+    let e : c.loop-seated.seated-iterator.rest.items ≡ c.in-Some.seated ∷ c.next.new.self.rest.items = search rules in
+    let l = c.index-lanes-i.result in
+    let whole = ap (λ k. past ++ k) (sym e) ∙ inv.1 in
+    let at = run_at c.args.lanes.now c.args.seats.items past c.next.new.self.rest.items c.in-Some.seated l c.requires.run whole in
+    let here = c.index-lanes-i.is ∙ ap (λ n. get_or c.args.lanes.now n l) inv.0 in
+    subst (λ (k : LaneData). HasRun k.lines c.in-Some.seated.caller.kept c.in-Some.seated.replies) (sym here) at.1
+
+pub loop-seated-preserved : goal.loop-seated-preserved
+loop-seated-preserved g c =
+    let inv = c.loop-seated.invariant in
+    let past = c.loop-seated.yielded in
+    let rest = c.next.new.self.rest.items in
+    let e : c.loop-seated.seated-iterator.rest.items ≡ c.in-Some.seated ∷ rest = search rules in
+    let l = c.index-lanes-i.result in
+    let whole = ap (λ k. past ++ k) (sym e) ∙ inv.1 in
+    let at = run_at c.args.lanes.now c.args.seats.items past rest c.in-Some.seated l c.requires.run whole in
+    let lt : c.loop-seated.i < length c.args.lanes.now = let a = at.0 in let b = inv.0 in omega arith in
+    let report = c.in_ok-report.report in
+    let closing = c.in_ok-report.closing in
+    let served = subst (λ k. IsServedLane c.args.last.now k report closing) c.index-lanes-i.is c.in_ok-report.ensures in
+    let more = served_more c.args.last.now c.args.lanes.now c.loop-seated.i l c.loop-seated.reports.items c.loop-seated.closings.items report closing inv.2 lt served in (
+      let n = length-append past (c.in-Some.seated ∷ []) in let i = inv.0 in omega arith,
+      append_assoc past (c.in-Some.seated ∷ []) rest ∙ whole,
+      rw (c.in-Ok.ensures.items, c.in-Ok-push.ensures.items) more,
+      tt,
+      tt,
+    )

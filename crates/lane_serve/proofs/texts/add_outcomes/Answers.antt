@@ -1,0 +1,14 @@
+use Rattle.std.proofs.Common.{◌≡◌, ◌∙◌, ap, get_or, rules}
+use Rattle.lane_serve.specs.Plans.{ItemData}
+use Rattle.lane_serve.specs.Texts.{outcome_text}
+use Rattle.lane_serve.proofs.OutcomeLines.{outcomes_told}
+use Rattle.lane_serve.proofs.texts.add_outcomes.Goals as goal
+
+pub loop-i-preserved : goal.loop-i-preserved
+loop-i-preserved c =
+    let item = c.index-plan-i.result in
+    let outcome = c.index-outcomes-i.result in
+    outcomes_told c.args.plan.now c.args.outcomes.now c.loop-i.i item outcome c.args.text.now.items c.loop-i.text.items c.add.new.text.items c.in_ok-line.line.items
+    c.requires c.loop-i-test.true c.loop-i.invariant
+    (c.in_ok-line.ensures ∙ ap (λ (k : ItemData). outcome_text k outcome) c.index-plan-i.is ∙ ap (outcome_text (get_or c.args.plan.now c.loop-i.i item)) c.index-outcomes-i.is)
+    (search rules)

@@ -1,0 +1,55 @@
+-- What a run of lanes beside a publisher gives, as lines of text.
+use Rattle.std.specs.Prelude.{ℕ, List, [], ◌∷◌, ◌++◌, codes, flat_map}
+use Rattle.std.specs.Fmt.{decimal}
+use Rattle.gtfs_rows.specs.declared.fault.FeedFault.{FeedFault}
+use Rattle.answer_text.specs.Faults.{fault_text}
+use Rattle.lane_serve.specs.declared.lane.ReplyText.{ReplyText}
+use Rattle.lane_serve.specs.declared.plan.Outcome.{Outcome}
+use Rattle.lane_serve.specs.declared.plan.Outcome.TheVariants.{Published, Refused}
+use Rattle.lane_serve.specs.Lanes.{ReportData}
+use Rattle.lane_serve.specs.Plans.{ItemData}
+use Rattle.lane_serve.specs.Served.{ServedData}
+
+-- `edition N WORD trips N lines N kept N`
+abbrev pub published_text : List ℕ → ℕ → ℕ → ℕ → ℕ → List ℕ
+published_text word number trips lines kept =
+    codes "edition " ++ decimal number ++ codes " " ++ word ++ codes " trips " ++ decimal trips
+    ++ codes " lines " ++ decimal lines ++ codes " kept " ++ decimal kept ++ codes "\n"
+
+-- `refused WORD FAULT`
+abbrev pub refused_text : List ℕ → FeedFault → List ℕ
+refused_text word fault = codes "refused " ++ word ++ codes " " ++ fault_text fault ++ codes "\n"
+
+-- the line of an item's outcome
+abbrev pub outcome_text : ItemData → Outcome → List ℕ
+outcome_text item (Published number trips lines kept) =
+    published_text item.word number trips lines kept
+outcome_text item (Refused fault) = refused_text item.word fault
+
+-- one line for each item, in order
+abbrev pub outcomes_text : List ItemData → List Outcome → List ℕ
+outcomes_text [] outcomes = []
+outcomes_text (item ∷ items) [] = []
+outcomes_text (item ∷ items) (outcome ∷ outcomes) =
+    outcome_text item outcome ++ outcomes_text items outcomes
+
+-- `K edition N`, and the reply's lines
+abbrev pub answered_text : ReplyText → List ℕ
+answered_text r =
+    decimal r.line ++ codes " edition " ++ decimal r.edition ++ codes "\n" ++ r.text
+
+-- `lane NAME`, and the replies in order
+abbrev pub report_text : ReportData → List ℕ
+report_text report =
+    codes "lane " ++ report.name ++ codes "\n" ++ flat_map answered_text report.replies
+
+-- `closing edition N`
+abbrev pub closing_text : ℕ → List ℕ
+closing_text last = codes "closing edition " ++ decimal last ++ codes "\n"
+
+-- the outcomes of the plan's items; each lane's replies; the last edition's number; each lane's
+-- closing replies
+abbrev pub served_text : List ItemData → ServedData → List ℕ
+served_text plan s =
+    outcomes_text plan s.outcomes ++ flat_map report_text s.lanes ++ closing_text s.last
+    ++ flat_map report_text s.closing

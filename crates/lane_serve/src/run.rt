@@ -1,0 +1,480 @@
+//! The whole run: a publisher beside the lanes, and the closing part.
+ghost use Rattle.std.specs.Prelude.{◌≡◌, ◌<◌, ◌≤◌, ◌-◌, ◌^◌, ◌∷◌, [], All, IfErr, IfOk, IfSome, IsSome, length, slice_index_or, take, vec_len};
+ghost use Rattle.std.specs.Thread.{IsSync};
+ghost use Rattle.gtfs_rows.specs.declared.fault.FeedFault.{FeedFault};
+ghost use Rattle.lane_serve.specs.Plans.{AreOptions, AreOutcomes, AreWorkers, BeginsPublished, HasStopped, outcome_of};
+ghost use Rattle.lane_serve.specs.Script.{HasTimes, IsScript, LaneData};
+ghost use Rattle.lane_serve.specs.Seats.{HaveRun};
+ghost use Rattle.lane_serve.specs.Served.{AreServed, FirstGives, HasRun, IsServeFault, IsServed, IsServedLane, TellsFault, fault_for};
+
+use crate::lane::{LaneReport, ReplyText, close_lane, run_lane};
+use crate::plan::{Building, Built, Outcome, PlanItem, Stop, build_item, outcome_of, publish_rest};
+use crate::script::{Lane, Script};
+use edition_store::{Edition, Last, Naming, Opened, Publisher, Seat, Shared, Store};
+use footpaths::Options;
+use gtfs_rows::FeedFault;
+use query_gate::Caller;
+use std::alloc::Global;
+use std::marker::{Brand, Model};
+use std::sync::Wait;
+use std::thread;
+use std::thread::{Threads, join_mut};
+use tb_base::{Gate, Memory, Name};
+use tb_io::Folder;
+use trip_table::laws::timetable_determined;
+
+/// What a run gives: the outcome of each item of the plan, what each lane was answered, the number
+/// of the last edition, and what each lane was answered by it in the end.
+#[derive(Drop)]
+pub struct Served {
+    pub outcomes: Vec<Outcome>,
+    pub lanes: Vec<LaneReport>,
+    pub last: u32,
+    pub closing: Vec<LaneReport>,
+}
+
+impl Model for Served {
+    ghost use Rattle.lane_serve.specs.Served.{ServedData};
+
+    ghost Value = { ServedData };
+
+    ghost view = { λ s. record {
+      outcomes = s.outcomes.items;
+      lanes = s.lanes.items;
+      last = s.last;
+      closing = s.closing.items;
+    } };
+}
+
+/// Why there is no answer.
+#[derive(Drop)]
+pub enum ServeFault {
+    /// The first thing that is wrong with the feed of the plan's first item.
+    Feed(FeedFault),
+    /// The folder failed.
+    ReadFault,
+    /// Want of memory.
+    Memory,
+}
+
+// A lane's caller, and its replies once it has run. `None`: not yet, or there was no memory.
+#[derive(Drop)]
+struct Seated<J: Naming> {
+    caller: Caller<J>,
+    replies: Option<Vec<ReplyText>>,
+}
+
+// Runs lane i.
+fn run_seated<J: Naming, G: Gate>(
+    alloc: Global,
+    gate: &G,
+    lanes: &[Lane],
+    i: usize,
+    seated: &mut Seated<J>,
+)
+    requires lanes { IsScript lanes.now }
+    requires lane { i < length lanes.now }
+    ensures { (d : LaneData) → HasRun (LaneData.lines (slice_index_or lanes.now i d))
+        seated.new.caller.kept seated.new.replies }
+{
+    let lane = &lanes[i];
+    let requests = lane.lines.as_slice();
+    match run_lane(alloc, gate, i as u32, &mut seated.caller, requests) {
+        Ok(replies) => seated.replies = Some(replies),
+        Err(Memory) => seated.replies = None,
+    }
+}
+
+// Each lane in a thread of its own.
+fn run_lanes<J: Naming + Send + Sync, G: Gate, R: Threads + Sync>(
+    rt: &R,
+    alloc: Global,
+    gate: &G,
+    lanes: &[Lane],
+    seats: &mut [Seated<J>],
+)
+    requires lanes { IsScript lanes.now }
+    requires seats { length seats.old ≡ length lanes.now }
+    ensures run { HaveRun lanes.now seats.new }
+{
+    thread::for_each_mut(
+        rt,
+        seats,
+        lanes.len(),
+        &|i: usize, seated: &mut Seated<J>|
+            requires { (i < length lanes.now) × IsScript lanes.now }
+            ensures { (d : LaneData) → HasRun (LaneData.lines (slice_index_or lanes.entry.now i d))
+                seated.exit.now.caller.kept seated.exit.now.replies }
+        { run_seated(alloc, gate, lanes, i, seated) },
+    );
+}
+
+// Takes the publisher out of its place, and publishes.
+fn publish_side<J: Naming, F: Folder, G: Gate, R: Threads + Wait + Sync>(
+    rt: &R,
+    alloc: Global,
+    gate: &G,
+    building: Building,
+    folder: &mut F,
+    plan: &[PlanItem],
+    outcomes: &mut Vec<Outcome>,
+    slot: &mut Option<Publisher<J>>,
+) -> Result<Publisher<J>, Stop>
+    requires options { AreOptions building.options }
+    requires workers { AreWorkers building.workers }
+    requires count { F.faults folder.old < 2 ^ 64 - 1 }
+    requires plan { length plan.now ≤ 100 }
+    requires first { IfSome slot.old (AreOutcomes (F.files folder.old) building.options 0
+        (take 1 plan.now) outcomes.old.items) }
+    requires begins { BeginsPublished outcomes.old.items }
+    ensures files { F.files folder.new ≡ F.files folder.old }
+    ensures faults { IfOk result (λ _. F.faults folder.new ≡ F.faults folder.old) }
+    ensures stop { IfErr result (HasStopped (F.faults folder.old) (F.faults folder.new)) }
+    ensures outcomes { IfOk result (AreOutcomes (F.files folder.old) building.options 0 plan.now
+        outcomes.new.items) }
+    ensures begins { IfOk result (λ _. BeginsPublished outcomes.new.items) }
+{
+    let Some(publisher) = slot.take() else {
+        return Err(Stop::Memory);
+    };
+    publish_rest(rt, alloc, gate, building, folder, plan, outcomes, publisher)
+}
+
+// The two sides at once.
+fn both<J: Naming + Send + Sync, F: Folder, G: Gate, R: Threads + Wait + Sync>(
+    rt: &R,
+    alloc: Global,
+    gate: &G,
+    building: Building,
+    folder: &mut F,
+    plan: &[PlanItem],
+    outcomes: &mut Vec<Outcome>,
+    slot: &mut Option<Publisher<J>>,
+    lanes: &[Lane],
+    seats: &mut [Seated<J>],
+) -> Result<Publisher<J>, Stop>
+    requires options { AreOptions building.options }
+    requires workers { AreWorkers building.workers }
+    requires count { F.faults folder.old < 2 ^ 64 - 1 }
+    requires plan { length plan.now ≤ 100 }
+    requires first { IfSome slot.old (AreOutcomes (F.files folder.old) building.options 0
+        (take 1 plan.now) outcomes.old.items) }
+    requires begins { BeginsPublished outcomes.old.items }
+    requires lanes { IsScript lanes.now }
+    requires seats { length seats.old ≡ length lanes.now }
+    ensures files { F.files folder.new ≡ F.files folder.old }
+    ensures faults { IfOk result (λ _. F.faults folder.new ≡ F.faults folder.old) }
+    ensures stop { IfErr result (HasStopped (F.faults folder.old) (F.faults folder.new)) }
+    ensures outcomes { IfOk result (AreOutcomes (F.files folder.old) building.options 0 plan.now
+        outcomes.new.items) }
+    ensures begins { IfOk result (λ _. BeginsPublished outcomes.new.items) }
+    ensures run { HaveRun lanes.now seats.new }
+{
+    let ((), published) = join_mut(
+        rt,
+        &mut ||
+            requires { IsScript lanes.now × (length seats.now ≡ length lanes.now) × IsSync R.row }
+            ensures { HaveRun lanes.entry.now seats.exit.now }
+        { run_lanes(rt, alloc, gate, lanes, seats) },
+        &mut || -> Result<Publisher<J>, Stop>
+            requires { AreOptions building.options × AreWorkers building.workers
+                × (F.faults folder.now < 2 ^ 64 - 1) × (length plan.now ≤ 100)
+                × IfSome slot.now (AreOutcomes (F.files folder.now) building.options 0
+                (take 1 plan.now) outcomes.now.items) × BeginsPublished outcomes.now.items }
+            ensures { (F.files folder.exit.now ≡ F.files folder.entry.now)
+                × IfOk result (λ _. F.faults folder.exit.now ≡ F.faults folder.entry.now)
+                × IfErr result (HasStopped (F.faults folder.entry.now) (F.faults folder.exit.now))
+                × IfOk result (AreOutcomes (F.files folder.entry.now) building.options 0
+                plan.entry.now outcomes.exit.now.items)
+                × IfOk result (λ _. BeginsPublished outcomes.exit.now.items) }
+        { publish_side(rt, alloc, gate, building, folder, plan, outcomes, slot) },
+    );
+    published
+}
+
+// A publisher that was not taken: there is none.
+fn let_go<J: Naming, R: Wait>(rt: &R, slot: Option<Publisher<J>>) {
+    if let Some(publisher) = slot {
+        let _last = publisher.finish(rt);
+    }
+}
+
+// The two sides at once, and then the end.
+fn sides<J: Naming + Send + Sync, F: Folder, G: Gate, R: Threads + Wait + Sync>(
+    rt: &R,
+    alloc: Global,
+    gate: &G,
+    building: Building,
+    folder: &mut F,
+    plan: &[PlanItem],
+    outcomes: &mut Vec<Outcome>,
+    publisher: Publisher<J>,
+    lanes: &[Lane],
+    seats: &mut [Seated<J>],
+) -> Result<Last<J>, Stop>
+    requires options { AreOptions building.options }
+    requires workers { AreWorkers building.workers }
+    requires count { F.faults folder.old < 2 ^ 64 - 1 }
+    requires plan { length plan.now ≤ 100 }
+    requires first { AreOutcomes (F.files folder.old) building.options 0 (take 1 plan.now)
+        outcomes.old.items publisher }
+    requires begins { BeginsPublished outcomes.old.items }
+    requires lanes { IsScript lanes.now }
+    requires seats { length seats.old ≡ length lanes.now }
+    ensures files { F.files folder.new ≡ F.files folder.old }
+    ensures faults { IfOk result (λ _. F.faults folder.new ≡ F.faults folder.old) }
+    ensures stop { IfErr result (HasStopped (F.faults folder.old) (F.faults folder.new)) }
+    ensures outcomes { IfOk result (AreOutcomes (F.files folder.old) building.options 0 plan.now
+        outcomes.new.items) }
+    ensures begins { IfOk result (λ _. BeginsPublished outcomes.new.items) }
+    ensures run { HaveRun lanes.now seats.new }
+{
+    let mut slot = Some(publisher);
+    let published = both(
+        rt, alloc, gate, building, folder, plan, outcomes, &mut slot, lanes, seats,
+    );
+    match published {
+        Ok(publisher) => {
+            let last = publisher.finish(rt);
+            let_go(rt, slot);
+            match last {
+                Ok(last) => Ok(last),
+                Err(Memory) => Err(Stop::Memory),
+            }
+        }
+        Err(stop) => {
+            let_go(rt, slot);
+            Err(stop)
+        }
+    }
+}
+
+// A lane's report and its closing report.
+fn close_seated<J: Naming>(
+    alloc: Global,
+    last: &Last<J>,
+    lane: &Lane,
+    seated: Seated<J>,
+) -> Result<(LaneReport, LaneReport), Memory>
+    requires few { length lane.now.lines ≤ 20000 }
+    requires times { All HasTimes lane.now.lines }
+    requires run { HasRun lane.now.lines seated.caller.kept seated.replies }
+    ensures { IfOk result (λ t. IsServedLane last.now lane.now t.0 t.1) }
+{
+    let Seated {
+        mut caller,
+        replies,
+    } = seated;
+    let Some(replies) = replies else {
+        return Err(Memory);
+    };
+    let requests = lane.lines.as_slice();
+    let closing = close_lane(alloc, &mut caller, last, requests, replies.as_slice())?;
+    let report = LaneReport {
+        name: Name::new(alloc, lane.name.bytes())?,
+        replies,
+    };
+    let name = Name::new(alloc, lane.name.bytes())?;
+    Ok((
+        report,
+        LaneReport {
+            name,
+            replies: closing,
+        },
+    ))
+}
+
+// The reports of all lanes, and their closing reports, in order.
+fn close_all<J: Naming>(
+    alloc: Global,
+    last: &Last<J>,
+    lanes: &[Lane],
+    seats: Vec<Seated<J>>,
+) -> Result<(Vec<LaneReport>, Vec<LaneReport>), Memory>
+    requires lanes { IsScript lanes.now }
+    requires run { HaveRun lanes.now seats.items }
+    ensures { IfOk result (λ t. AreServed last.now lanes.now t.0.items t.1.items) }
+{
+    let mut reports = Vec::new(alloc);
+    let mut closings = Vec::new(alloc);
+    let mut i = 0usize;
+    for seated in seats {
+        let (report, closing) = close_seated(alloc, last, &lanes[i], seated)?;
+        let Ok(()) = reports.push(report) else {
+            return Err(Memory);
+        };
+        let Ok(()) = closings.push(closing) else {
+            return Err(Memory);
+        };
+        i += 1;
+    }
+    Ok((reports, closings))
+}
+
+// A caller at each seat.
+fn seat_all<J: Naming>(alloc: Global, seats: Vec<Seat<J>>) -> Result<Vec<Seated<J>>, Memory>
+    ensures { IfOk result (λ v. vec_len v ≡ vec_len seats) }
+{
+    let mut seated = Vec::new(alloc);
+    for seat in seats {
+        let Ok(()) = seated.push(Seated {
+            caller: Caller::new(alloc, seat),
+            replies: None,
+        }) else {
+            return Err(Memory);
+        };
+    }
+    Ok(seated)
+}
+
+// The run, where the first item's edition is built. `opened` has the name of the store, `J`.
+fn serve_from<J: Naming + Send + Sync, F: Folder, G: Gate, R: Threads + Wait + Sync>(
+    rt: &R,
+    alloc: Global,
+    gate: &G,
+    building: Building,
+    folder: &mut F,
+    plan: &[PlanItem],
+    opened: Opened<Edition>,
+    first: Shared,
+    script: &Script,
+) -> Result<Served, Stop>
+    requires book { opened.seen.book ≡ J.book }
+    requires options { AreOptions building.options }
+    requires workers { AreWorkers building.workers }
+    requires count { F.faults folder.old < 2 ^ 64 - 1 }
+    requires plan { (0 < length plan.now) × (length plan.now ≤ 100) }
+    requires first { AreOutcomes (F.files folder.old) building.options 0 (take 1 plan.now)
+        (outcome_of 1 first ∷ []) (first ∷ []) }
+    requires script { IsScript script.now }
+    ensures files { F.files folder.new ≡ F.files folder.old }
+    ensures faults { IfOk result (λ _. F.faults folder.new ≡ F.faults folder.old) }
+    ensures stop { IfErr result (HasStopped (F.faults folder.old) (F.faults folder.new)) }
+    ensures served { IfOk result (IsServed (F.files folder.old) building.options plan.now script.now) }
+{
+    let lanes = script.lanes.as_slice();
+    let mut outcomes = Vec::new(alloc);
+    let Ok(()) = outcomes.push(outcome_of(1, first.edition())) else {
+        return Err(Stop::Memory);
+    };
+    let Ok((publisher, seats)) = Store::new::<J>(alloc, opened, first, lanes.len() as u32) else {
+        return Err(Stop::Memory);
+    };
+    let Ok(mut seated) = seat_all(alloc, seats) else {
+        let _last = publisher.finish(rt);
+        return Err(Stop::Memory);
+    };
+    let last = sides(
+        rt,
+        alloc,
+        gate,
+        building,
+        folder,
+        plan,
+        &mut outcomes,
+        publisher,
+        lanes,
+        seated.as_mut_slice(),
+    )?;
+    let Ok((lanes, closing)) = close_all(alloc, &last, lanes, seated) else {
+        return Err(Stop::Memory);
+    };
+    Ok(Served {
+        outcomes,
+        lanes,
+        last: last.number(),
+        closing,
+    })
+}
+
+fn fault_of(stop: Stop) -> ServeFault
+    ensures { result ≡ fault_for stop }
+{
+    match stop {
+        Stop::ReadFault => ServeFault::ReadFault,
+        Stop::Memory => ServeFault::Memory,
+    }
+}
+
+// The run, from the plan's first item on.
+fn serve_plan<F: Folder, G: Gate, R: Threads + Wait + Sync>(
+    rt: &R,
+    alloc: Global,
+    gate: &G,
+    building: Building,
+    folder: &mut F,
+    plan: &[PlanItem],
+    script: &Script,
+) -> Result<Served, ServeFault>
+    requires plan { (0 < length plan.now) × (length plan.now ≤ 100) }
+    requires options { AreOptions building.options }
+    requires workers { AreWorkers building.workers }
+    requires script { IsScript script.now }
+    requires count { F.faults folder.old < 2 ^ 64 - 1 }
+    ensures served { IfOk result (IsServed (F.files folder.old) building.options plan.now
+        script.now) }
+    ensures files { F.files folder.new ≡ F.files folder.old }
+    ensures faults { IfOk result (λ _. F.faults folder.new ≡ F.faults folder.old) }
+    ensures fault { IfErr result (IsServeFault (F.files folder.old) building.options plan.now
+        (F.faults folder.old) (F.faults folder.new)) }
+{
+    match build_item(rt, alloc, gate, building, folder, &plan[0]) {
+        Ok(Built::Edition(edition)) => {
+            let served = serve_from::<Brand, F, G, R>(
+                rt,
+                alloc,
+                gate,
+                building,
+                folder,
+                plan,
+                Opened::new(),
+                edition,
+                script,
+            );
+            match served {
+                Ok(served) => Ok(served),
+                Err(stop) => Err(fault_of(stop)),
+            }
+        }
+        Ok(Built::Refused(fault)) => Err(ServeFault::Feed(fault)),
+        Err(stop) => Err(fault_of(stop)),
+    }
+}
+
+/// Publishes the plan's items, each as it is read and built, while the lanes of a script are
+/// answered, each by a caller of its own in a thread of its own; in the end each lane's first
+/// request and each that was deferred is answered once more by the last edition. So many workers
+/// reduce the transfers of an item: 1 to 64. The gate is told of each publication and of each
+/// request, and may hold them. `Feed` comes exactly where the first item's feed is refused and the
+/// folder didn't fail, `ReadFault` only where its count of faults rose. It may wait.
+pub fn serve<F: Folder + Send, G: Gate, R: Threads + Wait + Sync>(
+    rt: &R,
+    alloc: Global,
+    plan: &[PlanItem],
+    options: &Options,
+    workers: u32,
+    script: &Script,
+    folder: &mut F,
+    gate: &G,
+) -> Result<Served, ServeFault>
+    requires plan { (0 < length plan.now) × (length plan.now ≤ 100) }
+    requires options { AreOptions options.now }
+    requires workers { AreWorkers workers }
+    requires script { IsScript script.now }
+    requires count { F.faults folder.old < 2 ^ 64 - 1 }
+    ensures served { IfOk result (IsServed (F.files folder.old) options.now plan.now script.now) }
+    ensures files { F.files folder.new ≡ F.files folder.old }
+    ensures faults { IfOk result (λ _. F.faults folder.new ≡ F.faults folder.old) }
+    ensures fault { IfErr result (IsServeFault (F.files folder.old) options.now plan.now
+        (F.faults folder.old) (F.faults folder.new)) }
+    ensures refused { IsSome (F.files folder.old) → F.faults folder.new ≡ F.faults folder.old →
+        (f : FeedFault) → FirstGives (F.files folder.old) options.now plan.now f →
+        TellsFault f result }
+{
+    timetable_determined();
+    let building = Building {
+        options: *options,
+        workers,
+    };
+    serve_plan(rt, alloc, gate, building, folder, plan, script)
+}
