@@ -5,12 +5,15 @@
 //! generator with a fixed seed, at random times of the day: with the method `search` over the kept
 //! transfers, with the method `plain` round by round. It writes how many choices were found and the
 //! sum of their arrivals, so both methods can be compared. With the method `profile` it asks for
-//! profiles of 24 hours instead, and writes the same of their slots. How long a query takes is the
+//! profiles of 24 hours instead, and writes the same of their slots. With `pin` one seat of a store
+//! pins the day's edition COUNT times, with `publish` COUNT stores of one seat are given 99 more
+//! shares of it each; it writes how often, and the sum of the numbers. How long one takes is the
 //! time of a run less that of a run with COUNT 0. Nothing is promised of it but that it is safe and
 //! ends.
 #![tactic(auto)]
 
 mod queries;
+mod stores;
 mod words;
 
 use edition_store::Edition;
@@ -18,7 +21,9 @@ use queries::{Found, by_profiles, by_rounds, by_search};
 use service_day::Day;
 use std::alloc::Global;
 use std::process::ExitCode;
+use std::sync::Wait;
 use std::thread::Threads;
+use stores::{by_pins, by_publications};
 use tb_base::{IdleGate, Timetable};
 use tb_io::HostFolder;
 use trip_table::{Options, read_day};
@@ -42,7 +47,7 @@ fn edition<R: Threads + Sync>(rt: &R, alloc: Global, table: Timetable) -> Option
     Edition::build(rt, alloc, table, 1, &IdleGate).ok()
 }
 
-fn found<R: Threads + Sync>(
+fn found<R: Threads + Wait + Sync>(
     rt: &R,
     alloc: Global,
     table: Timetable,
@@ -52,12 +57,14 @@ fn found<R: Threads + Sync>(
         Method::Search => by_search(alloc, &edition(rt, alloc, table)?, words.count).ok(),
         Method::Plain => by_rounds(alloc, &table, words.count).ok(),
         Method::Profile => by_profiles(alloc, &edition(rt, alloc, table)?, words.count).ok(),
+        Method::Pin => by_pins(rt, alloc, edition(rt, alloc, table)?, words.count).ok(),
+        Method::Publish => by_publications(rt, alloc, edition(rt, alloc, table)?, words.count).ok(),
     }
 }
 
 fn main(rt: HostRuntime) -> ExitCode {
     let Some(words) = words_of(&rt) else {
-        let _ = eprintln!(rt; "usage: query_bench DIR DATE COUNT search|plain|profile");
+        let _ = eprintln!(rt; "usage: query_bench DIR DATE COUNT search|plain|profile|pin|publish");
         return ExitCode::from(2);
     };
     let Some(table) = timetable(&rt, words.dir.as_str(), &words.day) else {

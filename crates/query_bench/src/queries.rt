@@ -19,10 +19,16 @@ pub struct Found {
 }
 
 impl Found {
-    const NOTHING: Found = Found {
+    pub const NOTHING: Found = Found {
         choices: 0,
         arrivals: 0,
     };
+
+    /// One more, with this number.
+    pub fn add_number(&mut self, number: u32) {
+        self.choices = self.choices.wrapping_add(1);
+        self.arrivals = self.arrivals.wrapping_add(number as u64);
+    }
 
     fn add_arrival(&mut self, arrive: Sec) {
         self.choices = self.choices.wrapping_add(1);

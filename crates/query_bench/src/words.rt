@@ -4,12 +4,14 @@ use service_day::{Day, day_of};
 use std::env;
 use std::rt::Env;
 
-/// How journeys are looked for.
+/// What is done so often.
 #[derive(Clone, Copy, PartialEq, Eq, Debug)]
 pub enum Method {
     Search,
     Plain,
     Profile,
+    Pin,
+    Publish,
 }
 
 /// What is to be measured.
@@ -26,6 +28,8 @@ fn method_named(name: &str) -> Option<Method> {
         "search" => Some(Method::Search),
         "plain" => Some(Method::Plain),
         "profile" => Some(Method::Profile),
+        "pin" => Some(Method::Pin),
+        "publish" => Some(Method::Publish),
         _ => None,
     }
 }
