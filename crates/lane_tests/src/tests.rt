@@ -1,0 +1,3 @@
+mod meeting;
+mod runs;
+mod texts;
