@@ -1,0 +1,7 @@
+pub mod Hours
+pub mod RideSteps
+pub mod LineSteps
+pub mod Reading
+pub mod Values
+pub mod Going
+pub mod Adding

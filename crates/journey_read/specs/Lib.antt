@@ -1,0 +1,5 @@
+pub mod Lines
+pub mod Times
+pub mod Rides
+pub mod Claims
+pub mod Judging

@@ -1,0 +1,169 @@
+//! Claims are read line by line.
+ghost use Rattle.std.specs.Prelude.{◌≡◌, ◌<◌, ◌^◌, ◌+◌, ◌-◌, ℕ, List, [], ◌∷◌, IfOk, MatchResult, None, Ok, length};
+ghost use Rattle.tb_base.specs.LineWords.{line_words};
+ghost use Rattle.tb_base.specs.TimetableData.{TimetableData};
+ghost use Rattle.journey_read.specs.Claims.{IsRefused, Reads, ReadsWords, claim_of, claim_so_far};
+ghost use Rattle.journey_read.specs.Lines.{last_line, without_cr};
+
+use crate::claim::{Claimed, JourneyFault};
+use crate::legs::{leg_of, value_of};
+use std::alloc::Global;
+use std::marker::Model;
+use tb_base::{Name, Timetable, line_words};
+
+const MOST_BYTES: usize = 1_048_576;
+
+// What is read of a claim: how many lines, and the claim so far, once it has begun.
+#[derive(Drop)]
+struct ClaimReader {
+    lines: u32,
+    claimed: Option<Claimed>,
+}
+
+impl Model for ClaimReader {
+    ghost use Rattle.journey_read.specs.Claims.{SoFar};
+
+    ghost Value = { SoFar };
+
+    ghost view = { λ r. record { lines = r.lines; claimed = r.claimed } };
+}
+
+// A line without a carriage return at its end.
+fn without_cr(text: &[u8]) -> &[u8]
+    ensures { result.now ≡ without_cr text.now }
+{
+    let before = text.len().saturating_sub(1);
+    if &text[before..] == b"\r".as_slice() {
+        &text[..before]
+    } else {
+        text
+    }
+}
+
+// The claim with the next line, whose words these are: its value, or one leg more.
+fn claim_with_words(
+    alloc: Global,
+    table: &Timetable,
+    line: u32,
+    claimed: Option<Claimed>,
+    words: &[Name],
+) -> Result<Claimed, JourneyFault>
+    requires { 0 < length words.now }
+    ensures { ReadsWords table.now line claimed words.now result }
+{
+    match claimed {
+        Some(claimed) => {
+            let mut claimed = claimed;
+            let leg = match leg_of(table, line, words) {
+                Ok(leg) => leg,
+                Err(fault) => return Err(fault),
+            };
+            match claimed.legs.push(leg) {
+                Ok(()) => Ok(claimed),
+                Err(_) => Err(JourneyFault::Memory),
+            }
+        }
+        None => match value_of(words) {
+            Some(value) => Ok(Claimed {
+                value,
+                legs: Vec::new(alloc),
+            }),
+            None => Err(JourneyFault::BadLine(line)),
+        },
+    }
+}
+
+impl ClaimReader {
+    // With the next line.
+    fn take(
+        self,
+        alloc: Global,
+        table: &Timetable,
+        text: &[u8],
+    ) -> Result<ClaimReader, JourneyFault>
+        requires { self.lines < 2 ^ 32 - 1 }
+        ensures reads { Reads table.now self text.now result }
+        ensures lines { IfOk result (λ next. next.lines ≡ self.lines + 1) }
+    {
+        let line = self.lines + 1;
+        let Some(words) = line_words(alloc, text)? else {
+            return Err(JourneyFault::BadLine(line));
+        };
+        if words.is_empty() {
+            return Ok(ClaimReader {
+                lines: line,
+                claimed: self.claimed,
+            });
+        }
+        let claimed = match claim_with_words(alloc, table, line, self.claimed, words.as_slice()) {
+            Ok(claimed) => claimed,
+            Err(fault) => return Err(fault),
+        };
+        Ok(ClaimReader {
+            lines: line,
+            claimed: Some(claimed),
+        })
+    }
+
+    // The claim, at the end of the text.
+    fn end(self) -> Result<Claimed, JourneyFault>
+        ensures { (T : TimetableData) → MatchResult result (λ c. claim_so_far T self [] ≡ Ok c)
+            (λ f. IsRefused f (claim_so_far T self [])) }
+    {
+        match self.claimed {
+            Some(claimed) => Ok(claimed),
+            None => Err(JourneyFault::BadLine(0)),
+        }
+    }
+
+    // The claim, at the end of a text with these bytes behind its last line feed.
+    fn end_behind(
+        self,
+        alloc: Global,
+        table: &Timetable,
+        text: &[u8],
+    ) -> Result<Claimed, JourneyFault>
+        requires { self.lines < 2 ^ 32 - 1 }
+        ensures { MatchResult result (λ c. claim_so_far table.now self (last_line text.now) ≡ Ok c)
+            (λ f. IsRefused f (claim_so_far table.now self (last_line text.now))) }
+    {
+        if text.is_empty() {
+            return self.end();
+        }
+        match self.take(alloc, table, without_cr(text)) {
+            Ok(reader) => reader.end(),
+            Err(fault) => Err(fault),
+        }
+    }
+}
+
+/// The journey that a text claims, or exactly its first fault: bytes in lines, which a line feed
+/// ends, or a carriage return and a line feed; the words of a line are those of `line_words`. Lines
+/// without words, and those whose first byte is `#`, are passed over. The first other line is
+/// `arrive TIME rides N`; each further one `walk STOP STOP SECONDS`, `ride TRIP STOP TIME STOP TIME`,
+/// or the latter with `day-before`. A ride is that of the lowest-numbered trip with the name that
+/// calls at the first stop with that departure and later at the second with that arrival; of its
+/// events the first such pair counts. Takes one pass over the trips for each ride.
+pub fn read_journey(alloc: Global, table: &Timetable, bytes: &[u8]) -> Result<Claimed, JourneyFault>
+    ensures { MatchResult result (λ c. claim_of table.now bytes.now ≡ Ok c)
+        (λ f. IsRefused f (claim_of table.now bytes.now)) }
+{
+    if bytes.len() > MOST_BYTES {
+        return Err(JourneyFault::TooLong);
+    }
+    let mut reader = ClaimReader {
+        lines: 0,
+        claimed: None,
+    };
+    let mut from = 0;
+    for at in 0..bytes.len() {
+        if bytes[at] == b'\n' {
+            reader = match reader.take(alloc, table, without_cr(&bytes[from..at])) {
+                Ok(next) => next,
+                Err(fault) => return Err(fault),
+            };
+            from = at + 1;
+        }
+    }
+    reader.end_behind(alloc, table, &bytes[from..])
+}
