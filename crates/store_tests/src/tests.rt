@@ -1,0 +1,4 @@
+mod asking;
+mod beside;
+mod days;
+mod profiling;
