@@ -1,9 +1,9 @@
 //! A made city, for measuring.
 //!
 //! `city` gives the timetable of a square grid of stops, with trips along its rows and its columns
-//! both ways, of any size up to 40 by 40 stops: 14,400 trips with 576,000 events. To the layer above
-//! it promises every part of it: each name, number, time and stop. Times are those of a service day
-//! of the GTFS Schedule Reference, in seconds from noon minus twelve hours.
+//! both ways, of any size up to 40 by 40 stops: 14,400 trips with 576,000 events. To the layer
+//! above it promises every part of it: each name, number, time and stop. Times are those of a
+//! service day of the GTFS Schedule Reference, in seconds from noon minus twelve hours.
 #![tactic(auto)]
 
 ghost use Rattle.std.specs.Prelude.{◌≡◌, ◌<◌, ◌≤◌, IfOk};
@@ -32,10 +32,12 @@ fn parts(alloc: Global, side: u32) -> Result<Parts, Memory>
     })
 }
 
-/// The city with so many rows and columns: the stop in column x and row y has the name `Sx-y`;
-/// along each of them 90 trips head each way, from 06:00:00 on or up to nine minutes later, one
-/// every ten minutes and a minute and a half from stop to stop. To change takes a minute at every
-/// stop. Takes time and memory by the number of events. Refused only for want of memory.
+/// The city with so many rows and columns: the stop in column x and row y has the name `Sx-y`.
+/// Along each row and each column 90 trips head each way, from 06:00:00 on or up to nine minutes
+/// later, one every ten minutes and a minute and a half from stop to stop, where one may board and
+/// alight everywhere. Trip m along row or column k has the name `DdKkMm`, where d is 0 for the
+/// trips to the right, 1 to the left, 2 down and 3 up; the trips are in the order of d, then k,
+/// then m, each from 0. To change takes a minute at every stop. Refused only for want of memory.
 #[tactic(auto, using(crate::proofs::Sound::city_sound))]
 pub fn city(alloc: Global, side: u32) -> Result<Timetable, Memory>
     requires some { 2 ≤ side }
