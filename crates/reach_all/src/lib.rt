@@ -3,9 +3,9 @@
 //!
 //! `reach_all` asks, from some origins and at one time, for every stop at once. To the layer above
 //! it promises, for every sufficient set of hops, exactly the best values of the query to each stop
-//! alone, within the steps of one search. Each segment is ridden once, and what is found there is
-//! offered to the stop and to those with a walk from it. `reach_text` shows the answer, one line a
-//! stop. Times are those of the service day, as the GTFS Schedule Reference counts them.
+//! alone, in at most as many steps as there are events and, at the stops with a walk from an
+//! origin, line indices. `reach_text` shows the answer, one line a stop. Times are those of the
+//! service day, as the GTFS Schedule Reference counts them.
 #![tactic(auto)]
 
 mod arrivals;

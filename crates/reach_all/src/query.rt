@@ -15,10 +15,9 @@ use tb_base::{Memory, Query, Sec, StopNo, Value};
 /// For each stop, by its number, the best values of the query with these origins, this time in
 /// seconds since noon minus twelve hours, and that stop as the only target: by rides, smallest
 /// first, and none where nothing leads to the stop. Any sufficient set of hops gives the same.
-/// One search without targets serves all stops: it rides each segment that it enters once, and
-/// offers each arrival to the stop and to those with a walk from there. So it takes steps at most
-/// once for each event and once for each line index at the stops with a walk from an origin, which
-/// is the bound of a search for one target.
+/// One search without targets serves all stops: what a ride gives is offered to the stop and to
+/// those with a walk from there. It takes at most as many steps as there are events and, at the
+/// stops with a walk from an origin, line indices, which is the bound of a search for one target.
 /// Refused only for want of memory; the desk fits the scan afterwards, also then.
 pub fn reach_all<L: Ledger, S: Look<L>>(
     alloc: Global,
