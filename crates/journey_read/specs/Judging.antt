@@ -32,8 +32,8 @@ value_after T time rides [] = record { arrive = time; rides = rides }
 value_after T time rides (leg ∷ legs) =
     value_after T (time_after T time leg) (rides + rides_on leg) legs
 
--- legs that are begun at a time: their numbers exist, no walk takes more than a day, and no leg ends
--- later than a day behind the last time of a timetable
+-- legs that are begun at a time: their numbers exist, no walk takes more than a day, and no leg
+-- ends later than a day behind the last time of a timetable
 abbrev pub GoesOn : TimetableData → ℤ → List Leg → Type 0
 GoesOn T time [] = ⊤
 GoesOn T time (leg ∷ legs) =

@@ -16,16 +16,17 @@ impl Model for Claimed {
     ghost view = { λ c. record { value = c.value; legs = c.legs.items } };
 }
 
-/// Why a text claims no journey, with the number of the line, from 1. In the order in which they are
-/// tried at one line.
+/// Why a text claims no journey, with the number of the line, from 1. In the order in which they
+/// are tried at one line.
 #[derive(Debug, Clone, Copy, PartialEq, Eq)]
 pub enum JourneyFault {
     /// A line is too long, isn't UTF-8, has a word that isn't closed, or has no form of a claim's
     /// line in its place. 0 where no line has a word.
     BadLine(u32),
-    /// No stop has a name.
+    /// No stop has a name that the line gives.
     UnknownStop(u32),
-    /// No trip has the name and calls at the stops at the times, in order.
+    /// No trip has the name and calls at the stops at the times, in order; or the line says
+    /// `day-before`, which no trip has.
     NoSuchRide(u32),
     /// More than 1,048,576 bytes.
     TooLong,

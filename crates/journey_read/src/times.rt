@@ -69,8 +69,8 @@ fn seconds_within(text: &[u8], most: u32) -> Option<u32>
 }
 
 /// The time that a text shows: hours in two or more digits, minutes and seconds, with a minus sign
-/// before them where it is before the service day. From -86,400 to 446,399 seconds; `None` for every
-/// other text.
+/// before them where it is before the service day. From -86,400 to 446,399 seconds; `None` for
+/// every other text.
 pub(crate) fn shown_time_of(text: &[u8]) -> Option<Sec>
     ensures { result ≡ shown_time_of text.now }
 {

@@ -92,10 +92,9 @@ fn verdict_on(table: &Timetable, query: &Query, claimed: &Value, legs: &[Leg]) -
     }
 }
 
-/// Whether a claim is right: `Broken` with the first rule that its legs break, `OtherValue` with the
-/// journey's own value where they spell a journey that leaves no earlier than asked and has another
-/// value than the claimed one, else `Yes`. A walk's value is taken at the asked time. Takes no
-/// memory; two passes over the legs.
+/// Whether a claim is right: `Broken` with the first rule that its legs break, `OtherValue` with
+/// the journey's own value where they spell a journey that leaves no earlier than asked and has
+/// another value than the claimed one, else `Yes`. A walk's value is taken at the asked time.
 pub fn judge(table: &Timetable, query: &Query, claimed: &Claimed) -> Verdict
     requires origins { All (λ p. p < length table.now.stops) query.now.from }
     requires leave { query.now.leave ≤ℤ pos 359999 }
