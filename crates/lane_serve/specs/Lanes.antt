@@ -42,7 +42,7 @@ abbrev pub IsReplyOf : List EditionData → ℕ → Line → Reply → Type 0
 IsReplyOf es n request reply =
     (e : EditionData) × IsEditionOf es n e × Answers n e request reply
 
--- the text is that of the right reply of the edition of a list that it names
+-- a reply's text is that of the right reply of the edition of a list that the reply names
 pub record IsAnswered (es : List EditionData) (request : Line) (r : ReplyText) : Type 0 where
   pub by : EditionData
   pub edition : IsEditionOf es r.edition by
@@ -50,8 +50,8 @@ pub record IsAnswered (es : List EditionData) (request : Line) (r : ReplyText) :
   pub right : Answers r.edition by request reply
   pub text : r.text ≡ reply_text by.table reply
 
--- one reply for each request in order, numbered from k on; no edition is before the one of the reply
--- before it, nor the first before `least`
+-- One reply for each request in order, numbered from k on; the editions never go back, and the
+-- first is no earlier than `least`.
 abbrev pub RunsFrom : List EditionData → ℕ → ℕ → List Line → List ReplyText → Type 0
 RunsFrom es k least [] [] = ⊤
 RunsFrom es k least [] (r ∷ rs) = ⊥

@@ -68,8 +68,8 @@ abbrev pub IsBuilt : Option FileList → Options → ItemData → Built → Type
 IsBuilt files options item (built.Edition e) = IsEditionOfItem files options item e
 IsBuilt files options item (built.Refused f) = ItemGives files options item (Err f)
 
--- A stop for a failed read comes only where the folder's count of faults rose; for want of memory it
--- stands.
+-- A stop for a failed read comes only where the folder's count of faults rose; for want of memory
+-- only where that count stands.
 abbrev pub HasStopped : ℕ → ℕ → Stop → Type 0
 HasStopped before now stop.ReadFault = before < now
 HasStopped before now stop.Memory = now ≡ before

@@ -158,12 +158,12 @@ IsRefused fault.Memory meant = ⊤
 abbrev pub Reads : SoFar → Result Unit ScriptFault → Result SoFar ScriptFault → Type 0
 Reads now result meant = MatchResult result (λ _. meant ≡ Ok now) (λ f. IsRefused f meant)
 
--- the times of a request are at most 99:59:59
+-- the time of a request, or the end of its window, is at most 99:59:59
 abbrev pub HasTimes : Line → Type 0
 HasTimes (line.Ask q) = q.leave ≤ℤ pos 359999
 HasTimes (line.Profile q) = q.last ≤ℤ pos 359999
 
--- a line that is a request, if it is one, has such times
+-- a line that is a request has such a time
 abbrev pub SaysTimes : Option Said → Type 0
 SaysTimes None = ⊤
 SaysTimes (Some said.Nothing) = ⊤
@@ -175,7 +175,7 @@ SaysTimes (Some (said.Request (Some request))) = HasTimes request
 abbrev pub request_count : List LaneData → ℕ
 request_count lanes = sum_by (λ l. length (LaneData.lines l)) lanes
 
--- at most 64 lanes with at most 20,000 requests in all, whose times are good
+-- at most 64 lanes with at most 20,000 requests in all, each with such a time
 pub record IsWithinLimits (lanes : List LaneData) : Type 0 where
   pub few : length lanes ≤ 64
   pub requests : request_count lanes ≤ 20000

@@ -82,9 +82,10 @@ fn answer<J: Naming>(
     })
 }
 
-/// Answers the requests of a lane in order. The gate is told of each, before it is asked and when
-/// it is answered. The replies are a lane's run over the list that the caller keeps afterwards, and
-/// over each longer one. Waits for nobody but the gate. Refused only for want of memory.
+/// Answers the requests of a lane in order. The replies are a lane's run over the list that the
+/// caller keeps afterwards, and over each longer one. Waits for nobody but the gate. Refused only
+/// for want of memory. That the gate is told of each request, before it is asked and when it is
+/// answered, is tested and in no clause.
 pub fn run_lane<J: Naming, G: Gate>(
     alloc: Global,
     gate: &G,

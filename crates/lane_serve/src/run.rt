@@ -1,5 +1,5 @@
 //! The whole run: a publisher beside the lanes, and the closing part.
-ghost use Rattle.std.specs.Prelude.{◌≡◌, ◌<◌, ◌≤◌, ◌-◌, ◌^◌, ◌∷◌, [], All, IfErr, IfOk, IfSome, IsSome, length, slice_index_or, take, vec_len};
+ghost use Rattle.std.specs.Prelude.{◌≡◌, ◌<◌, ◌≤◌, ◌-◌, ◌^◌, ◌∷◌, [], All, IfErr, IfOk, IfSome, IsNone, IsSome, length, slice_index_or, take, vec_len};
 ghost use Rattle.std.specs.Thread.{IsSync};
 ghost use Rattle.gtfs_rows.specs.declared.fault.FeedFault.{FeedFault};
 ghost use Rattle.lane_serve.specs.Plans.{AreOptions, AreOutcomes, AreWorkers, BeginsPublished, HasStopped, outcome_of};
@@ -85,7 +85,7 @@ fn run_seated<J: Naming, G: Gate>(
     }
 }
 
-// Each lane in a thread of its own.
+// Each lane, in threads where these can be started.
 fn run_lanes<J: Naming + Send + Sync, G: Gate, R: Threads + Sync>(
     rt: &R,
     alloc: Global,
@@ -109,7 +109,7 @@ fn run_lanes<J: Naming + Send + Sync, G: Gate, R: Threads + Sync>(
     );
 }
 
-// Takes the publisher out of its place, and publishes.
+// Takes the publisher out of its place, which is empty afterwards, and publishes.
 fn publish_side<J: Naming, F: Folder, G: Gate, R: Threads + Wait + Sync>(
     rt: &R,
     alloc: Global,
@@ -124,6 +124,7 @@ fn publish_side<J: Naming, F: Folder, G: Gate, R: Threads + Wait + Sync>(
     requires workers { AreWorkers building.workers }
     requires count { F.faults folder.old < 2 ^ 64 - 1 }
     requires plan { length plan.now ≤ 100 }
+    requires slot { IsSome slot.old }
     requires first { IfSome slot.old (AreOutcomes (F.files folder.old) building.options 0
         (take 1 plan.now) outcomes.old.items) }
     requires begins { BeginsPublished outcomes.old.items }
@@ -133,14 +134,15 @@ fn publish_side<J: Naming, F: Folder, G: Gate, R: Threads + Wait + Sync>(
     ensures outcomes { IfOk result (AreOutcomes (F.files folder.old) building.options 0 plan.now
         outcomes.new.items) }
     ensures begins { IfOk result (λ _. BeginsPublished outcomes.new.items) }
+    ensures taken { IsNone slot.new }
 {
     let Some(publisher) = slot.take() else {
-        return Err(Stop::Memory);
+        unreachable!()
     };
     publish_rest(rt, alloc, gate, building, folder, plan, outcomes, publisher)
 }
 
-// The two sides at once.
+// The two sides: at once, where a thread can be started.
 fn both<J: Naming + Send + Sync, F: Folder, G: Gate, R: Threads + Wait + Sync>(
     rt: &R,
     alloc: Global,
@@ -157,6 +159,7 @@ fn both<J: Naming + Send + Sync, F: Folder, G: Gate, R: Threads + Wait + Sync>(
     requires workers { AreWorkers building.workers }
     requires count { F.faults folder.old < 2 ^ 64 - 1 }
     requires plan { length plan.now ≤ 100 }
+    requires slot { IsSome slot.old }
     requires first { IfSome slot.old (AreOutcomes (F.files folder.old) building.options 0
         (take 1 plan.now) outcomes.old.items) }
     requires begins { BeginsPublished outcomes.old.items }
@@ -168,6 +171,7 @@ fn both<J: Naming + Send + Sync, F: Folder, G: Gate, R: Threads + Wait + Sync>(
     ensures outcomes { IfOk result (AreOutcomes (F.files folder.old) building.options 0 plan.now
         outcomes.new.items) }
     ensures begins { IfOk result (λ _. BeginsPublished outcomes.new.items) }
+    ensures taken { IsNone slot.new }
     ensures run { HaveRun lanes.now seats.new }
 {
     let ((), published) = join_mut(
@@ -178,7 +182,7 @@ fn both<J: Naming + Send + Sync, F: Folder, G: Gate, R: Threads + Wait + Sync>(
         { run_lanes(rt, alloc, gate, lanes, seats) },
         &mut || -> Result<Publisher<J>, Stop>
             requires { AreOptions building.options × AreWorkers building.workers
-                × (F.faults folder.now < 2 ^ 64 - 1) × (length plan.now ≤ 100)
+                × (F.faults folder.now < 2 ^ 64 - 1) × (length plan.now ≤ 100) × IsSome slot.now
                 × IfSome slot.now (AreOutcomes (F.files folder.now) building.options 0
                 (take 1 plan.now) outcomes.now.items) × BeginsPublished outcomes.now.items }
             ensures { (F.files folder.exit.now ≡ F.files folder.entry.now)
@@ -186,20 +190,23 @@ fn both<J: Naming + Send + Sync, F: Folder, G: Gate, R: Threads + Wait + Sync>(
                 × IfErr result (HasStopped (F.faults folder.entry.now) (F.faults folder.exit.now))
                 × IfOk result (AreOutcomes (F.files folder.entry.now) building.options 0
                 plan.entry.now outcomes.exit.now.items)
-                × IfOk result (λ _. BeginsPublished outcomes.exit.now.items) }
+                × IfOk result (λ _. BeginsPublished outcomes.exit.now.items)
+                × IsNone slot.exit.now }
         { publish_side(rt, alloc, gate, building, folder, plan, outcomes, slot) },
     );
     published
 }
 
-// A publisher that was not taken: there is none.
-fn let_go<J: Naming, R: Wait>(rt: &R, slot: Option<Publisher<J>>) {
+// A publisher's place, from which it was taken.
+fn let_go<J: Naming, R: Wait>(rt: &R, slot: Option<Publisher<J>>)
+    requires { IsNone slot }
+{
     if let Some(publisher) = slot {
         let _last = publisher.finish(rt);
     }
 }
 
-// The two sides at once, and then the end.
+// The two sides, and then the end.
 fn sides<J: Naming + Send + Sync, F: Folder, G: Gate, R: Threads + Wait + Sync>(
     rt: &R,
     alloc: Global,
@@ -343,14 +350,16 @@ fn serve_from<J: Naming + Send + Sync, F: Folder, G: Gate, R: Threads + Wait + S
     requires options { AreOptions building.options }
     requires workers { AreWorkers building.workers }
     requires count { F.faults folder.old < 2 ^ 64 - 1 }
-    requires plan { (0 < length plan.now) × (length plan.now ≤ 100) }
+    requires plan { 0 < length plan.now }
+    requires days { length plan.now ≤ 100 }
     requires first { AreOutcomes (F.files folder.old) building.options 0 (take 1 plan.now)
         (outcome_of 1 first ∷ []) (first ∷ []) }
     requires script { IsScript script.now }
     ensures files { F.files folder.new ≡ F.files folder.old }
     ensures faults { IfOk result (λ _. F.faults folder.new ≡ F.faults folder.old) }
     ensures stop { IfErr result (HasStopped (F.faults folder.old) (F.faults folder.new)) }
-    ensures served { IfOk result (IsServed (F.files folder.old) building.options plan.now script.now) }
+    ensures served { IfOk result (IsServed (F.files folder.old) building.options plan.now
+        script.now) }
 {
     let lanes = script.lanes.as_slice();
     let mut outcomes = Vec::new(alloc);
@@ -406,7 +415,8 @@ fn serve_plan<F: Folder, G: Gate, R: Threads + Wait + Sync>(
     plan: &[PlanItem],
     script: &Script,
 ) -> Result<Served, ServeFault>
-    requires plan { (0 < length plan.now) × (length plan.now ≤ 100) }
+    requires plan { 0 < length plan.now }
+    requires days { length plan.now ≤ 100 }
     requires options { AreOptions building.options }
     requires workers { AreWorkers building.workers }
     requires script { IsScript script.now }
@@ -442,11 +452,13 @@ fn serve_plan<F: Folder, G: Gate, R: Threads + Wait + Sync>(
 }
 
 /// Publishes the plan's items, each as it is read and built, while the lanes of a script are
-/// answered, each by a caller of its own in a thread of its own; in the end each lane's first
-/// request and each that was deferred is answered once more by the last edition. So many workers
-/// reduce the transfers of an item: 1 to 64. The gate is told of each publication and of each
-/// request, and may hold them. `Feed` comes exactly where the first item's feed is refused and the
-/// folder didn't fail, `ReadFault` only where its count of faults rose. It may wait.
+/// answered, each by a caller of its own, in threads where these can be started; in the end each
+/// lane's first request and each that was deferred is answered once more by the last edition.
+/// `workers` workers reduce the transfers of an item: 1 to 64. `Feed` comes exactly where the first
+/// item's feed is refused, the folder didn't fail and there was memory, `ReadFault` only where its
+/// count of faults rose. It may wait. That lanes and publisher are at work at once, and that the
+/// gate is told of pieces, publications and requests, and may hold them, is tested and in no
+/// clause.
 pub fn serve<F: Folder + Send, G: Gate, R: Threads + Wait + Sync>(
     rt: &R,
     alloc: Global,
@@ -457,7 +469,8 @@ pub fn serve<F: Folder + Send, G: Gate, R: Threads + Wait + Sync>(
     folder: &mut F,
     gate: &G,
 ) -> Result<Served, ServeFault>
-    requires plan { (0 < length plan.now) × (length plan.now ≤ 100) }
+    requires plan { 0 < length plan.now }
+    requires days { length plan.now ≤ 100 }
     requires options { AreOptions options.now }
     requires workers { AreWorkers workers }
     requires script { IsScript script.now }

@@ -102,7 +102,8 @@ impl Model for ScriptReader {
 
     ghost view = { λ r. record { lines = r.lines; requests = r.requests; lanes = r.lanes.items } };
 
-    ghost invariant = { λ r. (r.requests ≡ request_count r.lanes.items) × IsWithinLimits r.lanes.items };
+    ghost invariant = { λ r. (r.requests ≡ request_count r.lanes.items)
+        × IsWithinLimits r.lanes.items };
 }
 
 // Adds a request to the last lane.
@@ -250,11 +251,12 @@ fn line_said(alloc: Global, text: &[u8]) -> Result<Option<Said>, Memory>
     }
 }
 
-/// The lanes of a script, or exactly its first fault: bytes in lines, which a line feed ends, or a
-/// carriage return and a line feed. The words of a line are those of `line_words`; a line without
-/// words, and one whose first byte is `#`, is passed over. `lane NAME` begins a lane; `ask FROM TO
-/// TIME` and `profile FROM TO FIRST LAST` are requests of it; `since N` before either, with N of 1
-/// to 9 digits, wants edition N or a later one.
+/// The lanes of a script, or exactly its first fault: bytes in lines, each up to a line feed or the
+/// text's end, without a carriage return at its end; what stands behind the last line feed is a
+/// line, unless it is empty. The words of a line are those of `line_words`; a line without words,
+/// and one whose first byte is `#`, is passed over. `lane NAME` begins a lane; `ask FROM TO TIME`
+/// and `profile FROM TO FIRST LAST` are requests of it; `since N` before either, with N of 1 to 9
+/// digits, wants edition N or a later one.
 pub fn read_script(alloc: Global, bytes: &[u8]) -> Result<Script, ScriptFault>
     ensures script { MatchResult result (λ s. script_of bytes.now ≡ Ok s)
         (λ f. IsRefused f (script_of bytes.now)) }
