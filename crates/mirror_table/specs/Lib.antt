@@ -1,0 +1,4 @@
+pub mod Departures
+pub mod Mirror
+pub mod TurnedJourneys
+pub mod TurnedPaths

@@ -1,0 +1,32 @@
+//! Laws of the mirror.
+ghost use Rattle.std.specs.Prelude.{◌≡◌, ℕ, List, map};
+ghost use Rattle.tb_base.specs.declared.query.Leg.{Leg};
+ghost use Rattle.tb_base.specs.declared.query.Value.{Value};
+ghost use Rattle.tb_base.specs.BestValues.{AreBestValues};
+ghost use Rattle.tb_base.specs.JourneyRules.{SpellValue};
+ghost use Rattle.tb_base.specs.Soundness.{IsSound};
+ghost use Rattle.tb_base.specs.TimetableData.{TimetableData};
+ghost use Rattle.mirror_table.specs.Departures.{AreLatest, ArrivalData, SpellLeaving, leaving_from, mirror_query};
+ghost use Rattle.mirror_table.specs.Mirror.{IsMirror};
+ghost use Rattle.mirror_table.specs.TurnedJourneys.{turn_legs};
+
+/// A timetable is the mirror of its mirror, and its mirror has no other.
+pub fn mirror_twice()
+    ensures back { (T M : TimetableData) → IsMirror T M → IsMirror M T }
+    ensures same { (T M N : TimetableData) → IsSound T → IsSound N → IsMirror T M →
+        IsMirror M N → N ≡ T }
+{}
+
+/// The best values of the mirror, when one leaves the targets, are the latest departures.
+pub fn latest_by_mirror()
+    ensures { (T M : TimetableData) → IsMirror T M → (A : ArrivalData) (vs : List Value) →
+        AreBestValues M (mirror_query A) vs → AreLatest T A (map leaving_from vs) }
+{}
+
+/// Legs of the mirror that spell a journey with a value spell, turned round, a journey with the
+/// departure that it stands for.
+pub fn legs_turn()
+    ensures { (T M : TimetableData) → IsMirror T M → (A : ArrivalData) (legs : List Leg)
+        (v : Value) → SpellValue M (mirror_query A) legs v →
+        SpellLeaving T A (turn_legs M legs) (leaving_from v) }
+{}
