@@ -19,7 +19,7 @@ use Rattle.query_gate.specs.Replies.{IsAskReply, IsProfileReply}
 use Rattle.query_gate.specs.declared.reply.Reply.{Reply}
 use Rattle.query_gate.specs.declared.reply.Reply.TheVariants.{Values, Slots, UnknownStop, Deferred}
 use Rattle.router_cli.specs.Answers.{HasKeptChanges, IsTextBetween, ShowsKept, ShowsProfile, ask_data, profile_data, reply_text}
-use Rattle.router_cli.specs.Inquiry.{InquiryData, WindowInquiryData}
+use Rattle.command_line.specs.Inquiries.{InquiryData, WindowInquiryData}
 
 -- the text where both names are those of places
 pub known_text : (T : TimetableData) (from to : List ℕ) (IsTextOf : Ends → List ℕ → Type 0) (ends : Ends) (bytes : List ℕ) →

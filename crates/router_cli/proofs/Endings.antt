@@ -8,7 +8,7 @@ use Rattle.tb_io.specs.Files.{FileList}
 use Rattle.trip_table.specs.Feed.{Feed}
 use Rattle.trip_table.specs.Answers.{feed_of}
 use Rattle.trip_table.specs.Day.{IsTimetableOf}
-use Rattle.router_cli.specs.Words.{RequestData}
+use Rattle.command_line.specs.DayCommands.{DayRequestData}
 use Rattle.router_cli.specs.Outcome.{IsDayOf, IsEnding, IsOutcome}
 use Rattle.router_cli.specs.declared.status.Status.{Status}
 use Rattle.router_cli.specs.declared.status.Status.TheVariants as status
@@ -24,7 +24,7 @@ out_of_memory (Err f) = inr refl
 
 ending : (IsDay : Result TimetableData FeedFault → Type 0) →
     ((a b : Result TimetableData FeedFault) → IsDay a → IsDay b → a ≡ b) →
-    (r : RequestData) (s : Status) (before now : Option (List ℕ)) → IsOutcome IsDay r s before now →
+    (r : DayRequestData) (s : Status) (before now : Option (List ℕ)) → IsOutcome IsDay r s before now →
     (s ≡ status.ReadFault → ⊥) → (s ≡ status.WriteFault → ⊥) →
     (day : Result TimetableData FeedFault) → IsDay day → IsEnding day s
 ending IsDay same r status.Done before now out read write day is =
@@ -36,7 +36,7 @@ ending IsDay same r status.Usage before now out read write day is = absurd out
 ending IsDay same r status.ReadFault before now out read write day is = absurd (read refl)
 ending IsDay same r status.Memory before now out read write day is = out_of_memory day
 
-pub completed : IsDetermined → (asked : Option RequestData) (files : Option FileList) (s : Status) (before now : Option (List ℕ))
+pub completed : IsDetermined → (asked : Option DayRequestData) (files : Option FileList) (s : Status) (before now : Option (List ℕ))
     (reads reads_now writes writes_now : ℕ) →
     IfSome asked (λ r. IsSome files → IsOutcome (IsDayOf files r) r s before now) →
     (s ≡ status.ReadFault → reads < reads_now) → (s ≡ status.WriteFault → writes < writes_now) →

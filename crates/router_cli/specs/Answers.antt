@@ -14,12 +14,12 @@ use Rattle.build_report.specs.Reports.{IsReport}
 use Rattle.query_gate.specs.Questions.{AskData, Ends, ProfileData, ends_between, query_at, window_at}
 use Rattle.query_gate.specs.declared.reply.Reply.{Reply}
 use Rattle.query_gate.specs.declared.reply.Reply.TheVariants as reply
-use Rattle.router_cli.specs.Inquiry.{InquiryData, WindowInquiryData}
-use Rattle.router_cli.specs.Words.{RequestData}
+use Rattle.command_line.specs.Inquiries.{InquiryData, WindowInquiryData}
+use Rattle.command_line.specs.DayCommands.{DayRequestData}
 use Rattle.router_cli.specs.declared.over_table.Asked.{Asked}
 use Rattle.router_cli.specs.declared.over_table.Asked.TheVariants as asked
-use Rattle.router_cli.specs.declared.words.Command.{Command}
-use Rattle.router_cli.specs.declared.words.Command.TheVariants as command
+use Rattle.command_line.specs.declared.request.Command.{Command}
+use Rattle.command_line.specs.declared.request.Command.TheVariants as command
 
 -- the least arrival over the journeys of exactly one ride that the query allows, or that there is
 -- none
@@ -88,7 +88,7 @@ IsCommandText T plain (command.Ask i) = IsInquiryText T (Shows plain) i
 IsCommandText T plain (command.Profile i) = IsProfileText T i
 IsCommandText T plain (command.Build list) = IsReport T list
 
-abbrev pub IsAnswer : TimetableData → RequestData → List ℕ → Type 0
+abbrev pub IsAnswer : TimetableData → DayRequestData → List ℕ → Type 0
 IsAnswer T r = IsCommandText T r.plain r.command
 
 -- the query that an inquiry means, between stops that exist, or the name in it that is no place

@@ -1,5 +1,2 @@
-pub mod Given
-pub mod Inquiry
-pub mod Words
 pub mod Answers
 pub mod Outcome

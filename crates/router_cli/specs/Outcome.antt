@@ -1,5 +1,5 @@
 -- What the program's status says of the words, the files and the bytes written.
-use Rattle.std.specs.Prelude.{◌≡◌, ℕ, ◌≤◌, ◌⊎◌, List, [], ◌++◌, codes, length, take, Option, Result, Err, Ok, ⊤}
+use Rattle.std.specs.Prelude.{◌≡◌, ℕ, ◌≤◌, ◌⊎◌, List, [], ◌++◌, codes, length, take, Option, Some, None, option_and_then, Result, Err, Ok, ⊤}
 use Rattle.std.specs.Io.KnownBytes.{Appends}
 use Rattle.tb_base.specs.Soundness.{IsSound}
 use Rattle.tb_base.specs.TimetableData.{TimetableData}
@@ -8,7 +8,10 @@ use Rattle.gtfs_rows.specs.declared.fault.FeedFault.{FeedFault}
 use Rattle.tb_io.specs.Files.{FileList}
 use Rattle.trip_table.specs.Answers.{feed_of}
 use Rattle.trip_table.specs.Day.{IsTimetableOf}
-use Rattle.router_cli.specs.Words.{RequestData}
+use Rattle.command_line.specs.DayCommands.{DayRequestData}
+use Rattle.command_line.specs.Requests.{request_of}
+use Rattle.command_line.specs.declared.request.Request.{Request}
+use Rattle.command_line.specs.declared.request.Request.TheVariants as request
 use Rattle.router_cli.specs.Answers.{IsAnswer}
 use Rattle.router_cli.specs.declared.status.Status.{Status}
 use Rattle.router_cli.specs.declared.status.Status.TheVariants as status
@@ -33,16 +36,25 @@ status_text status.ReadFault = codes "router: read fault\n"
 status_text status.WriteFault = codes "router: write fault\n"
 status_text status.Memory = codes "router: out of memory\n"
 
+-- a request about one day of a feed; a run of several days isn't built
+abbrev pub about_day : Request → Option DayRequestData
+about_day (request.Day r) = Some r
+about_day (request.Serve r) = None
+
+-- what the words ask about one day of a feed
+abbrev pub day_asked : List (List ℕ) → Option DayRequestData
+day_asked words = option_and_then about_day (request_of words)
+
 -- what becomes of the day of a request: its timetable, or the first thing that is wrong with the
 -- feed
-abbrev pub IsDayOf : Option FileList → RequestData → Result TimetableData FeedFault → Type 0
+abbrev pub IsDayOf : Option FileList → DayRequestData → Result TimetableData FeedFault → Type 0
 IsDayOf files r = IsTimetableOf (feed_of files r.dir) r.date r.options
 
 -- What a status says of a request, of the day's timetable or first fault, and of the bytes that a
 -- sink held before and holds now. Done: the answer was written whole. WriteFault: some first bytes
 -- of it. FeedRefused: the fault is the day's. Usage doesn't come here. Of ReadFault and Memory no
 -- clause speaks here.
-abbrev pub IsOutcome : (Result TimetableData FeedFault → Type 0) → RequestData → Status
+abbrev pub IsOutcome : (Result TimetableData FeedFault → Type 0) → DayRequestData → Status
     → Option (List ℕ) → Option (List ℕ) → Type 0
 IsOutcome IsDay r status.Done before now =
     (T : TimetableData) × (bytes : List ℕ) × IsDay (Ok T) × IsAnswer T r bytes
@@ -63,7 +75,7 @@ IsEnding (Err f) s = (s ≡ status.FeedRefused f) ⊎ (s ≡ status.Memory)
 
 -- Whatever the folder tells: with Done the answer over a sound timetable was written whole, with
 -- WriteFault some first bytes of it.
-abbrev pub WritesAnswer : RequestData → Status → Option (List ℕ) → Option (List ℕ) → Type 0
+abbrev pub WritesAnswer : DayRequestData → Status → Option (List ℕ) → Option (List ℕ) → Type 0
 WritesAnswer r status.Done before now =
     (T : TimetableData) × (bytes : List ℕ) × IsSound T × IsAnswer T r bytes
     × Appends before now bytes

@@ -1,13 +1,13 @@
 //! The text of an answer over a timetable.
 ghost use Rattle.std.specs.Prelude.{◌≡◌, IfOk};
 ghost use Rattle.edition_store.specs.Editions.{EditionData};
-ghost use Rattle.router_cli.specs.Given.{AreWorkers};
+ghost use Rattle.command_line.specs.Settings.{AreWorkers};
 ghost use Rattle.router_cli.specs.Answers.{IsAnswer};
 
 use crate::over_edition::{ask_text, profile_text};
 use crate::over_table::{direct_text, rounds_text};
-use crate::words::{Command, Request};
 use build_report::report;
+use command_line::{Command, DayRequest};
 use edition_store::Edition;
 use std::alloc::Global;
 use std::thread::Threads;
@@ -33,7 +33,7 @@ pub fn answer<G: Gate, R: Threads + Sync>(
     rt: &R,
     alloc: Global,
     table: Timetable,
-    request: &Request,
+    request: &DayRequest,
     gate: &G,
 ) -> Result<Vec<u8>, Memory>
     ensures { IfOk result (λ text. IsAnswer table request.now text.items) }

@@ -7,12 +7,11 @@
 #![tactic(auto)]
 
 mod answers;
-mod given;
+mod day;
 mod over_edition;
 mod over_table;
 mod program;
 mod status;
-mod words;
 
 pub use program::route;
 pub use status::{Status, status_text};

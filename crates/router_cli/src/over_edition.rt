@@ -4,8 +4,8 @@ ghost use Rattle.query_gate.specs.Questions.{AskData, ProfileData};
 ghost use Rattle.query_gate.specs.Replies.{HaveNumbers};
 ghost use Rattle.router_cli.specs.Answers.{IsInquiryText, IsProfileText, ShowsKept, ask_data, profile_data, reply_text};
 
-use crate::words::{Inquiry, WindowInquiry};
 use answer_text::{choices_text, offers_text, unknown_text};
+use command_line::{Inquiry, WindowInquiry};
 use edition_store::Edition;
 use query_gate::uncounted::{ask, profile};
 use query_gate::{AskText, ProfileText, Reply};

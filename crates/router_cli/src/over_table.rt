@@ -2,8 +2,8 @@
 ghost use Rattle.std.specs.Prelude.{IfOk};
 ghost use Rattle.router_cli.specs.Answers.{IsDirectText, IsInquiryText, IsQuery, ShowsAny};
 
-use crate::words::Inquiry;
 use answer_text::{arrival_text, choices_text, unknown_text};
+use command_line::Inquiry;
 use plain_rounds::{direct, plain_ask};
 use query_gate::{Between, stops_between};
 use std::alloc::Global;

@@ -1,52 +1,18 @@
 //! All that the program does.
-ghost use Rattle.std.specs.Prelude.{◌≡◌, ◌⊎◌, ◌↔◌, ◌<◌, ◌-◌, ◌^◌, IfOk, IfSome, IsSome, MatchResult, None, Ok, Result, map, string_bytes};
-ghost use Rattle.tb_base.specs.Soundness.{IsSound};
+ghost use Rattle.std.specs.Prelude.{◌≡◌, ◌⊎◌, ◌<◌, ◌-◌, ◌^◌, IfSome, IsSome, None, Result, map, string_bytes};
 ghost use Rattle.tb_base.specs.TimetableData.{TimetableData};
 ghost use Rattle.gtfs_rows.specs.declared.fault.FeedFault.{FeedFault};
-ghost use Rattle.trip_table.specs.Answers.{IsFault, Leaves};
-ghost use Rattle.router_cli.specs.Answers.{IsAnswer};
-ghost use Rattle.router_cli.specs.Outcome.{IsDayOf, IsEnding, IsOutcome, WritesAnswer};
-ghost use Rattle.router_cli.specs.Words.{request_of};
+ghost use Rattle.router_cli.specs.Outcome.{IsDayOf, IsEnding, IsOutcome, WritesAnswer, day_asked};
 
-use crate::answers::answer;
+use crate::day::day_outcome;
 use crate::status::Status;
-use crate::words::{Request, request_of};
+use command_line::{Request, request_of};
 use std::alloc::Global;
 use std::sync::Wait;
 use std::thread::Threads;
-use tb_base::Gate;
-use tb_io::{Folder, Sink, Source, put_all};
+use tb_base::{Gate, Memory};
+use tb_io::{Folder, Sink, Source};
 use trip_table::laws::timetable_determined;
-use trip_table::{DayFault, read_day};
-
-// The text of the answer to a request, from the files of its folder.
-fn text_of<R: Threads + Sync, F: Folder, G: Gate>(
-    rt: &R,
-    alloc: Global,
-    folder: &mut F,
-    request: &Request,
-    gate: &G,
-) -> Result<Vec<u8>, DayFault>
-    requires { F.faults folder.old < 2 ^ 64 - 1 }
-    ensures text { IsSome (F.files folder.old) → MatchResult result
-        (λ text. (T : TimetableData) × IsDayOf (F.files folder.old) request.now (Ok T)
-        × IsAnswer T request.now text.items)
-        (IsFault (IsDayOf (F.files folder.old) request.now)) }
-    ensures answer { IfOk result (λ text.
-        (T : TimetableData) × IsSound T × IsAnswer T request.now text.items) }
-    ensures leaves { Leaves (F.files folder.old) (F.files folder.new) (F.faults folder.old)
-        (F.faults folder.new) result }
-{
-    let table = match read_day(alloc, folder, request.dir, &request.day, &request.options) {
-        Ok(table) => table,
-        Err(fault) => return Err(fault),
-    };
-    table.soundness();
-    match answer(rt, alloc, table, request, gate) {
-        Ok(text) => Ok(text),
-        Err(_) => Err(DayFault::Memory),
-    }
-}
 
 // Does all that the program does. It has no handle that waits, so it returns.
 fn outcome<R: Threads + Sync, F: Folder, K: Sink, G: Gate>(
@@ -59,12 +25,14 @@ fn outcome<R: Threads + Sync, F: Folder, K: Sink, G: Gate>(
 ) -> Status
     requires folder { F.faults folder.old < 2 ^ 64 - 1 }
     requires out { K.faults out.old < 2 ^ 64 - 1 }
-    ensures usage { (result ≡ Status.Usage) ↔ (request_of (map string_bytes words.now) ≡ None) }
-    ensures promise { IfSome (request_of (map string_bytes words.now)) (λ r.
+    ensures usage { result ≡ Status.Usage → day_asked (map string_bytes words.now) ≡ None }
+    ensures wrong_words { day_asked (map string_bytes words.now) ≡ None →
+        (result ≡ Status.Usage) ⊎ (result ≡ Status.Memory) }
+    ensures promise { IfSome (day_asked (map string_bytes words.now)) (λ r.
         IsSome (F.files folder.old) →
         IsOutcome (IsDayOf (F.files folder.old) r) r result (K.written out.old)
         (K.written out.new)) }
-    ensures answers { IfSome (request_of (map string_bytes words.now)) (λ r.
+    ensures answers { IfSome (day_asked (map string_bytes words.now)) (λ r.
         WritesAnswer r result (K.written out.old) (K.written out.new)) }
     ensures quiet { (result ≡ Status.Done) ⊎ (result ≡ Status.WriteFault)
         ⊎ (K.written out.new ≡ K.written out.old) }
@@ -75,28 +43,22 @@ fn outcome<R: Threads + Sync, F: Folder, K: Sink, G: Gate>(
     ensures out_kept { (result ≡ Status.WriteFault) ⊎ (K.faults out.new ≡ K.faults out.old) }
     ensures files { F.files folder.new ≡ F.files folder.old }
 {
-    let Some(request) = request_of(words) else {
-        return Status::Usage;
-    };
-    match text_of(rt, alloc, folder, &request, gate) {
-        Ok(text) => match put_all(out, text.as_slice()) {
-            Ok(()) => Status::Done,
-            Err(_) => Status::WriteFault,
-        },
-        Err(DayFault::Feed(fault)) => Status::FeedRefused(fault),
-        Err(DayFault::ReadFault) => Status::ReadFault,
-        Err(DayFault::Memory) => Status::Memory,
+    match request_of(alloc, words) {
+        Ok(Some(Request::Day(request))) => day_outcome(rt, alloc, &request, folder, out, gate),
+        Ok(Some(Request::Serve(_request))) => Status::Usage,
+        Ok(None) => Status::Usage,
+        Err(Memory) => Status::Memory,
     }
 }
 
 /// Does all that the program does: from the words and the files of the folder to the bytes written
 /// to `out`.
 ///
-/// `Usage` comes exactly where the words have no meaning. With any status but `Done` and
-/// `WriteFault` nothing is written, since the whole text is gathered before its first byte is
-/// written. Whatever the folder is, what is written with `Done` is the answer over some sound
-/// timetable; where it tells its contents, over the timetable of the day. `Memory` is free. No
-/// script is read yet. The gate is told of the pieces that workers reduce.
+/// `Usage` comes only where the words have no meaning, and there nothing comes but it and `Memory`.
+/// With any status but `Done` and `WriteFault` nothing is written, since the whole text is gathered
+/// before its first byte is written. Whatever the folder is, what is written with `Done` is the
+/// answer over some sound timetable; where it tells its contents, over the timetable of the day.
+/// `Memory` is free. No script is read yet. The gate is told of the pieces that workers reduce.
 pub fn route<R: Threads + Wait + Sync, F: Folder + Send, S: Source, K: Sink, G: Gate>(
     rt: &R,
     alloc: Global,
@@ -108,17 +70,19 @@ pub fn route<R: Threads + Wait + Sync, F: Folder + Send, S: Source, K: Sink, G: 
 ) -> Status
     requires folder { F.faults folder.old < 2 ^ 64 - 1 }
     requires out { K.faults out.old < 2 ^ 64 - 1 }
-    ensures usage { (result ≡ Status.Usage) ↔ (request_of (map string_bytes words.now) ≡ None) }
-    ensures promise { IfSome (request_of (map string_bytes words.now)) (λ r.
+    ensures usage { result ≡ Status.Usage → day_asked (map string_bytes words.now) ≡ None }
+    ensures wrong_words { day_asked (map string_bytes words.now) ≡ None →
+        (result ≡ Status.Usage) ⊎ (result ≡ Status.Memory) }
+    ensures promise { IfSome (day_asked (map string_bytes words.now)) (λ r.
         IsSome (F.files folder.old) →
         IsOutcome (IsDayOf (F.files folder.old) r) r result (K.written out.old)
         (K.written out.new)) }
-    ensures complete { IfSome (request_of (map string_bytes words.now)) (λ r.
+    ensures complete { IfSome (day_asked (map string_bytes words.now)) (λ r.
         IsSome (F.files folder.old) →
         F.faults folder.new ≡ F.faults folder.old → K.faults out.new ≡ K.faults out.old →
         (day : Result TimetableData FeedFault) → IsDayOf (F.files folder.old) r day →
         IsEnding day result) }
-    ensures answers { IfSome (request_of (map string_bytes words.now)) (λ r.
+    ensures answers { IfSome (day_asked (map string_bytes words.now)) (λ r.
         WritesAnswer r result (K.written out.old) (K.written out.new)) }
     ensures quiet { (result ≡ Status.Done) ⊎ (result ≡ Status.WriteFault)
         ⊎ (K.written out.new ≡ K.written out.old) }

@@ -1,6 +1,6 @@
 use Rattle.std.proofs.Common.{◌∙◌, ap, w32}
 use Rattle.std.proofs.lemmas.Int.{to_z-of_z}
-use Rattle.router_cli.specs.Inquiry.{InquiryData}
+use Rattle.command_line.specs.Inquiries.{InquiryData}
 use Rattle.router_cli.proofs.AnswerLemmas.{file_time-fits, same_ask}
 use Rattle.router_cli.proofs.over_edition.ask_question.Goals as goal
 

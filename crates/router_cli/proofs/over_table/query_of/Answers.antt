@@ -3,7 +3,7 @@ use Rattle.std.proofs.lemmas.Int.{to_z-of_z}
 use Rattle.query_gate.specs.Questions.{Ends, query_at}
 use Rattle.query_gate.specs.Replies.{AreWithin, IsBetween}
 use Rattle.query_gate.proofs.NamedEnds.{between_by}
-use Rattle.router_cli.specs.Inquiry.{InquiryData}
+use Rattle.command_line.specs.Inquiries.{InquiryData}
 use Rattle.router_cli.proofs.AnswerLemmas.{file_time-fits}
 use Rattle.router_cli.proofs.over_table.query_of.Goals as goal
 

@@ -1,5 +1,0 @@
-use Rattle.std.proofs.Common.{length}
-use Rattle.router_cli.proofs.words.+request_from.Given as goal
-
-abbrev pub decreases-request_from : goal.decreases-request_from
-decreases-request_from l = length l.words.now
