@@ -27,6 +27,10 @@ pub enum Line<'a> {
     Words(&'a str),
     /// A feed, a day and options, for which change times and footpaths are shown.
     Paths(&'a str),
+    /// A line of standard input.
+    Script(&'a str),
+    /// The read of standard input that fails, by its number.
+    Input(&'a str),
     /// The call of the folder that fails, by its number.
     Folder(&'a str),
     /// The write to standard output that fails, by its number.
@@ -93,6 +97,7 @@ fn setting_of<'a>(word: &str, rest: &'a str) -> Option<Line<'a>> {
 // A line that says what goes wrong outside.
 fn trouble_of<'a>(word: &str, rest: &'a str) -> Option<Line<'a>> {
     match word {
+        "input" => Some(Line::Input(rest)),
         "folder" => Some(Line::Folder(rest)),
         "output" => Some(Line::Output(rest)),
         "room" => Some(Line::Room(rest)),
@@ -105,6 +110,7 @@ fn answer_of<'a>(word: &str, rest: &'a str) -> Option<Line<'a>> {
     match word {
         "words" => Some(Line::Words(rest)),
         "paths" => Some(Line::Paths(rest)),
+        "script" => Some(Line::Script(rest)),
         "status" => Some(Line::Status(rest)),
         "out" => Some(Line::Out(rest)),
         "part" => Some(Line::Part(rest)),

@@ -1,4 +1,5 @@
 //! What is asked in a case, and how it has to end.
+use super::broken::Broken;
 use gtfs_rows::number_of;
 use std::alloc::{AllocError, Global};
 
@@ -23,6 +24,8 @@ pub enum Asked {
 /// What goes wrong outside while the program runs.
 #[derive(Clone, Copy)]
 pub struct Trouble {
+    /// The read of standard input that fails, by its number from 0.
+    pub input: Option<u32>,
     /// The call of the folder that fails, by its number from 0.
     pub folder: Option<u32>,
     /// The write to standard output that fails, by its number from 0.
@@ -34,6 +37,7 @@ pub struct Trouble {
 impl Trouble {
     // No call fails, and there is room for each answer of a case.
     const NONE: Trouble = Trouble {
+        input: None,
         folder: None,
         output: None,
         room: 100_000,
@@ -45,6 +49,8 @@ impl Trouble {
 pub struct Question {
     pub asked: Asked,
     pub words: Vec<String>,
+    /// The bytes of standard input.
+    pub script: Vec<u8>,
     pub trouble: Trouble,
     pub want: Ending,
 }
@@ -82,9 +88,23 @@ impl Question {
         Ok(Question {
             asked,
             words,
+            script: Vec::new(alloc),
             trouble: Trouble::NONE,
             want,
         })
+    }
+
+    /// A line of standard input. It is said of the program alone.
+    pub fn add_script(&mut self, line: &str) -> Result<bool, Broken> {
+        self.script.extend_from_slice(line.as_bytes())?;
+        self.script.push(b'\n')?;
+        Ok(self.asked == Asked::Program)
+    }
+
+    /// The read of standard input that fails. It is said of the program alone.
+    pub fn fail_input(&mut self, number: &str) -> bool {
+        self.trouble.input = number_of(number.as_bytes());
+        self.asked == Asked::Program && self.trouble.input.is_some()
     }
 
     /// The call of the folder that fails. It is said of the program alone.

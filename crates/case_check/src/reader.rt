@@ -41,6 +41,8 @@ fn add_question(alloc: Global, case: &mut Case, line: Line<'_>) -> Result<bool, 
 // What a line says of a question.
 fn add_answer(question: &mut Question, line: Line<'_>) -> Result<bool, Broken> {
     match line {
+        Line::Script(text) => question.add_script(text),
+        Line::Input(number) => Ok(question.fail_input(number)),
         Line::Folder(number) => Ok(question.fail_folder(number)),
         Line::Output(number) => Ok(question.fail_output(number)),
         Line::Room(number) => Ok(question.set_room(number)),

@@ -70,15 +70,17 @@ fn fails(alloc: Global, number: Option<u32>) -> Result<Vec<u64>, Memory> {
 fn status_over<R: Threads + Wait + Sync, F: Folder + Send, K: Sink>(
     rt: &R,
     alloc: Global,
-    words: &[String],
+    question: &Question,
     folder: &mut F,
     sink: &mut K,
-) -> Status
+) -> Result<Status, Memory>
     requires folder { F.faults folder.old < 2 ^ 64 - 1 }
     requires sink { K.faults sink.old < 2 ^ 64 - 1 }
 {
-    let mut script = MemSource::new(Vec::new(alloc), Vec::new(alloc));
-    route(rt, alloc, words, folder, &mut script, sink, &IdleGate)
+    let bytes = question.script.to_vec(alloc)?;
+    let mut script = MemSource::new(bytes, fails(alloc, question.trouble.input)?);
+    let words = question.words.as_slice();
+    Ok(route(rt, alloc, words, folder, &mut script, sink, &IdleGate))
 }
 
 // How the program ends over the files of a case.
@@ -88,18 +90,18 @@ fn program_ending<R: Threads + Wait + Sync>(
     case: &Case,
     question: &Question,
 ) -> Result<Ending, Memory> {
-    let words = question.words.as_slice();
     let Trouble {
         folder,
         output,
         room,
+        ..
     } = question.trouble;
     let mut sink = MemSink::new(alloc, room as usize, fails(alloc, output)?)?;
     let status = match case.endless() {
-        Some(path) => status_over(rt, alloc, words, &mut Endless { path }, &mut sink),
+        Some(path) => status_over(rt, alloc, question, &mut Endless { path }, &mut sink)?,
         None => {
             let mut files = MemFolder::new(case.files(alloc)?, fails(alloc, folder)?);
-            status_over(rt, alloc, words, &mut files, &mut sink)
+            status_over(rt, alloc, question, &mut files, &mut sink)?
         }
     };
     Ok(Ending {

@@ -1,8 +1,9 @@
-//! The program `router`: answers about one service day of a GTFS feed.
+//! The program `router`: answers about one service day of a GTFS feed, or answers a script while
+//! several days are published.
 //!
 //! `route` of `router_cli` does all that the program does. `main` hands in the words of the command
-//! line, the machine's files and standard output, writes how the program ended to standard error,
-//! and ends with the number of that.
+//! line, the machine's files, standard input and standard output, writes how the program ended to
+//! standard error, and ends with the number of that.
 #![tactic(auto)]
 
 ghost use Rattle.std.specs.Prelude.{◌≡◌};
@@ -15,7 +16,7 @@ use std::process::ExitCode;
 use std::rt::Env;
 use std::{env, str};
 use tb_base::IdleGate;
-use tb_io::{HostFolder, MemSource, OutSink};
+use tb_io::{HostFolder, InSource, OutSink};
 
 // The words after the program's name. One that isn't UTF-8 has no meaning.
 fn words_of(rt: &(impl Env + AllocGlobal)) -> Result<Vec<String>, Status> {
@@ -51,7 +52,7 @@ fn main(rt: HostRuntime) -> ExitCode {
         Err(status) => return end(&rt, status),
     };
     let mut folder = HostFolder::new(&rt);
-    let mut script = MemSource::new(Vec::new(rt.alloc()), Vec::new(rt.alloc()));
+    let mut script = InSource::new(rt.stdin());
     let mut out = OutSink::new(rt.stdout());
     let status = route(
         &rt,

@@ -18,11 +18,11 @@ abbrev pub IsDetermined : Type 0
 IsDetermined = (feed : Feed) (day : ℕ) (options : Options) (a b : Result TimetableData FeedFault) →
     IsTimetableOf feed day options a → IsTimetableOf feed day options b → a ≡ b
 
-out_of_memory : (day : Result TimetableData FeedFault) → IsEnding day status.Memory
+pub out_of_memory : (day : Result TimetableData FeedFault) → IsEnding day status.Memory
 out_of_memory (Ok T) = inr refl
 out_of_memory (Err f) = inr refl
 
-ending : (IsDay : Result TimetableData FeedFault → Type 0) →
+pub ending : (IsDay : Result TimetableData FeedFault → Type 0) →
     ((a b : Result TimetableData FeedFault) → IsDay a → IsDay b → a ≡ b) →
     (r : DayRequestData) (s : Status) (before now : Option (List ℕ)) → IsOutcome IsDay r s before now →
     (s ≡ status.ReadFault → ⊥) → (s ≡ status.WriteFault → ⊥) →
@@ -34,16 +34,5 @@ ending IsDay same r (status.FeedRefused f) before now out read write day is =
     subst (λ d. IsEnding d (status.FeedRefused f)) (same (Err f) day out is) (inl refl)
 ending IsDay same r status.Usage before now out read write day is = absurd out
 ending IsDay same r status.ReadFault before now out read write day is = absurd (read refl)
+ending IsDay same r (status.ScriptRefused f) before now out read write day is = absurd out
 ending IsDay same r status.Memory before now out read write day is = out_of_memory day
-
-pub completed : IsDetermined → (asked : Option DayRequestData) (files : Option FileList) (s : Status) (before now : Option (List ℕ))
-    (reads reads_now writes writes_now : ℕ) →
-    IfSome asked (λ r. IsSome files → IsOutcome (IsDayOf files r) r s before now) →
-    (s ≡ status.ReadFault → reads < reads_now) → (s ≡ status.WriteFault → writes < writes_now) →
-    IfSome asked (λ r. IsSome files → reads_now ≡ reads → writes_now ≡ writes →
-    (day : Result TimetableData FeedFault) → IsDayOf files r day → IsEnding day s)
-completed determined None files s before now reads reads_now writes writes_now promise read write = tt
-completed determined (Some r) files s before now reads reads_now writes writes_now promise read write =
-    λ told read_still write_still day is.
-    ending (IsDayOf files r) (λ a b. determined (feed_of files r.dir) r.date r.options a b) r s before now (promise told)
-    (λ e. let rose = read e in omega (arith, rose, read_still)) (λ e. let rose = write e in omega (arith, rose, write_still)) day is

@@ -1,2 +1,4 @@
 pub mod AnswerLemmas
 pub mod Endings
+pub mod Runs
+pub mod Completed

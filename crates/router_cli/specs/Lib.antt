@@ -1,2 +1,4 @@
 pub mod Answers
 pub mod Outcome
+pub mod Serving
+pub mod Promise

@@ -1,5 +1,6 @@
 -- What the program's status says of the words, the files and the bytes written.
-use Rattle.std.specs.Prelude.{◌≡◌, ℕ, ◌≤◌, ◌⊎◌, List, [], ◌++◌, codes, length, take, Option, Some, None, option_and_then, Result, Err, Ok, ⊤}
+use Rattle.std.specs.Prelude.{◌≡◌, ℕ, ◌≤◌, ◌⊎◌, List, [], ◌++◌, codes, length, take, Option, Result, Err, Ok, ⊤}
+use Rattle.std.specs.Fmt.{decimal}
 use Rattle.std.specs.Io.KnownBytes.{Appends}
 use Rattle.tb_base.specs.Soundness.{IsSound}
 use Rattle.tb_base.specs.TimetableData.{TimetableData}
@@ -9,9 +10,8 @@ use Rattle.tb_io.specs.Files.{FileList}
 use Rattle.trip_table.specs.Answers.{feed_of}
 use Rattle.trip_table.specs.Day.{IsTimetableOf}
 use Rattle.command_line.specs.DayCommands.{DayRequestData}
-use Rattle.command_line.specs.Requests.{request_of}
-use Rattle.command_line.specs.declared.request.Request.{Request}
-use Rattle.command_line.specs.declared.request.Request.TheVariants as request
+use Rattle.lane_serve.specs.declared.script.ScriptFault.{ScriptFault}
+use Rattle.lane_serve.specs.declared.script.ScriptFault.TheVariants as fault
 use Rattle.router_cli.specs.Answers.{IsAnswer}
 use Rattle.router_cli.specs.declared.status.Status.{Status}
 use Rattle.router_cli.specs.declared.status.Status.TheVariants as status
@@ -24,6 +24,16 @@ status_code (status.FeedRefused f) = 3
 status_code status.ReadFault = 4
 status_code status.WriteFault = 5
 status_code status.Memory = 6
+status_code (status.ScriptRefused f) = 7
+
+-- the number and the name of a script's fault, and its line where it has one
+abbrev pub script_fault_text : ScriptFault → List ℕ
+script_fault_text (fault.BadLine n) = codes "1 BadLine line " ++ decimal n
+script_fault_text (fault.TooManyLanes n) = codes "2 TooManyLanes line " ++ decimal n
+script_fault_text (fault.TooManyLines n) = codes "3 TooManyLines line " ++ decimal n
+script_fault_text (fault.BadTime n) = codes "4 BadTime line " ++ decimal n
+script_fault_text fault.TooLong = codes "5 TooLong"
+script_fault_text fault.Memory = codes "Memory"
 
 -- the line that it writes to standard error
 abbrev pub status_text : Status → List ℕ
@@ -35,15 +45,8 @@ status_text (status.FeedRefused f) = codes "router: feed refused: " ++ fault_tex
 status_text status.ReadFault = codes "router: read fault\n"
 status_text status.WriteFault = codes "router: write fault\n"
 status_text status.Memory = codes "router: out of memory\n"
-
--- a request about one day of a feed; a run of several days isn't built
-abbrev pub about_day : Request → Option DayRequestData
-about_day (request.Day r) = Some r
-about_day (request.Serve r) = None
-
--- what the words ask about one day of a feed
-abbrev pub day_asked : List (List ℕ) → Option DayRequestData
-day_asked words = option_and_then about_day (request_of words)
+status_text (status.ScriptRefused f) =
+    codes "router: script refused: " ++ script_fault_text f ++ codes "\n"
 
 -- what becomes of the day of a request: its timetable, or the first thing that is wrong with the
 -- feed
@@ -52,8 +55,8 @@ IsDayOf files r = IsTimetableOf (feed_of files r.dir) r.date r.options
 
 -- What a status says of a request, of the day's timetable or first fault, and of the bytes that a
 -- sink held before and holds now. Done: the answer was written whole. WriteFault: some first bytes
--- of it. FeedRefused: the fault is the day's. Usage doesn't come here. Of ReadFault and Memory no
--- clause speaks here.
+-- of it. FeedRefused: the fault is the day's. Usage and ScriptRefused don't come here. Of ReadFault
+-- and Memory no clause speaks here.
 abbrev pub IsOutcome : (Result TimetableData FeedFault → Type 0) → DayRequestData → Status
     → Option (List ℕ) → Option (List ℕ) → Type 0
 IsOutcome IsDay r status.Done before now =
@@ -64,6 +67,7 @@ IsOutcome IsDay r status.WriteFault before now =
     × (n ≤ length bytes) × Appends before now (take n bytes)
 IsOutcome IsDay r (status.FeedRefused f) before now = IsDay (Err f)
 IsOutcome IsDay r status.Usage before now = ⊥
+IsOutcome IsDay r (status.ScriptRefused f) before now = ⊥
 IsOutcome IsDay r status.ReadFault before now = ⊤
 IsOutcome IsDay r status.Memory before now = ⊤
 
@@ -74,7 +78,7 @@ IsEnding (Ok T) s = (s ≡ status.Done) ⊎ (s ≡ status.Memory)
 IsEnding (Err f) s = (s ≡ status.FeedRefused f) ⊎ (s ≡ status.Memory)
 
 -- Whatever the folder tells: with Done the answer over a sound timetable was written whole, with
--- WriteFault some first bytes of it.
+-- WriteFault some first bytes of it. Usage and ScriptRefused don't come here.
 abbrev pub WritesAnswer : DayRequestData → Status → Option (List ℕ) → Option (List ℕ) → Type 0
 WritesAnswer r status.Done before now =
     (T : TimetableData) × (bytes : List ℕ) × IsSound T × IsAnswer T r bytes
@@ -83,6 +87,7 @@ WritesAnswer r status.WriteFault before now =
     (T : TimetableData) × (bytes : List ℕ) × (n : ℕ) × IsSound T × IsAnswer T r bytes
     × (n ≤ length bytes) × Appends before now (take n bytes)
 WritesAnswer r (status.FeedRefused f) before now = ⊤
-WritesAnswer r status.Usage before now = ⊤
+WritesAnswer r status.Usage before now = ⊥
+WritesAnswer r (status.ScriptRefused f) before now = ⊥
 WritesAnswer r status.ReadFault before now = ⊤
 WritesAnswer r status.Memory before now = ⊤

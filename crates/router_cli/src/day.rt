@@ -1,5 +1,5 @@
 //! What the program does about one day of a feed.
-ghost use Rattle.std.specs.Prelude.{◌≡◌, ◌≢◌, ◌⊎◌, ◌<◌, ◌-◌, ◌^◌, IfOk, IsSome, MatchResult, Ok};
+ghost use Rattle.std.specs.Prelude.{◌≡◌, ◌⊎◌, ◌<◌, ◌-◌, ◌^◌, IfOk, IsSome, MatchResult, Ok};
 ghost use Rattle.tb_base.specs.Soundness.{IsSound};
 ghost use Rattle.tb_base.specs.TimetableData.{TimetableData};
 ghost use Rattle.trip_table.specs.Answers.{IsFault, Leaves};
@@ -55,7 +55,6 @@ pub(crate) fn day_outcome<R: Threads + Sync, F: Folder, K: Sink, G: Gate>(
 ) -> Status
     requires folder { F.faults folder.old < 2 ^ 64 - 1 }
     requires out { K.faults out.old < 2 ^ 64 - 1 }
-    ensures meaning { result ≢ Status.Usage }
     ensures promise { IsSome (F.files folder.old) →
         IsOutcome (IsDayOf (F.files folder.old) request.now) request.now result
         (K.written out.old) (K.written out.new) }

@@ -1,9 +1,10 @@
 //! All that the program `router` does, over objects that are handed in.
 //!
-//! [`route`] answers about one service day of a GTFS feed, from the words of the command line and
-//! the bytes of the folder to the bytes written. Its contract is the program's promise. The program
-//! hands in the machine's files and standard output, and tests hand in objects in memory. The files
-//! follow the GTFS Schedule Reference.
+//! [`route`] answers about one service day of a GTFS feed, or answers a script while several days are
+//! published, from the words of the command line, the bytes of the folder and of the script to the
+//! bytes written. Its contract is the program's promise. The program hands in the machine's files,
+//! standard input and standard output, and tests hand in objects in memory. The files follow the
+//! GTFS Schedule Reference.
 #![tactic(auto)]
 
 mod answers;
@@ -11,6 +12,7 @@ mod day;
 mod over_edition;
 mod over_table;
 mod program;
+mod serving;
 mod status;
 
 pub use program::route;

@@ -1,10 +1,10 @@
 //! All that the program does.
-ghost use Rattle.std.specs.Prelude.{◌≡◌, ◌⊎◌, ◌<◌, ◌-◌, ◌^◌, IfSome, IsSome, None, Result, map, string_bytes};
-ghost use Rattle.tb_base.specs.TimetableData.{TimetableData};
-ghost use Rattle.gtfs_rows.specs.declared.fault.FeedFault.{FeedFault};
-ghost use Rattle.router_cli.specs.Outcome.{IsDayOf, IsEnding, IsOutcome, WritesAnswer, day_asked};
+ghost use Rattle.std.specs.Prelude.{◌≡◌, ◌⊎◌, ◌<◌, ◌-◌, ◌^◌, IfSome, IsSome, None, map, string_bytes};
+ghost use Rattle.command_line.specs.Requests.{request_of};
+ghost use Rattle.router_cli.specs.Promise.{IsRequestEnding, IsRequestOutcome, LeavesScript, TellsFirst, WritesRequest};
 
 use crate::day::day_outcome;
+use crate::serving::run_outcome;
 use crate::status::Status;
 use command_line::{Request, request_of};
 use std::alloc::Global;
@@ -14,87 +14,103 @@ use tb_base::{Gate, Memory};
 use tb_io::{Folder, Sink, Source};
 use trip_table::laws::timetable_determined;
 
-// Does all that the program does. It has no handle that waits, so it returns.
-fn outcome<R: Threads + Sync, F: Folder, K: Sink, G: Gate>(
+// Does all that the program does. Only a run has a handle that waits.
+fn outcome<R: Threads + Wait + Sync, F: Folder + Send, S: Source, K: Sink, G: Gate>(
     rt: &R,
     alloc: Global,
     words: &[String],
     folder: &mut F,
+    script: &mut S,
     out: &mut K,
     gate: &G,
 ) -> Status
     requires folder { F.faults folder.old < 2 ^ 64 - 1 }
+    requires script { S.faults script.old < 2 ^ 64 - 1 }
     requires out { K.faults out.old < 2 ^ 64 - 1 }
-    ensures usage { result ≡ Status.Usage → day_asked (map string_bytes words.now) ≡ None }
-    ensures wrong_words { day_asked (map string_bytes words.now) ≡ None →
+    ensures usage { result ≡ Status.Usage → request_of (map string_bytes words.now) ≡ None }
+    ensures wrong_words { request_of (map string_bytes words.now) ≡ None →
         (result ≡ Status.Usage) ⊎ (result ≡ Status.Memory) }
-    ensures promise { IfSome (day_asked (map string_bytes words.now)) (λ r.
-        IsSome (F.files folder.old) →
-        IsOutcome (IsDayOf (F.files folder.old) r) r result (K.written out.old)
+    ensures promise { IfSome (request_of (map string_bytes words.now)) (λ r.
+        IsRequestOutcome (F.files folder.old) (S.left script.old) r result (K.written out.old)
         (K.written out.new)) }
-    ensures answers { IfSome (day_asked (map string_bytes words.now)) (λ r.
-        WritesAnswer r result (K.written out.old) (K.written out.new)) }
+    ensures answers { IfSome (request_of (map string_bytes words.now)) (λ r.
+        WritesRequest r result (K.written out.old) (K.written out.new)) }
+    ensures script { IfSome (request_of (map string_bytes words.now)) (λ r.
+        S.faults script.new ≡ S.faults script.old → TellsFirst (S.left script.old) r result) }
     ensures quiet { (result ≡ Status.Done) ⊎ (result ≡ Status.WriteFault)
         ⊎ (K.written out.new ≡ K.written out.old) }
-    ensures read { result ≡ Status.ReadFault → F.faults folder.old < F.faults folder.new }
+    ensures read { result ≡ Status.ReadFault → (F.faults folder.old < F.faults folder.new)
+        ⊎ (S.faults script.old < S.faults script.new) }
     ensures write { result ≡ Status.WriteFault → K.faults out.old < K.faults out.new }
     ensures folder_kept { (result ≡ Status.ReadFault)
         ⊎ (F.faults folder.new ≡ F.faults folder.old) }
+    ensures script_kept { (result ≡ Status.ReadFault)
+        ⊎ (S.faults script.new ≡ S.faults script.old) }
     ensures out_kept { (result ≡ Status.WriteFault) ⊎ (K.faults out.new ≡ K.faults out.old) }
     ensures files { F.files folder.new ≡ F.files folder.old }
+    ensures left { LeavesScript (request_of (map string_bytes words.now)) (S.left script.old)
+        (S.left script.new) }
 {
     match request_of(alloc, words) {
         Ok(Some(Request::Day(request))) => day_outcome(rt, alloc, &request, folder, out, gate),
-        Ok(Some(Request::Serve(_request))) => Status::Usage,
+        Ok(Some(Request::Serve(request))) => {
+            run_outcome(rt, alloc, request, folder, script, out, gate)
+        }
         Ok(None) => Status::Usage,
         Err(Memory) => Status::Memory,
     }
 }
 
-/// Does all that the program does: from the words and the files of the folder to the bytes written
-/// to `out`.
+/// Does all that the program does: from the words, the files of the folder and the bytes of the
+/// script to the bytes written to `out`. The order is: words, script, feeds, work, output.
 ///
 /// `Usage` comes only where the words have no meaning, and there nothing comes but it and `Memory`.
 /// With any status but `Done` and `WriteFault` nothing is written, since the whole text is gathered
 /// before its first byte is written. Whatever the folder is, what is written with `Done` is the
-/// answer over some sound timetable; where it tells its contents, over the timetable of the day.
-/// `Memory` is free. No script is read yet. The gate is told of the pieces that workers reduce.
+/// answer over some sound timetable; where it tells its contents, over the timetable of the day. A
+/// script is read by a run of several days alone; its first fault comes before what the feeds give.
+/// `Memory` is free. The gate is told of the pieces that workers reduce, and of the publications and
+/// requests of a run, which may wait.
 pub fn route<R: Threads + Wait + Sync, F: Folder + Send, S: Source, K: Sink, G: Gate>(
     rt: &R,
     alloc: Global,
     words: &[String],
     folder: &mut F,
-    _script: &mut S,
+    script: &mut S,
     out: &mut K,
     gate: &G,
 ) -> Status
     requires folder { F.faults folder.old < 2 ^ 64 - 1 }
+    requires script { S.faults script.old < 2 ^ 64 - 1 }
     requires out { K.faults out.old < 2 ^ 64 - 1 }
-    ensures usage { result ≡ Status.Usage → day_asked (map string_bytes words.now) ≡ None }
-    ensures wrong_words { day_asked (map string_bytes words.now) ≡ None →
+    ensures usage { result ≡ Status.Usage → request_of (map string_bytes words.now) ≡ None }
+    ensures wrong_words { request_of (map string_bytes words.now) ≡ None →
         (result ≡ Status.Usage) ⊎ (result ≡ Status.Memory) }
-    ensures promise { IfSome (day_asked (map string_bytes words.now)) (λ r.
-        IsSome (F.files folder.old) →
-        IsOutcome (IsDayOf (F.files folder.old) r) r result (K.written out.old)
+    ensures promise { IfSome (request_of (map string_bytes words.now)) (λ r.
+        IsRequestOutcome (F.files folder.old) (S.left script.old) r result (K.written out.old)
         (K.written out.new)) }
-    ensures complete { IfSome (day_asked (map string_bytes words.now)) (λ r.
-        IsSome (F.files folder.old) →
-        F.faults folder.new ≡ F.faults folder.old → K.faults out.new ≡ K.faults out.old →
-        (day : Result TimetableData FeedFault) → IsDayOf (F.files folder.old) r day →
-        IsEnding day result) }
-    ensures answers { IfSome (day_asked (map string_bytes words.now)) (λ r.
-        WritesAnswer r result (K.written out.old) (K.written out.new)) }
+    ensures answers { IfSome (request_of (map string_bytes words.now)) (λ r.
+        WritesRequest r result (K.written out.old) (K.written out.new)) }
+    ensures script { IfSome (request_of (map string_bytes words.now)) (λ r.
+        S.faults script.new ≡ S.faults script.old → TellsFirst (S.left script.old) r result) }
     ensures quiet { (result ≡ Status.Done) ⊎ (result ≡ Status.WriteFault)
         ⊎ (K.written out.new ≡ K.written out.old) }
-    ensures read { result ≡ Status.ReadFault → F.faults folder.old < F.faults folder.new }
+    ensures read { result ≡ Status.ReadFault → (F.faults folder.old < F.faults folder.new)
+        ⊎ (S.faults script.old < S.faults script.new) }
     ensures write { result ≡ Status.WriteFault → K.faults out.old < K.faults out.new }
     ensures folder_kept { (result ≡ Status.ReadFault)
         ⊎ (F.faults folder.new ≡ F.faults folder.old) }
+    ensures script_kept { (result ≡ Status.ReadFault)
+        ⊎ (S.faults script.new ≡ S.faults script.old) }
     ensures out_kept { (result ≡ Status.WriteFault) ⊎ (K.faults out.new ≡ K.faults out.old) }
     ensures files { F.files folder.new ≡ F.files folder.old }
-    ensures script { S.left _script.new ≡ S.left _script.old }
-    ensures script_kept { S.faults _script.new ≡ S.faults _script.old }
+    ensures left { LeavesScript (request_of (map string_bytes words.now)) (S.left script.old)
+        (S.left script.new) }
+    ensures complete { IfSome (request_of (map string_bytes words.now)) (λ r.
+        IsSome (F.files folder.old) → F.faults folder.new ≡ F.faults folder.old →
+        S.faults script.new ≡ S.faults script.old → K.faults out.new ≡ K.faults out.old →
+        IsRequestEnding (F.files folder.old) (S.left script.old) r result) }
 {
     timetable_determined();
-    outcome(rt, alloc, words, folder, out, gate)
+    outcome(rt, alloc, words, folder, script, out, gate)
 }

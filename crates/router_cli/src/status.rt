@@ -1,9 +1,11 @@
 //! How the program ends.
-ghost use Rattle.std.specs.Prelude.{◌≡◌, IfOk};
-ghost use Rattle.router_cli.specs.Outcome.{status_code, status_text};
+ghost use Rattle.std.specs.Prelude.{◌≡◌, ◌++◌, IfOk};
+ghost use Rattle.std.specs.Fmt.{decimal};
+ghost use Rattle.router_cli.specs.Outcome.{script_fault_text, status_code, status_text};
 
 use answer_text::fault_text;
 use gtfs_rows::FeedFault;
+use lane_serve::ScriptFault;
 use std::alloc::Global;
 use tb_base::Memory;
 
@@ -25,10 +27,12 @@ pub enum Status {
     WriteFault,
     /// There was no memory.
     Memory,
+    /// The script has this first fault.
+    ScriptRefused(ScriptFault),
 }
 
 impl Status {
-    /// The number with which the program ends: 0 for `Done`, and 2 to 6 for the others in their
+    /// The number with which the program ends: 0 for `Done`, and 2 to 7 for the others in their
     /// order.
     pub fn code(&self) -> u8
         ensures { result ≡ status_code self.now }
@@ -40,6 +44,7 @@ impl Status {
             Status::ReadFault => 4,
             Status::WriteFault => 5,
             Status::Memory => 6,
+            Status::ScriptRefused(_) => 7,
         }
     }
 }
@@ -55,6 +60,7 @@ pub fn status_text(alloc: Global, status: &Status) -> Result<Vec<u8>, Memory>
         Status::ReadFault => copied(alloc, b"router: read fault\n"),
         Status::WriteFault => copied(alloc, b"router: write fault\n"),
         Status::Memory => copied(alloc, b"router: out of memory\n"),
+        Status::ScriptRefused(fault) => script_refusal_text(alloc, *fault),
     }
 }
 
@@ -70,6 +76,43 @@ fn refusal_text(alloc: Global, fault: &FeedFault) -> Result<Vec<u8>, Memory>
 {
     let mut line = copied(alloc, b"router: feed refused: ")?;
     let text = fault_text(alloc, fault)?;
+    line.extend_from_slice(text.as_slice())?;
+    line.push(b'\n')?;
+    Ok(line)
+}
+
+// A name, and the number of a line.
+fn at_line(alloc: Global, name: &[u8], line: u32) -> Result<Vec<u8>, Memory>
+    ensures { IfOk result (λ v. v.items ≡ name.now ++ decimal line) }
+{
+    let mut text = copied(alloc, name)?;
+    let digits = match format!(in alloc; "{line}") {
+        Ok(digits) => digits,
+        Err(_) => return Err(Memory),
+    };
+    text.extend_from_slice(digits.as_bytes())?;
+    Ok(text)
+}
+
+// The number and the name of a script's fault, and its line where it has one.
+fn script_fault_text(alloc: Global, fault: ScriptFault) -> Result<Vec<u8>, Memory>
+    ensures { IfOk result (λ v. v.items ≡ script_fault_text fault) }
+{
+    match fault {
+        ScriptFault::BadLine(line) => at_line(alloc, b"1 BadLine line ", line),
+        ScriptFault::TooManyLanes(line) => at_line(alloc, b"2 TooManyLanes line ", line),
+        ScriptFault::TooManyLines(line) => at_line(alloc, b"3 TooManyLines line ", line),
+        ScriptFault::BadTime(line) => at_line(alloc, b"4 BadTime line ", line),
+        ScriptFault::TooLong => copied(alloc, b"5 TooLong"),
+        ScriptFault::Memory => copied(alloc, b"Memory"),
+    }
+}
+
+fn script_refusal_text(alloc: Global, fault: ScriptFault) -> Result<Vec<u8>, Memory>
+    ensures { IfOk result (λ v. v.items ≡ status_text (Status.ScriptRefused fault)) }
+{
+    let mut line = copied(alloc, b"router: script refused: ")?;
+    let text = script_fault_text(alloc, fault)?;
     line.extend_from_slice(text.as_slice())?;
     line.push(b'\n')?;
     Ok(line)

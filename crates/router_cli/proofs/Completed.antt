@@ -1,0 +1,45 @@
+-- How the program ends about a request where nothing fails outside.
+use Rattle.std.proofs.Common.{◌≡◌, ℕ, ◌<◌, ◌⊎◌, inl, inr, List, [], Option, Some, None, refl, arith}
+use Rattle.std.specs.Prelude.{IfSome, IsSome}
+use Rattle.tb_io.specs.Files.{FileList}
+use Rattle.trip_table.specs.Answers.{feed_of}
+use Rattle.command_line.specs.declared.request.Request.{Request}
+use Rattle.command_line.specs.declared.request.Request.TheVariants as request
+use Rattle.router_cli.proofs.Endings.{IsDetermined, ending}
+use Rattle.router_cli.proofs.Runs.{run_completed}
+use Rattle.router_cli.specs.Outcome.{IsDayOf}
+use Rattle.router_cli.specs.Promise.{IsRequestEnding, IsRequestOutcome, LeavesScript}
+use Rattle.router_cli.specs.declared.status.Status.{Status}
+use Rattle.router_cli.specs.declared.status.Status.TheVariants as status
+
+-- a source of which nothing was read
+pub unread : (asked : Option Request) (told : Option (List ℕ)) → LeavesScript asked told told
+unread None told = refl
+unread (Some (request.Day r)) told = refl
+unread (Some (request.Serve r)) None = ([], tt)
+unread (Some (request.Serve r)) (Some bytes) = ([], refl)
+
+-- neither count rose
+none_rose : (a b c d : ℕ) → (a < b) ⊎ (c < d) → b ≡ a → d ≡ c → ⊥
+none_rose a b c d (inl rose) one other = absurd (omega (arith, rose, one))
+none_rose a b c d (inr rose) one other = absurd (omega (arith, rose, other))
+
+not_risen : (a b : ℕ) → a < b → b ≡ a → ⊥
+not_risen a b rose still = absurd (omega (arith, rose, still))
+
+pub completed : IsDetermined → (asked : Option Request) (files : Option FileList) (told : Option (List ℕ)) (s : Status) (before now : Option (List ℕ))
+    (reads reads_now takes takes_now writes writes_now : ℕ) →
+    IfSome asked (λ r. IsRequestOutcome files told r s before now) →
+    (s ≡ status.ReadFault → (reads < reads_now) ⊎ (takes < takes_now)) → (s ≡ status.WriteFault → writes < writes_now) →
+    IfSome asked (λ r. IsSome files → reads_now ≡ reads → takes_now ≡ takes → writes_now ≡ writes → IsRequestEnding files told r s)
+completed determined None files told s before now a b c d e f promise read write = tt
+completed determined (Some (request.Day r)) files told s before now a b c d e f promise read write =
+    λ shown read_still take_still write_still day is.
+    ending (IsDayOf files r) (λ x y. determined (feed_of files r.dir) r.date r.options x y) r s before now (promise shown)
+    (λ h. none_rose a b c d (read h) read_still take_still) (λ h. not_risen e f (write h) write_still) day is
+completed determined (Some (request.Serve r)) files None s before now a b c d e f promise read write =
+    λ shown read_still take_still write_still. tt
+completed determined (Some (request.Serve r)) files (Some bytes) s before now a b c d e f promise read write =
+    λ shown read_still take_still write_still day is.
+    run_completed determined files shown bytes r s before now promise
+    (λ h. none_rose a b c d (read h) read_still take_still) (λ h. not_risen e f (write h) write_still) day is

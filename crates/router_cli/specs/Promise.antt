@@ -1,0 +1,44 @@
+-- What the program promises of a request.
+use Rattle.std.specs.Prelude.{◌≡◌, ℕ, List, Option, Some, None, IfSome, IsSome, Result, ⊤}
+use Rattle.std.specs.Io.KnownBytes.{Consumes}
+use Rattle.tb_base.specs.TimetableData.{TimetableData}
+use Rattle.gtfs_rows.specs.declared.fault.FeedFault.{FeedFault}
+use Rattle.tb_io.specs.Files.{FileList}
+use Rattle.command_line.specs.declared.request.Request.{Request}
+use Rattle.command_line.specs.declared.request.Request.TheVariants as request
+use Rattle.lane_serve.specs.Script.{script_of}
+use Rattle.router_cli.specs.Outcome.{IsDayOf, IsEnding, IsOutcome, WritesAnswer}
+use Rattle.router_cli.specs.Serving.{FirstDayGives, IsRunEnding, IsRunOutcome, TellsScript, plan_of}
+use Rattle.router_cli.specs.declared.status.Status.{Status}
+
+-- What a status says of a request, of the files of a folder, where it tells them, of the bytes of a
+-- script, where its source tells them, and of the bytes that a sink held before and holds now.
+abbrev pub IsRequestOutcome : Option FileList → Option (List ℕ) → Request → Status
+    → Option (List ℕ) → Option (List ℕ) → Type 0
+IsRequestOutcome files told (request.Day r) s before now =
+    IsSome files → IsOutcome (IsDayOf files r) r s before now
+IsRequestOutcome files told (request.Serve r) s before now = IsRunOutcome files told r s before now
+
+-- How a request about a day ends, whatever the folder tells. Of a run the outcome says it.
+abbrev pub WritesRequest : Request → Status → Option (List ℕ) → Option (List ℕ) → Type 0
+WritesRequest (request.Day r) s before now = WritesAnswer r s before now
+WritesRequest (request.Serve r) s before now = ⊤
+
+-- how a request may end where nothing fails outside, by what its day or its first day gives
+abbrev pub IsRequestEnding : Option FileList → Option (List ℕ) → Request → Status → Type 0
+IsRequestEnding files told (request.Day r) s =
+    (day : Result TimetableData FeedFault) → IsDayOf files r day → IsEnding day s
+IsRequestEnding files told (request.Serve r) s = IfSome told (λ bytes.
+    (day : Result TimetableData FeedFault) → FirstDayGives files r.options (plan_of r) day →
+    IsRunEnding (script_of bytes) day s)
+
+-- a script's first fault comes before what the feeds give
+abbrev pub TellsFirst : Option (List ℕ) → Request → Status → Type 0
+TellsFirst told (request.Day r) s = ⊤
+TellsFirst told (request.Serve r) s = TellsScript told s
+
+-- only a run takes bytes of a script
+abbrev pub LeavesScript : Option Request → Option (List ℕ) → Option (List ℕ) → Type 0
+LeavesScript None before now = now ≡ before
+LeavesScript (Some (request.Day r)) before now = now ≡ before
+LeavesScript (Some (request.Serve r)) before now = (bs : List ℕ) × Consumes before now bs

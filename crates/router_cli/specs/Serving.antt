@@ -1,0 +1,101 @@
+-- What the program's status says of a run of several days.
+use Rattle.std.specs.Prelude.{◌≡◌, ℕ, ◌<◌, ◌≤◌, ◌⊎◌, List, [], ◌∷◌, length, map, take, Option, IfSome, Result, Ok, Err, ⊤}
+use Rattle.std.specs.Io.KnownBytes.{Appends}
+use Rattle.tb_base.specs.TimetableData.{TimetableData}
+use Rattle.gtfs_rows.specs.declared.fault.FeedFault.{FeedFault}
+use Rattle.tb_io.specs.Files.{FileList}
+use Rattle.footpaths.specs.declared.paths.Options.{Options}
+use Rattle.command_line.specs.Plans.{PlannedDayData, ServeRequestData}
+use Rattle.lane_serve.specs.Plans.{ItemData, ItemGives}
+use Rattle.lane_serve.specs.Script.{LaneData, script_of}
+use Rattle.lane_serve.specs.Served.{FirstGives, IsServed, ServedData}
+use Rattle.lane_serve.specs.Texts.{served_text}
+use Rattle.lane_serve.specs.declared.run.ServeFault.{ServeFault}
+use Rattle.lane_serve.specs.declared.run.ServeFault.TheVariants as serve
+use Rattle.lane_serve.specs.declared.script.ScriptFault.{ScriptFault}
+use Rattle.router_cli.specs.Outcome.{IsEnding}
+use Rattle.router_cli.specs.declared.status.Status.{Status}
+use Rattle.router_cli.specs.declared.status.Status.TheVariants as status
+
+-- the item of a plan that a day of the words is
+abbrev pub item_of : PlannedDayData → ItemData
+item_of d = record { dir = d.dir; word = d.word; day = d.date }
+
+abbrev pub plan_of : ServeRequestData → List ItemData
+plan_of r = map item_of r.plan
+
+-- where the source tells its bytes, they are a script that says this
+abbrev pub ScriptGives : Option (List ℕ) → Result (List LaneData) ScriptFault → Type 0
+ScriptGives told result = IfSome told (λ bytes. script_of bytes ≡ result)
+
+-- the bytes are the text of a run of these lanes beside the plan
+pub record IsRunText (files : Option FileList) (r : ServeRequestData) (lanes : List LaneData)
+    (bytes : List ℕ) : Type 0 where
+  pub served : ServedData
+  pub run : IsServed files r.options (plan_of r) lanes served
+  pub text : bytes ≡ served_text (plan_of r) served
+
+-- What a status says of a run, of the script and of the bytes that a sink held before and holds
+-- now. Done: the text of a run was written whole. WriteFault: some first bytes of it. ScriptRefused:
+-- the fault is the script's. FeedRefused: the script is good, and the fault is the first day's.
+-- Usage doesn't come here. Of ReadFault and Memory no clause speaks here.
+abbrev pub IsRunOutcome : Option FileList → Option (List ℕ) → ServeRequestData → Status
+    → Option (List ℕ) → Option (List ℕ) → Type 0
+IsRunOutcome files told r status.Done before now =
+    (lanes : List LaneData) × (bytes : List ℕ) × ScriptGives told (Ok lanes)
+    × IsRunText files r lanes bytes × Appends before now bytes
+IsRunOutcome files told r status.WriteFault before now =
+    (lanes : List LaneData) × (bytes : List ℕ) × (n : ℕ) × ScriptGives told (Ok lanes)
+    × IsRunText files r lanes bytes × (n ≤ length bytes) × Appends before now (take n bytes)
+IsRunOutcome files told r (status.ScriptRefused f) before now = ScriptGives told (Err f)
+IsRunOutcome files told r (status.FeedRefused f) before now =
+    ((lanes : List LaneData) × ScriptGives told (Ok lanes))
+    × FirstGives files r.options (plan_of r) f
+IsRunOutcome files told r status.Usage before now = ⊥
+IsRunOutcome files told r status.ReadFault before now = ⊤
+IsRunOutcome files told r status.Memory before now = ⊤
+
+-- the first day of a plan gives this timetable or first fault
+abbrev pub FirstDayGives : Option FileList → Options → List ItemData
+    → Result TimetableData FeedFault → Type 0
+FirstDayGives files options [] day = ⊥
+FirstDayGives files options (item ∷ items) day = ItemGives files options item day
+
+-- How a run may end where nothing fails outside: by the script's first fault; else, as a request
+-- about the first day, by that feed's first fault or with the text; or for want of memory.
+abbrev pub IsRunEnding : Result (List LaneData) ScriptFault → Result TimetableData FeedFault
+    → Status → Type 0
+IsRunEnding (Err f) day s = (s ≡ status.ScriptRefused f) ⊎ (s ≡ status.Memory)
+IsRunEnding (Ok lanes) day s = IsEnding day s
+
+-- where the source tells a script with a fault, the run ends by it or for want of memory
+abbrev pub TellsScript : Option (List ℕ) → Status → Type 0
+TellsScript told s = IfSome told (λ bytes. (f : ScriptFault) → script_of bytes ≡ Err f →
+    (s ≡ status.ScriptRefused f) ⊎ (s ≡ status.Memory))
+
+-- why a source gives no script, by its count of faults before and now
+abbrev pub IsNoScript : Option (List ℕ) → ℕ → ℕ → Status → Type 0
+IsNoScript told before now (status.ScriptRefused f) = ScriptGives told (Err f) × (now ≡ before)
+IsNoScript told before now status.ReadFault = before < now
+IsNoScript told before now status.Memory = now ≡ before
+IsNoScript told before now status.Done = ⊥
+IsNoScript told before now status.Usage = ⊥
+IsNoScript told before now status.WriteFault = ⊥
+IsNoScript told before now (status.FeedRefused f) = ⊥
+
+-- why a run has no text, by the folder's count of faults before and now
+abbrev pub IsNoRun : Option FileList → ServeRequestData → ℕ → ℕ → Status → Type 0
+IsNoRun files r before now (status.FeedRefused f) =
+    FirstGives files r.options (plan_of r) f × (now ≡ before)
+IsNoRun files r before now status.ReadFault = before < now
+IsNoRun files r before now status.Memory = now ≡ before
+IsNoRun files r before now status.Done = ⊥
+IsNoRun files r before now status.Usage = ⊥
+IsNoRun files r before now status.WriteFault = ⊥
+IsNoRun files r before now (status.ScriptRefused f) = ⊥
+
+-- the status that a fault of a run is told as
+abbrev pub status_for : ServeFault → Status
+status_for (serve.Feed f) = status.FeedRefused f
+status_for serve.ReadFault = status.ReadFault
+status_for serve.Memory = status.Memory

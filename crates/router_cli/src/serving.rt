@@ -1,0 +1,157 @@
+//! What the program does about a run of several days.
+ghost use Rattle.std.specs.Prelude.{◌≡◌, ◌⊎◌, ◌<◌, ◌-◌, ◌^◌, Err, IfErr, IfOk, List, Ok, map, ℕ};
+ghost use Rattle.std.specs.Io.KnownBytes.{Consumes};
+ghost use Rattle.lane_serve.specs.Script.{IsScript};
+ghost use Rattle.router_cli.specs.Serving.{IsNoRun, IsNoScript, IsRunOutcome, IsRunText, ScriptGives, TellsScript, item_of, status_for};
+
+use crate::status::Status;
+use command_line::{PlannedDay, ServeRequest};
+use lane_serve::{PlanItem, Script, ScriptFault, ServeFault, read_script, serve, served_text};
+use std::alloc::Global;
+use std::sync::Wait;
+use std::thread::Threads;
+use tb_base::{Gate, Memory};
+use tb_io::{Folder, Sink, Source, Taken, put_all, take_source};
+
+// No script has more bytes.
+const MOST_BYTES: u64 = 33_554_432;
+
+// The script that a source has.
+fn script_from<S: Source>(alloc: Global, source: &mut S) -> Result<Script, Status>
+    requires { S.faults source.old < 2 ^ 64 - 1 }
+    ensures script { IfOk result (λ s. ScriptGives (S.left source.old) (Ok s) × IsScript s) }
+    ensures kept { IfOk result (λ _. S.faults source.new ≡ S.faults source.old) }
+    ensures refused { IfErr result
+        (IsNoScript (S.left source.old) (S.faults source.old) (S.faults source.new)) }
+    ensures read { (bs : List ℕ) × Consumes (S.left source.old) (S.left source.new) bs }
+{
+    match take_source(alloc, source, MOST_BYTES) {
+        Ok(bytes) => match read_script(alloc, bytes.as_slice()) {
+            Ok(script) => Ok(script),
+            Err(ScriptFault::Memory) => Err(Status::Memory),
+            Err(fault) => Err(Status::ScriptRefused(fault)),
+        },
+        Err(Taken::TooLarge) => Err(Status::ScriptRefused(ScriptFault::TooLong)),
+        Err(Taken::ReadFault) => Err(Status::ReadFault),
+        Err(Taken::Memory) => Err(Status::Memory),
+    }
+}
+
+// The item of a plan that a day of the words is.
+fn item_of(alloc: Global, day: PlannedDay) -> Result<PlanItem, Memory>
+    ensures { IfOk result (λ item. item ≡ item_of day.entry) }
+{
+    let PlannedDay { dir, word, day } = day;
+    Ok(PlanItem {
+        dir: String::from_str(alloc, dir)?,
+        word: String::from_str(alloc, word)?,
+        day,
+    })
+}
+
+// The items of a plan.
+fn items_of(alloc: Global, days: Vec<PlannedDay>) -> Result<Vec<PlanItem>, Memory>
+    ensures { IfOk result (λ items. items.items ≡ map item_of days.entry.items) }
+{
+    let mut items = Vec::new(alloc);
+    for day in days {
+        let item = item_of(alloc, day)?;
+        items.push(item)?;
+    }
+    Ok(items)
+}
+
+fn status_of(fault: ServeFault) -> Status
+    ensures { result ≡ status_for fault }
+{
+    match fault {
+        ServeFault::Feed(fault) => Status::FeedRefused(fault),
+        ServeFault::ReadFault => Status::ReadFault,
+        ServeFault::Memory => Status::Memory,
+    }
+}
+
+// The text of a run of the lanes of a script.
+fn run_text<R: Threads + Wait + Sync, F: Folder + Send, G: Gate>(
+    rt: &R,
+    alloc: Global,
+    request: ServeRequest,
+    script: &Script,
+    folder: &mut F,
+    gate: &G,
+) -> Result<Vec<u8>, Status>
+    requires script { IsScript script.now }
+    requires folder { F.faults folder.old < 2 ^ 64 - 1 }
+    ensures text { IfOk result (λ text.
+        IsRunText (F.files folder.old) request.entry script.now text.items) }
+    ensures kept { IfOk result (λ _. F.faults folder.new ≡ F.faults folder.old) }
+    ensures stop { IfErr result
+        (IsNoRun (F.files folder.old) request.entry (F.faults folder.old) (F.faults folder.new)) }
+    ensures files { F.files folder.new ≡ F.files folder.old }
+{
+    let ServeRequest {
+        options,
+        workers,
+        plan,
+    } = request;
+    let Ok(items) = items_of(alloc, plan) else {
+        return Err(Status::Memory);
+    };
+    let plan = items.as_slice();
+    match serve(rt, alloc, plan, &options, workers, script, folder, gate) {
+        Ok(served) => match served_text(alloc, plan, &served) {
+            Ok(text) => Ok(text),
+            Err(Memory) => Err(Status::Memory),
+        },
+        Err(fault) => Err(status_of(fault)),
+    }
+}
+
+/// Answers the script of a source by a run of the days of a plan. It may wait.
+pub(crate) fn run_outcome<
+    R: Threads + Wait + Sync,
+    F: Folder + Send,
+    S: Source,
+    K: Sink,
+    G: Gate,
+>(
+    rt: &R,
+    alloc: Global,
+    request: ServeRequest,
+    folder: &mut F,
+    script: &mut S,
+    out: &mut K,
+    gate: &G,
+) -> Status
+    requires folder { F.faults folder.old < 2 ^ 64 - 1 }
+    requires script { S.faults script.old < 2 ^ 64 - 1 }
+    requires out { K.faults out.old < 2 ^ 64 - 1 }
+    ensures promise { IsRunOutcome (F.files folder.old) (S.left script.old) request.entry result
+        (K.written out.old) (K.written out.new) }
+    ensures script { S.faults script.new ≡ S.faults script.old →
+        TellsScript (S.left script.old) result }
+    ensures quiet { (result ≡ Status.Done) ⊎ (result ≡ Status.WriteFault)
+        ⊎ (K.written out.new ≡ K.written out.old) }
+    ensures read { result ≡ Status.ReadFault → (F.faults folder.old < F.faults folder.new)
+        ⊎ (S.faults script.old < S.faults script.new) }
+    ensures write { result ≡ Status.WriteFault → K.faults out.old < K.faults out.new }
+    ensures folder_kept { (result ≡ Status.ReadFault)
+        ⊎ (F.faults folder.new ≡ F.faults folder.old) }
+    ensures script_kept { (result ≡ Status.ReadFault)
+        ⊎ (S.faults script.new ≡ S.faults script.old) }
+    ensures out_kept { (result ≡ Status.WriteFault) ⊎ (K.faults out.new ≡ K.faults out.old) }
+    ensures files { F.files folder.new ≡ F.files folder.old }
+    ensures taken { (bs : List ℕ) × Consumes (S.left script.old) (S.left script.new) bs }
+{
+    let lanes = match script_from(alloc, script) {
+        Ok(lanes) => lanes,
+        Err(status) => return status,
+    };
+    match run_text(rt, alloc, request, &lanes, folder, gate) {
+        Ok(text) => match put_all(out, text.as_slice()) {
+            Ok(()) => Status::Done,
+            Err(_) => Status::WriteFault,
+        },
+        Err(status) => status,
+    }
+}
