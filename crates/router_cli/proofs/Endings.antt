@@ -1,15 +1,12 @@
 -- How the program ends where nothing fails outside.
-use Rattle.std.proofs.Common.{◌≡◌, ℕ, ◌<◌, inl, inr, List, Option, Some, None, Result, Ok, Err, refl, subst, arith}
-use Rattle.std.specs.Prelude.{IfSome, IsSome}
+use Rattle.std.proofs.Common.{◌≡◌, ℕ, inl, inr, List, Option, Result, Ok, Err, refl, subst}
 use Rattle.tb_base.specs.TimetableData.{TimetableData}
 use Rattle.footpaths.specs.declared.paths.Options.{Options}
 use Rattle.gtfs_rows.specs.declared.fault.FeedFault.{FeedFault}
-use Rattle.tb_io.specs.Files.{FileList}
 use Rattle.trip_table.specs.Feed.{Feed}
-use Rattle.trip_table.specs.Answers.{feed_of}
 use Rattle.trip_table.specs.Day.{IsTimetableOf}
 use Rattle.command_line.specs.DayCommands.{DayRequestData}
-use Rattle.router_cli.specs.Outcome.{IsDayOf, IsEnding, IsOutcome}
+use Rattle.router_cli.specs.Outcome.{IsEnding, IsOutcome}
 use Rattle.router_cli.specs.declared.status.Status.{Status}
 use Rattle.router_cli.specs.declared.status.Status.TheVariants as status
 

@@ -1,6 +1,6 @@
 -- How the program ends about a run of several days.
-use Rattle.std.proofs.Common.{◌≡◌, ◌∙◌, ℕ, suc, ◌+◌, ◌<◌, ◌⊎◌, inl, inr, List, [], ◌∷◌, length, map, Option, Some, None, Result, Ok, Err, refl, sym, ap, subst, arith}
-use Rattle.std.specs.Prelude.{IfSome, IsSome}
+use Rattle.std.proofs.Common.{◌≡◌, ℕ, suc, ◌+◌, inl, inr, List, [], ◌∷◌, length, map, Option, Some, Result, Ok, Err, refl, sym, ap, subst}
+use Rattle.std.specs.Prelude.{IsSome}
 use Rattle.tb_base.specs.TimetableData.{TimetableData}
 use Rattle.footpaths.specs.declared.paths.Options.{Options}
 use Rattle.gtfs_rows.specs.declared.fault.FeedFault.{FeedFault}
@@ -10,7 +10,7 @@ use Rattle.edition_store.specs.Editions.{EditionData}
 use Rattle.command_line.specs.Plans.{ServeRequestData}
 use Rattle.lane_serve.specs.Plans.{AreOutcomes, BeginsPublished, ItemData}
 use Rattle.lane_serve.specs.Script.{LaneData, script_of}
-use Rattle.lane_serve.specs.Served.{FirstGives, IsServed, ServedData}
+use Rattle.lane_serve.specs.Served.{FirstGives}
 use Rattle.lane_serve.specs.declared.plan.Outcome.{Outcome}
 use Rattle.lane_serve.specs.declared.plan.Outcome.TheVariants.{Published, Refused}
 use Rattle.lane_serve.specs.declared.script.ScriptFault.{ScriptFault}

@@ -108,13 +108,7 @@ fn run_text<R: Threads + Wait + Sync, F: Folder + Send, G: Gate>(
 }
 
 /// Answers the script of a source by a run of the days of a plan. It may wait.
-pub(crate) fn run_outcome<
-    R: Threads + Wait + Sync,
-    F: Folder + Send,
-    S: Source,
-    K: Sink,
-    G: Gate,
->(
+pub(crate) fn run_outcome<R: Threads + Wait + Sync, F: Folder + Send, S: Source, K: Sink, G: Gate>(
     rt: &R,
     alloc: Global,
     request: ServeRequest,
