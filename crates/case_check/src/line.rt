@@ -27,12 +27,18 @@ pub enum Line<'a> {
     Words(&'a str),
     /// A feed, a day and options, for which change times and footpaths are shown.
     Paths(&'a str),
-    /// A line of standard input.
+    /// A line of the script.
     Script(&'a str),
-    /// The read of standard input that fails, by its number.
-    Input(&'a str),
+    /// So many lines of it, in which the sign `#` stands for 0, 1 and so on.
+    Scripts(&'a str),
+    /// Bytes of it with no end of line behind.
+    Piece(&'a str),
+    /// One byte of it, by its number.
+    Octet(&'a str),
     /// The call of the folder that fails, by its number.
     Folder(&'a str),
+    /// The read of the script that fails, by its number.
+    Input(&'a str),
     /// The write to standard output that fails, by its number.
     Output(&'a str),
     /// How many bytes standard output takes.
@@ -41,6 +47,8 @@ pub enum Line<'a> {
     Status(&'a str),
     /// A line of standard output.
     Out(&'a str),
+    /// Whatever stands there of standard output, or nothing.
+    Any,
     /// A piece of standard output with no end of line behind.
     Part(&'a str),
     /// A line of standard error.
@@ -74,6 +82,7 @@ pub fn line_of(text: &str) -> Option<Line<'_>> {
         None => (text, ""),
     };
     setting_of(word, rest)
+        .or(script_of(word, rest))
         .or(trouble_of(word, rest))
         .or(answer_of(word, rest))
 }
@@ -94,11 +103,22 @@ fn setting_of<'a>(word: &str, rest: &'a str) -> Option<Line<'a>> {
     }
 }
 
+// A line that says what stands in the script.
+fn script_of<'a>(word: &str, rest: &'a str) -> Option<Line<'a>> {
+    match word {
+        "script" => Some(Line::Script(rest)),
+        "scripts" => Some(Line::Scripts(rest)),
+        "piece" => Some(Line::Piece(rest)),
+        "octet" => Some(Line::Octet(rest)),
+        _ => None,
+    }
+}
+
 // A line that says what goes wrong outside.
 fn trouble_of<'a>(word: &str, rest: &'a str) -> Option<Line<'a>> {
     match word {
-        "input" => Some(Line::Input(rest)),
         "folder" => Some(Line::Folder(rest)),
+        "input" => Some(Line::Input(rest)),
         "output" => Some(Line::Output(rest)),
         "room" => Some(Line::Room(rest)),
         _ => None,
@@ -110,10 +130,10 @@ fn answer_of<'a>(word: &str, rest: &'a str) -> Option<Line<'a>> {
     match word {
         "words" => Some(Line::Words(rest)),
         "paths" => Some(Line::Paths(rest)),
-        "script" => Some(Line::Script(rest)),
         "status" => Some(Line::Status(rest)),
         "out" => Some(Line::Out(rest)),
         "part" => Some(Line::Part(rest)),
+        "any" => Some(Line::Any),
         "err" => Some(Line::Err(rest)),
         _ => None,
     }

@@ -1,14 +1,13 @@
 //! What is asked in a case, and how it has to end.
-use super::broken::Broken;
 use gtfs_rows::number_of;
 use std::alloc::{AllocError, Global};
 
-/// How a run of the program ends: its number, and the bytes on standard output and on standard
-/// error.
+/// How a run of the program has to end: its number, the pieces of standard output, between which
+/// anything may stand, and the bytes on standard error.
 #[derive(Drop)]
-pub struct Ending {
+pub struct Wanted {
     pub code: u8,
-    pub out: Vec<u8>,
+    pub pieces: Vec<String>,
     pub err: Vec<u8>,
 }
 
@@ -24,10 +23,10 @@ pub enum Asked {
 /// What goes wrong outside while the program runs.
 #[derive(Clone, Copy)]
 pub struct Trouble {
-    /// The read of standard input that fails, by its number from 0.
-    pub input: Option<u32>,
     /// The call of the folder that fails, by its number from 0.
     pub folder: Option<u32>,
+    /// The read of the script that fails, by its number from 0.
+    pub input: Option<u32>,
     /// The write to standard output that fails, by its number from 0.
     pub output: Option<u32>,
     /// How many bytes standard output takes.
@@ -37,8 +36,8 @@ pub struct Trouble {
 impl Trouble {
     // No call fails, and there is room for each answer of a case.
     const NONE: Trouble = Trouble {
-        input: None,
         folder: None,
+        input: None,
         output: None,
         room: 100_000,
     };
@@ -52,7 +51,7 @@ pub struct Question {
     /// The bytes of standard input.
     pub script: Vec<u8>,
     pub trouble: Trouble,
-    pub want: Ending,
+    pub want: Wanted,
 }
 
 // The words of a line, with one space between two.
@@ -80,9 +79,9 @@ impl Question {
     /// well, and to write nothing.
     pub fn new(alloc: Global, asked: Asked, line: &str) -> Result<Question, AllocError> {
         let words = words_of(alloc, line)?;
-        let want = Ending {
+        let want = Wanted {
             code: 0,
-            out: Vec::new(alloc),
+            pieces: Vec::new(alloc),
             err: Vec::new(alloc),
         };
         Ok(Question {
@@ -94,14 +93,39 @@ impl Question {
         })
     }
 
-    /// A line of standard input. It is said of the program alone.
-    pub fn add_script(&mut self, line: &str) -> Result<bool, Broken> {
-        self.script.extend_from_slice(line.as_bytes())?;
-        self.script.push(b'\n')?;
+    /// More of the script. It is said of the program alone.
+    pub fn add_script(&mut self, text: &str, end: &str) -> Result<bool, AllocError> {
+        self.script.extend_from_slice(text.as_bytes())?;
+        self.script.extend_from_slice(end.as_bytes())?;
         Ok(self.asked == Asked::Program)
     }
 
-    /// The read of standard input that fails. It is said of the program alone.
+    /// So many lines of it, by a number and the text of a line.
+    pub fn add_scripts(&mut self, alloc: Global, lines: &str) -> Result<bool, AllocError> {
+        let Some((count, text)) = lines.split_once(' ') else {
+            return Ok(false);
+        };
+        let Some(count) = number_of(count.as_bytes()) else {
+            return Ok(false);
+        };
+        for number in 0..count {
+            let number = format!(in alloc; "{number}")?;
+            let line = text.replace(alloc, "#", number.as_str())?;
+            self.add_script(line.as_str(), "\n")?;
+        }
+        Ok(self.asked == Asked::Program)
+    }
+
+    /// One byte of it, by its number.
+    pub fn add_octet(&mut self, number: &str) -> Result<bool, AllocError> {
+        let Some(byte) = byte_of(number) else {
+            return Ok(false);
+        };
+        self.script.push(byte)?;
+        Ok(self.asked == Asked::Program)
+    }
+
+    /// The read of the script that fails. It is said of the program alone.
     pub fn fail_input(&mut self, number: &str) -> bool {
         self.trouble.input = number_of(number.as_bytes());
         self.asked == Asked::Program && self.trouble.input.is_some()
@@ -143,9 +167,23 @@ impl Question {
     }
 
     /// More of its standard output.
-    pub fn want_out(&mut self, text: &str, end: &str) -> Result<(), AllocError> {
-        self.want.out.extend_from_slice(text.as_bytes())?;
-        self.want.out.extend_from_slice(end.as_bytes())?;
+    pub fn want_out(&mut self, alloc: Global, text: &str, end: &str) -> Result<(), AllocError> {
+        if self.want.pieces.is_empty() {
+            self.want.pieces.push(String::new(alloc))?;
+        }
+        if let Some(piece) = self.want.pieces.last_mut() {
+            piece.push_str(text)?;
+            piece.push_str(end)?;
+        }
+        Ok(())
+    }
+
+    /// Whatever comes next on its standard output.
+    pub fn want_any(&mut self, alloc: Global) -> Result<(), AllocError> {
+        if self.want.pieces.is_empty() {
+            self.want.pieces.push(String::new(alloc))?;
+        }
+        self.want.pieces.push(String::new(alloc))?;
         Ok(())
     }
 

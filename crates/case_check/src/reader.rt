@@ -32,23 +32,29 @@ fn add_question(alloc: Global, case: &mut Case, line: Line<'_>) -> Result<bool, 
         Line::Words(words) => case.ask(alloc, Asked::Program, words),
         Line::Paths(words) => case.ask(alloc, Asked::Paths, words),
         _ => match case.questions.last_mut() {
-            Some(question) => add_answer(question, line),
+            Some(question) => add_answer(alloc, question, line),
             None => Ok(false),
         },
     }
 }
 
 // What a line says of a question.
-fn add_answer(question: &mut Question, line: Line<'_>) -> Result<bool, Broken> {
+fn add_answer(alloc: Global, question: &mut Question, line: Line<'_>) -> Result<bool, Broken> {
     match line {
-        Line::Script(text) => question.add_script(text),
-        Line::Input(number) => Ok(question.fail_input(number)),
+        Line::Script(_) | Line::Scripts(_) | Line::Piece(_) | Line::Octet(_) => {
+            add_script(alloc, question, line)
+        }
         Line::Folder(number) => Ok(question.fail_folder(number)),
+        Line::Input(number) => Ok(question.fail_input(number)),
         Line::Output(number) => Ok(question.fail_output(number)),
         Line::Room(number) => Ok(question.set_room(number)),
         Line::Status(number) => Ok(question.want_status(number)),
-        Line::Out(text) => add_out(question, text, "\n"),
-        Line::Part(text) => add_out(question, text, ""),
+        Line::Out(text) => add_out(alloc, question, text, "\n"),
+        Line::Part(text) => add_out(alloc, question, text, ""),
+        Line::Any => {
+            question.want_any(alloc)?;
+            Ok(true)
+        }
         Line::Err(text) => {
             question.want_err(text)?;
             Ok(true)
@@ -57,8 +63,19 @@ fn add_answer(question: &mut Question, line: Line<'_>) -> Result<bool, Broken> {
     }
 }
 
-fn add_out(question: &mut Question, text: &str, end: &str) -> Result<bool, Broken> {
-    question.want_out(text, end)?;
+// What a line says of the script of a question.
+fn add_script(alloc: Global, question: &mut Question, line: Line<'_>) -> Result<bool, Broken> {
+    match line {
+        Line::Script(text) => Ok(question.add_script(text, "\n")?),
+        Line::Scripts(lines) => Ok(question.add_scripts(alloc, lines)?),
+        Line::Piece(text) => Ok(question.add_script(text, "")?),
+        Line::Octet(number) => Ok(question.add_octet(number)?),
+        _ => Ok(false),
+    }
+}
+
+fn add_out(alloc: Global, question: &mut Question, text: &str, end: &str) -> Result<bool, Broken> {
+    question.want_out(alloc, text, end)?;
     Ok(true)
 }
 

@@ -4,7 +4,7 @@ ghost use Rattle.std.specs.Prelude.{◌<◌, ◌-◌, ◌^◌};
 use super::broken::Broken;
 use super::case::Case;
 use super::endless::Endless;
-use super::question::{Asked, Ending, Question, Trouble};
+use super::question::{Asked, Question, Trouble, Wanted};
 use super::shown::shown_paths;
 use router_cli::{Status, route, status_text};
 use std::alloc::Global;
@@ -66,21 +66,30 @@ fn fails(alloc: Global, number: Option<u32>) -> Result<Vec<u64>, Memory> {
     Ok(fails)
 }
 
+// How a run of the program ended: its number, and the bytes on standard output and on standard
+// error.
+#[derive(Drop)]
+struct Ending {
+    code: u8,
+    out: Vec<u8>,
+    err: Vec<u8>,
+}
+
 // How the program ends over a folder.
 fn status_over<R: Threads + Wait + Sync, F: Folder + Send, K: Sink>(
     rt: &R,
     alloc: Global,
-    question: &Question,
+    words: &[String],
     folder: &mut F,
+    script: MemSource,
     sink: &mut K,
-) -> Result<Status, Memory>
+) -> Status
     requires folder { F.faults folder.old < 2 ^ 64 - 1 }
+    requires script { script.calls.faults < 2 ^ 64 - 1 }
     requires sink { K.faults sink.old < 2 ^ 64 - 1 }
 {
-    let bytes = question.script.to_vec(alloc)?;
-    let mut script = MemSource::new(bytes, fails(alloc, question.trouble.input)?);
-    let words = question.words.as_slice();
-    Ok(route(rt, alloc, words, folder, &mut script, sink, &IdleGate))
+    let mut script = script;
+    route(rt, alloc, words, folder, &mut script, sink, &IdleGate)
 }
 
 // How the program ends over the files of a case.
@@ -90,18 +99,23 @@ fn program_ending<R: Threads + Wait + Sync>(
     case: &Case,
     question: &Question,
 ) -> Result<Ending, Memory> {
+    let words = question.words.as_slice();
     let Trouble {
         folder,
+        input,
         output,
         room,
-        ..
     } = question.trouble;
+    let script = MemSource::new(
+        question.script.as_slice().to_vec(alloc)?,
+        fails(alloc, input)?,
+    );
     let mut sink = MemSink::new(alloc, room as usize, fails(alloc, output)?)?;
     let status = match case.endless() {
-        Some(path) => status_over(rt, alloc, question, &mut Endless { path }, &mut sink)?,
+        Some(path) => status_over(rt, alloc, words, &mut Endless { path }, script, &mut sink),
         None => {
             let mut files = MemFolder::new(case.files(alloc)?, fails(alloc, folder)?);
-            status_over(rt, alloc, question, &mut files, &mut sink)?
+            status_over(rt, alloc, words, &mut files, script, &mut sink)
         }
     };
     Ok(Ending {
@@ -134,10 +148,36 @@ fn ending_of<R: Threads + Wait + Sync>(
     }
 }
 
+// Whether the middle pieces stand in a text, one behind the other, and the last one at its end.
+fn stand_in(text: &str, middle: &[String], last: &String) -> bool {
+    let mut rest = text;
+    for piece in middle {
+        match rest.split_once(piece.as_str()) {
+            Some((_, behind)) => rest = behind,
+            None => return false,
+        }
+    }
+    rest.ends_with(last.as_str())
+}
+
+// Whether a text has these pieces, with anything between two.
+fn has_pieces(text: &str, pieces: &[String]) -> bool {
+    let Some((first, others)) = pieces.split_first() else {
+        return text.is_empty();
+    };
+    let Some(rest) = text.strip_prefix(first.as_str()) else {
+        return false;
+    };
+    match others.split_last() {
+        Some((last, middle)) => stand_in(rest, middle, last),
+        None => rest.is_empty(),
+    }
+}
+
 // Whether the program ended as it has to.
-fn is_same(came: &Ending, want: &Ending) -> bool {
+fn is_same(came: &Ending, want: &Wanted) -> bool {
     came.code == want.code
-        && came.out.as_slice() == want.out.as_slice()
+        && has_pieces(text_of(came.out.as_slice()), want.pieces.as_slice())
         && came.err.as_slice() == want.err.as_slice()
 }
 
