@@ -1,3 +1,4 @@
 pub mod Parsed
 pub mod LastAt
 pub mod Times
+pub mod Days

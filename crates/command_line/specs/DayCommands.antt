@@ -5,7 +5,7 @@ use Rattle.clap.specs.Words.{Text}
 use Rattle.footpaths.specs.declared.paths.Options.{Options}
 use Rattle.gtfs_rows.specs.Dates.{date_of}
 use Rattle.gtfs_rows.specs.Numbers.{time_of}
-use Rattle.command_line.specs.Inquiries.{InquiryData, WindowInquiryData}
+use Rattle.command_line.specs.Inquiries.{InquiryData, OriginInquiryData, WindowInquiryData}
 use Rattle.command_line.specs.declared.request.Command.{Command}
 use Rattle.command_line.specs.declared.request.Command.TheVariants as command
 use Rattle.command_line.specs.declared.settings.Settings.{Settings}
@@ -30,6 +30,9 @@ window_inquiry_of from to first last =
     (λ t. option_map (λ u. record { from = from; to = to; first = t; last = u }) (time_of last))
     (time_of first)
 
+abbrev pub origin_inquiry_of : Text → Text → Option OriginInquiryData
+origin_inquiry_of from time = option_map (λ t. record { from = from; time = t }) (time_of time)
+
 -- what is asked by the words FROM TO TIME
 abbrev pub inquiry_from : List Text → Option InquiryData
 inquiry_from (from ∷ to ∷ time ∷ []) = inquiry_of from to time
@@ -39,6 +42,11 @@ inquiry_from words = None
 abbrev pub window_from : List Text → Option WindowInquiryData
 window_from (from ∷ to ∷ first ∷ last ∷ []) = window_inquiry_of from to first last
 window_from words = None
+
+-- what is asked by the words FROM TIME
+abbrev pub origin_from : List Text → Option OriginInquiryData
+origin_from (from ∷ time ∷ []) = origin_inquiry_of from time
+origin_from words = None
 
 -- with a list, where the word says so
 abbrev pub list_word : Text → Option Bool
@@ -51,12 +59,13 @@ list_from (word ∷ []) = list_word word
 list_from words = None
 
 -- a command by its name and the words behind folder and date: `direct FROM TO TIME`,
--- `ask FROM TO TIME`, `profile FROM TO FIRST LAST`, `build`, `build list`
+-- `ask FROM TO TIME`, `profile FROM TO FIRST LAST`, `reach FROM TIME`, `build`, `build list`
 abbrev pub command_of : Text → List Text → Option Command
 command_of name words =
     if bytes_eq name (codes "direct") then option_map command.Direct (inquiry_from words)
     else if bytes_eq name (codes "ask") then option_map command.Ask (inquiry_from words)
     else if bytes_eq name (codes "profile") then option_map command.Profile (window_from words)
+    else if bytes_eq name (codes "reach") then option_map command.Reach (origin_from words)
     else if bytes_eq name (codes "build") then option_map command.Build (list_from words)
     else None
 

@@ -7,6 +7,11 @@ pub record InquiryData : Type 0 where
   pub to : List ℕ
   pub time : ℤ
 
+-- from where every stop is asked for, and from when on
+pub record OriginInquiryData : Type 0 where
+  pub from : List ℕ
+  pub time : ℤ
+
 -- from where to where journeys are asked for that leave within a window, both ends counted
 pub record WindowInquiryData : Type 0 where
   pub from : List ℕ

@@ -1,9 +1,9 @@
 //! What is asked about one day of a feed.
 ghost use Rattle.std.specs.Prelude.{◌≡◌, map};
-ghost use Rattle.command_line.specs.DayCommands.{command_of, day_request, day_request_from, inquiry_from, inquiry_of, list_from, list_word, window_from, window_inquiry_of};
+ghost use Rattle.command_line.specs.DayCommands.{command_of, day_request, day_request_from, inquiry_from, inquiry_of, list_from, list_word, origin_from, origin_inquiry_of, window_from, window_inquiry_of};
 ghost use Rattle.command_line.specs.Settings.{AreSettings};
 
-use crate::request::{Command, DayRequest, Inquiry, WindowInquiry};
+use crate::request::{Command, DayRequest, Inquiry, OriginInquiry, WindowInquiry};
 use crate::settings::Settings;
 use gtfs_rows::time_of;
 use service_day::day_of;
@@ -39,6 +39,15 @@ fn window_inquiry_of<'a>(
     }
 }
 
+fn origin_inquiry_of<'a>(from: &'a str, time: &str) -> Option<OriginInquiry<'a>>
+    ensures { result ≡ origin_inquiry_of from.now time.now }
+{
+    match time_of(time.as_bytes()) {
+        Some(time) => Some(OriginInquiry { from, time }),
+        None => None,
+    }
+}
+
 // What is asked by the words FROM TO TIME.
 fn inquiry_from<'a>(words: &[&'a str]) -> Option<Inquiry<'a>>
     ensures { result ≡ inquiry_from (map (λ word. word.now) words.now) }
@@ -57,6 +66,16 @@ fn window_from<'a>(words: &[&'a str]) -> Option<WindowInquiry<'a>>
         return None;
     }
     window_inquiry_of(words[0], words[1], words[2], words[3])
+}
+
+// What is asked by the words FROM TIME.
+fn origin_from<'a>(words: &[&'a str]) -> Option<OriginInquiry<'a>>
+    ensures { result ≡ origin_from (map (λ word. word.now) words.now) }
+{
+    if words.len() != 2 {
+        return None;
+    }
+    origin_inquiry_of(words[0], words[1])
 }
 
 // With a list, where the word says so.
@@ -88,6 +107,7 @@ fn command_of<'a>(name: &str, words: &[&'a str]) -> Option<Command<'a>>
         "direct" => Some(Command::Direct(inquiry_from(words)?)),
         "ask" => Some(Command::Ask(inquiry_from(words)?)),
         "profile" => Some(Command::Profile(window_from(words)?)),
+        "reach" => Some(Command::Reach(origin_from(words)?)),
         "build" => Some(Command::Build {
             list: list_from(words)?,
         }),

@@ -14,5 +14,7 @@ mod request;
 mod settings;
 mod words;
 
-pub use request::{Command, DayRequest, Inquiry, PlannedDay, Request, ServeRequest, WindowInquiry};
+pub use request::{
+    Command, DayRequest, Inquiry, OriginInquiry, PlannedDay, Request, ServeRequest, WindowInquiry,
+};
 pub use words::request_of;

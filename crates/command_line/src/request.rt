@@ -53,6 +53,25 @@ impl<'a> Model for WindowInquiry<'a> {
     ghost invariant = { λ i. IsFileTime i.first × IsFileTime i.last };
 }
 
+/// From where every stop is asked for, and from when on. The name is that of a stop or a station.
+#[derive(Drop)]
+pub struct OriginInquiry<'a> {
+    pub from: &'a str,
+    /// In seconds since noon minus twelve hours.
+    pub time: Sec,
+}
+
+impl<'a> Model for OriginInquiry<'a> {
+    ghost use Rattle.trip_rides.specs.Times.{IsFileTime};
+    ghost use Rattle.command_line.specs.Inquiries.{OriginInquiryData};
+
+    ghost Value = { OriginInquiryData };
+
+    ghost view = { λ i. record { from = i.from.now; time = i.time } };
+
+    ghost invariant = { λ i. IsFileTime i.time };
+}
+
 /// What is asked about one day of a feed.
 #[derive(Drop)]
 pub enum Command<'a> {
@@ -62,6 +81,8 @@ pub enum Command<'a> {
     Ask(Inquiry<'a>),
     /// Every best trade-off between late departure, early arrival and number of rides.
     Profile(WindowInquiry<'a>),
+    /// The same as `Ask`, to every stop.
+    Reach(OriginInquiry<'a>),
     /// What is built of the timetable: its sizes and counts, and where asked for, the list of the
     /// kept transfers.
     Build {

@@ -1,6 +1,6 @@
 -- Answers from their parts.
-use Rattle.std.proofs.Common.{◌≡◌, List, [], ◌∷◌, ℕ, Ok, Err, ℤ, refl, rules, subst, sym, filter_map}
-use Rattle.std.specs.Prelude.{All, Contains, FitsSigned, MatchResult}
+use Rattle.std.proofs.Common.{◌≡◌, List, [], ◌∷◌, ℕ, Ok, Err, ℤ, refl, rules, subst, sym, filter_map, map, length, ◌∙◌, ap, Bor, Option, Some, None}
+use Rattle.std.specs.Prelude.{All, Contains, FitsSigned, MatchOption, MatchResult}
 use Rattle.std.specs.Int.{w32}
 use Rattle.std.proofs.lemmas.List.Elements.{All-weaker}
 use Rattle.tb_base.specs.TimetableData.{TimetableData}
@@ -9,17 +9,20 @@ use Rattle.tb_base.specs.Journeys.{Ride}
 use Rattle.tb_base.specs.Profiles.{OfferData}
 use Rattle.tb_base.specs.Transfers.{kept_hops}
 use Rattle.tb_base.specs.declared.query.Leg.{Leg}
+use Rattle.tb_base.specs.declared.query.Value.{Value}
 use Rattle.tb_base.specs.declared.transfer.Hop.{Hop}
 use Rattle.segment_queue.specs.Traced.{LegsFollow, RidesFollow, ride_of}
 use Rattle.trip_rides.specs.Times.{IsFileTime}
 use Rattle.answer_text.specs.Journeys.{unknown_text}
 use Rattle.edition_store.specs.Editions.{EditionData, IsEdition, net_of}
+use Rattle.reach_all.specs.Reach.{IsReach}
+use Rattle.reach_all.specs.Text.{reach_text}
 use Rattle.query_gate.specs.Questions.{AskData, Ends, ProfileData, ends_between, query_at, window_at}
 use Rattle.query_gate.specs.Replies.{IsAskReply, IsProfileReply}
 use Rattle.query_gate.specs.declared.reply.Reply.{Reply}
 use Rattle.query_gate.specs.declared.reply.Reply.TheVariants.{Values, Slots, UnknownStop, Deferred}
-use Rattle.router_cli.specs.Answers.{HasKeptChanges, IsTextBetween, ShowsKept, ShowsProfile, ask_data, profile_data, reply_text}
-use Rattle.command_line.specs.Inquiries.{InquiryData, WindowInquiryData}
+use Rattle.router_cli.specs.Answers.{AreStopsNamed, HasKeptChanges, IsReachText, IsTextBetween, ShowsKept, ShowsProfile, ShowsReach, ask_data, profile_data, reply_text, stops_named}
+use Rattle.command_line.specs.Inquiries.{InquiryData, OriginInquiryData, WindowInquiryData}
 
 -- the text where both names are those of places
 pub known_text : (T : TimetableData) (from to : List ℕ) (IsTextOf : Ends → List ℕ → Type 0) (ends : Ends) (bytes : List ℕ) →
@@ -76,6 +79,22 @@ profile_shown e sound q (Slots offers) (ends, is, best) bytes text =
     (record { offers = offers.items; slots = best.slots; journeys = best.journeys; kept = kept_changes e sound OfferData.legs offers.items best.hops; text = text })
 profile_shown e sound q (Deferred number) h bytes text = absurd h
 profile_shown e sound q (UnknownStop name) is bytes text = unknown_name e.table q.from q.to (λ ends. ShowsProfile e.table (window_at ends q.first q.last)) name bytes is text
+
+-- the stops of a named place, by a timetable and a name that are known by other terms
+pub named_by : (T U : TimetableData) (name other : List ℕ) → T ≡ U → name ≡ other → (stops : Option (List ℕ)) → AreStopsNamed T name stops → AreStopsNamed U other stops
+named_by T U name other same_table same_name stops named =
+    subst (λ t. AreStopsNamed t other stops) same_table (subst (λ n. AreStopsNamed T n stops) same_name named)
+
+-- the text of the best values from the stops of an origin
+pub reach_shown : (T : TimetableData) (i : OriginInquiryData) (stops : List ℕ) (lists : List (List Value)) (bytes : List ℕ) →
+    Some stops ≡ stops_named T i.from → IsReach T stops i.time lists → bytes ≡ reach_text T lists → IsReachText T i bytes
+reach_shown T i stops lists bytes named reach text =
+    subst (λ o. MatchOption o (bytes ≡ unknown_text i.from) (λ s. ShowsReach T s i.time bytes)) named (lists, reach, text)
+
+-- the text where the origin is no place
+pub reach_unknown : (T : TimetableData) (i : OriginInquiryData) (bytes : List ℕ) → None ≡ stops_named T i.from → bytes ≡ unknown_text i.from → IsReachText T i bytes
+reach_unknown T i bytes named text =
+    subst (λ o. MatchOption o (bytes ≡ unknown_text i.from) (λ s. ShowsReach T s i.time bytes)) named text
 
 -- a time of a file fits 32 bits
 pub file_time-fits : (z : ℤ) → IsFileTime z → FitsSigned w32 z

@@ -1,6 +1,9 @@
 -- What the program writes for a request.
-use Rattle.std.specs.Prelude.{◌≡◌, ◌<◌, ◌≤ℤ◌, ℕ, List, [], ℤ, pos, Bool, true, false, Option, Ok, Err, MatchResult, All, length, map, ⊤}
+use Rattle.std.specs.Prelude.{◌≡◌, ◌<◌, ◌≤ℤ◌, ℕ, List, [], ℤ, pos, Bool, true, false, Option, Some, None, Ok, Err, IfSome, MatchOption, MatchResult, All, length, map, ⊤}
+use Rattle.std.specs.Option.{option_map}
 use Rattle.tb_base.specs.declared.query.Leg.{Leg}
+use Rattle.tb_base.specs.declared.query.Value.{Value}
+use Rattle.tb_base.specs.Places.{place_named, stops_of}
 use Rattle.tb_base.specs.TimetableData.{TimetableData}
 use Rattle.tb_base.specs.Lines.{AreLines}
 use Rattle.tb_base.specs.BestValues.{QueryData, ChoiceData, AreBestValues, IsLeast, IsDirectArrival}
@@ -11,10 +14,12 @@ use Rattle.segment_queue.specs.Traced.{LegsFollow}
 use Rattle.plain_rounds.specs.Shown.{SpellShortest}
 use Rattle.answer_text.specs.Journeys.{arrival_text, choices_text, offers_text, unknown_text}
 use Rattle.build_report.specs.Reports.{IsReport}
+use Rattle.reach_all.specs.Reach.{IsReach}
+use Rattle.reach_all.specs.Text.{reach_text}
 use Rattle.query_gate.specs.Questions.{AskData, Ends, ProfileData, ends_between, query_at, window_at}
 use Rattle.query_gate.specs.declared.reply.Reply.{Reply}
 use Rattle.query_gate.specs.declared.reply.Reply.TheVariants as reply
-use Rattle.command_line.specs.Inquiries.{InquiryData, WindowInquiryData}
+use Rattle.command_line.specs.Inquiries.{InquiryData, OriginInquiryData, WindowInquiryData}
 use Rattle.command_line.specs.DayCommands.{DayRequestData}
 use Rattle.router_cli.specs.declared.over_table.Asked.{Asked}
 use Rattle.router_cli.specs.declared.over_table.Asked.TheVariants as asked
@@ -81,11 +86,33 @@ abbrev pub IsProfileText : TimetableData → WindowInquiryData → List ℕ → 
 IsProfileText T i =
     IsTextBetween T i.from i.to (λ ends. ShowsProfile T (window_at ends i.first i.last))
 
+-- the stops of the stop or station with a name
+abbrev pub stops_named : TimetableData → List ℕ → Option (List ℕ)
+stops_named T name = option_map (stops_of T) (place_named T name)
+
+-- these are they, by numbers of stops that exist, or there is none
+abbrev pub AreStopsNamed : TimetableData → List ℕ → Option (List ℕ) → Type 0
+AreStopsNamed T name stops =
+    (stops ≡ stops_named T name) × IfSome stops (All (λ p. p < length T.stops))
+
+-- the best values to every stop, one line a stop
+abbrev pub ShowsReach : TimetableData → List ℕ → ℤ → List ℕ → Type 0
+ShowsReach T from leave bytes =
+    (lists : List (List Value)) × IsReach T from leave lists × (bytes ≡ reach_text T lists)
+
+-- What is written about every stop: where the origin is no place of the timetable, that the stop is
+-- unknown; else the best values to every stop.
+abbrev pub IsReachText : TimetableData → OriginInquiryData → List ℕ → Type 0
+IsReachText T i bytes =
+    MatchOption (stops_named T i.from) (bytes ≡ unknown_text i.from)
+    (λ stops. ShowsReach T stops i.time bytes)
+
 -- the answer to a command
 abbrev pub IsCommandText : TimetableData → Bool → Command → List ℕ → Type 0
 IsCommandText T plain (command.Direct i) = IsInquiryText T IsDirectText i
 IsCommandText T plain (command.Ask i) = IsInquiryText T (Shows plain) i
 IsCommandText T plain (command.Profile i) = IsProfileText T i
+IsCommandText T plain (command.Reach i) = IsReachText T i
 IsCommandText T plain (command.Build list) = IsReport T list
 
 abbrev pub IsAnswer : TimetableData → DayRequestData → List ℕ → Type 0

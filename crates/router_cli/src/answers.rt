@@ -6,6 +6,7 @@ ghost use Rattle.router_cli.specs.Answers.{IsAnswer};
 
 use crate::over_edition::{ask_text, profile_text};
 use crate::over_table::{direct_text, rounds_text};
+use crate::reaching::reach_text;
 use build_report::report;
 use command_line::{Command, DayRequest};
 use edition_store::Edition;
@@ -49,6 +50,10 @@ pub fn answer<G: Gate, R: Threads + Sync>(
         Command::Profile(inquiry) => {
             let edition = edition_of(rt, alloc, table, workers, gate)?;
             profile_text(alloc, &edition, inquiry)
+        }
+        Command::Reach(inquiry) => {
+            let edition = edition_of(rt, alloc, table, workers, gate)?;
+            reach_text(alloc, &edition, inquiry)
         }
         Command::Build { list } => report(rt, alloc, &table, *list, workers, gate),
     }

@@ -12,6 +12,7 @@ mod day;
 mod over_edition;
 mod over_table;
 mod program;
+mod reaching;
 mod serving;
 mod status;
 

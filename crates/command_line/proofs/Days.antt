@@ -1,0 +1,10 @@
+-- Words that name no day of a feed.
+use Rattle.std.proofs.Common.{◌≡◌, ◌<◌, ℕ, List, [], ◌∷◌, length, map, None, refl, arith, Bor}
+use Rattle.command_line.specs.DayCommands.{day_request_from}
+use Rattle.command_line.specs.declared.settings.Settings.{Settings}
+
+-- fewer than two words name none
+pub too_few : (s : Settings) (name : List ℕ) (words : List (Bor (List ℕ))) → length words < 2 → None ≡ day_request_from s name (map (λ word. word.now) words)
+too_few s name [] few = refl
+too_few s name (dir ∷ []) few = refl
+too_few s name (dir ∷ date ∷ words) few = absurd (omega arith)
