@@ -2,13 +2,13 @@
 ghost use Rattle.std.specs.Prelude.{◌≡◌, IfOk};
 ghost use Rattle.edition_store.specs.Editions.{EditionData};
 ghost use Rattle.command_line.specs.Settings.{AreWorkers};
-ghost use Rattle.router_cli.specs.Answers.{IsAnswer};
+ghost use Rattle.router_cli.specs.Answers.{IsAnswer, IsInquiryText, IsProfileText, IsReachText, ShowsKept};
 
 use crate::over_edition::{ask_text, profile_text};
 use crate::over_table::{direct_text, rounds_text};
 use crate::reaching::reach_text;
 use build_report::report;
-use command_line::{Command, DayRequest};
+use command_line::{Command, DayRequest, Inquiry, OriginInquiry, WindowInquiry};
 use edition_store::Edition;
 use std::alloc::Global;
 use std::thread::Threads;
@@ -28,6 +28,54 @@ fn edition_of<G: Gate, R: Threads + Sync>(
     Edition::build(rt, alloc, table, workers, gate)
 }
 
+// The best values, over the edition of a timetable.
+fn ask_answer<G: Gate, R: Threads + Sync>(
+    rt: &R,
+    alloc: Global,
+    table: Timetable,
+    inquiry: &Inquiry,
+    workers: u32,
+    gate: &G,
+) -> Result<Vec<u8>, Memory>
+    requires { AreWorkers workers }
+    ensures { IfOk result (λ text. IsInquiryText table ShowsKept inquiry.now text.items) }
+{
+    let edition = edition_of(rt, alloc, table, workers, gate)?;
+    ask_text(alloc, &edition, inquiry)
+}
+
+// The profile of a window, over the edition of a timetable.
+fn profile_answer<G: Gate, R: Threads + Sync>(
+    rt: &R,
+    alloc: Global,
+    table: Timetable,
+    inquiry: &WindowInquiry,
+    workers: u32,
+    gate: &G,
+) -> Result<Vec<u8>, Memory>
+    requires { AreWorkers workers }
+    ensures { IfOk result (λ text. IsProfileText table inquiry.now text.items) }
+{
+    let edition = edition_of(rt, alloc, table, workers, gate)?;
+    profile_text(alloc, &edition, inquiry)
+}
+
+// The best values to every stop, over the edition of a timetable.
+fn reach_answer<G: Gate, R: Threads + Sync>(
+    rt: &R,
+    alloc: Global,
+    table: Timetable,
+    inquiry: &OriginInquiry,
+    workers: u32,
+    gate: &G,
+) -> Result<Vec<u8>, Memory>
+    requires { AreWorkers workers }
+    ensures { IfOk result (λ text. IsReachText table inquiry.now text.items) }
+{
+    let edition = edition_of(rt, alloc, table, workers, gate)?;
+    reach_text(alloc, &edition, inquiry)
+}
+
 /// What is written for a request over the timetable of its day. Where transfers are reduced, the
 /// gate is told of the pieces.
 pub fn answer<G: Gate, R: Threads + Sync>(
@@ -43,18 +91,9 @@ pub fn answer<G: Gate, R: Threads + Sync>(
     match &request.command {
         Command::Direct(inquiry) => direct_text(alloc, &table, inquiry),
         Command::Ask(inquiry) if request.plain => rounds_text(alloc, &table, inquiry),
-        Command::Ask(inquiry) => {
-            let edition = edition_of(rt, alloc, table, workers, gate)?;
-            ask_text(alloc, &edition, inquiry)
-        }
-        Command::Profile(inquiry) => {
-            let edition = edition_of(rt, alloc, table, workers, gate)?;
-            profile_text(alloc, &edition, inquiry)
-        }
-        Command::Reach(inquiry) => {
-            let edition = edition_of(rt, alloc, table, workers, gate)?;
-            reach_text(alloc, &edition, inquiry)
-        }
+        Command::Ask(inquiry) => ask_answer(rt, alloc, table, inquiry, workers, gate),
+        Command::Profile(inquiry) => profile_answer(rt, alloc, table, inquiry, workers, gate),
+        Command::Reach(inquiry) => reach_answer(rt, alloc, table, inquiry, workers, gate),
         Command::Build { list } => report(rt, alloc, &table, *list, workers, gate),
     }
 }
