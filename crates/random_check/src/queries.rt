@@ -3,7 +3,7 @@ ghost use Rattle.std.specs.Prelude.{◌<◌, ◌≤◌, ◌≤ℤ◌, pos, All, 
 ghost use Rattle.segment_queue.specs.Queue.{Fits};
 
 use edition_store::Edition;
-use journey_rules::fault;
+use journey_read::{Claimed, Verdict, judge};
 use made_feeds::Draw;
 use plain_rounds::plain_ask;
 use query_gate::uncounted::best_choices;
@@ -55,21 +55,28 @@ fn have_same_values(one: &[Choice], other: &[Choice]) -> bool {
             .all(|(c, d)| c.value == d.value)
 }
 
-// Whether the legs of each choice spell a journey.
-fn break_no_rule(table: &Timetable, query: &Query, choices: &[Choice]) -> bool
-    requires { All (λ p. p < length table.now.stops) query.now.from }
+// Whether each choice is a journey with its value.
+fn are_right(table: &Timetable, query: &Query, choices: Vec<Choice>) -> bool
+    requires origins { All (λ p. p < length table.now.stops) query.now.from }
+    requires time { query.now.leave ≤ℤ pos 359999 }
 {
     for choice in choices {
-        let legs = choice.legs.as_slice();
-        if legs.len() as u64 >= 4_294_967_296 || fault(table, query, legs).is_some() {
+        let claimed = Claimed {
+            value: choice.value,
+            legs: choice.legs,
+        };
+        if claimed.legs.len() as u64 >= 4_294_967_296 {
+            return false;
+        }
+        if judge(table, query, &claimed) != Verdict::Yes {
             return false;
         }
     }
     true
 }
 
-/// How many best values a query has, and none where the two ways differ or the legs of a choice
-/// break a rule.
+/// How many best values a query has, and none where the two ways differ or a choice is no journey
+/// with its value.
 pub fn same_values(
     alloc: Global,
     edition: &Edition,
@@ -85,12 +92,8 @@ pub fn same_values(
     let table = edition.table();
     let searched = best_choices(alloc, edition, query, desk)?;
     let plain = plain_ask(alloc, table, query)?;
+    let values = plain.len();
     let same = have_same_values(searched.as_slice(), plain.as_slice());
-    let lawful = break_no_rule(table, query, searched.as_slice())
-        && break_no_rule(table, query, plain.as_slice());
-    Ok(if same && lawful {
-        Some(plain.len())
-    } else {
-        None
-    })
+    let right = are_right(table, query, searched) && are_right(table, query, plain);
+    Ok(if same && right { Some(values) } else { None })
 }
