@@ -1,11 +1,11 @@
 -- What is asked about one day of a feed.
-use Rattle.std.specs.Prelude.{ℕ, List, [], ◌∷◌, codes, bytes_eq, Bool, false, true, Option, Some, None, if◌then◌else◌}
+use Rattle.std.specs.Prelude.{ℕ, List, [], ◌∷◌, codes, bytes_eq, Bool, false, true, Option, Some, None, if◌then◌else◌, ℤ, pos, int_le}
 use Rattle.std.specs.Option.{option_and_then, option_map}
 use Rattle.clap.specs.Words.{Text}
 use Rattle.footpaths.specs.declared.paths.Options.{Options}
 use Rattle.gtfs_rows.specs.Dates.{date_of}
 use Rattle.gtfs_rows.specs.Numbers.{time_of}
-use Rattle.command_line.specs.Inquiries.{InquiryData, OriginInquiryData, WindowInquiryData}
+use Rattle.command_line.specs.Inquiries.{ArrivalInquiryData, InquiryData, OriginInquiryData, WindowInquiryData}
 use Rattle.command_line.specs.declared.request.Command.{Command}
 use Rattle.command_line.specs.declared.request.Command.TheVariants as command
 use Rattle.command_line.specs.declared.settings.Settings.{Settings}
@@ -30,6 +30,14 @@ window_inquiry_of from to first last =
     (λ t. option_map (λ u. record { from = from; to = to; first = t; last = u }) (time_of last))
     (time_of first)
 
+-- one can be asked to arrive by 75:59:59 at the latest
+abbrev pub arrival_by : Text → Text → ℤ → Option ArrivalInquiryData
+arrival_by from to time =
+    if int_le time (pos 273599) then Some (record { from = from; to = to; by = time }) else None
+
+abbrev pub arrival_inquiry_of : Text → Text → Text → Option ArrivalInquiryData
+arrival_inquiry_of from to time = option_and_then (arrival_by from to) (time_of time)
+
 abbrev pub origin_inquiry_of : Text → Text → Option OriginInquiryData
 origin_inquiry_of from time = option_map (λ t. record { from = from; time = t }) (time_of time)
 
@@ -37,6 +45,11 @@ origin_inquiry_of from time = option_map (λ t. record { from = from; time = t }
 abbrev pub inquiry_from : List Text → Option InquiryData
 inquiry_from (from ∷ to ∷ time ∷ []) = inquiry_of from to time
 inquiry_from words = None
+
+-- what is asked by the words FROM TO TIME, where it is by when to arrive
+abbrev pub arrival_from : List Text → Option ArrivalInquiryData
+arrival_from (from ∷ to ∷ time ∷ []) = arrival_inquiry_of from to time
+arrival_from words = None
 
 -- what is asked by the words FROM TO FIRST LAST
 abbrev pub window_from : List Text → Option WindowInquiryData
@@ -59,12 +72,14 @@ list_from (word ∷ []) = list_word word
 list_from words = None
 
 -- a command by its name and the words behind folder and date: `direct FROM TO TIME`,
--- `ask FROM TO TIME`, `profile FROM TO FIRST LAST`, `reach FROM TIME`, `build`, `build list`
+-- `ask FROM TO TIME`, `profile FROM TO FIRST LAST`, `latest FROM TO TIME`, `reach FROM TIME`,
+-- `build`, `build list`
 abbrev pub command_of : Text → List Text → Option Command
 command_of name words =
     if bytes_eq name (codes "direct") then option_map command.Direct (inquiry_from words)
     else if bytes_eq name (codes "ask") then option_map command.Ask (inquiry_from words)
     else if bytes_eq name (codes "profile") then option_map command.Profile (window_from words)
+    else if bytes_eq name (codes "latest") then option_map command.Latest (arrival_from words)
     else if bytes_eq name (codes "reach") then option_map command.Reach (origin_from words)
     else if bytes_eq name (codes "build") then option_map command.Build (list_from words)
     else None

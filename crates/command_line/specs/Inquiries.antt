@@ -7,6 +7,12 @@ pub record InquiryData : Type 0 where
   pub to : List ℕ
   pub time : ℤ
 
+-- from where to where a journey is asked for, and by when it is to arrive
+pub record ArrivalInquiryData : Type 0 where
+  pub from : List ℕ
+  pub to : List ℕ
+  pub by : ℤ
+
 -- from where every stop is asked for, and from when on
 pub record OriginInquiryData : Type 0 where
   pub from : List ℕ

@@ -1,12 +1,16 @@
 //! What is asked about one day of a feed.
-ghost use Rattle.std.specs.Prelude.{◌≡◌, map};
-ghost use Rattle.command_line.specs.DayCommands.{command_of, day_request, day_request_from, inquiry_from, inquiry_of, list_from, list_word, origin_from, origin_inquiry_of, window_from, window_inquiry_of};
+ghost use Rattle.std.specs.Prelude.{◌≡◌, ◌≤ℤ◌, map, pos};
+ghost use Rattle.command_line.specs.DayCommands.{arrival_by, arrival_from, arrival_inquiry_of, command_of, day_request, day_request_from, inquiry_from, inquiry_of, list_from, list_word, origin_from, origin_inquiry_of, window_from, window_inquiry_of};
 ghost use Rattle.command_line.specs.Settings.{AreSettings};
 
-use crate::request::{Command, DayRequest, Inquiry, OriginInquiry, WindowInquiry};
+use crate::request::{ArrivalInquiry, Command, DayRequest, Inquiry, OriginInquiry, WindowInquiry};
 use crate::settings::Settings;
 use gtfs_rows::time_of;
 use service_day::day_of;
+use tb_base::Sec;
+
+// The latest time that one can ask to arrive by: 75:59:59.
+const LATEST: Sec = 273_599;
 
 fn inquiry_of<'a>(from: &'a str, to: &'a str, time: &str) -> Option<Inquiry<'a>>
     ensures { result ≡ inquiry_of from.now to.now time.now }
@@ -39,6 +43,26 @@ fn window_inquiry_of<'a>(
     }
 }
 
+fn arrival_by<'a>(from: &'a str, to: &'a str, by: Sec) -> Option<ArrivalInquiry<'a>>
+    requires { pos 0 ≤ℤ by }
+    ensures { result ≡ arrival_by from.now to.now by }
+{
+    if by <= LATEST {
+        Some(ArrivalInquiry { from, to, by })
+    } else {
+        None
+    }
+}
+
+fn arrival_inquiry_of<'a>(from: &'a str, to: &'a str, time: &str) -> Option<ArrivalInquiry<'a>>
+    ensures { result ≡ arrival_inquiry_of from.now to.now time.now }
+{
+    match time_of(time.as_bytes()) {
+        Some(by) => arrival_by(from, to, by),
+        None => None,
+    }
+}
+
 fn origin_inquiry_of<'a>(from: &'a str, time: &str) -> Option<OriginInquiry<'a>>
     ensures { result ≡ origin_inquiry_of from.now time.now }
 {
@@ -56,6 +80,16 @@ fn inquiry_from<'a>(words: &[&'a str]) -> Option<Inquiry<'a>>
         return None;
     }
     inquiry_of(words[0], words[1], words[2])
+}
+
+// What is asked by the words FROM TO TIME, where it is by when to arrive.
+fn arrival_from<'a>(words: &[&'a str]) -> Option<ArrivalInquiry<'a>>
+    ensures { result ≡ arrival_from (map (λ word. word.now) words.now) }
+{
+    if words.len() != 3 {
+        return None;
+    }
+    arrival_inquiry_of(words[0], words[1], words[2])
 }
 
 // What is asked by the words FROM TO FIRST LAST.
@@ -107,6 +141,7 @@ fn command_of<'a>(name: &str, words: &[&'a str]) -> Option<Command<'a>>
         "direct" => Some(Command::Direct(inquiry_from(words)?)),
         "ask" => Some(Command::Ask(inquiry_from(words)?)),
         "profile" => Some(Command::Profile(window_from(words)?)),
+        "latest" => Some(Command::Latest(arrival_from(words)?)),
         "reach" => Some(Command::Reach(origin_from(words)?)),
         "build" => Some(Command::Build {
             list: list_from(words)?,

@@ -15,6 +15,7 @@ mod settings;
 mod words;
 
 pub use request::{
-    Command, DayRequest, Inquiry, OriginInquiry, PlannedDay, Request, ServeRequest, WindowInquiry,
+    ArrivalInquiry, Command, DayRequest, Inquiry, OriginInquiry, PlannedDay, Request, ServeRequest,
+    WindowInquiry,
 };
 pub use words::request_of;

@@ -53,6 +53,27 @@ impl<'a> Model for WindowInquiry<'a> {
     ghost invariant = { λ i. IsFileTime i.first × IsFileTime i.last };
 }
 
+/// From where to where a journey is asked for, and by when it is to arrive. The names are those of
+/// stops or stations.
+#[derive(Drop)]
+pub struct ArrivalInquiry<'a> {
+    pub from: &'a str,
+    pub to: &'a str,
+    /// In seconds since noon minus twelve hours; at most 75:59:59.
+    pub by: Sec,
+}
+
+impl<'a> Model for ArrivalInquiry<'a> {
+    ghost use Rattle.std.specs.Prelude.{◌≤ℤ◌, pos};
+    ghost use Rattle.command_line.specs.Inquiries.{ArrivalInquiryData};
+
+    ghost Value = { ArrivalInquiryData };
+
+    ghost view = { λ i. record { from = i.from.now; to = i.to.now; by = i.by } };
+
+    ghost invariant = { λ i. (pos 0 ≤ℤ i.by) × (i.by ≤ℤ pos 273599) };
+}
+
 /// From where every stop is asked for, and from when on. The name is that of a stop or a station.
 #[derive(Drop)]
 pub struct OriginInquiry<'a> {
@@ -81,6 +102,8 @@ pub enum Command<'a> {
     Ask(Inquiry<'a>),
     /// Every best trade-off between late departure, early arrival and number of rides.
     Profile(WindowInquiry<'a>),
+    /// Every best trade-off between late departure and number of rides, to arrive by a time.
+    Latest(ArrivalInquiry<'a>),
     /// The same as `Ask`, to every stop.
     Reach(OriginInquiry<'a>),
     /// What is built of the timetable: its sizes and counts, and where asked for, the list of the

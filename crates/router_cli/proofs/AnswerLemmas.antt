@@ -1,5 +1,5 @@
 -- Answers from their parts.
-use Rattle.std.proofs.Common.{◌≡◌, List, [], ◌∷◌, ℕ, Ok, Err, ℤ, refl, rules, subst, sym, filter_map, map, length, ◌∙◌, ap, Bor, Option, Some, None}
+use Rattle.std.proofs.Common.{◌≡◌, List, [], ◌∷◌, ℕ, Ok, Err, ℤ, refl, rules, subst, sym, filter_map, Option, Some, None, pos, ◌≤ℤ◌}
 use Rattle.std.specs.Prelude.{All, Contains, FitsSigned, MatchOption, MatchResult}
 use Rattle.std.specs.Int.{w32}
 use Rattle.std.proofs.lemmas.List.Elements.{All-weaker}
@@ -99,3 +99,7 @@ reach_unknown T i bytes named text =
 -- a time of a file fits 32 bits
 pub file_time-fits : (z : ℤ) → IsFileTime z → FitsSigned w32 z
 file_time-fits z h = let least = h.least in let most = h.most in search (rules, least, most)
+
+-- so does a time that one can ask to arrive by
+pub arrival_time-fits : (z : ℤ) → pos 0 ≤ℤ z → z ≤ℤ pos 273599 → FitsSigned w32 z
+arrival_time-fits z least most = search (rules, least, most)

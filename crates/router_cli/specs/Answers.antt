@@ -1,5 +1,5 @@
 -- What the program writes for a request.
-use Rattle.std.specs.Prelude.{◌≡◌, ◌<◌, ◌≤ℤ◌, ℕ, List, [], ℤ, pos, Bool, true, false, Option, Some, None, Ok, Err, IfSome, MatchOption, MatchResult, All, length, map, ⊤}
+use Rattle.std.specs.Prelude.{◌≡◌, ◌<◌, ◌≤ℤ◌, ℕ, List, [], ℤ, pos, Bool, true, false, Option, Ok, Err, IfSome, MatchOption, MatchResult, All, length, map, ⊤}
 use Rattle.std.specs.Option.{option_map}
 use Rattle.tb_base.specs.declared.query.Leg.{Leg}
 use Rattle.tb_base.specs.declared.query.Value.{Value}
@@ -14,15 +14,20 @@ use Rattle.segment_queue.specs.Traced.{LegsFollow}
 use Rattle.plain_rounds.specs.Shown.{SpellShortest}
 use Rattle.answer_text.specs.Journeys.{arrival_text, choices_text, offers_text, unknown_text}
 use Rattle.build_report.specs.Reports.{IsReport}
+use Rattle.mirror_table.specs.Departures.{ArrivalData}
+use Rattle.arrive_by.specs.Latest.{AreLatestDepartures, DepartureData}
+use Rattle.arrive_by.specs.Text.{departures_text}
 use Rattle.reach_all.specs.Reach.{IsReach}
 use Rattle.reach_all.specs.Text.{reach_text}
 use Rattle.query_gate.specs.Questions.{AskData, Ends, ProfileData, ends_between, query_at, window_at}
 use Rattle.query_gate.specs.declared.reply.Reply.{Reply}
 use Rattle.query_gate.specs.declared.reply.Reply.TheVariants as reply
-use Rattle.command_line.specs.Inquiries.{InquiryData, OriginInquiryData, WindowInquiryData}
+use Rattle.command_line.specs.Inquiries.{ArrivalInquiryData, InquiryData, OriginInquiryData, WindowInquiryData}
 use Rattle.command_line.specs.DayCommands.{DayRequestData}
 use Rattle.router_cli.specs.declared.over_table.Asked.{Asked}
 use Rattle.router_cli.specs.declared.over_table.Asked.TheVariants as asked
+use Rattle.router_cli.specs.declared.departing.Sought.{Sought}
+use Rattle.router_cli.specs.declared.departing.Sought.TheVariants as sought
 use Rattle.command_line.specs.declared.request.Command.{Command}
 use Rattle.command_line.specs.declared.request.Command.TheVariants as command
 
@@ -86,6 +91,18 @@ abbrev pub IsProfileText : TimetableData → WindowInquiryData → List ℕ → 
 IsProfileText T i =
     IsTextBetween T i.from i.to (λ ends. ShowsProfile T (window_at ends i.first i.last))
 
+-- the arrival that is asked for between two such places
+abbrev pub arrival_at : Ends → ℤ → ArrivalData
+arrival_at ends by = record { from = ends.from; to = ends.to; by = by }
+
+-- the latest departures in order, each followed by the legs of a journey that has it
+abbrev pub ShowsLatest : TimetableData → ArrivalData → List ℕ → Type 0
+ShowsLatest T A bytes =
+    (ds : List DepartureData) × AreLatestDepartures T A ds × (bytes ≡ departures_text T ds)
+
+abbrev pub IsLatestText : TimetableData → ArrivalInquiryData → List ℕ → Type 0
+IsLatestText T i = IsTextBetween T i.from i.to (λ ends. ShowsLatest T (arrival_at ends i.by))
+
 -- the stops of the stop or station with a name
 abbrev pub stops_named : TimetableData → List ℕ → Option (List ℕ)
 stops_named T name = option_map (stops_of T) (place_named T name)
@@ -112,6 +129,7 @@ abbrev pub IsCommandText : TimetableData → Bool → Command → List ℕ → T
 IsCommandText T plain (command.Direct i) = IsInquiryText T IsDirectText i
 IsCommandText T plain (command.Ask i) = IsInquiryText T (Shows plain) i
 IsCommandText T plain (command.Profile i) = IsProfileText T i
+IsCommandText T plain (command.Latest i) = IsLatestText T i
 IsCommandText T plain (command.Reach i) = IsReachText T i
 IsCommandText T plain (command.Build list) = IsReport T list
 
@@ -125,6 +143,14 @@ IsQuery T i (asked.Query q) =
     × All (λ p. p < length T.stops) ends.from × All (λ p. p < length T.stops) ends.to
     × (i.time ≤ℤ pos 359999)
 IsQuery T i (asked.Unknown name) = ends_between T i.from i.to ≡ Err name.now
+
+-- the same of an inquiry about an arrival
+abbrev pub IsSought : TimetableData → ArrivalInquiryData → Sought → Type 0
+IsSought T i (sought.Arrival a) =
+    (ends : Ends) × (ends_between T i.from i.to ≡ Ok ends) × (a ≡ arrival_at ends i.by)
+    × All (λ p. p < length T.stops) ends.from × All (λ p. p < length T.stops) ends.to
+    × (pos 0 ≤ℤ i.by) × (i.by ≤ℤ pos 273599)
+IsSought T i (sought.Unknown name) = ends_between T i.from i.to ≡ Err name.now
 
 -- the questions that inquiries ask, of whichever edition
 abbrev pub ask_data : InquiryData → AskData

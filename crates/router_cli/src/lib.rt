@@ -9,6 +9,7 @@
 
 mod answers;
 mod day;
+mod departing;
 mod over_edition;
 mod over_table;
 mod program;

@@ -21,3 +21,8 @@ pub returns-in-Reach : goal.returns-in-Reach
 returns-in-Reach g c =
     subst (λ r. IfOk c.reach_answer.result (λ text. IsAnswer c.args.table r text.items)) c.request.view_is
     (subst (λ command. IfOk c.reach_answer.result (λ text. IsCommandText c.args.table c.request.inside.plain command text.items)) (sym c.in-Reach.is) c.reach_answer.ensures)
+
+pub returns-in-Latest : goal.returns-in-Latest
+returns-in-Latest g c =
+    subst (λ r. IfOk c.latest_answer.result (λ text. IsAnswer c.args.table r text.items)) c.request.view_is
+    (subst (λ command. IfOk c.latest_answer.result (λ text. IsCommandText c.args.table c.request.inside.plain command text.items)) (sym c.in-Latest.is) c.latest_answer.ensures)

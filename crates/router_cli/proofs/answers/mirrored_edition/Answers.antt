@@ -1,0 +1,8 @@
+use Rattle.std.proofs.Common.{subst, sym}
+use Rattle.std.proofs.lemmas.Result.{IfOk-weaker}
+use Rattle.mirror_table.specs.Mirror.{IsMirror}
+use Rattle.router_cli.proofs.answers.mirrored_edition.Goals as goal
+
+pub returns : goal.returns
+returns g c =
+    IfOk-weaker c.edition_of.result _ _ (λ e same. subst (IsMirror c.args.table.now) (sym same) c.in_ok-mirrored.ensures) c.edition_of.ensures
