@@ -8,8 +8,8 @@ use std::alloc::Global;
 use std::thread::Threads;
 use tb_base::{Gate, Memory, Timetable};
 
-// How many lines there are, and the counts of the reduction.
-fn counts_of(lines: &Lines, reduced: &Reduced) -> BuildCounts
+/// How many lines there are, and the counts of the reduction.
+pub fn counts_of(lines: &Lines, reduced: &Reduced) -> BuildCounts
     ensures { result ≡ counts_of lines.now.lines reduced.now }
 {
     BuildCounts {

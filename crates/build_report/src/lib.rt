@@ -9,4 +9,4 @@
 
 mod build;
 
-pub use build::report;
+pub use build::{counts_of, report};

@@ -3,4 +3,5 @@ pub mod Arguments
 pub mod Settings
 pub mod DayCommands
 pub mod Plans
+pub mod Cities
 pub mod Requests

@@ -8,6 +8,7 @@
 #![tactic(auto)]
 
 mod arguments;
+mod city;
 mod day;
 mod plan;
 mod request;
@@ -15,7 +16,7 @@ mod settings;
 mod words;
 
 pub use request::{
-    ArrivalInquiry, Command, DayRequest, Inquiry, OriginInquiry, PlannedDay, Request, ServeRequest,
-    WindowInquiry,
+    ArrivalInquiry, CityRequest, Command, DayRequest, Inquiry, OriginInquiry, PlannedDay, Request,
+    ServeRequest, WindowInquiry,
 };
 pub use words::request_of;

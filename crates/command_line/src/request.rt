@@ -187,6 +187,26 @@ impl<'a> Model for ServeRequest<'a> {
         AreWithinADay r.options × AreWorkers r.workers × IsPlan r.plan.items };
 }
 
+/// A request about a made city.
+#[derive(Drop)]
+pub struct CityRequest {
+    /// How many rows and columns of stops it has: 2 to 40.
+    pub side: u32,
+    /// How many workers reduce its transfers: 1 to 64.
+    pub workers: u32,
+}
+
+impl Model for CityRequest {
+    ghost use Rattle.command_line.specs.Cities.{CityRequestData, IsSide};
+    ghost use Rattle.command_line.specs.Settings.{AreWorkers};
+
+    ghost Value = { CityRequestData };
+
+    ghost view = { λ r. record { side = r.side; workers = r.workers } };
+
+    ghost invariant = { λ r. IsSide r.side × AreWorkers r.workers };
+}
+
 /// What the words of a command line ask for.
 #[derive(Drop)]
 pub enum Request<'a> {
@@ -194,4 +214,6 @@ pub enum Request<'a> {
     Day(DayRequest<'a>),
     /// The replies to a script, while the days of a plan are published.
     Serve(ServeRequest<'a>),
+    /// What is built of a made city, and the best values between two of its corners.
+    City(CityRequest),
 }

@@ -5,6 +5,7 @@ ghost use Rattle.command_line.specs.Requests.{request_by, request_from, request_
 ghost use Rattle.command_line.specs.Settings.{AreSettings};
 
 use crate::arguments::router_arguments;
+use crate::city::city_request;
 use crate::day::day_request_from;
 use crate::plan::serve_request;
 use crate::request::Request;
@@ -28,6 +29,10 @@ fn request_named<'a>(
     match name {
         "serve" => match serve_request(alloc, settings, words)? {
             Some(request) => Ok(Some(Request::Serve(request))),
+            None => Ok(None),
+        },
+        "city" => match city_request(settings, words) {
+            Some(request) => Ok(Some(Request::City(request))),
             None => Ok(None),
         },
         _ => match day_request_from(settings, name, words) {
@@ -66,9 +71,10 @@ fn request_by<'a>(alloc: Global, matches: &ArgMatches<'a>) -> Result<Option<Requ
 /// What the words mean, the program's name left out: `COMMAND WORDS` with the options `--change
 /// SECS`, `--station SECS`, `--workers N` and the flags `--close` and `--plain`, each at most once
 /// and anywhere before `--`; behind `--` every word is taken as it is. The commands are `direct DIR
-/// DATE FROM TO TIME`, `ask DIR DATE FROM TO TIME`, `profile DIR DATE FROM TO FIRST LAST`, `build
-/// DIR DATE`, `build DIR DATE list`, and `serve DIR@DATE ..` of 1 to 100 days. `None` comes exactly
-/// where the words have no meaning, `Memory` only for want of it.
+/// DATE FROM TO TIME`, `ask DIR DATE FROM TO TIME`, `profile DIR DATE FROM TO FIRST LAST`, `latest
+/// DIR DATE FROM TO TIME`, `reach DIR DATE FROM TIME`, `build DIR DATE`, `build DIR DATE list`,
+/// `serve DIR@DATE ..` of 1 to 100 days, and `city N` of 2 to 40 rows. `None` comes exactly where
+/// the words have no meaning, `Memory` only for want of it.
 pub fn request_of<'a>(alloc: Global, words: &'a [String]) -> Result<Option<Request<'a>>, Memory>
     ensures { IfOk result (λ request. request ≡ request_of (map string_bytes words.now)) }
 {

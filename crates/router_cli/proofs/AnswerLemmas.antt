@@ -54,7 +54,7 @@ rides_follow hops others same (r ∷ s ∷ rest) follow =
     (subst (λ hs. Contains hs (record { trip = s.trip; at = s.board })) (same r.trip r.alight) follow.0, rides_follow hops others same (s ∷ rest) follow.1)
 
 -- legs that follow the hops of an edition change by kept transfers
-kept_changes : (e : EditionData) → IsEdition e → {A : Type 0} (legs_of : A → List Leg) (xs : List A) → All (λ x. LegsFollow (net_of e).hops (legs_of x)) xs → All (λ x. HasKeptChanges e.table (legs_of x)) xs
+pub kept_changes : (e : EditionData) → IsEdition e → {A : Type 0} (legs_of : A → List Leg) (xs : List A) → All (λ x. LegsFollow (net_of e).hops (legs_of x)) xs → All (λ x. HasKeptChanges e.table (legs_of x)) xs
 kept_changes e sound legs_of xs follow =
     All-weaker (λ x. LegsFollow (net_of e).hops (legs_of x)) (λ x. HasKeptChanges e.table (legs_of x))
     (λ x h. record { lines = e.lines; are_lines = sound.lines; kept = rides_follow (net_of e).hops (kept_hops e.table e.lines) sound.hops (filter_map ride_of (legs_of x)) h })

@@ -7,6 +7,8 @@ use Rattle.command_line.specs.declared.request.Request.{Request}
 use Rattle.command_line.specs.declared.request.Request.TheVariants as request
 use Rattle.router_cli.proofs.Endings.{IsDetermined, ending}
 use Rattle.router_cli.proofs.Runs.{run_completed}
+use Rattle.command_line.specs.Cities.{CityRequestData}
+use Rattle.router_cli.specs.Cities.{IsCityEnding, IsCityOutcome}
 use Rattle.router_cli.specs.Outcome.{IsDayOf}
 use Rattle.router_cli.specs.Promise.{IsRequestEnding, IsRequestOutcome, LeavesScript}
 use Rattle.router_cli.specs.declared.status.Status.{Status}
@@ -16,6 +18,7 @@ use Rattle.router_cli.specs.declared.status.Status.TheVariants as status
 pub unread : (asked : Option Request) (told : Option (List ℕ)) → LeavesScript asked told told
 unread None told = refl
 unread (Some (request.Day r)) told = refl
+unread (Some (request.City r)) told = refl
 unread (Some (request.Serve r)) None = ([], tt)
 unread (Some (request.Serve r)) (Some bytes) = ([], refl)
 
@@ -27,6 +30,15 @@ none_rose a b c d (inr rose) one other = absurd (omega (arith, rose, other))
 not_risen : (a b : ℕ) → a < b → b ≡ a → ⊥
 not_risen a b rose still = absurd (omega (arith, rose, still))
 
+city_ending : (r : CityRequestData) (s : Status) (before now : Option (List ℕ)) → IsCityOutcome r s before now → (s ≡ status.WriteFault → ⊥) → IsCityEnding s
+city_ending r status.Done before now out write = inl refl
+city_ending r status.WriteFault before now out write = absurd (write refl)
+city_ending r status.Usage before now out write = absurd out
+city_ending r (status.FeedRefused f) before now out write = absurd out
+city_ending r (status.ScriptRefused f) before now out write = absurd out
+city_ending r status.ReadFault before now out write = absurd out
+city_ending r status.Memory before now out write = inr refl
+
 pub completed : IsDetermined → (asked : Option Request) (files : Option FileList) (told : Option (List ℕ)) (s : Status) (before now : Option (List ℕ))
     (reads reads_now takes takes_now writes writes_now : ℕ) →
     IfSome asked (λ r. IsRequestOutcome files told r s before now) →
@@ -37,6 +49,8 @@ completed determined (Some (request.Day r)) files told s before now a b c d e f 
     λ shown read_still take_still write_still day is.
     ending (IsDayOf files r) (λ x y. determined (feed_of files r.dir) r.date r.options x y) r s before now (promise shown)
     (λ h. none_rose a b c d (read h) read_still take_still) (λ h. not_risen e f (write h) write_still) day is
+completed determined (Some (request.City r)) files told s before now a b c d e f promise read write =
+    λ shown read_still take_still write_still. city_ending r s before now promise (λ h. not_risen e f (write h) write_still)
 completed determined (Some (request.Serve r)) files None s before now a b c d e f promise read write =
     λ shown read_still take_still write_still. tt
 completed determined (Some (request.Serve r)) files (Some bytes) s before now a b c d e f promise read write =

@@ -2,3 +2,4 @@ pub mod AnswerLemmas
 pub mod Endings
 pub mod Runs
 pub mod Completed
+pub mod Corners

@@ -1,4 +1,5 @@
 pub mod Answers
+pub mod Cities
 pub mod Outcome
 pub mod Serving
 pub mod Promise

@@ -7,6 +7,7 @@ use Rattle.tb_io.specs.Files.{FileList}
 use Rattle.command_line.specs.declared.request.Request.{Request}
 use Rattle.command_line.specs.declared.request.Request.TheVariants as request
 use Rattle.lane_serve.specs.Script.{script_of}
+use Rattle.router_cli.specs.Cities.{IsCityEnding, IsCityOutcome}
 use Rattle.router_cli.specs.Outcome.{IsDayOf, IsEnding, IsOutcome, WritesAnswer}
 use Rattle.router_cli.specs.Serving.{FirstDayGives, IsRunEnding, IsRunOutcome, TellsScript, plan_of}
 use Rattle.router_cli.specs.declared.status.Status.{Status}
@@ -18,11 +19,13 @@ abbrev pub IsRequestOutcome : Option FileList → Option (List ℕ) → Request 
 IsRequestOutcome files told (request.Day r) s before now =
     IsSome files → IsOutcome (IsDayOf files r) r s before now
 IsRequestOutcome files told (request.Serve r) s before now = IsRunOutcome files told r s before now
+IsRequestOutcome files told (request.City r) s before now = IsCityOutcome r s before now
 
--- How a request about a day ends, whatever the folder tells. Of a run the outcome says it.
+-- How a request about a day ends, whatever the folder tells. Of others the outcome says it.
 abbrev pub WritesRequest : Request → Status → Option (List ℕ) → Option (List ℕ) → Type 0
 WritesRequest (request.Day r) s before now = WritesAnswer r s before now
 WritesRequest (request.Serve r) s before now = ⊤
+WritesRequest (request.City r) s before now = ⊤
 
 -- how a request may end where nothing fails outside, by what its day or its first day gives
 abbrev pub IsRequestEnding : Option FileList → Option (List ℕ) → Request → Status → Type 0
@@ -31,14 +34,17 @@ IsRequestEnding files told (request.Day r) s =
 IsRequestEnding files told (request.Serve r) s = IfSome told (λ bytes.
     (day : Result TimetableData FeedFault) → FirstDayGives files r.options (plan_of r) day →
     IsRunEnding (script_of bytes) day s)
+IsRequestEnding files told (request.City r) s = IsCityEnding s
 
 -- a script's first fault comes before what the feeds give
 abbrev pub TellsFirst : Option (List ℕ) → Request → Status → Type 0
 TellsFirst told (request.Day r) s = ⊤
 TellsFirst told (request.Serve r) s = TellsScript told s
+TellsFirst told (request.City r) s = ⊤
 
 -- only a run takes bytes of a script
 abbrev pub LeavesScript : Option Request → Option (List ℕ) → Option (List ℕ) → Type 0
 LeavesScript None before now = now ≡ before
 LeavesScript (Some (request.Day r)) before now = now ≡ before
 LeavesScript (Some (request.Serve r)) before now = (bs : List ℕ) × Consumes before now bs
+LeavesScript (Some (request.City r)) before now = now ≡ before

@@ -10,6 +10,7 @@
 mod answers;
 mod day;
 mod departing;
+mod made_city;
 mod over_edition;
 mod over_table;
 mod program;

@@ -4,6 +4,7 @@ ghost use Rattle.command_line.specs.Requests.{request_of};
 ghost use Rattle.router_cli.specs.Promise.{IsRequestEnding, IsRequestOutcome, LeavesScript, TellsFirst, WritesRequest};
 
 use crate::day::day_outcome;
+use crate::made_city::city_outcome;
 use crate::serving::run_outcome;
 use crate::status::Status;
 use command_line::{Request, request_of};
@@ -56,6 +57,7 @@ fn outcome<R: Threads + Wait + Sync, F: Folder + Send, S: Source, K: Sink, G: Ga
         Ok(Some(Request::Serve(request))) => {
             run_outcome(rt, alloc, request, folder, script, out, gate)
         }
+        Ok(Some(Request::City(request))) => city_outcome(rt, alloc, &request, out, gate),
         Ok(None) => Status::Usage,
         Err(Memory) => Status::Memory,
     }

@@ -1,0 +1,30 @@
+-- What is asked about a made city.
+use Rattle.std.specs.Prelude.{ℕ, ◌≤◌, ◌&&◌, nat_le, List, [], ◌∷◌, Option, Some, None, if◌then◌else◌}
+use Rattle.std.specs.Option.{option_and_then, option_map}
+use Rattle.clap.specs.Words.{Text}
+use Rattle.gtfs_rows.specs.Numbers.{number_of}
+use Rattle.command_line.specs.declared.settings.Settings.{Settings}
+
+-- a request about a made city: how many rows and columns it has, and how many workers reduce its
+-- transfers
+pub record CityRequestData : Type 0 where
+  pub side : ℕ
+  pub workers : ℕ
+
+-- a city has from 2 to 40 rows, and as many columns
+pub record IsSide (n : ℕ) : Type 0 where
+  pub some : 2 ≤ n
+  pub most : n ≤ 40
+
+abbrev pub two_to_40 : ℕ → Option ℕ
+two_to_40 n = if nat_le 2 n && nat_le n 40 then Some n else None
+
+-- the number of rows and columns that the word N says
+abbrev pub side_of : Text → Option ℕ
+side_of word = option_and_then two_to_40 (number_of word)
+
+-- a request by the word N
+abbrev pub city_request : Settings → List Text → Option CityRequestData
+city_request s (word ∷ []) =
+    option_map (λ n. record { side = n; workers = s.workers }) (side_of word)
+city_request s words = None

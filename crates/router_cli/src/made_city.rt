@@ -1,0 +1,123 @@
+//! What the program does about a made city.
+ghost use Rattle.std.specs.Prelude.{◌≡◌, ◌⊎◌, ◌<◌, ◌-◌, ◌^◌, IfOk, false};
+ghost use Rattle.feed_maker.specs.City.{city};
+ghost use Rattle.edition_store.specs.Editions.{EditionData};
+ghost use Rattle.build_report.specs.Reports.{IsReport};
+ghost use Rattle.command_line.specs.Cities.{IsSide};
+ghost use Rattle.command_line.specs.Settings.{AreWorkers};
+ghost use Rattle.router_cli.specs.Answers.{ShowsKept};
+ghost use Rattle.router_cli.specs.Cities.{IsCityOutcome, IsCityText, corner_query};
+
+use crate::status::Status;
+use answer_text::{build_text, choices_text};
+use build_report::counts_of;
+use command_line::CityRequest;
+use edition_store::Edition;
+use feed_maker::city;
+use line_split::split;
+use query_gate::uncounted::best_choices;
+use reduce_workers::reduce_all;
+use segment_queue::Desk;
+use std::alloc::Global;
+use std::thread::Threads;
+use tb_base::{Gate, Memory, Query, StopNo, Timetable};
+use tb_io::{Sink, put_all};
+
+// The report on a timetable, and its edition.
+struct Built {
+    report: Vec<u8>,
+    edition: Edition,
+}
+
+// What is built of a timetable.
+fn build<G: Gate, R: Threads + Sync>(
+    rt: &R,
+    alloc: Global,
+    table: Timetable,
+    workers: u32,
+    gate: &G,
+) -> Result<Built, Memory>
+    requires { AreWorkers workers }
+    ensures report { IfOk result (λ b. IsReport table false b.report.items) }
+    ensures edition { IfOk result (λ b. EditionData.table b.edition ≡ table) }
+{
+    let lines = split(alloc, &table)?;
+    let transfers = reduce_all(rt, alloc, &table, &lines, workers, gate)?;
+    let report = build_text(alloc, &table, counts_of(&lines, &transfers))?;
+    let edition = Edition::assemble(alloc, table, lines, transfers)?;
+    Ok(Built { report, edition })
+}
+
+// From the first corner to the last, at 07:00:00.
+fn corner_query(alloc: Global, side: u32) -> Result<Query, Memory>
+    requires { IsSide side }
+    ensures { IfOk result (λ query. query ≡ corner_query side) }
+{
+    let last = side - 1;
+    Ok(Query {
+        from: vec![in alloc; StopNo(0)]?,
+        to: vec![in alloc; StopNo(last * side + last)]?,
+        leave: 25_200,
+    })
+}
+
+// The best values from the first corner to the last.
+fn corner_text(alloc: Global, edition: &Edition, side: u32) -> Result<Vec<u8>, Memory>
+    requires side { IsSide side }
+    requires city { edition.now.table ≡ city side }
+    ensures { IfOk result (λ text. ShowsKept (city side) (corner_query side) text.items) }
+{
+    edition.soundness();
+    let query = corner_query(alloc, side)?;
+    let mut desk = Desk::new(alloc);
+    desk.make_room(edition)?;
+    let choices = best_choices(alloc, edition, &query, &mut desk)?;
+    choices_text(alloc, edition.table(), choices.as_slice())
+}
+
+// The report on a city, and the best values between two of its corners.
+fn city_text<G: Gate, R: Threads + Sync>(
+    rt: &R,
+    alloc: Global,
+    side: u32,
+    workers: u32,
+    gate: &G,
+) -> Result<Vec<u8>, Memory>
+    requires side { IsSide side }
+    requires workers { AreWorkers workers }
+    ensures { IfOk result (λ text. IsCityText side text.items) }
+{
+    let table = city(alloc, side)?;
+    let Built {
+        report: mut text,
+        edition,
+    } = build(rt, alloc, table, workers, gate)?;
+    let choices = corner_text(alloc, &edition, side)?;
+    text.extend_from_slice(choices.as_slice())?;
+    Ok(text)
+}
+
+/// Writes what is built of a made city. No folder and no script is read. It has no handle that
+/// waits, so it returns.
+pub(crate) fn city_outcome<R: Threads + Sync, K: Sink, G: Gate>(
+    rt: &R,
+    alloc: Global,
+    request: &CityRequest,
+    out: &mut K,
+    gate: &G,
+) -> Status
+    requires { K.faults out.old < 2 ^ 64 - 1 }
+    ensures promise { IsCityOutcome request.now result (K.written out.old) (K.written out.new) }
+    ensures quiet { (result ≡ Status.Done) ⊎ (result ≡ Status.WriteFault)
+        ⊎ (K.written out.new ≡ K.written out.old) }
+    ensures write { result ≡ Status.WriteFault → K.faults out.old < K.faults out.new }
+    ensures out_kept { (result ≡ Status.WriteFault) ⊎ (K.faults out.new ≡ K.faults out.old) }
+{
+    match city_text(rt, alloc, request.side, request.workers, gate) {
+        Ok(text) => match put_all(out, text.as_slice()) {
+            Ok(()) => Status::Done,
+            Err(_) => Status::WriteFault,
+        },
+        Err(_) => Status::Memory,
+    }
+}
