@@ -1,7 +1,7 @@
 -- Journeys as texts.
 use Rattle.std.specs.Prelude.{ℕ, List, [], ◌∷◌, ◌++◌, codes, flat_map, slice_index_or, Option, Some, None, ℤ}
 use Rattle.std.specs.Fmt.{decimal}
-use Rattle.tb_base.specs.TimetableData.{TripData, TimetableData, stop_at, arrival_at, departure_at}
+use Rattle.tb_base.specs.TimetableData.{TripData, TimetableData, stop_at, arrival_at, departure_at, no_trip}
 use Rattle.tb_base.specs.BestValues.{ChoiceData}
 use Rattle.tb_base.specs.Profiles.{OfferData}
 use Rattle.tb_base.specs.declared.query.Leg.{Leg}
@@ -13,7 +13,7 @@ abbrev pub stop_name : TimetableData → ℕ → List ℕ
 stop_name T p = Stop.name (slice_index_or T.stops p (record { name = [] }))
 
 abbrev pub trip_name : TimetableData → ℕ → List ℕ
-trip_name T t = TripData.name (slice_index_or T.trips t (record { name = []; events = [] }))
+trip_name T t = TripData.name (slice_index_or T.trips t no_trip)
 
 -- `  walk STOP STOP SECONDS`
 abbrev pub walk_text : TimetableData → ℕ → ℕ → ℕ → List ℕ

@@ -7,7 +7,7 @@ use Rattle.tb_base.specs.BestValues.{AreBestValues, ChoiceData, HasValue, QueryD
 use Rattle.tb_base.specs.JourneyRules.{HasNumbers, KeepAllRules, SpellJourney, SpellValue}
 use Rattle.tb_base.specs.Journeys.{IsRide, LeadsOn, Leads, LeavesNoEarlier, Ride, arrival, arrival_after}
 use Rattle.tb_base.specs.Soundness.{IsSound}
-use Rattle.tb_base.specs.TimetableData.{TimetableData, arrival_at}
+use Rattle.tb_base.specs.TimetableData.{TimetableData, arrival_at, no_trip}
 use Rattle.tb_base.specs.declared.query.Leg.{Leg}
 use Rattle.tb_base.specs.declared.query.Value.{Value}
 use Rattle.tb_base.specs.declared.rule.Rule.TheVariants.{BadNumber}
@@ -22,7 +22,7 @@ use Rattle.arrive_by.specs.Latest.{AreLatestDepartures, DepartureData, departure
 event_bound : (T : TimetableData) → IsSound T → (r : Ride) → IsRide T r → negsuc 86399 ≤ℤ arrival_at T r.trip r.alight
 event_bound T sound r h =
     let inside = MayAlight-inside T r.trip r.alight h.alights in
-    ((sound.trip r.trip (record { name = []; events = [] }) inside.0).events r.alight _ inside.1).earliest
+    ((sound.trip r.trip no_trip inside.0).events r.alight _ inside.1).earliest
 
 after_bound : (T : TimetableData) (r : Ride) (rest : List Ride) (target : ℕ) → IsSound T → IsRide T r → LeadsOn T r rest target → negsuc 86399 ≤ℤ arrival_after T r rest target
 after_bound T r [] target sound h on =

@@ -3,7 +3,7 @@ use Rattle.std.proofs.Common.{◌≡◌, ℕ, zero, suc, ◌+◌, ◌<◌, List,
 use Rattle.std.specs.Prelude.{Contains}
 use Rattle.tb_base.specs.Network.{NetData}
 use Rattle.tb_base.specs.declared.transfer.Hop.{Hop}
-use Rattle.tb_base.specs.TimetableData.{TimetableData, event_at, events_of, no_event}
+use Rattle.tb_base.specs.TimetableData.{TimetableData, event_at, events_of, no_event, no_trip}
 use Rattle.tb_base.specs.Soundness.{IsSound, IsSoundEvent, IsSoundTrip}
 use Rattle.tb_base.specs.Sufficiency.{AreSufficient, IsPossibleHop}
 use Rattle.tb_base.proofs.Events.{MayBoard-inside}
@@ -62,5 +62,5 @@ followed-kept N D D' joined n i extends inside followed = λ h in_set.
 -- an event of a sound timetable
 pub sound_event : (T : TimetableData) (t i : ℕ) → IsSound T → t < length T.trips → i < length (events_of T t) → IsSoundEvent (length T.stops) (event_at T t i)
 sound_event T t i sound trip event =
-    let s : IsSoundTrip (length T.stops) (get_or T.trips t (record { name = []; events = [] })) = sound.trip t (record { name = []; events = [] }) trip in
+    let s : IsSoundTrip (length T.stops) (get_or T.trips t no_trip) = sound.trip t no_trip trip in
     s.events i no_event event

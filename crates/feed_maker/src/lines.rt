@@ -94,6 +94,7 @@ impl Line {
         let name = format!(in alloc; "D{heading}K{lane}M{trip}")?;
         Ok(Trip {
             name: Name::new(alloc, name.as_bytes())?,
+            before: false,
             events: self.events(alloc, trip)?,
         })
     }

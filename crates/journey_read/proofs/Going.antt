@@ -8,7 +8,7 @@ use Rattle.tb_base.specs.declared.rule.Rule.TheVariants.{BadNumber, NoWalk, TwoW
 use Rattle.tb_base.specs.BestValues.{QueryData}
 use Rattle.tb_base.specs.JourneyRules.{FollowsNoWalk, KeepAllRules, SpellJourney}
 use Rattle.tb_base.specs.Soundness.{IsSound}
-use Rattle.tb_base.specs.TimetableData.{TimetableData, arrival_at, events_of, no_event}
+use Rattle.tb_base.specs.TimetableData.{TimetableData, arrival_at, events_of, no_event, no_trip}
 use Rattle.tb_base.specs.Walking.{footpath_secs}
 use Rattle.tb_base.proofs.Walks.{found_within, leaving_sound}
 use Rattle.tb_laws.proofs.RuleLaws.{rules_from_journey}
@@ -17,7 +17,7 @@ use Rattle.journey_read.specs.Judging.{GoesOn}
 module _ (T : TimetableData) (Q : QueryData) (sound : IsSound T) where
   arrives_within : (t i : ℕ) → t < length T.trips → i < length (events_of T t) → arrival_at T t i ≤ℤ pos 359999
   arrives_within t i in_table in_trip =
-      let e = (sound.trip t (record { name = []; events = [] }) in_table).events i no_event in_trip in
+      let e = (sound.trip t no_trip in_table).events i no_event in_trip in
       let waits = e.waits in
       let latest = e.latest in
       omega (arith, ints, waits, latest)

@@ -5,7 +5,7 @@ use Rattle.std.specs.List.{concat}
 use Rattle.std.proofs.lemmas.List.{length_push, take_all}
 use Rattle.std.proofs.lemmas.List.Sums.{sum_by-append, sum_by-cons, sum_by_push, sum_by_more}
 use Rattle.std.proofs.lemmas.List.Elements.{All-cons, All-contains, All-head, All-nil, All-tail}
-use Rattle.tb_base.specs.TimetableData.{TimetableData, TripData, event_total, events_of, stop_at}
+use Rattle.tb_base.specs.TimetableData.{TimetableData, TripData, event_total, events_of, stop_at, no_trip}
 use Rattle.tb_base.specs.Lines.{AreDividedInto, AreLines, may_join, place_trip}
 use Rattle.tb_base.specs.Transfers.{numbers_below}
 use Rattle.tb_base.proofs.Ordered.{Member, Contains-from_Member, AllPairs-head, AllPairs-tail}
@@ -47,7 +47,7 @@ events_below xs d (suc n) h =
 -- all trips have as many events as the timetable
 pub all_events : (T : TimetableData) → sum_by (λ t. length (events_of T t)) (numbers_below (length T.trips)) ≡ event_total T
 all_events T =
-    events_below T.trips (record { name = []; events = [] }) (length T.trips) (omega arith) ∙ ap (λ xs. sum_by (λ (t : TripData). length t.events) xs) (take_all (length T.trips) T.trips (omega arith))
+    events_below T.trips no_trip (length T.trips) (omega arith) ∙ ap (λ xs. sum_by (λ (t : TripData). length t.events) xs) (take_all (length T.trips) T.trips (omega arith))
 
 member_split : (x : ℕ) (ys : List ℕ) → Member x ys → (before after : List ℕ) × (ys ≡ before ++ x ∷ after)
 member_split x [] h = absurd h

@@ -5,7 +5,7 @@ use Rattle.std.proofs.lemmas.Bool.Decides.{nat_tests}
 use Rattle.std.proofs.lemmas.Int.{ints}
 use Rattle.std.proofs.Math.ListN.{get_or-map}
 use Rattle.tb_base.specs.declared.table.Event.{Event}
-use Rattle.tb_base.specs.TimetableData.{TimetableData, TripData, arrival_at, departure_at, event_at, events_of, no_event, stop_at}
+use Rattle.tb_base.specs.TimetableData.{TimetableData, TripData, arrival_at, departure_at, event_at, events_of, no_event, stop_at, no_trip}
 use Rattle.tb_base.specs.Walking.{change, walk}
 use Rattle.tb_base.proofs.Walks.{change-other, change-same, walk-other, walk-same}
 use Rattle.mirror_table.specs.Mirror.{IsMirror, LeadBack, mirror_event, mirror_events, mirror_time, mirror_trip}
@@ -36,8 +36,8 @@ module _ (T M : TimetableData) where
   module _ (m : IsMirror T M) where
     pub events_back : (t : ℕ) → events_of M t ≡ mirror_events (events_of T t)
     events_back t =
-        ap (λ (ts : List TripData). TripData.events (get_or ts t (record { name = []; events = [] }))) m.trips
-        ∙ ap (λ (x : TripData). x.events) (get_or-map mirror_trip T.trips t (record { name = []; events = [] }))
+        ap (λ (ts : List TripData). TripData.events (get_or ts t no_trip)) m.trips
+        ∙ ap (λ (x : TripData). x.events) (get_or-map mirror_trip T.trips t no_trip)
 
     pub length_back : (t : ℕ) → length (events_of M t) ≡ length (events_of T t)
     length_back t = ap length (events_back t) ∙ length-mirror_events (events_of T t)

@@ -1,5 +1,5 @@
 -- Trips that run backwards: their events, and that they are sound.
-use Rattle.std.proofs.Common.{◌≡◌, ◌∙◌, sym, ap, subst, refl, ℕ, ◌+◌, ◌-◌, ◌<◌, ◌≤ℤ◌, List, [], ◌∷◌, ◌++◌, length, get_or, map, take, arith}
+use Rattle.std.proofs.Common.{◌≡◌, ◌∙◌, sym, ap, subst, refl, ℕ, Bool, ◌+◌, ◌-◌, ◌<◌, ◌≤ℤ◌, List, [], ◌∷◌, ◌++◌, length, get_or, map, take, arith}
 use Rattle.std.specs.Prelude.{All, sum_by}
 use Rattle.std.proofs.lemmas.Int.{ints}
 use Rattle.std.proofs.lemmas.List.Elements.{All-map}
@@ -67,5 +67,5 @@ events_in ts ms is = ap (sum_by (λ t. length (TripData.events t))) is ∙ same 
     same (t ∷ ts) = omega (arith, sum_by-cons (λ t. length (TripData.events t)) (mirror_trip t) (map mirror_trip ts), sum_by-cons (λ t. length (TripData.events t)) t ts, length-mirror_events t.events, same ts)
 
 -- a trip that is made of its parts
-pub trip_is : (x : TripData) (name : List ℕ) (es : List Event) → name ≡ x.name → es ≡ mirror_events x.events → record { name = name; events = es } ≡ mirror_trip x
-trip_is x name es n e = λ i. record { name = n i; events = e i }
+pub trip_is : (x : TripData) (name : List ℕ) (before : Bool) (es : List Event) → name ≡ x.name → before ≡ x.before → es ≡ mirror_events x.events → record { name = name; before = before; events = es } ≡ mirror_trip x
+trip_is x name before es n b e = λ i. record { name = n i; before = b i; events = e i }

@@ -47,9 +47,11 @@ pub(crate) fn mirrored_trips(alloc: Global, table: &Timetable) -> Result<Vec<Tri
 {
     let mut trips = Vec::new(alloc);
     for t in 0..table.trip_count() {
-        let name = Name::new(alloc, table.trip(TripNo(t)).name.bytes())?;
+        let trip = table.trip(TripNo(t));
+        let name = Name::new(alloc, trip.name.bytes())?;
+        let before = trip.before;
         let events = mirrored_events(alloc, table, TripNo(t))?;
-        trips.push(Trip { name, events })?;
+        trips.push(Trip { name, before, events })?;
     }
     Ok(trips)
 }

@@ -7,7 +7,7 @@ use Rattle.std.proofs.lemmas.List.Elements.{All-push, All-cons, All-contains, Al
 use Rattle.std.proofs.lemmas.List.Quantifiers.{all_pairs_push}
 use Rattle.tb_base.specs.declared.query.Leg.{Leg}
 use Rattle.tb_base.specs.declared.query.Value.{Value}
-use Rattle.tb_base.specs.TimetableData.{TimetableData, no_event, event_at, stop_at}
+use Rattle.tb_base.specs.TimetableData.{TimetableData, no_event, event_at, stop_at, no_trip}
 use Rattle.tb_base.specs.Soundness.{IsSound, IsSoundEvent}
 use Rattle.tb_base.specs.Walking.{walk}
 use Rattle.tb_base.specs.Journeys.{Ride, walk_secs, alighting_stop, alighting_time}
@@ -277,7 +277,7 @@ module _ (T : TimetableData) (Q : QueryData) where
       early : (l : StopLabel) → IsArrivalLabel T Q a.ridden.items most p l → l.time ≤ℤ pos 359999
       early l is =
           let inside = MayAlight-inside T is.last.trip is.last.alight is.boarded.ride.alights in
-          let event : IsSoundEvent (length T.stops) (event_at T is.last.trip is.last.alight) = (sound.trip is.last.trip (record { name = []; events = [] }) inside.0).events is.last.alight no_event inside.1 in
+          let event : IsSoundEvent (length T.stops) (event_at T is.last.trip is.last.alight) = (sound.trip is.last.trip no_trip inside.0).events is.last.alight no_event inside.1 in
           subst (λ z. z ≤ℤ pos 359999) is.time (≤ℤ-trans (alighting_time T is.last) (event_at T is.last.trip is.last.alight).dep (pos 359999) event.waits event.latest)
 
       by_label : (o : Option StopLabel) → o ≡ label_at a.labels.items p → IfSome o (λ l. l.time ≤ℤ pos 359999)

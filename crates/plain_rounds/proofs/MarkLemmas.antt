@@ -4,15 +4,12 @@ use Rattle.std.specs.Prelude.{sum}
 use Rattle.std.proofs.lemmas.List.{get_or-map, get_or-replicate, get_or_past, length-replicate}
 use Rattle.std.proofs.lemmas.List.Sums.{sum-map, sum_by-le-sum_by, get_or-le-sum_by}
 use Rattle.std.proofs.lemmas.Bool.{cases_lt}
-use Rattle.tb_base.specs.TimetableData.{TripData, TimetableData, events_of}
+use Rattle.tb_base.specs.TimetableData.{TripData, TimetableData, events_of, no_trip}
 use Rattle.tb_base.specs.Soundness.{IsSound}
 use Rattle.tb_base.proofs.Events.{MayAlight-inside}
 use Rattle.plain_rounds.specs.declared.labels.StopLabel.{StopLabel}
 use Rattle.plain_rounds.specs.Labels.{label_at}
 use Rattle.plain_rounds.specs.Rounds.{last_index, IsLeftBehind}
-
-abbrev pub no_trip : TripData
-no_trip = record { name = []; events = [] }
 
 module _ (T : TimetableData) (sound : IsSound T) where
   -- a trip has no more events than all trips have

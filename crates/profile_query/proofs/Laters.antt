@@ -5,7 +5,7 @@ use Rattle.std.proofs.lemmas.Int.{ints}
 use Rattle.std.proofs.lemmas.List.Elements.{All-map, All-nil, All-weaker}
 use Rattle.tb_base.specs.Network.{NetData}
 use Rattle.tb_base.specs.declared.query.Value.{Value}
-use Rattle.tb_base.specs.TimetableData.{TimetableData, events_of, no_event, MayBoard}
+use Rattle.tb_base.specs.TimetableData.{TimetableData, events_of, no_event, MayBoard, no_trip}
 use Rattle.tb_base.specs.Journeys.{Ride, Leads, LeavesNoEarlier, boarding_time}
 use Rattle.tb_base.specs.BestValues.{QueryData, IsAttained, IsStep, value_of}
 use Rattle.tb_base.specs.Soundness.{IsSound, IsSoundEvent}
@@ -48,7 +48,7 @@ module _ (T : TimetableData) (sound : IsSound T) where
   sound_event : (t b : ℕ) → MayBoard T t b → IsSoundEvent (length T.stops) (get_or (events_of T t) b no_event)
   sound_event t b boards =
       let inside = MayBoard-inside T t b boards in
-      (sound.trip t (record { name = []; events = [] }) inside.0).events b no_event inside.1
+      (sound.trip t no_trip inside.0).events b no_event inside.1
 
   pub departs_within : (stop : ℕ) (time : ℤ) → DepartsAt T stop time → (negsuc 86399 ≤ℤ time) × (time ≤ℤ pos 359999)
   departs_within stop time d =

@@ -7,7 +7,7 @@ use Rattle.std.proofs.lemmas.List.Elements.{All-push, All-nil, All-get_or}
 use Rattle.std.proofs.lemmas.List.Quantifiers.{all_pairs_push}
 use Rattle.std.proofs.lemmas.List.Sums.{sum_by_push}
 use Rattle.tb_base.specs.Network.{NetData}
-use Rattle.tb_base.specs.TimetableData.{TimetableData, events_of, event_total}
+use Rattle.tb_base.specs.TimetableData.{TimetableData, events_of, event_total, no_trip}
 use Rattle.tb_base.specs.Lines.{AreDividedInto}
 use Rattle.tb_base.specs.Soundness.{IsSound, IsSoundTrip}
 use Rattle.tb_base.proofs.Ordered.{Member}
@@ -35,7 +35,7 @@ first_falling T lines n divided = all_by_member (IsFalling T (replicate n None))
     (λ t u a b f. omega (arith, first_mark T n t, first_mark T n u, (no_later T t u (inr f)).long)) (of_member (λ l. AllPairs (MayFollow T) l) lines line divided.ordered h))
 
 pub long_trip : (T : TimetableData) (t : ℕ) → IsSound T → t < length T.trips → 2 ≤ length (events_of T t)
-long_trip T t sound inside = (All-get_or (IsSoundTrip (length T.stops)) T.trips t (record { name = []; events = [] }) inside sound.trip).long
+long_trip T t sound inside = (All-get_or (IsSoundTrip (length T.stops)) T.trips t no_trip inside sound.trip).long
 
 -- a desk that fits is in step when it has been emptied
 pub in_step-emptied : (N : NetData) (D D' : DeskData) (n : ℕ) → IsSound N.table → AreDividedInto N.table N.lines → Fits N.table D →

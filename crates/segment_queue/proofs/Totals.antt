@@ -4,7 +4,7 @@ use Rattle.std.specs.Prelude.{All, AllPairs, sum_by}
 use Rattle.std.proofs.lemmas.List.{take_all}
 use Rattle.std.proofs.lemmas.List.Sums.{sum_by-append, sum_by-cons, sum_by_push, sum_by_more, sum_by-le-sum_by}
 use Rattle.std.proofs.lemmas.List.Elements.{All-head, All-tail}
-use Rattle.tb_base.specs.TimetableData.{TimetableData, TripData, events_of, event_total}
+use Rattle.tb_base.specs.TimetableData.{TimetableData, TripData, events_of, event_total, no_trip}
 use Rattle.tb_base.specs.Transfers.{numbers_below}
 use Rattle.tb_base.proofs.Ordered.{Member, AllPairs-tail}
 use Rattle.tb_base.proofs.Members.{Member-append, Member-left, Member-right}
@@ -50,7 +50,7 @@ events_below xs d (suc n) h =
 -- all trips have as many events as the timetable
 pub all_events : (T : TimetableData) → sum_by (λ t. length (events_of T t)) (numbers_below (length T.trips)) ≡ event_total T
 all_events T =
-    events_below T.trips (record { name = []; events = [] }) (length T.trips) (omega arith) ∙ ap (λ xs. sum_by (λ (t : TripData). length t.events) xs) (take_all (length T.trips) T.trips (omega arith))
+    events_below T.trips no_trip (length T.trips) (omega arith) ∙ ap (λ xs. sum_by (λ (t : TripData). length t.events) xs) (take_all (length T.trips) T.trips (omega arith))
 
 -- the last indices of all trips are together at most the number of events
 pub last_le_events : (T : TimetableData) → last_total T ≤ event_total T

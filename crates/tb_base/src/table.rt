@@ -59,10 +59,12 @@ pub struct Path {
     pub secs: u32,
 }
 
-/// A trip: its name, and its events in order.
+/// A trip: its name, whether it began on the day before (GTFS Schedule: times beyond 24:00:00), and
+/// its events in order.
 #[derive(Drop)]
 pub struct Trip {
     pub name: Name,
+    pub before: bool,
     pub events: Vec<Event>,
 }
 
@@ -71,7 +73,11 @@ impl Model for Trip {
 
     ghost Value = { TripData };
 
-    ghost view = { λ t. record { name = t.name; events = t.events.items } };
+    ghost view = { λ t. record {
+      name = t.name;
+      before = t.before;
+      events = t.events.items;
+    } };
 }
 
 /// A station: its name, and the stops that belong to it, in ascending order.

@@ -7,7 +7,7 @@ use Rattle.std.proofs.lemmas.Option.{option_and_then_some}
 use Rattle.std.proofs.lemmas.List.Elements.{All-contains}
 use Rattle.std.proofs.lemmas.Bool.{eq-eqb, and_from, lt-ltb, leb-true, ltb-true, and_parts}
 use Rattle.tb_base.specs.declared.transfer.Hop.{Hop}
-use Rattle.tb_base.specs.TimetableData.{TimetableData, no_event, events_of, event_at, stop_at, arrival_at, departure_at, MayBoard, MayAlight}
+use Rattle.tb_base.specs.TimetableData.{TimetableData, no_event, events_of, event_at, stop_at, arrival_at, departure_at, MayBoard, MayAlight, no_trip}
 use Rattle.tb_base.specs.Walking.{change}
 use Rattle.tb_base.specs.Soundness.{IsSound, IsSoundTrip}
 use Rattle.tb_base.specs.Journeys.{Ride, IsRide, LeadsOn, Leads, LeavesNoEarlier, boarding_stop, boarding_time, alighting_stop, alighting_time}
@@ -33,7 +33,7 @@ module _ (T : TimetableData) (sound : IsSound T) where
   -- an event of a trip is at a stop of the table
   pub stop_inside : (t i : ℕ) → t < length T.trips → i < length (events_of T t) → stop_at T t i < length T.stops
   stop_inside t i trip event =
-      let s : IsSoundTrip (length T.stops) (slice_index_or T.trips t (record { name = []; events = [] })) = sound.trip t (record { name = []; events = [] }) trip in
+      let s : IsSoundTrip (length T.stops) (slice_index_or T.trips t no_trip) = sound.trip t no_trip trip in
       (s.events i no_event event).stop
 
 -- t@i onto a line at j: the first trip in time is hopped onto, unless staying does as well

@@ -5,7 +5,7 @@ use Rattle.std.specs.Option.{option_and_then}
 use Rattle.std.proofs.lemmas.Int.{ints}
 use Rattle.std.proofs.lemmas.Bool.{eqb-true, and_parts}
 use Rattle.tb_base.specs.declared.transfer.Hop.{Hop}
-use Rattle.tb_base.specs.TimetableData.{TimetableData, no_event, events_of, event_at, stop_at, arrival_at, departure_at, MayBoard, MayAlight}
+use Rattle.tb_base.specs.TimetableData.{TimetableData, no_event, events_of, event_at, stop_at, arrival_at, departure_at, MayBoard, MayAlight, no_trip}
 use Rattle.tb_base.specs.Walking.{walk, change, change_time}
 use Rattle.tb_base.specs.Soundness.{IsSound, IsSoundTrip}
 use Rattle.tb_base.specs.Journeys.{Ride, IsRide, CanChange, LeadsOn, Leads, LeavesNoEarlier, arrival_after, walk_secs, boarding_stop, boarding_time, alighting_stop, alighting_time}
@@ -68,8 +68,8 @@ u_turn_parts T t i h e =
     }
 
 module _ (T : TimetableData) (sound : IsSound T) where
-  sound_trip : (t : ℕ) → t < length T.trips → IsSoundTrip (length T.stops) (slice_index_or T.trips t (record { name = []; events = [] }))
-  sound_trip t h = sound.trip t (record { name = []; events = [] }) h
+  sound_trip : (t : ℕ) → t < length T.trips → IsSoundTrip (length T.stops) (slice_index_or T.trips t no_trip)
+  sound_trip t h = sound.trip t no_trip h
 
   -- a trip leaves an event before it reaches a later one, and is not left before it is reached
   pub departs_first : (t b i : ℕ) → t < length T.trips → b < i → i < length (events_of T t) → departure_at T t b ≤ℤ arrival_at T t i

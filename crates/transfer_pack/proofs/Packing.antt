@@ -8,7 +8,7 @@ use Rattle.std.proofs.Math.Seq.{get_or-append_right}
 use Rattle.std.proofs.lemmas.List.Elements.{filter-append}
 use Rattle.tb_base.specs.declared.transfer.Hop.{Hop}
 use Rattle.tb_base.specs.declared.transfer.Transfer.{Transfer}
-use Rattle.tb_base.specs.TimetableData.{TripData, TimetableData, events_of}
+use Rattle.tb_base.specs.TimetableData.{TripData, TimetableData, events_of, no_trip}
 use Rattle.tb_base.specs.OutSets.{AreRowsOf, hops_at, row_of}
 use Rattle.tb_base.specs.Transfers.{numbers_below}
 use Rattle.tb_base.proofs.Listing.{from_events, hop_of}
@@ -105,7 +105,7 @@ packed_all T rows S same rows_of are t i = by_test (nat_lt i (length (events_of 
     trip_or_none = grind arith
 
     no_events : length T.trips ≤ t → length (events_of T t) ≡ 0
-    no_events h = ap (λ (x : TripData). length x.events) (get_or_past T.trips t (record { name = []; events = [] }) h)
+    no_events h = ap (λ (x : TripData). length x.events) (get_or_past T.trips t no_trip h)
 
     no_row : length T.trips ≤ t → row_of rows t ≡ []
     no_row h = get_or_past rows t [] (omega (arith, h, rows_of.long))

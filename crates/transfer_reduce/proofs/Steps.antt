@@ -9,7 +9,7 @@ use Rattle.tb_base.specs.declared.table.Event.{Event}
 use Rattle.tb_base.specs.declared.transfer.Hop.{Hop}
 use Rattle.tb_base.specs.declared.transfer.Transfer.{Transfer}
 use Rattle.tb_base.specs.Soundness.{IsSound, IsSoundTrip}
-use Rattle.tb_base.specs.TimetableData.{TripData, TimetableData, event_at, events_of}
+use Rattle.tb_base.specs.TimetableData.{TripData, TimetableData, event_at, events_of, no_trip}
 use Rattle.tb_base.specs.Transfers.{Alternative, alightings, alternatives_at, boarding_indexes, candidates_without_u_turns, earliest_offer, hop_onto, improving_alternatives, is_improvement, is_u_turn, kept_alternatives, kept_hops, numbers_below, numbers_down, transfers_of}
 use Rattle.tb_base.specs.Walking.{walk}
 use Rattle.tb_base.proofs.Ordered.{Member}
@@ -45,8 +45,8 @@ stops_inside : (T : TimetableData) → IsSound T → (t : ℕ) → All (λ e. e.
 stops_inside T sound t = by_case (cases_lt t (length T.trips))
   where
     by_case : (t < length T.trips) ⊎ (length T.trips ≤ t) → All (λ e. e.stop < length T.stops) (events_of T t)
-    by_case (inl h) = λ k d below. (IsSoundTrip.events (sound.trip t (record { name = []; events = [] }) h) k d below).stop
-    by_case (inr h) = subst (λ (trip : TripData). All (λ e. e.stop < length T.stops) trip.events) (sym (get_or_past T.trips t (record { name = []; events = [] }) h)) (All-nil (λ (e : Event). e.stop < length T.stops))
+    by_case (inl h) = λ k d below. (IsSoundTrip.events (sound.trip t no_trip h) k d below).stop
+    by_case (inr h) = subst (λ (trip : TripData). All (λ e. e.stop < length T.stops) trip.events) (sym (get_or_past T.trips t no_trip h)) (All-nil (λ (e : Event). e.stop < length T.stops))
 
 module _ (T : TimetableData) (sound : IsSound T) (lines : List (List ℕ)) (t : ℕ) where
   abbrev others : ℕ → List Transfer

@@ -245,9 +245,9 @@ walk_sound stops r rest s h right =
     )
 
 trip_sound : (stops : ℕ) (ordered : List StopTime) → All (λ r. StopTime.stop r < stops) ordered → All HasFileTimes ordered → Right (wrong_trip_times ordered) → 2 ≤ length ordered → IsSoundRide stops (events_in ordered)
-trip_sound stops [] s h right long name some = absurd (omega (arith, long))
-trip_sound stops (r ∷ []) s h right long name some = absurd (omega (arith, long))
-trip_sound stops (r ∷ q ∷ rest) s h right long name some =
+trip_sound stops [] s h right long name before some = absurd (omega (arith, long))
+trip_sound stops (r ∷ []) s h right long name before some = absurd (omega (arith, long))
+trip_sound stops (r ∷ q ∷ rest) s h right long name before some =
     let parts = walk_sound stops r (q ∷ rest) s h (trip_right r q rest right) in
     rw walk_is (record {
       long = rw length-walk long;
@@ -257,11 +257,11 @@ trip_sound stops (r ∷ q ∷ rest) s h right long name some =
 
 -- the events of a trip with which nothing is wrong
 ride_sound : (stops : ℕ) (runs : Bool) (ordered : List StopTime) → All (λ r. StopTime.stop r < stops) ordered → All HasFileTimes ordered → Right (wrong_trip_times ordered) → IsSoundRide stops (ride_in runs ordered)
-ride_sound stops false ordered s h right = λ name some. absurd (omega (arith, some))
+ride_sound stops false ordered s h right = λ name before some. absurd (omega (arith, some))
 ride_sound stops true ordered s h right =
     elim (cases_Bool (nat_le 2 (length ordered))) [
       | inl t ↦ rw t (trip_sound stops ordered s h right (grind (arith, nat_tests, t)))
-      | inr f ↦ rw f (λ name some. absurd (omega (arith, some)))
+      | inr f ↦ rw f (λ name before some. absurd (omega (arith, some)))
     ]
 
 both_right : (a b : Option FeedFault) → option_or a b ≡ None → (a ≡ None) × (b ≡ None)

@@ -45,4 +45,5 @@ checked_rides rows runs =
 -- the events, where there are any, are those of a sound trip among so many stops
 abbrev pub IsSoundRide : ℕ → List Event → Type 0
 IsSoundRide stops ride =
-    (name : List ℕ) → 0 < length ride → IsSoundTrip stops (record { name = name; events = ride })
+    (name : List ℕ) (before : Bool) → 0 < length ride
+    → IsSoundTrip stops (record { name = name; before = before; events = ride })

@@ -41,8 +41,8 @@ sound_trips n [] rides sound = λ k d below. absurd (omega (arith, below))
 sound_trips n (t ∷ ts) [] sound = λ k d below. absurd (omega (arith, below))
 sound_trips n (t ∷ ts) ([] ∷ rides) sound = sound_trips n ts rides (All-tail (IsSoundRide n) [] rides sound)
 sound_trips n (t ∷ ts) ((e ∷ es) ∷ rides) sound =
-    All-cons (IsSoundTrip n) (record { name = t.id; events = e ∷ es }) (trips_with ts rides)
-    (All-head (IsSoundRide n) (e ∷ es) rides sound t.id (omega arith))
+    All-cons (IsSoundTrip n) (record { name = t.id; before = false; events = e ∷ es }) (trips_with ts rides)
+    (All-head (IsSoundRide n) (e ∷ es) rides sound t.id false (omega arith))
     (sound_trips n ts rides (All-tail (IsSoundRide n) (e ∷ es) rides sound))
 
 -- one more row is looked at

@@ -63,7 +63,11 @@ fn add_trip(
         return Ok(());
     }
     let name = Name::new(alloc, row.id.bytes())?;
-    trips.push(Trip { name, events })?;
+    trips.push(Trip {
+        name,
+        before: false,
+        events,
+    })?;
     Ok(())
 }
 
