@@ -51,7 +51,11 @@ pub(crate) fn mirrored_trips(alloc: Global, table: &Timetable) -> Result<Vec<Tri
         let name = Name::new(alloc, trip.name.bytes())?;
         let before = trip.before;
         let events = mirrored_events(alloc, table, TripNo(t))?;
-        trips.push(Trip { name, before, events })?;
+        trips.push(Trip {
+            name,
+            before,
+            events,
+        })?;
     }
     Ok(trips)
 }

@@ -17,7 +17,7 @@ abbrev at : ℕ → ℕ → Event
 at stop minute = record { stop = stop; arr = pos (60 * minute); dep = pos (60 * minute); board = true; alight = true }
 
 abbrev trip : List Event → TripData
-trip es = record { name = []; events = es }
+trip es = record { name = []; before = false; events = es }
 
 -- a stop whose name is one letter
 abbrev stop : ℕ → Stop
