@@ -1,10 +1,10 @@
 #!/usr/bin/env python3
-"""Measures queries and profiles: queries.py [TRIPS ..] [--with PROGRAM]
+"""Measures queries and profiles: queries.py [city:TRIPS ..] [network:PATTERNS ..] [--with PROGRAM]
 
-Writes a made city of each size to a temporary folder and asks it 1,000 random queries by the search and round by round, and 50
-random profiles of 24 hours, with the proved program (crates/query_bench/out/query_bench, which `rt run` in crates/query_bench
-builds). Prints processor milliseconds a query, without what a run with no query takes. With another build of query_bench both
-are measured in one run, one after the other.
+Writes each feed, a made city or a network with the density of a real one, to a temporary folder and asks it 1,000 random queries
+by the search and round by round, and 50 random profiles of 24 hours, with the proved program
+(crates/query_bench/out/query_bench, which `rt run` in crates/query_bench builds). Prints processor milliseconds a query, without
+what a run with no query takes. With another build of query_bench both are measured in one run, one after the other.
 """
 import os
 import subprocess
@@ -14,6 +14,7 @@ import tempfile
 HERE = os.path.dirname(os.path.abspath(__file__))
 PROGRAM = os.path.join(HERE, "..", "crates", "query_bench", "out", "query_bench")
 DAY = "20260302"
+FEEDS = ["city:2000", "city:20000", "network:300"]
 COUNTS = {"search": 1000, "plain": 1000, "profile": 50}
 
 
@@ -40,17 +41,18 @@ def measure(program, folder, method):
 
 def main(words):
     other = words[words.index("--with") + 1] if "--with" in words else None
-    sizes = [int(word) for word in words if word.isdigit()] or [2000, 20000]
+    feeds = [word for word in words if word.startswith(("city:", "network:"))] or FEEDS
     programs = [("this", PROGRAM)] + ([("other", other)] if other else [])
-    print("| trips | method | program | ms each | found |\n|---|---|---|---|---|")
-    for trips in sizes:
+    print("| feed | method | program | ms each | found |\n|---|---|---|---|---|")
+    for feed in feeds:
+        kind, size = feed.split(":")
         with tempfile.TemporaryDirectory() as folder:
-            subprocess.run([sys.executable, os.path.join(HERE, "make_city.py"), folder, str(trips)], check=True)
+            subprocess.run([sys.executable, os.path.join(HERE, f"make_{kind}.py"), folder, size], check=True)
             for method in COUNTS:
                 for name, program in programs:
                     each, found = measure(program, folder, method)
                     shown = "" if each is None else f"{each:.2f}"
-                    print(f"| {trips:,} | {method} | {name} | {shown} | {found} |", flush=True)
+                    print(f"| {feed} | {method} | {name} | {shown} | {found} |", flush=True)
 
 
 if __name__ == "__main__":

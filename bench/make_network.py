@@ -1,0 +1,169 @@
+#!/usr/bin/env python3
+"""Writes a feed with the density of a real network: make_network.py FOLDER PATTERNS [SEED]
+
+Stations stand in a square grid, with two to six platforms each: as many as their routes need, joined by footpaths. A route runs
+both ways over the same stations, by way of a hub, some 28 calls a trip; each direction is a pattern of stops, with some 54
+trips a weekday: more often in the two peaks, when they are slower too, and seldom in the evening. No trip overtakes another of
+its pattern. Where routes meet one can change, to some nine lines from an event. The same words give the same bytes.
+"""
+import os
+import random
+import sys
+
+PATTERNS_PER_STATION = 0.15
+CALLS = 28
+FIRST_DEPARTURE = 5 * 3600
+LAST_DEPARTURE = 24 * 3600
+DWELL = 20
+# Seconds between two platforms of a station: a stair, and a while for each platform between.
+STAIR = 45
+PLATFORM = 15
+# Seconds between the platforms of two stations that one can walk between.
+BETWEEN = 300
+# Hours, and minutes from one departure to the next by then, of the timetable of each day and of weekdays.
+EACH_DAY = ((7, 30), (20, 25), (24, 48))
+PEAKS = ((7, 9), (16, 19))
+
+
+def clock(secs):
+    return f"{secs // 3600:02}:{secs // 60 % 60:02}:{secs % 60:02}"
+
+
+def write(folder, name, lines):
+    with open(os.path.join(folder, name), "w", encoding="ascii") as file:
+        file.writelines(line + "\n" for line in lines)
+
+
+def way(side, begin, end):
+    """The stations from one to another: along one axis, then along the other."""
+    (x, y), (to_x, to_y) = begin, end
+    found = []
+    across = random.random() < 0.5
+    for axis in (0, 1):
+        if (axis == 0) == across:
+            while x != to_x:
+                x += 1 if x < to_x else -1
+                found.append(y * side + x)
+        else:
+            while y != to_y:
+                y += 1 if y < to_y else -1
+                found.append(y * side + x)
+    return found
+
+
+def route(side, hubs):
+    """The stations of a route: from one by way of a hub to another, each at most once, some 28 of them."""
+    while True:
+        hub = random.choice(hubs)
+        calls = CALLS + random.randrange(-6, 7)
+        ends = []
+        for part in (calls // 2, calls - calls // 2):
+            across = random.randrange(part + 1)
+            x = hub[0] + random.choice((-1, 1)) * across
+            y = hub[1] + random.choice((-1, 1)) * (part - across)
+            ends.append((x, y))
+        if not all(0 <= x < side and 0 <= y < side for x, y in ends):
+            continue
+        begin, end = ends
+        found = [begin[1] * side + begin[0], *way(side, begin, hub), *way(side, hub, end)]
+        if len(set(found)) == len(found):
+            return found
+
+
+def stops(platforms):
+    yield "stop_id,stop_name,location_type,parent_station"
+    for station, count in enumerate(platforms):
+        yield f"S{station},Station {station},1,"
+        for platform in range(count):
+            yield f"S{station}:{platform},Station {station} track {platform + 1},0,S{station}"
+
+
+def transfers(side, platforms):
+    yield "from_stop_id,to_stop_id,transfer_type,min_transfer_time"
+    for station, count in enumerate(platforms):
+        for one in range(count):
+            for other in range(count):
+                if one != other:
+                    yield f"S{station}:{one},S{station}:{other},2,{STAIR + PLATFORM * abs(one - other)}"
+        # every twentieth station and its neighbour, in pairs that share no station
+        if station % 20 == 0 and station % side + 1 < side:
+            yield f"S{station},S{station + 1},2,{BETWEEN}"
+            yield f"S{station + 1},S{station},2,{BETWEEN}"
+
+
+def crowd(secs):
+    """How crowded a time is, from 0 to 1: it rises and falls within an hour at both ends of a peak."""
+    hour = secs / 3600
+    return max(max(0.0, min(1.0, hour - first + 0.5, last + 0.5 - hour)) for first, last in PEAKS)
+
+
+def departures(share):
+    """Departures of a pattern with their services. The share says how often it runs: 1 as the tables above."""
+    found = []
+    secs = FIRST_DEPARTURE + random.randrange(1200)
+    while secs < LAST_DEPARTURE:
+        minutes = next(minutes for hour, minutes in EACH_DAY if secs < hour * 3600)
+        gap = max(int(minutes * 60 / share), 240)
+        found.append((secs, "ALL"))
+        # one more between, on weekdays in a peak
+        if any(first * 3600 <= secs < last * 3600 for first, last in PEAKS):
+            found.append((secs + gap // 2, "WD"))
+        secs += gap
+    return found
+
+
+def ride(legs, depart):
+    """The times at which a trip arrives; it departs after a dwell. Legs take up to a quarter longer in a peak."""
+    secs = depart - DWELL
+    yield secs
+    for leg in legs:
+        secs += DWELL
+        secs += leg + int(leg * crowd(secs) / 4)
+        yield secs
+
+
+def main(folder, patterns, seed):
+    random.seed(seed)
+    os.makedirs(folder, exist_ok=True)
+    side = max(round((patterns / PATTERNS_PER_STATION) ** 0.5), 36)
+    hubs = [(random.randrange(side), random.randrange(side)) for _ in range(max(patterns // 6, 4))]
+    routes = [route(side, hubs) for _ in range(patterns // 2)]
+    called = [0] * (side * side)
+    for stations in routes:
+        for station in stations:
+            called[station] += 1
+    platforms = [2 if count < 3 else 4 if count < 6 else 6 for count in called]
+    trips = ["route_id,service_id,trip_id"]
+    times = ["trip_id,arrival_time,departure_time,stop_id,stop_sequence,pickup_type,drop_off_type"]
+    for number, stations in enumerate(routes):
+        legs = [60 + random.randrange(90) for _ in stations[1:]]
+        share = random.choice((0.6, 0.8, 1.0, 1.0, 1.3, 1.6))
+        for direction in (0, 1):
+            calls = list(stations if direction == 0 else reversed(stations))
+            # each direction has half of the platforms, and a route has one of them
+            tracks = [number % (platforms[station] // 2) * 2 + direction for station in calls]
+            last = len(calls) - 1
+            for place, (depart, service) in enumerate(departures(share)):
+                trip = f"T{number}:{direction}:{place}"
+                trips.append(f"R{number},{service},{trip}")
+                run = ride(legs if direction == 0 else legs[::-1], depart)
+                for at, (secs, station, track) in enumerate(zip(run, calls, tracks)):
+                    marks = f"{int(at == last)},{int(at == 0)}"
+                    times.append(f"{trip},{clock(secs)},{clock(secs + DWELL)},S{station}:{track},{at + 1},{marks}")
+    write(folder, "stops.txt", stops(platforms))
+    write(folder, "transfers.txt", transfers(side, platforms))
+    write(
+        folder,
+        "calendar.txt",
+        [
+            "service_id,monday,tuesday,wednesday,thursday,friday,saturday,sunday,start_date,end_date",
+            "ALL,1,1,1,1,1,1,1,20260101,20261231",
+            "WD,1,1,1,1,1,0,0,20260101,20261231",
+        ],
+    )
+    write(folder, "trips.txt", trips)
+    write(folder, "stop_times.txt", times)
+
+
+if __name__ == "__main__":
+    main(sys.argv[1], int(sys.argv[2]), int(sys.argv[3]) if len(sys.argv) > 3 else 7)
