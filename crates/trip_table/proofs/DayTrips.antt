@@ -1,5 +1,5 @@
 -- The trips of a day, from the rows of trips.txt and the events of each.
-use Rattle.std.proofs.Common.{◌≡◌, ◌∙◌, sym, ap, refl, ℕ, suc, ◌<◌, ◌+◌, List, [], ◌∷◌, ◌++◌, length, map, drop, set, get_or, append_assoc, add-one, drop-cons, arith, Bool, Option, None, Some, Ok}
+use Rattle.std.proofs.Common.{◌≡◌, ◌∙◌, sym, ap, refl, ℕ, suc, ◌<◌, ◌+◌, List, [], ◌∷◌, ◌++◌, length, map, drop, set, get_or, append_assoc, add-one, drop-cons, arith, Bool, false, Option, None, Some, Ok}
 use Rattle.std.specs.Prelude.{All}
 use Rattle.std.proofs.lemmas.List.{drop-set-lt, get_or-map, length-map, length-set, map-set}
 use Rattle.std.proofs.lemmas.List.Elements.{All-head, All-tail, All-cons}
