@@ -116,6 +116,7 @@ impl Text {
             FeedFault::TooMany(many, row) => self.too_many(b"20 TooMany ", *many, *row),
             FeedFault::NotBuilt(file) => self.file(b"21 NotBuilt ", *file),
             FeedFault::FarFootpath(p, q) => self.two_names(b"22 FarFootpath ", p, q),
+            FeedFault::BeyondDay(spot) => self.spot(b"23 BeyondDay ", *spot),
         }
     }
 }

@@ -1,7 +1,7 @@
 //! Numbers and times in text.
-ghost use Rattle.std.specs.Prelude.{◌≡◌, ◌≤◌, ◌<◌, ◌+◌, ◌-◌, ◌*◌, ℕ, ℤ, List, MatchOption, IfSome, length, take, drop, pos};
+ghost use Rattle.std.specs.Prelude.{◌≡◌, ◌≤◌, ◌<◌, ◌+◌, ◌-◌, ◌*◌, ℕ, ℤ, List, MatchOption, IfSome, length, take, drop, pos, option_map};
 ghost use Rattle.std.specs.Str.Parse.{AllDigits, digits_value};
-ghost use Rattle.gtfs_rows.specs.Numbers.{IsNumber, number_of, sixtieth, after_hours, clock_of, time_of};
+ghost use Rattle.gtfs_rows.specs.Numbers.{IsNumber, number_of, sixtieth, after_hours, clock_of, time_of, time_secs};
 
 use tb_base::Sec;
 
@@ -59,10 +59,11 @@ fn after_hours(text: &[u8]) -> Option<u32>
     }
 }
 
-/// The time that a text writes: hours in one or two digits, then `:MM:SS`. In seconds from noon
-/// minus twelve hours, from 0 to 359,999. `None` for every other text.
-pub fn time_of(text: &[u8]) -> Option<Sec>
-    ensures { result ≡ time_of text.now }
+/// The same as [`time_of`], as a number of seconds.
+pub(crate) fn time_secs(text: &[u8]) -> Option<u32>
+    ensures secs { result ≡ time_secs text.now }
+    ensures time { option_map pos result ≡ time_of text.now }
+    ensures small { IfSome result (λ secs. secs ≤ 359_999) }
 {
     let len = text.len();
     if len < 7 || len > 8 {
@@ -70,5 +71,16 @@ pub fn time_of(text: &[u8]) -> Option<Sec>
     }
     let hours = number_of(&text[..len - 6])?;
     let seconds = after_hours(&text[len - 6..])?;
-    Some((hours * 3600 + seconds) as i32)
+    Some(hours * 3600 + seconds)
+}
+
+/// The time that a text writes: hours in one or two digits, then `:MM:SS`. In seconds from noon
+/// minus twelve hours, from 0 to 359,999. `None` for every other text.
+pub fn time_of(text: &[u8]) -> Option<Sec>
+    ensures { result ≡ time_of text.now }
+{
+    match time_secs(text) {
+        Some(secs) => Some(secs as i32),
+        None => None,
+    }
 }
