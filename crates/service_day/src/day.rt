@@ -1,7 +1,9 @@
 //! Days of service.
-ghost use Rattle.std.specs.Prelude.{◌≡◌, ◌<◌, true, Some, None, MatchResult};
+ghost use Rattle.std.specs.Prelude.{◌≡◌, ◌<◌, true, Some, None, MatchResult, MatchOption, ◌-ℤ◌, pos};
 ghost use Rattle.gtfs_rows.specs.Dates.{date_of, day_number, is_date, weekday_of};
+ghost use Rattle.service_day.specs.DayBefore.{day_before};
 
+use crate::before::date_before;
 use gtfs_rows::date_of;
 use jiff::civil;
 use std::marker::Model;
@@ -69,6 +71,18 @@ impl Day {
         ensures known { is_date self.now ≡ true }
     {
         self.date
+    }
+
+    /// The day before: `None` for 1 January of the year 1 alone. No memory is taken.
+    pub fn before(&self) -> Option<Day>
+        ensures before { result ≡ day_before self.now }
+        ensures number { MatchOption result (self.now ≡ 10101)
+            (λ day. day_number day ≡ day_number self.now -ℤ pos 1) }
+    {
+        match date_before(self.date) {
+            Some(date) => Some(Day::of(date)),
+            None => None,
+        }
     }
 }
 

@@ -7,6 +7,7 @@
 //! above asks [`Services::runs`] for one service.
 #![tactic(auto)]
 
+mod before;
 mod day;
 mod services;
 
