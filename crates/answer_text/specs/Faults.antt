@@ -60,6 +60,5 @@ fault_text (fault.OpenFootpaths p q r) =
 fault_text (fault.LongFootpath p q r) =
     codes "19 LongFootpath " ++ p ++ codes " " ++ q ++ codes " " ++ r
 fault_text (fault.TooMany many row) = codes "20 TooMany " ++ many_text many ++ row_text row
-fault_text (fault.NotBuilt file) = codes "21 NotBuilt " ++ file_name file
 fault_text (fault.FarFootpath p q) = codes "22 FarFootpath " ++ p ++ codes " " ++ q
 fault_text (fault.BeyondDay spot) = codes "23 BeyondDay " ++ spot_text spot

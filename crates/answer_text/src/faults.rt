@@ -114,7 +114,6 @@ impl Text {
             FeedFault::OpenFootpaths(p, q, r) => self.three_names(b"18 OpenFootpaths ", p, q, r),
             FeedFault::LongFootpath(p, q, r) => self.three_names(b"19 LongFootpath ", p, q, r),
             FeedFault::TooMany(many, row) => self.too_many(b"20 TooMany ", *many, *row),
-            FeedFault::NotBuilt(file) => self.file(b"21 NotBuilt ", *file),
             FeedFault::FarFootpath(p, q) => self.two_names(b"22 FarFootpath ", p, q),
             FeedFault::BeyondDay(spot) => self.spot(b"23 BeyondDay ", *spot),
         }
