@@ -4,7 +4,7 @@ use Rattle.std.specs.Fmt.{decimal}
 use Rattle.tb_base.specs.TimetableData.{TimetableData, event_total, path_total}
 use Rattle.tb_base.specs.declared.transfer.Transfer.{Transfer}
 use Rattle.answer_text.specs.declared.builds.BuildCounts.{BuildCounts}
-use Rattle.answer_text.specs.Journeys.{trip_name}
+use Rattle.answer_text.specs.Journeys.{trip_name, day_mark}
 
 -- a label and a number
 abbrev pub labelled : List ℕ → ℕ → List ℕ
@@ -28,9 +28,9 @@ counts_text c =
 abbrev pub build_text : TimetableData → BuildCounts → List ℕ
 build_text T c = table_text T ++ counts_text c
 
--- `TRIP@I`
+-- `TRIP@I`, and `/before` after it where the trip began on the day before
 abbrev pub event_text : TimetableData → ℕ → ℕ → List ℕ
-event_text T t i = trip_name T t ++ codes "@" ++ decimal i
+event_text T t i = trip_name T t ++ codes "@" ++ decimal i ++ day_mark (codes "/before") T t
 
 -- `TRIP@I TRIP@J`
 abbrev pub transfer_text : TimetableData → Transfer → List ℕ

@@ -62,7 +62,8 @@ impl Text {
     {
         self.trip(table, trip)?;
         self.add(b"@")?;
-        self.number(at)
+        self.number(at)?;
+        self.day_mark(b"/before", table, trip)
     }
 
     // Adds the line of a transfer.
@@ -98,8 +99,8 @@ pub fn build_text(alloc: Global, table: &Timetable, counts: BuildCounts) -> Resu
     Ok(text.into_bytes())
 }
 
-/// The same, and behind it `TRIP@I TRIP@J` for each transfer, list after list. Their trips exist in
-/// the timetable.
+/// The same, and behind it `TRIP@I TRIP@J` for each transfer, list after list, an end at a trip that
+/// began on the day before as `TRIP@I/before`. The trips exist in the timetable.
 pub fn build_list_text(
     alloc: Global,
     table: &Timetable,

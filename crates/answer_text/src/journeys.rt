@@ -5,7 +5,7 @@ ghost use Rattle.tb_base.specs.BestValues.{ChoiceData};
 ghost use Rattle.tb_base.specs.Profiles.{OfferData};
 ghost use Rattle.tb_base.specs.JourneyRules.{HasNumbers};
 ghost use Rattle.answer_text.specs.Times.{time_text};
-ghost use Rattle.answer_text.specs.Journeys.{stop_name, trip_name, place_text, walk_text, ride_text, leg_text, legs_text, journey_text, choice_text, choices_text, leave_text, offer_text, offers_text, arrival_text, no_journey, unknown_text};
+ghost use Rattle.answer_text.specs.Journeys.{stop_name, trip_name, day_mark, place_text, walk_text, ride_words, ride_text, leg_text, legs_text, journey_text, choice_text, choices_text, leave_text, offer_text, offers_text, arrival_text, no_journey, unknown_text};
 
 use crate::text::Text;
 use std::alloc::Global;
@@ -42,6 +42,23 @@ impl Text {
     {
         let trip = table.trip(t);
         self.add(trip.name.bytes())
+    }
+
+    // Adds a mark where a trip began on the day before.
+    pub(crate) fn day_mark(
+        &mut self,
+        mark: &[u8],
+        table: &Timetable,
+        t: TripNo,
+    ) -> Result<(), Memory>
+        requires { t < length table.now.trips }
+        ensures { OnOk result (self.new ≡ self.old ++ day_mark mark.now table.now t) }
+    {
+        let trip = table.trip(t);
+        if trip.before {
+            return self.add(mark);
+        }
+        Ok(())
     }
 
     // Adds the name of a stop and a time, each behind a space.
@@ -86,6 +103,27 @@ impl Text {
         self.add(b"\n")
     }
 
+    // Adds where and when a ride begins and ends.
+    fn ride_words(
+        &mut self,
+        table: &Timetable,
+        trip: TripNo,
+        board: u32,
+        alight: u32,
+    ) -> Result<(), Memory>
+        requires trip { trip < length table.now.trips }
+        requires board { board < length (events_of table.now trip) }
+        requires alight { alight < length (events_of table.now trip) }
+        ensures { OnOk result (self.new ≡ self.old ++ ride_words table.now trip board alight) }
+    {
+        let boarded = event_at(table, trip, board);
+        let left = event_at(table, trip, alight);
+        self.add(b"  ride ")?;
+        self.trip(table, trip)?;
+        self.boarding(table, &boarded)?;
+        self.alighting(table, &left)
+    }
+
     // Adds the line of a ride.
     fn ride(
         &mut self,
@@ -99,12 +137,8 @@ impl Text {
         requires alight { alight < length (events_of table.now trip) }
         ensures { OnOk result (self.new ≡ self.old ++ ride_text table.now trip board alight) }
     {
-        let boarded = event_at(table, trip, board);
-        let left = event_at(table, trip, alight);
-        self.add(b"  ride ")?;
-        self.trip(table, trip)?;
-        self.boarding(table, &boarded)?;
-        self.alighting(table, &left)?;
+        self.ride_words(table, trip, board, alight)?;
+        self.day_mark(b" day-before", table, trip)?;
         self.add(b"\n")
     }
 
@@ -188,7 +222,8 @@ impl Text {
 }
 
 /// One line a leg, in order: `  walk STOP STOP SECONDS`, or
-/// `  ride TRIP STOP DEPARTURE STOP ARRIVAL`. The numbers of the legs exist in the timetable.
+/// `  ride TRIP STOP DEPARTURE STOP ARRIVAL`, followed by ` day-before` where the trip began on the
+/// day before. The numbers of the legs exist in the timetable.
 pub fn legs_text(alloc: Global, table: &Timetable, legs: &[Leg]) -> Result<Vec<u8>, Memory>
     requires { All (HasNumbers table.now) legs.now }
     ensures { IfOk result (λ v. v.items ≡ legs_text table.now legs.now) }
