@@ -1,5 +1,5 @@
 -- What a text claims: the value of a journey, and its legs; or the first fault of its lines.
-use Rattle.std.specs.Prelude.{◌≡◌, ℕ, ◌+◌, List, [], ◌∷◌, length, codes, bytes_eq, nat_lt, position, ◌&&◌, Option, Some, None, Result, Ok, Err, MatchResult, ⊤, if◌then◌else◌}
+use Rattle.std.specs.Prelude.{◌≡◌, ℕ, ◌+◌, List, [], ◌∷◌, length, codes, bytes_eq, nat_lt, position, ◌&&◌, Option, Some, None, Result, Ok, Err, MatchResult, ⊤, if◌then◌else◌, Bool, true, false}
 use Rattle.std.specs.Option.{ok_or, option_and_then, option_map}
 use Rattle.gtfs_rows.specs.Numbers.{number_of}
 use Rattle.gtfs_rows.specs.Steps.{and_then, prepend}
@@ -45,21 +45,18 @@ ends_of T n from departure to arrival =
     (λ p. and_then (stop_of T n to)
     (λ q. Ok (record { from = p; departure = d; to = q; arrival = a })))))
 
--- line n ends in `STOP TIME STOP TIME day-before`, and no trip has such a ride
-abbrev pub earlier_ride_of : TimetableData → ℕ → List ℕ → List ℕ → List ℕ → List ℕ → List ℕ →
-    Result Leg JourneyFault
-earlier_ride_of T n from departure to arrival mark =
-    if bytes_eq mark (codes "day-before")
-    then and_then (ends_of T n from departure to arrival) (λ ends. Err (fault.NoSuchRide n))
-    else Err (fault.BadLine n)
+-- what stands behind a ride: `day-before` where its trip began on the day before, else nothing
+abbrev pub before_of : List (List ℕ) → Option Bool
+before_of [] = Some false
+before_of (mark ∷ []) = if bytes_eq mark (codes "day-before") then Some true else None
+before_of (mark ∷ more ∷ words) = None
 
 -- line n is `ride TRIP STOP TIME STOP TIME`, or the same with `day-before` behind it
 abbrev pub ride_of : TimetableData → ℕ → List (List ℕ) → Result Leg JourneyFault
-ride_of T n (trip ∷ from ∷ departure ∷ to ∷ arrival ∷ []) =
-    and_then (ends_of T n from departure to arrival)
-    (λ ends. ok_or (ride_among trip ends 0 T.trips) (fault.NoSuchRide n))
-ride_of T n (trip ∷ from ∷ departure ∷ to ∷ arrival ∷ mark ∷ []) =
-    earlier_ride_of T n from departure to arrival mark
+ride_of T n (trip ∷ from ∷ departure ∷ to ∷ arrival ∷ marks) =
+    and_then (good n (before_of marks))
+    (λ before. and_then (ends_of T n from departure to arrival)
+    (λ ends. ok_or (ride_among trip before ends 0 T.trips) (fault.NoSuchRide n)))
 ride_of T n words = Err (fault.BadLine n)
 
 -- the leg that line n claims

@@ -1,6 +1,6 @@
 //! What the words of a line claim.
 ghost use Rattle.std.specs.Prelude.{◌≡◌};
-ghost use Rattle.journey_read.specs.Claims.{earlier_ride_of, ends_of, leg_of, ride_of, stop_named, stop_of, value_of, value_shown, walk_of};
+ghost use Rattle.journey_read.specs.Claims.{before_of, ends_of, leg_of, ride_of, stop_named, stop_of, value_of, value_shown, walk_of};
 
 use crate::claim::JourneyFault;
 use crate::rides::Ends;
@@ -62,41 +62,28 @@ fn ends_of(
     })
 }
 
-// STOP TIME STOP TIME `day-before`, which no trip has.
-fn earlier_ride_of(
-    table: &Timetable,
-    line: u32,
-    from: &Name,
-    departure: &Name,
-    to: &Name,
-    arrival: &Name,
-    mark: &Name,
-) -> Result<Leg, JourneyFault>
-    ensures { result
-        ≡ earlier_ride_of table.now line from.now departure.now to.now arrival.now mark.now }
+// Whether a ride's trip began on the day before: `day-before`, or nothing.
+fn before_of(marks: &[Name]) -> Option<bool>
+    ensures { result ≡ before_of marks.now }
 {
-    if mark.bytes() != b"day-before".as_slice() {
-        return Err(JourneyFault::BadLine(line));
+    match marks {
+        [] => Some(false),
+        [mark] if mark.bytes() == b"day-before".as_slice() => Some(true),
+        _ => None,
     }
-    let _ends = ends_of(table, line, from, departure, to, arrival)?;
-    Err(JourneyFault::NoSuchRide(line))
 }
 
-// TRIP STOP TIME STOP TIME, or the same and `day-before`, which no trip has.
+// TRIP STOP TIME STOP TIME, or the same and `day-before`.
 fn ride_of(table: &Timetable, line: u32, words: &[Name]) -> Result<Leg, JourneyFault>
     ensures { result ≡ ride_of table.now line words.now }
 {
-    match words {
-        [trip, from, departure, to, arrival] => {
-            let ends = ends_of(table, line, from, departure, to, arrival)?;
-            ends.ride(table, trip.bytes())
-                .ok_or(JourneyFault::NoSuchRide(line))
-        }
-        [_, from, departure, to, arrival, mark] => {
-            earlier_ride_of(table, line, from, departure, to, arrival, mark)
-        }
-        _ => Err(JourneyFault::BadLine(line)),
-    }
+    let [trip, from, departure, to, arrival, marks @ ..] = words else {
+        return Err(JourneyFault::BadLine(line));
+    };
+    let before = before_of(marks).ok_or(JourneyFault::BadLine(line))?;
+    let ends = ends_of(table, line, from, departure, to, arrival)?;
+    ends.ride(table, trip.bytes(), before)
+        .ok_or(JourneyFault::NoSuchRide(line))
 }
 
 /// The leg that a line claims: `walk STOP STOP SECONDS`, `ride TRIP STOP TIME STOP TIME`, or the

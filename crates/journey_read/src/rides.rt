@@ -1,4 +1,4 @@
-//! Which ride a trip's name, two stops and two times stand for.
+//! Which ride a trip's name, its day, two stops and two times stand for.
 ghost use Rattle.std.specs.Prelude.{◌≡◌, ◌<◌, ◌^◌, length, option_map};
 ghost use Rattle.journey_read.specs.Rides.{arrives, departs, ends_among, ride_among, ride_on};
 
@@ -52,12 +52,13 @@ impl Ends {
         None
     }
 
-    // The ride on a trip with this number, if the trip has the name and such a ride.
-    fn on(&self, number: TripNo, trip: &Trip, name: &[u8]) -> Option<Leg>
+    // The ride on a trip with this number, if the trip has the name, began on the day before or
+    // not, as is asked, and has such a ride.
+    fn on(&self, number: TripNo, trip: &Trip, name: &[u8], before: bool) -> Option<Leg>
         requires { length trip.now.events < 2 ^ 32 }
-        ensures { result ≡ ride_on name.now self.now number trip.now }
+        ensures { result ≡ ride_on name.now before self.now number trip.now }
     {
-        if name != trip.name.bytes() {
+        if name != trip.name.bytes() || before != trip.before {
             return None;
         }
         let (board, alight) = self.among(trip.events.as_slice())?;
@@ -68,13 +69,14 @@ impl Ends {
         })
     }
 
-    /// The ride on the lowest-numbered trip with a name that has one.
-    pub(crate) fn ride(&self, table: &Timetable, name: &[u8]) -> Option<Leg>
-        ensures { result ≡ ride_among name.now self.now 0 table.now.trips }
+    /// The ride on the lowest-numbered trip that has one, of those with a name that began on the
+    /// day before, or of those that did not.
+    pub(crate) fn ride(&self, table: &Timetable, name: &[u8], before: bool) -> Option<Leg>
+        ensures { result ≡ ride_among name.now before self.now 0 table.now.trips }
     {
         table.soundness();
         for t in 0..table.trip_count() {
-            if let Some(leg) = self.on(TripNo(t), table.trip(TripNo(t)), name) {
+            if let Some(leg) = self.on(TripNo(t), table.trip(TripNo(t)), name, before) {
                 return Some(leg);
             }
         }
