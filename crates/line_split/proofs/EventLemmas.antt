@@ -13,24 +13,6 @@ use Rattle.tb_base.specs.Lines.{may_follow, same_mark, times_of}
 abbrev pub follows : Event → Event → Bool
 follows e f = (e.stop == f.stop) && same_mark e.board f.board && same_mark e.alight f.alight && int_le e.arr f.arr && int_le e.dep f.dep
 
-pub may_follow-more : (es fs : List Event) (i : ℕ) (d e : Event) → i < length es → i < length fs →
-    may_follow (drop i es) (drop i fs) ≡ (follows (get_or es i d) (get_or fs i e) && may_follow (drop (i + 1) es) (drop (i + 1) fs))
-may_follow-more es fs i d e h k = rw (drop_more es i d h, drop_more fs i e k) refl
-
-pub may_follow-all : (es fs : List Event) (i : ℕ) → length es ≤ i → length fs ≤ i → may_follow (drop i es) (drop i fs) ≡ may_follow [] []
-may_follow-all es fs i h k = rw (drop_all i es h, drop_all i fs k) refl
-
-ordering_then_assoc : (a b c : Ordering) → ordering_then a (ordering_then b c) ≡ ordering_then (ordering_then a b) c
-ordering_then_assoc Less b c = refl
-ordering_then_assoc Equal b c = refl
-ordering_then_assoc Greater b c = refl
-
--- the times of two trips from event i on
-pub times-more : (es fs : List Event) (i : ℕ) (d e : Event) → i < length es → i < length fs →
-    slice_cmp int_cmp (times_of (drop i es)) (times_of (drop i fs))
-    ≡ ordering_then (ordering_then (int_cmp (get_or es i d).arr (get_or fs i e).arr) (int_cmp (get_or es i d).dep (get_or fs i e).dep)) (slice_cmp int_cmp (times_of (drop (i + 1) es)) (times_of (drop (i + 1) fs)))
-times-more es fs i d e h k = rw (drop_more es i d h, drop_more fs i e k) (ordering_then_assoc (int_cmp (get_or es i d).arr (get_or fs i e).arr) (int_cmp (get_or es i d).dep (get_or fs i e).dep) (slice_cmp int_cmp (times_of (drop (i + 1) es)) (times_of (drop (i + 1) fs))))
-
 less : (n : ℕ) → Less ≡ nat_cmp 0 (suc n)
 less n = grind arith
 

@@ -7,9 +7,6 @@ use Rattle.line_split.specs.Places.{IsNoted, NotesLine}
 use Rattle.line_split.specs.LinesOf.{StandsAt}
 use Rattle.tb_base.proofs.NumberFacts.{below_or_at}
 
-pub notes_none : (line : ℕ) (trips : List ℕ) (old : List (ℕ × ℕ)) → NotesLine line trips 0 old old
-notes_none line trips old = record { long = refl; noted = λ k h. absurd (omega (arith, h)); others = λ t. inl refl }
-
 pub notes_more : (line : ℕ) (trips : List ℕ) (i t : ℕ) (old before new : List (ℕ × ℕ)) → i < length trips → t ≡ get_or trips i 0 → t < length before → new ≡ set before t (line, i)
     → NotesLine line trips i old before → NotesLine line trips (i + 1) old new
 notes_more line trips i t old before new h is inside e notes = record {
@@ -43,20 +40,3 @@ notes_more line trips i t old before new h is inside e notes = record {
       | inl kept ↦ inl (there u other ∙ kept)
       | inr noted ↦ inr (subst (λ q. IsNoted line trips u q) (sym (there u other)) noted)
     ]
-
--- a place that is noted is one where the trip stands
-pub noted_stands : (lines : List (List ℕ)) (line t : ℕ) (place : ℕ × ℕ) → IsNoted line (get_or lines line []) t place → StandsAt lines t place
-noted_stands lines line t place h = ap (λ l. slice_get (get_or lines l []) place.1) h.0 ∙ h.1
-
-pub places_more : (lines : List (List ℕ)) (line : ℕ) (old new : List (ℕ × ℕ)) → NotesLine line (get_or lines line []) (length (get_or lines line [])) old new
-    → ((i k : ℕ) → i < line → k < length (get_or lines i []) → StandsAt lines (get_or (get_or lines i []) k 0) (get_or old (get_or (get_or lines i []) k 0) (0, 0)))
-    → (i k : ℕ) → i < line + 1 → k < length (get_or lines i []) → StandsAt lines (get_or (get_or lines i []) k 0) (get_or new (get_or (get_or lines i []) k 0) (0, 0))
-places_more lines line old new notes before i k h inside = by_case (below_or_at i line h)
-  where
-    by_case : (i < line) ⊎ (i ≡ line) → StandsAt lines (get_or (get_or lines i []) k 0) (get_or new (get_or (get_or lines i []) k 0) (0, 0))
-    by_case (inl below) = elim (notes.others (get_or (get_or lines i []) k 0)) [
-      | inl kept ↦ subst (λ q. StandsAt lines (get_or (get_or lines i []) k 0) q) (sym kept) (before i k below inside)
-      | inr noted ↦ noted_stands lines line (get_or (get_or lines i []) k 0) (get_or new (get_or (get_or lines i []) k 0) (0, 0)) noted
-    ]
-    by_case (inr same) = subst (λ j. k < length (get_or lines j []) → StandsAt lines (get_or (get_or lines j []) k 0) (get_or new (get_or (get_or lines j []) k 0) (0, 0))) (sym same)
-        (λ below. noted_stands lines line (get_or (get_or lines line []) k 0) (get_or new (get_or (get_or lines line []) k 0) (0, 0)) (notes.noted k below)) inside

@@ -195,14 +195,6 @@ module _ (T : TimetableData) (lines buckets : List (List ℕ)) (are : AreBuckete
           subst (λ row. Contains (get_or more_buckets (bucket_of (length buckets) (events_of T (last_trip row))) []) k) (sym row)
           (subst (λ xs. Contains xs k) (sym at_own) (subst (λ i. Contains (get_or buckets own [] ++ length lines ∷ []) i) (sym e) (Contains-push (get_or buckets own []) (length lines))))
 
--- no line and no trip so far
-pub bucketed_none : (T : TimetableData) (buckets : List (List ℕ)) → ((b : ℕ) → get_or buckets b [] ≡ []) → AreBucketed T [] buckets
-bucketed_none T buckets empty = record {
-  known = λ b. rw (empty b) (λ k d below. absurd (omega (arith, below)));
-  ascending = λ b. rw (empty b) (λ i j d before below. absurd (omega (arith, below)));
-  there = λ k below. absurd (omega (arith, below));
-}
-
 pub none_in : (n b : ℕ) → get_or (replicate n (let none : List ℕ = [] in none)) b [] ≡ []
 none_in zero b = refl
 none_in (suc n) zero = refl

@@ -20,33 +20,6 @@ pub record Works (c : ClaimData) (f : ℕ → ReducedData) (seat : SeatData) (do
   pub short : Short (drawn_of seat)
   pub all : done ≡ map (piece_of f) (drawn_of seat)
 
-pub works_none : (c : ClaimData) (f : ℕ → ReducedData) (seat : SeatData) → IsOpen c [] seat → Works c f seat []
-works_none c f seat fresh =
-    let none : drawn_of seat ≡ [] = ap (λ h. h.drawn) fresh.1 in
-    record {
-      stands = (fresh.0, fresh.1 ∙ ap (λ xs. hand c.pieces xs 1 0) (sym none));
-      short = λ n h. let e = ap length none in omega arith;
-      all = sym (ap (map (piece_of f)) none);
-    }
-
-short_more : (xs : List ℕ) (m : ℕ) → Short xs → All (λ x. x < m) xs → Short (xs ++ m ∷ [])
-short_more xs m short below n h =
-    let last : m < n = all_last (λ x. x < n) xs m h in
-    let front = short m below in
-    let e : length (xs ++ m ∷ []) ≡ length xs + 1 = length-append xs (m ∷ []) in
-    omega arith
-
-pub works_more : (c : ClaimData) (f : ℕ → ReducedData) (seat seat' : SeatData) (done : List (ℕ × ReducedData)) (m : ℕ) (r : ReducedData) → Works c f seat done
-    → IsOpen c (drawn_of seat ++ m ∷ []) seat' → All (λ x. x < m) (drawn_of seat) → r ≡ f m
-    → Works c f seat' (done ++ (m, r) ∷ [])
-works_more c f seat seat' done m r w fresh below is =
-    let list : drawn_of seat' ≡ drawn_of seat ++ m ∷ [] = ap (λ v. v.drawn) fresh.1 in
-    record {
-      stands = (fresh.0, fresh.1 ∙ ap (λ xs. hand c.pieces xs 1 0) (sym list));
-      short = rw list (short_more (drawn_of seat) m w.short below);
-      all = ap (λ x. done ++ (m, x) ∷ []) is ∙ ap (λ xs. xs ++ piece_of f m ∷ []) w.all ∙ sym (ap (map (piece_of f)) list ∙ map-append (piece_of f) (drawn_of seat) (m ∷ []));
-    }
-
 -- what a worker brings, or that memory ran out
 abbrev Brought : Type 0
 Brought = Result (SeatData × Vec (ℕ × ReducedData) Global) Memory

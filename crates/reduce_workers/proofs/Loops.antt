@@ -50,24 +50,6 @@ one_only : {X : Type 0} (s : X) (P : X → Type 0) → P s → (i : ℕ) → i <
 one_only s P h zero lt = h
 one_only s P h (suc i) lt = absurd (omega arith)
 
-pub made_more : (pieces seats made room : ℕ) (z : TableId) (key : ℕ × ℕ) (own : TableId) (me : Me ℕ Hand) (row : List SeatData) (own' : TableId) (me' : Me ℕ Hand) (s : SeatData)
-    → Made pieces seats made room z key own me row → made < seats → own' ≡ own → me' ≡ (fewer me.0, me.1) → s.table ≡ own → s.hand ≡ newcomer me.0
-    → Made pieces seats (made + 1) room z key own' me' (row ++ s ∷ [])
-made_more pieces seats made room z key own me row own' me' s i lt own_is me_is s_own s_hand =
-    let many = i.many in
-    let P : SeatData → Type 0 = IsOpen (record { table = z; pieces = pieces; seats = seats }) [] in
-    let one : All P (s ∷ []) = All-from_get_or P (s ∷ []) s (one_only s P (s_own ∙ i.same_table, s_hand ∙ ap (λ (m : Me ℕ Hand). newcomer m.0) i.maker)) in
-    record {
-      within = omega arith;
-      many = let e = length-append row (s ∷ []) in omega arith;
-      has_room = i.has_room;
-      words = i.words;
-      told = i.told;
-      same_table = own_is ∙ i.same_table;
-      maker = me_is ∙ ap (λ (m : Me ℕ Hand). (fewer m.0, m.1)) i.maker ∙ ap (λ n. (hand pieces [] n 0, [])) (omega arith);
-      all = All-append P row (s ∷ []) i.all one;
-    }
-
 pub joined_more : (c : ClaimData) (z : TableId) (key : ℕ × ℕ) (own : TableId) (me : Me ℕ Hand) (before left all : List SeatData) (s : SeatData)
     → Joined c z key own me before all → before ≡ left ++ s ∷ [] → Joined c z key own (together me.0 s.hand, me.1) left all
 joined_more c z key own me before left all s i split =

@@ -222,22 +222,6 @@ module _ (T : TimetableData) (lines : List (List ℕ)) (t i p n : ℕ) (fs : Lis
       first : (i : ℕ) → 0 < i → nat_lt 0 i ≡ true
       first i h = grind arith
 
--- an event without alighting, and the first one, have no candidate
-pub event_none : (T : TimetableData) (lines : List (List ℕ)) (t i : ℕ) → (i ≡ 0) ⊎ ((event_at T t i).alight ≡ false) → candidates T lines t i ≡ []
-event_none T lines t i h =
-    ap (λ b. cond b (flat_map (λ q. flat_map (λ line. filter_map (λ j. hop_onto T t i line j) (boarding_indexes T line q)) lines) (numbers_below (length T.stops))) []) (neither h)
-  where
-    at_zero : (i : ℕ) → i ≡ 0 → nat_lt 0 i ≡ false
-    at_zero i h = grind arith
-
-    neither : (i ≡ 0) ⊎ ((event_at T t i).alight ≡ false) → (nat_lt 0 i && (event_at T t i).alight) ≡ false
-    neither (inl e) = ap (λ b. b && (event_at T t i).alight) (at_zero i e)
-    neither (inr e) = ap (λ b. nat_lt 0 i && b) e ∙ and_false (nat_lt 0 i)
-      where
-        and_false : (b : Bool) → (b && false) ≡ false
-        and_false true = refl
-        and_false false = refl
-
 -- ---- what is known of a trip that is found on a line
 
 pub found_trip : (T : TimetableData) (lines : List (List ℕ)) → AreDividedInto T lines → (n j : ℕ) (time : ℤ) (u : ℕ) → earliest_trip T (get_or lines n []) j time ≡ Some u →
@@ -285,10 +269,6 @@ pub rows_more : {X Y : Type 0} (h : X → Option Y) (xs : List X) (i : ℕ) (x :
 rows_more h xs i x old before new below is e k =
     k ∙ ap (λ ys. ys ++ option_to_list (h x)) e ∙ append_assoc old (filter_map h (take i xs)) (option_to_list (h x))
     ∙ ap (λ ys. old ++ ys) (ap (λ y. filter_map h (take i xs) ++ option_to_list (h y)) is ∙ sym (filter_map_more h xs i x below))
-
-pub paths_more : {X Y : Type 0} (f : X → List Y) (xs : List X) (i : ℕ) (x : X) (old before new : List Y) → i < length xs → x ≡ get_or xs i x → before ≡ old ++ flat_map f (take i xs) → new ≡ before ++ f x → new ≡ old ++ flat_map f (take (i + 1) xs)
-paths_more f xs i x old before new below is e k =
-    k ∙ ap (λ ys. ys ++ f x) e ∙ flat_map_more f old (take i xs) x ∙ ap (λ ys. old ++ flat_map f ys) (ap (λ y. take i xs ++ y ∷ []) is ∙ sym (take_more xs i x below))
 
 module _ (T : TimetableData) (lines : List (List ℕ)) (t i p n : ℕ) (fs : List Path) (is : p ≡ stop_at T t i) (row : slice_get T.footpaths.paths p ≡ Some fs) (inside : p < length T.stops)
     (up : AllPairs (λ (f g : Path). f.to < g.to) fs) (sound : All (IsSoundPath (length T.stops) p) fs)

@@ -137,10 +137,6 @@ least-cons x [] = refl
 least-cons x (y ∷ ys) =
     least-cons (int_min x y) ys ∙ ap (λ o. lesser o (least ys)) (lesser-int_min x y) ∙ lesser-assoc (Some x) (Some y) (least ys) ∙ ap (lesser (Some x)) (sym (least-cons y ys))
 
-least-cons_option : (o : Option ℤ) (xs : List ℤ) → least (cons_option o xs) ≡ lesser o (least xs)
-least-cons_option None xs = refl
-least-cons_option (Some x) xs = least-cons x xs
-
 -- what an event offers at a stop, by these seconds
 abbrev pub offer_by : (ℕ → ℕ → Option ℕ) → Event → ℕ → Option ℤ
 offer_by secs_to e p = earliest_offer secs_to (e ∷ []) p
