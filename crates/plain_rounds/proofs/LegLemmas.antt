@@ -22,16 +22,3 @@ after_is T r (s ∷ rest) target = ap (λ legs. walk_legs T (alighting_stop T r)
 pub legs_from-legs_of : (T : TimetableData) (origin : ℕ) (rides : List Ride) (target : ℕ) → legs_from T origin rides target ≡ legs_of T origin rides target
 legs_from-legs_of T origin [] target = refl
 legs_from-legs_of T origin (r ∷ rest) target = ap (λ legs. walk_legs T origin (boarding_stop T r) ++ RideLeg r.trip r.board r.alight ∷ legs) (after_is T r rest target)
-
--- one more ride
-pub spell-more : (T : TimetableData) (legs new : List Leg) (at next : ℕ) (rides : List PlainRide) (i : ℕ) (ride : PlainRide) (target : ℕ) → drop i rides ≡ ride ∷ drop (i + 1) rides →
-    new ≡ (legs ++ walk_legs T at (stop_at T ride.trip ride.board)) ++ ride_leg ride ∷ [] → next ≡ stop_at T ride.trip ride.alight →
-    new ++ legs_from T next (map ride_of (drop (i + 1) rides)) target ≡ legs ++ legs_from T at (map ride_of (drop i rides)) target
-spell-more T legs new at next rides i ride target more e f =
-    let walked = walk_legs T at (stop_at T ride.trip ride.board) in
-    let rest : List Leg = legs_from T (stop_at T ride.trip ride.alight) (map ride_of (drop (i + 1) rides)) target in
-    ap (λ xs. xs ++ legs_from T next (map ride_of (drop (i + 1) rides)) target) e
-    ∙ ap (λ p. ((legs ++ walked) ++ ride_leg ride ∷ []) ++ legs_from T p (map ride_of (drop (i + 1) rides)) target) f
-    ∙ append_assoc (legs ++ walked) (ride_leg ride ∷ []) rest
-    ∙ append_assoc legs walked (ride_leg ride ∷ rest)
-    ∙ ap (λ xs. legs ++ legs_from T at (map ride_of xs) target) (sym more)

@@ -12,12 +12,6 @@ use Rattle.plain_rounds.specs.Labels.{label_at}
 use Rattle.plain_rounds.specs.Rounds.{last_index, IsLeftBehind}
 
 module _ (T : TimetableData) (sound : IsSound T) where
-  -- a trip has no more events than all trips have
-  pub few_events : (t : ℕ) → t < length T.trips → length (events_of T t) ≤ 10000000
-  few_events t inside = omega (arith, sound.events, get_or-le-sum_by (λ (u : TripData). length u.events) T.trips t no_trip inside)
-
-  pub two_events : (t : ℕ) → t < length T.trips → 2 ≤ length (events_of T t)
-  two_events t inside = (sound.trip t no_trip inside).long
 
   pub boarded_at-few : sum (map last_index T.trips) ≤ 10000000
   boarded_at-few = subst (λ n. n ≤ 10000000) (sym (sum-map last_index T.trips))
@@ -25,15 +19,6 @@ module _ (T : TimetableData) (sound : IsSound T) where
     where
       less : (n : ℕ) → n - 1 ≤ n
       less n = omega arith
-
-  mark_is : (t : ℕ) → t < length T.trips → get_or (map last_index T.trips) t 0 ≡ length (events_of T t) - 1
-  mark_is t inside = get_or-map last_index T.trips t no_trip 0 inside
-
-  pub last-inside : (t : ℕ) → t < length T.trips → get_or (map last_index T.trips) t 0 < length (events_of T t)
-  last-inside t inside = omega (arith, mark_is t inside, two_events t inside)
-
-  pub last-left : (labels : List (Option StopLabel)) (t : ℕ) → t < length T.trips → IsLeftBehind T labels t (get_or (map last_index T.trips) t 0)
-  last-left labels t inside i behind alights = absurd (omega (arith, mark_is t inside, two_events t inside, (MayAlight-inside T t i alights).1))
 
 -- there is no label
 pub no_label : (n p : ℕ) (l : StopLabel) → label_at (replicate n None) p ≡ Some l → ⊥

@@ -82,18 +82,6 @@ module _ (T : TimetableData) where
   pub TakesRides-same : (a b : Arrivals) (P Q : PlainRide → Type 0) → ((s : PlainRide) → P s → Q s) → ((s : PlainRide) → Q s → P s) → TakesRides T a b P → TakesRides T a b Q
   TakesRides-same a b P Q f g t = TakesRides-as a b P Q f (λ s h. t.taken s (g s h)) t
 
-  -- nothing new is offered
-  pub TakesRides-none : (a : Arrivals) (P : PlainRide → Type 0) → ((s : PlainRide) → P s → IsNoLaterAt a.labels.items (alighting_stop T (ride_of s)) (alighting_time T (ride_of s))) → TakesRides T a a P
-  TakesRides-none a P there = record {
-    long = refl;
-    grown = omega arith;
-    ridden = λ n s h. h;
-    unchanged = λ e. refl;
-    kept = λ p time h. h;
-    made = λ p l h. inl h;
-    taken = there;
-  }
-
   -- one offer after another
   pub TakesRides-then : (a b c : Arrivals) (P Q : PlainRide → Type 0) → TakesRides T a b P → TakesRides T b c Q → TakesRides T a c (λ s. P s ⊎ Q s)
   TakesRides-then a b c P Q t u = record {
@@ -160,17 +148,6 @@ module _ (T : TimetableData) where
   module _ (ready : List (Option StopLabel)) (t until : ℕ) (a : Arrivals) (left : IsLeftBehind T a.labels.items t until) where
     within_or_behind : (m n : ℕ) → (m < n + 1) ⊎ (n < m)
     within_or_behind m n = grind arith
-
-    -- a trip that cannot be boarded before its until gives nothing new
-    pub none_boarded : NoneBoards ready (events_of T t) until → TakesRides T a a (λ s. (s.trip ≡ t) × IsBoardable T ready s)
-    none_boarded none = TakesRides-none a (λ s. (s.trip ≡ t) × IsBoardable T ready s) (λ s h. by_trip s h.0 h.1)
-      where
-        by_case : (s : PlainRide) → IsBoardable T ready s → s.trip ≡ t → (s.board < until) ⊎ (until ≤ s.board) → IsNoLaterAt a.labels.items (alighting_stop T (ride_of s)) (alighting_time T (ride_of s))
-        by_case s h e (inl early) = absurd (none s.board s.before early (subst (λ u. LetsBoard ready (event_at T u s.board) s.before) e h.boards))
-        by_case s h e (inr late) = subst (λ u. IsNoLaterAt a.labels.items (stop_at T u s.alight) (arrival_at T u s.alight)) (sym e) (left s.alight (omega (arith, late, h.onward)) (subst (λ u. MayAlight T u s.alight) e h.alights))
-
-        by_trip : (s : PlainRide) → s.trip ≡ t → IsBoardable T ready s → IsNoLaterAt a.labels.items (alighting_stop T (ride_of s)) (alighting_time T (ride_of s))
-        by_trip s e h = by_case s h e (cases_lt s.board until)
 
     -- one that is boarded at its first event where it can be
     module _ (b : Arrivals) (f : Boarding) (takes : TakesRides T a b (IsAlong T t f until)) where

@@ -5,15 +5,6 @@ use Rattle.plain_rounds.specs.declared.labels.StopLabel.{StopLabel}
 use Rattle.plain_rounds.specs.Labels.{Takes, label_at}
 use Rattle.plain_rounds.proofs.Least.{below_or_at, get_or-inside}
 
--- nothing is offered
-pub Takes-none : (xs : List (Option StopLabel)) (P : ℕ → StopLabel → Type 0) → ((p : ℕ) (l : StopLabel) → P p l → ⊥) → Takes xs xs P
-Takes-none xs P none = record {
-  long = refl;
-  kept = λ p time h. h;
-  made = λ p l h. inl h;
-  taken = λ p l h. absurd (none p l h);
-}
-
 -- the same is offered
 pub Takes-same : (xs ys : List (Option StopLabel)) (P Q : ℕ → StopLabel → Type 0) → ((p : ℕ) (l : StopLabel) → P p l → Q p l) → ((p : ℕ) (l : StopLabel) → Q p l → P p l) → Takes xs ys P → Takes xs ys Q
 Takes-same xs ys P Q f g t = record {
