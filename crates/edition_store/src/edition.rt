@@ -1,18 +1,14 @@
-ghost use Rattle.std.specs.Prelude.{◌≡◌, ◌<◌, ◌≤◌, ℕ, IfOk};
+ghost use Rattle.std.specs.Prelude.{◌≡◌, ℕ};
 ghost use Rattle.tb_base.specs.Sufficiency.{AreSufficient};
 ghost use Rattle.tb_base.specs.Transfers.{kept_hops};
-ghost use Rattle.reduce_workers.specs.Reductions.{reduced};
 ghost use Rattle.transfer_pack.specs.Packed.{packed};
-ghost use Rattle.edition_store.specs.Editions.{EditionData, IsEdition, net_of};
+ghost use Rattle.edition_store.specs.Editions.{EditionData, IsEdition, kept_count, net_of};
 
-use line_split::{Lines, split};
-use reduce_workers::{Reduced, reduce_all};
+use line_split::Lines;
 use segment_queue::{Look, Scan, Shape, Steps, View, Visit};
-use std::alloc::Global;
 use std::marker::Model;
 use std::sync::ledger::Ledger;
-use std::thread::Threads;
-use tb_base::{Gate, Hop, Memory, Path, Sec, StopNo, Timetable, TripNo};
+use tb_base::{Hop, Path, Sec, StopNo, Timetable, TripNo};
 use transfer_pack::Set;
 
 /// The network of a day: a timetable, its lines, and the set of its kept transfers.
@@ -47,50 +43,24 @@ impl Model for Edition {
 }
 
 impl Edition {
-    /// The edition of a timetable. So many workers reduce its transfers, at least one and at most
-    /// 64; the gate is told of their pieces. Every number of workers gives the same network.
-    /// Refused only for want of memory; the timetable is dropped then.
-    pub fn build<G: Gate, R: Threads + Sync>(
-        rt: &R,
-        alloc: Global,
-        table: Timetable,
-        workers: u32,
-        gate: &G,
-    ) -> Result<Edition, Memory>
-        requires some { 0 < workers }
-        requires most { workers ≤ 64 }
-        ensures { IfOk result (λ e. EditionData.table e ≡ table) }
-    {
-        let lines = split(alloc, &table)?;
-        let transfers = reduce_all(rt, alloc, &table, &lines, workers, gate)?;
-        Edition::assemble(alloc, table, lines, transfers)
-    }
-
-    /// The edition of a timetable with its lines and what the reduction made of its transfers.
-    /// Refused only for want of memory; all three are dropped then.
-    pub fn assemble(
-        alloc: Global,
-        table: Timetable,
-        lines: Lines,
-        transfers: Reduced,
-    ) -> Result<Edition, Memory>
+    /// The edition of a timetable with its lines, the set of exactly its kept transfers, and how
+    /// many these are. Takes no memory.
+    pub fn new(table: Timetable, lines: Lines, set: Set, kept: u64) -> Edition
         requires lines { lines.table ≡ table }
-        requires transfers { transfers ≡ reduced table lines.lines }
-        ensures table { IfOk result (λ e. EditionData.table e ≡ table) }
-        ensures lines { IfOk result (λ e. EditionData.lines e ≡ lines.lines) }
-        ensures kept { IfOk result (λ e. EditionData.kept e ≡ transfers.kept) }
+        requires set { set.table ≡ table }
+        requires hops { (t i : ℕ) → packed set t i ≡ kept_hops table lines.lines t i }
+        requires kept { kept ≡ kept_count table lines.lines }
+        ensures { result ≡
+            record { table = table; lines = lines.lines; set = set; kept = kept } }
     {
-        reduce_workers::laws::kept_rows();
         table.soundness();
         lines.soundness();
-        let kept = transfers.kept;
-        let set = transfers.into_set(alloc, &table)?;
-        Ok(Edition {
+        Edition {
             table,
             lines,
             set,
             kept,
-        })
+        }
     }
 
     /// What every edition keeps. Does nothing.

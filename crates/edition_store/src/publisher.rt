@@ -4,7 +4,7 @@ ghost use Rattle.history.specs.Lists.{Shown, Extends};
 
 use crate::content::Content;
 use crate::edition::Edition;
-use crate::pinned::{Last, Receipt};
+use crate::pinned::{Last, Pinned, Receipt};
 use crate::rule::{Kept, Sees, View};
 use crate::shared::Shared;
 use history::{History, Naming};
@@ -142,6 +142,15 @@ impl<J: Naming> Publishing<J, Writing<Content<J>>> {
         ensures { result ≡ length self.now }
     {
         self.kept.len() as u32
+    }
+
+    /// A list that was pinned was published: the publisher's list begins with it by now. Changes
+    /// nothing.
+    pub fn covers(&mut self, pinned: &Pinned<J>)
+        ensures covers { Extends (record { list = self.old; closed = false }) pinned.now }
+        ensures same { self.new ≡ self.old }
+    {
+        self.history.covers(&pinned.content.front);
     }
 
     /// Appends the edition to the list in one step. May wait for readers that are just entering.

@@ -1,12 +1,10 @@
-ghost use Rattle.std.specs.Prelude.{◌≡◌, ◌<◌, ◌≤◌, IfOk};
-ghost use Rattle.edition_store.specs.Editions.{EditionData};
+ghost use Rattle.std.specs.Prelude.{◌≡◌, IfOk};
 
 use crate::edition::Edition;
 use std::alloc::Global;
 use std::marker::Model;
 use std::sync::Arc;
-use std::thread::Threads;
-use tb_base::{Gate, Memory, Timetable};
+use tb_base::Memory;
 
 /// One edition, shared: its shares are one and the same edition, which is dropped with the last of
 /// them.
@@ -43,19 +41,4 @@ impl Shared {
     {
         Ok(Shared(Arc::try_clone(&self.0).map_err(|_| Memory)?))
     }
-}
-
-/// The edition of a timetable, shared; see `Edition::build`.
-pub fn build_edition<G: Gate, R: Threads + Sync>(
-    rt: &R,
-    alloc: Global,
-    table: Timetable,
-    workers: u32,
-    gate: &G,
-) -> Result<Shared, Memory>
-    requires some { 0 < workers }
-    requires most { workers ≤ 64 }
-    ensures { IfOk result (λ e. EditionData.table e ≡ table) }
-{
-    Shared::new(alloc, Edition::build(rt, alloc, table, workers, gate)?)
 }

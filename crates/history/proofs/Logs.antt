@@ -103,3 +103,9 @@ module _ {E : Type 0} where
   latest cs (x ∷ []) (y ∷ y' ∷ ys) k p g a h = let same : y ≡ x = cc (p.1) in
       absurd (false≢true (sym a ∙ subst (λ (j : ℕ). (cell cs j).1 ≡ true) (ap (λ (z : Entry E). z.key) same ∙ g) h.0))
   latest cs (x ∷ x' ∷ xs) (y ∷ y' ∷ ys) k p g a h = let rest = latest cs (x' ∷ xs) (y' ∷ ys) k (p.0, cc (p.1)) g a h.1 in cc (p.1, rest)
+
+  -- who has the pen of the last entry knows of no beginning that goes further
+  pub extends_known : (cs : List Cell) (v known log : List (Entry E)) (k : ℕ) → IsPrefix v log → IsPrefix known log → Guarded k v → (cell cs k).1 ≡ false → Turned cs log → Legal v
+      → Extends (shown v) (shown known)
+  extends_known cs v known log k p q g a h legal =
+      legal_extends known v (subst (λ (l : List (Entry E)). IsPrefix known l) (sym (latest cs v log k p g a h)) q) legal

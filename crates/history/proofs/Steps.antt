@@ -7,8 +7,8 @@ use Rattle.std.specs.Prelude.{slice_set}
 use prog.Atomic.{either}
 use Rattle.logbook.specs.Pages.{Cell, cell, keeps, gives, adds, Nib, no_nib, may_write, step, Moves, Goes}
 use Rattle.history.specs.declared.entry.Entry.{Entry}
-use Rattle.history.specs.Logs.{shown, Guarded}
-use Rattle.history.specs.Rules.{IsKept, Draws, Begins, Adds}
+use Rattle.history.specs.Logs.{shown, Guarded, Turned}
+use Rattle.history.specs.Rules.{IsKept, Draws, Begins, Adds, Stays}
 use Rattle.history.proofs.Logs.{legal_more, turned_as, turned_more, latest}
 
 home_set : (cs : List Cell) (k n j : ℕ) → (cell cs j).1 ≡ true → (cell (slice_set cs k (n, true)) j).1 ≡ true
@@ -107,3 +107,19 @@ module _ {E : Type 0} where
         legal = legal_more log ask (subst (λ (l : List (Entry E)). (shown l).closed ≡ false) same free) kept.legal;
       } in
       (kept.some, kept.head, (gives, ask ∷ [], None, right, next, inl (refl, refl), ap (λ (l : List (Entry E)). l ++ ask ∷ []) (sym same)))
+
+  pub stays : (v : List (Entry E)) (ask : Entry E) (p : Nib) → p.right ≡ may_write → ask.key ≡ p.key
+      → Moves IsKept none (moved ask) 0 (v, (p, None)) (λ n. either (n == 0) 0 n) (Stays (step 0 0 0 ask) (v, (p, None)))
+  stays v ask p right same cs log kept pre away = let n = (cell cs 0).0 in let m = either (n == 0) 0 n in let ds = slice_set cs 0 (m, true) in
+      let there = away right in
+      let first : cell ds 0 ≡ (m, true) = here_set cs 0 m kept.some in
+      let next : IsKept ds log = record {
+        some = omega (arith, kept.some, length-set cs 0 (m, true));
+        head = ap (λ (c : Cell). c.1) first;
+        fresh = λ e. kept.fresh (still_zero n (sym (ap (λ (c : Cell). c.0) first) ∙ e));
+        turned = turned_as cs ds log (λ j h. home_set cs 0 m j h) kept.turned;
+        legal = kept.legal;
+      } in
+      let left : (cell cs ask.key).1 ≡ false = subst (λ (k : ℕ). (cell cs k).1 ≡ false) (sym same) there.1 in
+      let turned : Turned cs (log ++ []) = subst (λ (l : List (Entry E)). Turned cs l) (sym (append-nil log)) kept.turned in
+      (kept.some, kept.head, (keeps, [], None, tt, subst (λ (l : List (Entry E)). IsKept ds l) (sym (append-nil log)) next, inl (refl, refl), (refl, (cs, left, turned))))

@@ -1,5 +1,5 @@
 -- The rule of the book, and what its steps tell.
-use Rattle.std.specs.Prelude.{◌≡◌, ℕ, ◌<◌, ◌==◌, true, List, [], ◌∷◌, ◌++◌, length, MatchBool}
+use Rattle.std.specs.Prelude.{◌≡◌, ℕ, ◌<◌, ◌==◌, true, false, List, [], ◌∷◌, ◌++◌, length, MatchBool}
 use Rattle.logbook.specs.Pages.{Cell, cell, Step, View, Book, Named, nib, may_make}
 use Rattle.history.specs.declared.entry.Entry.{Entry}
 use Rattle.history.specs.Logs.{Legal, Turned}
@@ -30,3 +30,8 @@ module _ {E : Type 0} where
   -- the entry that was asked for stands behind all that was seen
   abbrev pub Adds : Step (Entry E) → View (Entry E) ℕ → ℕ → View (Entry E) ℕ → Type 0
   Adds s v found w = w.0 ≡ v.0 ++ s.ask ∷ []
+
+  -- the pen is as it was, and with the key that was asked for it was not used up by the history
+  abbrev pub Stays : Step (Entry E) → View (Entry E) ℕ → ℕ → View (Entry E) ℕ → Type 0
+  Stays s v found w = (w.1.0 ≡ v.1.0)
+      × ((cells : List Cell) × ((cell cells s.ask.key).1 ≡ false) × Turned cells w.0)

@@ -101,6 +101,24 @@ impl<E> Plain<End, Entry<E>, u64> for Add {
     ghost state = { λ about. None };
 }
 
+/// A step that adds nothing, by whose pen the log can be added to.
+pub struct Stay;
+
+impl<E> Play<Entry<E>, u64> for Stay {
+    ghost use Rattle.history.specs.Rules.{Stays};
+
+    ghost then = { Stays };
+}
+
+impl<E> Plain<Pen, Entry<E>, u64> for Stay {
+    ghost use Rattle.std.specs.Prelude.{None};
+    ghost use Rattle.history.specs.declared.entry.Event.TheVariants.{Finish};
+
+    ghost ask = { λ pen. record { event = Finish; key = pen.nib.key } };
+
+    ghost state = { λ pen. None };
+}
+
 /// Which history it is. Whoever opens one picks its name, as a type parameter of the call.
 pub trait Naming {
     ghost use Rattle.logbook.specs.Pages.{Book};

@@ -1,11 +1,11 @@
 ghost use Rattle.std.specs.Prelude.{◌≡◌, ◌++◌, ◌∷◌, [], true, false, IfSome};
 ghost use Rattle.logbook.specs.Pages.{may_write};
 ghost use Rattle.history.specs.Rules.{head_of};
-ghost use Rattle.history.specs.Lists.{Shown};
+ghost use Rattle.history.specs.Lists.{Extends, Shown};
 
 use crate::entry::Entry;
 use crate::front::Front;
-use crate::law::{Add, Begin, Draw, End, Law, Naming, Next, Nothing};
+use crate::law::{Add, Begin, Draw, End, Law, Naming, Next, Nothing, Stay};
 use logbook::{Offer, Pen, Seen, Start, Word};
 use std::marker::{Model, PhantomData};
 
@@ -115,6 +115,21 @@ impl<E, J: Naming> History<E, J> {
         self.head
             .compare_exchange::<Add, Nothing>(0, 1, &mut self.seen, &mut offer, &mut self.pen);
         self.pen = pen;
+    }
+
+    /// The history extends each beginning of it: nothing is known of it that wasn't written. Changes
+    /// nothing.
+    pub fn covers(&mut self, front: &Front<E, J>)
+        ensures extends { Extends self.old front.now }
+        ensures same { self.new ≡ self.old }
+    {
+        let mut both = self.seen.again();
+        both.learn(&front.seen);
+        let mut offer: Offer<Entry<E>, u64, Law, Nothing> = both.plain::<Nothing, Pen, Stay>(
+            &self.pen,
+        );
+        self.head
+            .compare_exchange::<Stay, Nothing>(0, 0, &mut both, &mut offer, &mut self.pen);
     }
 
     /// Closes the history, and gives all of it: nothing comes after. Never refused.

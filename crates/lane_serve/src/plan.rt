@@ -4,7 +4,8 @@ ghost use Rattle.lane_serve.specs.Plans.{AreOptions, AreOutcomes, AreWorkers, Be
 ghost use Rattle.lane_serve.specs.declared.plan.Outcome.TheVariants.{Refused};
 ghost use Rattle.lane_serve.specs.declared.plan.Stop.TheVariants as stop;
 
-use edition_store::{Edition, Naming, Publisher, Shared, build_edition};
+use edition_build::build_edition;
+use edition_store::{Edition, Naming, Publisher, Shared};
 use footpaths::Options;
 use gtfs_rows::FeedFault;
 use service_day::Day;

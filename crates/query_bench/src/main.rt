@@ -16,6 +16,7 @@ mod queries;
 mod stores;
 mod words;
 
+use edition_build::build;
 use edition_store::Edition;
 use queries::{Found, by_profiles, by_rounds, by_search};
 use service_day::Day;
@@ -44,7 +45,7 @@ fn timetable(rt: &(impl std::rt::Files + AllocGlobal), dir: &str, day: &Day) -> 
 
 // An edition of a timetable, by one worker.
 fn edition<R: Threads + Sync>(rt: &R, alloc: Global, table: Timetable) -> Option<Edition> {
-    Edition::build(rt, alloc, table, 1, &IdleGate).ok()
+    build(rt, alloc, table, 1, &IdleGate).ok()
 }
 
 fn found<R: Threads + Wait + Sync>(

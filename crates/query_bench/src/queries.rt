@@ -6,7 +6,7 @@ ghost use Rattle.tb_base.specs.Profiles.{WindowData};
 use edition_store::Edition;
 use made_feeds::Draw;
 use plain_rounds::plain_ask;
-use query_gate::uncounted::{best_choices, offers};
+use query_gate::uncounted::{best_choices, best_offers};
 use segment_queue::Desk;
 use std::alloc::Global;
 use tb_base::{Choice, Memory, Offer, Query, Sec, StopNo, Timetable, Window};
@@ -95,7 +95,7 @@ pub fn by_profiles(alloc: Global, edition: &Edition, count: u32) -> Result<Found
     }
     for _turn in 0..count {
         let window = window(alloc, table, &mut draw)?;
-        let slots = offers(alloc, edition, &window, &mut desk)?;
+        let slots = best_offers(alloc, edition, &window, &mut desk)?;
         found.add_offers(slots.as_slice());
     }
     Ok(found)

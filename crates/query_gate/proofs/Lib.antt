@@ -1,5 +1,15 @@
 pub mod Alone
 pub mod Best
+pub mod Departures
+pub mod FromOrigin
+pub mod Gathering
+pub mod Joining
+pub mod Kept
+pub mod Laters
 pub mod NamedEnds
 pub mod Numbers
+pub mod Offering
+pub mod Rest
+pub mod Results
 pub mod Sent
+pub mod Walk

@@ -1,3 +1,5 @@
 pub mod Questions
 pub mod Replies
 pub mod Callers
+pub mod Leaving
+pub mod Slots

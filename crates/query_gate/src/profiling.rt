@@ -4,6 +4,7 @@ ghost use Rattle.edition_store.specs.Editions.{net_of};
 ghost use Rattle.query_gate.specs.Replies.{HaveNumbers, IsProfileReply};
 
 use crate::between::{Between, stops_between};
+use crate::offers::best_offers;
 use crate::reply::Reply;
 use edition_store::Edition;
 use segment_queue::{Desk, Steps};
@@ -66,7 +67,7 @@ pub fn profile<L: Ledger>(
                 last: text.last,
             };
             desk.make_room(edition)?;
-            let offers = profile_query::profile(alloc, edition, table, &window, desk, steps)?;
+            let offers = best_offers(alloc, edition, table, &window, desk, steps)?;
             Ok(Reply::Slots(offers))
         }
     }

@@ -134,7 +134,7 @@ pub fn best_choices(
 }
 
 // The profile of a window over an edition, on a ledger that nobody else counts in.
-fn offers_on<L: Ledger>(
+fn best_offers_on<L: Ledger>(
     alloc: Global,
     edition: &Edition,
     window: &Window,
@@ -154,11 +154,11 @@ fn offers_on<L: Ledger>(
 {
     edition.soundness();
     let mut steps = Steps::<L>::new(blank);
-    profile_query::profile(alloc, edition, edition.table(), window, desk, &mut steps)
+    crate::offers::best_offers(alloc, edition, edition.table(), window, desk, &mut steps)
 }
 
-/// The profile of a window over an edition, as `profile_query` gives it that is lent a counter.
-pub fn offers(
+/// The profile of a window over an edition, as `best_offers` gives it that is lent a counter.
+pub fn best_offers(
     alloc: Global,
     edition: &Edition,
     window: &Window,
@@ -172,5 +172,5 @@ pub fn offers(
     ensures fits { Fits edition.now.table desk.new }
     ensures emptied { OnErr result (desk.new.segments ≡ []) }
 {
-    offers_on::<Brand>(alloc, edition, window, desk, Blank::new(1))
+    best_offers_on::<Brand>(alloc, edition, window, desk, Blank::new(1))
 }

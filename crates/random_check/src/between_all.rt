@@ -7,6 +7,7 @@ use super::hops::try_hops;
 use super::profiles::same_slots;
 use super::queries::same_values;
 use super::tally::{Difference, FeedName, Refused, Tally, read};
+use edition_build::build;
 use edition_store::Edition;
 use made_feeds::{ring, town};
 use segment_queue::Desk;
@@ -129,7 +130,7 @@ fn try_feed<R: Threads + Sync>(
     tally: &mut Tally,
 ) -> Result<(), Refused> {
     let table = read(table, asked.feed)?;
-    let edition = Edition::build(rt, alloc, table, 1, &IdleGate)?;
+    let edition = build(rt, alloc, table, 1, &IdleGate)?;
     try_hops(rt, alloc, &edition, asked.feed)?;
     asked.try_all(alloc, &edition, desk, tally)
 }

@@ -4,7 +4,7 @@ ghost use Rattle.segment_queue.specs.Queue.{Fits};
 
 use edition_store::Edition;
 use plain_rounds::plain_ask;
-use query_gate::uncounted::offers;
+use query_gate::uncounted::best_offers;
 use segment_queue::Desk;
 use std::alloc::Global;
 use tb_base::{Memory, Query, Sec, Slot, Timetable, Value, Window};
@@ -99,7 +99,7 @@ pub fn same_slots(
 {
     let table = edition.table();
     let asked = slots_by_seconds(alloc, table, window, seconds)?;
-    let offers = offers(alloc, edition, window, desk)?;
+    let offers = best_offers(alloc, edition, window, desk)?;
     let same = offers
         .iter()
         .map(|offer| offer.slot)

@@ -6,6 +6,7 @@ use super::hops::try_hops;
 use super::profiles::same_slots;
 use super::queries::{same_values, some_stops, some_time};
 use super::tally::{Difference, FeedName, Refused, Tally, read};
+use edition_build::build;
 use edition_store::Edition;
 use made_feeds::{Draw, small_feed, timetable_of};
 use segment_queue::Desk;
@@ -113,7 +114,7 @@ impl Trial {
         tally: &mut Tally,
     ) -> Result<(), Refused> {
         let table = self.timetable(alloc)?;
-        let edition = Edition::build(rt, alloc, table, WORKERS, &IdleGate)?;
+        let edition = build(rt, alloc, table, WORKERS, &IdleGate)?;
         try_hops(rt, alloc, &edition, self.feed)?;
         desk.make_room(&edition)?;
         if edition.table().stop_count() == 0 {

@@ -12,6 +12,7 @@ use crate::reaching::reach_text;
 use answer_text::unknown_text;
 use build_report::report;
 use command_line::{ArrivalInquiry, Command, DayRequest, Inquiry, OriginInquiry, WindowInquiry};
+use edition_build::build;
 use edition_store::Edition;
 use mirror_table::mirror;
 use std::alloc::Global;
@@ -29,7 +30,7 @@ fn edition_of<G: Gate, R: Threads + Sync>(
     requires { AreWorkers workers }
     ensures { IfOk result (λ e. EditionData.table e ≡ table) }
 {
-    Edition::build(rt, alloc, table, workers, gate)
+    build(rt, alloc, table, workers, gate)
 }
 
 // The edition of the mirror of a timetable.

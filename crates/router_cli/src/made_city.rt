@@ -12,6 +12,7 @@ use crate::status::Status;
 use answer_text::{build_text, choices_text};
 use build_report::counts_of;
 use command_line::CityRequest;
+use edition_build::assemble;
 use edition_store::Edition;
 use feed_maker::city;
 use line_split::split;
@@ -44,7 +45,7 @@ fn build<G: Gate, R: Threads + Sync>(
     let lines = split(alloc, &table)?;
     let transfers = reduce_all(rt, alloc, &table, &lines, workers, gate)?;
     let report = build_text(alloc, &table, counts_of(&lines, &transfers))?;
-    let edition = Edition::assemble(alloc, table, lines, transfers)?;
+    let edition = assemble(alloc, table, lines, transfers)?;
     Ok(Built { report, edition })
 }
 

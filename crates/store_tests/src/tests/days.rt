@@ -1,6 +1,7 @@
 //! Two editions of one day, and what an answer over them says.
 ghost use Rattle.std.specs.Prelude.{◌≤ℤ◌, IfOk, pos};
 
+use edition_build::build;
 use edition_store::{Edition, Naming, Shared};
 use made_feeds::{Feed, timetable};
 use query_gate::{Answer, AskText, Reply};
@@ -31,7 +32,7 @@ fn edition<R: Threads + Sync>(rt: &R, alloc: Global, arrival: &str) -> Result<Ed
     let Ok(table) = timetable(alloc, feed) else {
         return Err(Memory);
     };
-    Edition::build(rt, alloc, table, 1, &IdleGate)
+    build(rt, alloc, table, 1, &IdleGate)
 }
 
 /// The edition in which T2 reaches D at half past eight.

@@ -1,6 +1,0 @@
-use Rattle.std.proofs.Common.{ℕ, ◌<◌, [], get_or}
-use Rattle.profile_query.specs.Leaving.{HaveJoined, IsWithin, LeavesFor}
-use Rattle.profile_query.proofs.leaving.leaving_times.Given as goal
-
-abbrev pub invariant-loop-origin : goal.invariant-loop-origin
-invariant-loop-origin g l = HaveJoined (λ n. (k : ℕ) × (k < l.origin-index) × (IsWithin l.window n × LeavesFor l.table (get_or l.origin-items k 0) n)) [] l.times.items
