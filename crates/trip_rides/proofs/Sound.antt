@@ -1,5 +1,5 @@
 -- Where nothing is wrong, the events of each trip are those of a sound trip.
-use Rattle.std.proofs.Common.{◌≡◌, ◌∙◌, sym, ap, refl, subst, ℕ, zero, suc, ◌+◌, ◌<◌, ◌≤◌, ℤ, negsuc, ◌≤ℤ◌, List, [], ◌∷◌, ◌++◌, length, map, get_or, Bool, true, false, Option, Some, None, inl, inr, zero-add, arith}
+use Rattle.std.proofs.Common.{◌≡◌, ◌∙◌, sym, ap, refl, subst, ℕ, zero, suc, ◌+◌, ◌<◌, ◌≤◌, ℤ, pos, negsuc, ◌≤ℤ◌, List, [], ◌∷◌, ◌++◌, length, map, get_or, Bool, true, false, Option, Some, None, inl, inr, zero-add, arith}
 use Rattle.std.specs.Prelude.{All, AllPairs, IfSome, Result, Ok, int_lt, nat_le}
 use Rattle.std.specs.Option.{option_or}
 use Rattle.std.specs.List.{AllByRecursion}
@@ -131,6 +131,9 @@ rise i j m [] k h p up e right is = tt
 rise i j m (r ∷ rest) k h p up e right is =
     rise_step i j m r rest k (times_of r) h p up e right is (λ is' right'. rise i j m rest (k + 1) (omega (arith, h)) p up (last_timed (times_of r) rest e) right' is')
 
+abbrev IsSince : Event → Type 0
+IsSince e = pos 0 ≤ℤ e.arr
+
 abbrev IsOnward : Event → Event → Type 0
 IsOnward e f = e.dep ≤ℤ f.arr
 
@@ -221,7 +224,7 @@ trip_right r s rest h =
     trip_right_at r (s ∷ rest) (times_of r) refl both.0 (end_timed s rest both.1) both.2
 
 walk_sound : (stops : ℕ) (r : StopTime) (rest : List StopTime) → All (λ r. StopTime.stop r < stops) (r ∷ rest) → All HasFileTimes (r ∷ rest) → TripRight r rest
-    → AllByRecursion (IsSoundEvent stops) (walk None 0 (r ∷ rest)) × AllPairs IsOnward (walk None 0 (r ∷ rest))
+    → AllByRecursion (IsSoundEvent stops) (walk None 0 (r ∷ rest)) × AllPairs IsOnward (walk None 0 (r ∷ rest)) × AllByRecursion IsSince (walk None 0 (r ∷ rest))
 walk_sound stops r rest s h right =
     let t = right.times in
     let i : Timepoint = record { at = 0; times = t } in
@@ -236,32 +239,35 @@ walk_sound stops r rest s h right =
     } in
     let P : Option Times → Type 0 =
     λ o. AllByRecursion (IsSoundEvent stops) (event_of r (own_or o (between None (first_timed 1 (map times_of rest)) 0)) ∷ walk (timed_or 0 o None) 1 rest)
-    × AllPairs IsOnward (event_of r (own_or o (between None (first_timed 1 (map times_of rest)) 0)) ∷ walk (timed_or 0 o None) 1 rest) in
+    × AllPairs IsOnward (event_of r (own_or o (between None (first_timed 1 (map times_of rest)) 0)) ∷ walk (timed_or 0 o None) 1 rest)
+    × AllByRecursion IsSince (event_of r (own_or o (between None (first_timed 1 (map times_of rest)) 0)) ∷ walk (timed_or 0 o None) 1 rest) in
     subst P (sym right.first) (
       (event, sound stops rest 1 i (All-tail (λ r. StopTime.stop r < stops) r rest s) later within (omega arith) right.last right.along),
       AllPairs-cons IsOnward (event_of r t) (walk (Some i) 1 rest)
           (All-from_recursion (IsOnward (event_of r t)) (walk (Some i) 1 rest) (low t.dep rest 1 i (omega (arith, ints)) right.last right.along))
           (onward rest 1 i (omega arith) right.last right.along),
+      (within.arr.least, low (pos 0) rest 1 i within.dep.least right.last right.along),
     )
 
 trip_sound : (stops : ℕ) (ordered : List StopTime) → All (λ r. StopTime.stop r < stops) ordered → All HasFileTimes ordered → Right (wrong_trip_times ordered) → 2 ≤ length ordered → IsSoundRide stops (events_in ordered)
-trip_sound stops [] s h right long name before some = absurd (omega (arith, long))
-trip_sound stops (r ∷ []) s h right long name before some = absurd (omega (arith, long))
-trip_sound stops (r ∷ q ∷ rest) s h right long name before some =
+trip_sound stops [] s h right long some = absurd (omega (arith, long))
+trip_sound stops (r ∷ []) s h right long some = absurd (omega (arith, long))
+trip_sound stops (r ∷ q ∷ rest) s h right long some =
     let parts = walk_sound stops r (q ∷ rest) s h (trip_right r q rest right) in
     rw walk_is (record {
       long = rw length-walk long;
       events = All-from_recursion (IsSoundEvent stops) (walk None 0 (r ∷ q ∷ rest)) parts.0;
       onward = parts.1;
+      since = All-from_recursion IsSince (walk None 0 (r ∷ q ∷ rest)) parts.2;
     })
 
 -- the events of a trip with which nothing is wrong
 ride_sound : (stops : ℕ) (runs : Bool) (ordered : List StopTime) → All (λ r. StopTime.stop r < stops) ordered → All HasFileTimes ordered → Right (wrong_trip_times ordered) → IsSoundRide stops (ride_in runs ordered)
-ride_sound stops false ordered s h right = λ name before some. absurd (omega (arith, some))
+ride_sound stops false ordered s h right = λ some. absurd (omega (arith, some))
 ride_sound stops true ordered s h right =
     elim (cases_Bool (nat_le 2 (length ordered))) [
       | inl t ↦ rw t (trip_sound stops ordered s h right (grind (arith, nat_tests, t)))
-      | inr f ↦ rw f (λ name before some. absurd (omega (arith, some)))
+      | inr f ↦ rw f (λ some. absurd (omega (arith, some)))
     ]
 
 both_right : (a b : Option FeedFault) → option_or a b ≡ None → (a ≡ None) × (b ≡ None)

@@ -1,8 +1,8 @@
 -- The events that the stop times of each trip give.
-use Rattle.std.specs.Prelude.{ℕ, ◌+◌, ◌<◌, ◌&&◌, List, [], ◌∷◌, length, map, slice_index_or, nat_le, Bool, false, Option, Result, if◌then◌else◌}
+use Rattle.std.specs.Prelude.{ℕ, ◌+◌, ◌<◌, ◌≤◌, ◌&&◌, List, [], ◌∷◌, length, map, slice_index_or, nat_le, Bool, false, Option, Result, if◌then◌else◌, All, AllPairs, pos, ◌≤ℤ◌}
 use Rattle.std.specs.List.{range_with_len}
 use Rattle.tb_base.specs.declared.table.Event.{Event}
-use Rattle.tb_base.specs.Soundness.{IsSoundTrip}
+use Rattle.tb_base.specs.Soundness.{IsSoundEvent}
 use Rattle.gtfs_rows.specs.declared.fault.FeedFault.{FeedFault}
 use Rattle.trip_rides.specs.declared.stop_time.StopTime.{StopTime}
 use Rattle.trip_rides.specs.declared.times.Times.{Times}
@@ -42,8 +42,13 @@ abbrev pub checked_rides : List StopTime → List Bool → Result (List (List Ev
 checked_rides rows runs =
     unless_wrong (wrong_trips rows 0 (length runs)) (rides_on rows runs (length runs))
 
--- the events, where there are any, are those of a sound trip among so many stops
+-- the events of a sound trip among so many stops, none of them before the day
+pub record AreSoundEvents (stops : ℕ) (ride : List Event) : Type 0 where
+  pub long : 2 ≤ length ride
+  pub events : All (IsSoundEvent stops) ride
+  pub onward : AllPairs (λ e f. e.dep ≤ℤ f.arr) ride
+  pub since : All (λ e. pos 0 ≤ℤ Event.arr e) ride
+
+-- the events, where there are any, are sound
 abbrev pub IsSoundRide : ℕ → List Event → Type 0
-IsSoundRide stops ride =
-    (name : List ℕ) (before : Bool) → 0 < length ride
-    → IsSoundTrip stops (record { name = name; before = before; events = ride })
+IsSoundRide stops ride = 0 < length ride → AreSoundEvents stops ride

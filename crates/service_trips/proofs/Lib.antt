@@ -1,0 +1,9 @@
+pub mod Runs
+pub mod StartRuns
+pub mod RideTimes
+pub mod Shown
+pub mod ByStarts
+pub mod Counts
+pub mod FrequencyRows
+pub mod Rows
+pub mod SizeSteps

@@ -1,0 +1,5 @@
+pub mod Starts
+pub mod ServiceDay
+pub mod DayBefore
+pub mod Rides
+pub mod Sizes

@@ -1,0 +1,153 @@
+//! How many trips and events a timetable has, counted by division before one is made.
+ghost use Rattle.std.specs.Prelude.{◌≡◌, ◌<◌, ◌≤◌, ◌++◌, ◌-◌, ◌^◌, ℕ, List, All, MatchOption, Ok, Err, filter, length, map, min, sum_by};
+ghost use Rattle.tb_base.specs.TimetableData.{TripData};
+ghost use Rattle.gtfs_rows.specs.TripsFile as row;
+ghost use Rattle.service_trips.specs.Starts.{is_of_trip, starts_from};
+ghost use Rattle.service_trips.specs.Rides.{IsRide, IsRideOrNone, is_shown};
+ghost use Rattle.service_trips.specs.ServiceDay.{trips_of, trips_where, service_trips};
+ghost use Rattle.service_trips.specs.DayBefore.{shown};
+ghost use Rattle.service_trips.specs.Sizes.{IsSize, check_size};
+
+use crate::FrequencyTable;
+use crate::ride::{DAY, last_arrival, least_start};
+use crate::starts::starts_from;
+use gtfs_rows::{FeedFault, Many};
+use tb_base::Event;
+
+const MOST_TRIPS: u64 = 500_000;
+
+const MOST_EVENTS: u64 = 10_000_000;
+
+/// How many trips there are, and how many events they have, each up to the last number of 64 bits.
+#[derive(Clone, Copy)]
+pub(crate) struct Size {
+    pub trips: u64,
+    pub events: u64,
+}
+
+impl Size {
+    /// The size of some trips and others.
+    pub fn plus(self, others: Size) -> Size
+        ensures { (xs ys : List TripData) → IsSize xs self → IsSize ys others →
+            IsSize (xs ++ ys) result }
+    {
+        Size {
+            trips: self.trips.saturating_add(others.trips),
+            events: self.events.saturating_add(others.events),
+        }
+    }
+
+    /// The first limit that trips of this size pass.
+    pub fn fault(self) -> Option<FeedFault>
+        ensures { (trips : List TripData) → IsSize trips self →
+            MatchOption result (check_size trips ≡ Ok trips) (λ f. check_size trips ≡ Err f) }
+    {
+        if self.trips > MOST_TRIPS {
+            return Some(FeedFault::TooMany(Many::RunningTrips, 0));
+        }
+        if self.events > MOST_EVENTS {
+            return Some(FeedFault::TooMany(Many::Events, 0));
+        }
+        None
+    }
+}
+
+// How many starts of a trip's rows in frequencies.txt are not before a time.
+fn count_starts(table: &FrequencyTable, trip: usize, least: u32) -> u64
+    requires { trip < table.now.trips }
+    ensures { result
+        ≡ min (sum_by (λ f. length (starts_from least f)) (filter (is_of_trip trip) table.now.rows))
+        (2 ^ 64 - 1) }
+{
+    let rows = table.rows();
+    let places = table.places(trip);
+    let mut count: u64 = 0;
+    for place in places {
+        let starts = starts_from(&rows[*place as usize], least);
+        count = count.saturating_add(starts.count as u64);
+    }
+    count
+}
+
+// Whether a timetable shows the events.
+fn is_shown(ride: &[Event], before: bool) -> bool
+    requires { 0 < length ride.now }
+    ensures { result ≡ is_shown before ride.now }
+{
+    !before || last_arrival(ride) >= DAY
+}
+
+// How many trips of a row of trips.txt that runs are shown.
+fn count_trips(table: &FrequencyTable, trip: usize, ride: &[Event], before: bool) -> u64
+    requires ride { IsRide ride.now }
+    requires trip { trip < table.now.trips }
+    ensures { (id : List ℕ) →
+        result
+        ≡ min (length (shown before (trips_of id (filter (is_of_trip trip) table.now.rows) ride.now)))
+        (2 ^ 64 - 1) }
+{
+    if table.places(trip).is_empty() {
+        return is_shown(ride, before) as u64;
+    }
+    count_starts(table, trip, least_start(ride, before))
+}
+
+// The size of the trips of a row of trips.txt that are shown.
+fn row_size(
+    table: &FrequencyTable,
+    trip: usize,
+    ride: &[Event],
+    runs: bool,
+    before: bool,
+) -> Size
+    requires ride { IsRideOrNone ride.now }
+    requires trip { trip < table.now.trips }
+    ensures { (id : List ℕ) →
+        IsSize
+        (shown before (trips_where runs id (filter (is_of_trip trip) table.now.rows) ride.now))
+        result }
+{
+    if !runs || ride.is_empty() {
+        return Size {
+            trips: 0,
+            events: 0,
+        };
+    }
+    let trips = count_trips(table, trip, ride, before);
+    Size {
+        trips,
+        events: trips.saturating_mul(ride.len() as u64),
+    }
+}
+
+/// The size of the trips of a service day that are shown, by which rows of trips.txt run on it.
+pub(crate) fn service_size(
+    rides: &[Vec<Event>],
+    table: &FrequencyTable,
+    runs: &[bool],
+    before: bool,
+) -> Size
+    requires runs { length runs.now ≡ length rides.now }
+    requires trips { table.now.trips ≡ length rides.now }
+    requires rides { All (λ ride. IsRideOrNone ride.items) rides.now }
+    ensures { (rows : List row.TripData) → length rows ≡ length rides.now →
+        IsSize
+        (shown before
+        (service_trips
+        (record {
+          rows = rows;
+          rides = map (λ ride. ride.items) rides.now;
+          frequencies = table.now.rows;
+        })
+        runs.now))
+        result }
+{
+    let mut size = Size {
+        trips: 0,
+        events: 0,
+    };
+    for trip in 0..rides.len() {
+        size = size.plus(row_size(table, trip, &rides[trip], runs[trip], before));
+    }
+    size
+}
