@@ -1,6 +1,6 @@
 -- The trips that rows of frequencies.txt give a trip, one after another.
-use Rattle.std.proofs.Common.{◌≡◌, ◌∙◌, sym, ap, refl, subst, ℕ, zero, suc, ◌+◌, ◌*◌, ◌<◌, ◌≤◌, List, [], ◌∷◌, ◌++◌, map, take, length, get_or, append_assoc, append-nil, Bool, true, false, arith}
-use Rattle.std.specs.Prelude.{All, filter, nat_le, nat_lt, slice_index_or}
+use Rattle.std.proofs.Common.{◌≡◌, ◌∙◌, sym, ap, subst, ℕ, ◌+◌, ◌*◌, ◌<◌, ◌≤◌, List, [], ◌∷◌, ◌++◌, map, take, length, get_or, append_assoc, append-nil, Bool, true, arith}
+use Rattle.std.specs.Prelude.{All, nat_le, nat_lt}
 use Rattle.std.specs.List.{flat_map, range_with_len}
 use Rattle.std.proofs.lemmas.Bool.Decides.{nat_tests}
 use Rattle.std.proofs.lemmas.List.{map-append, take_more, take_all}
@@ -11,7 +11,7 @@ use Rattle.std.proofs.lemmas.Grind.{flat_map-append}
 use Rattle.tb_base.specs.declared.table.Event.{Event}
 use Rattle.tb_base.specs.TimetableData.{TripData}
 use Rattle.service_trips.specs.declared.frequency.TripFrequency.{TripFrequency}
-use Rattle.service_trips.specs.Starts.{IsGoodFrequency, starts, starts_from, frequency_at}
+use Rattle.service_trips.specs.Starts.{starts, starts_from, frequency_at}
 use Rattle.service_trips.specs.ServiceDay.{starting_at, trip_starting_at}
 use Rattle.service_trips.specs.DayBefore.{shown}
 use Rattle.service_trips.specs.Rides.{is_shown, as_shown}

@@ -1,18 +1,18 @@
 -- How many trips are shown, and how many events they have.
-use Rattle.std.proofs.Common.{◌≡◌, ◌∙◌, sym, ap, refl, subst, ℕ, zero, suc, ◌+◌, ◌-◌, ◌*◌, ◌^◌, ◌<◌, ◌≤◌, List, [], ◌∷◌, ◌++◌, map, length, min, Bool, true, false, arith, inl, inr}
+use Rattle.std.proofs.Common.{◌≡◌, ◌∙◌, sym, ap, refl, ℕ, suc, ◌+◌, ◌*◌, ◌<◌, ◌≤◌, List, [], ◌∷◌, map, length, min, Bool, true, false, arith, inl, inr}
 use Rattle.std.specs.Prelude.{All, filter, nat_le, sum_by}
-use Rattle.std.specs.List.{flat_map, range_with_len}
+use Rattle.std.specs.List.{flat_map}
 use Rattle.std.proofs.Math.Nat.{le-mul_of_pos_right}
 use Rattle.std.proofs.lemmas.Bool.{cases_Bool}
 use Rattle.std.proofs.lemmas.Bool.Decides.{nat_tests}
 use Rattle.std.proofs.lemmas.List.{length-map, length-append}
-use Rattle.std.proofs.lemmas.List.Elements.{filter-append, All-append, All-nil, All-cons, All-map, All-filter, All-head, All-tail}
+use Rattle.std.proofs.lemmas.List.Elements.{filter-append, All-nil, All-cons, All-filter, All-head, All-tail}
 use Rattle.std.proofs.lemmas.List.Sums.{sum_by-cons}
 use Rattle.tb_base.specs.declared.table.Event.{Event}
 use Rattle.tb_base.specs.TimetableData.{TripData}
 use Rattle.service_trips.specs.declared.frequency.TripFrequency.{TripFrequency}
-use Rattle.service_trips.specs.Starts.{is_of_trip, starts, starts_from}
-use Rattle.service_trips.specs.ServiceDay.{moved, first_departure, trip_starting_at, trips_of, starting_at}
+use Rattle.service_trips.specs.Starts.{starts, starts_from}
+use Rattle.service_trips.specs.ServiceDay.{moved, trip_starting_at, trips_of, starting_at}
 use Rattle.service_trips.specs.DayBefore.{shown, lowered, is_under_way}
 use Rattle.service_trips.specs.Rides.{is_shown, as_shown}
 use Rattle.service_trips.specs.Sizes.{event_count}
@@ -72,13 +72,13 @@ pub min_times : (a b m : ℕ) → 1 ≤ b → min (min a m * b) m ≡ min (a * b
 min_times a b m h =
     elim (cases_Bool (nat_le a m)) [
       | inl t ↦
-        let below : a ≤ m = grind (arith, nat_tests, t) in
-        let same : min a m ≡ a = omega (arith, below) in
-        rw same refl
+          let below : a ≤ m = grind (arith, nat_tests, t) in
+          let same : min a m ≡ a = omega (arith, below) in
+          rw same refl
       | inr e ↦
-        let above : m < a = grind (arith, nat_tests, e) in
-        let same : min a m ≡ m = omega (arith, above) in
-        let x = le-mul_of_pos_right m h in
-        let y = le-mul_of_pos_right a h in
-        rw same (omega (arith, x, y, above))
+          let above : m < a = grind (arith, nat_tests, e) in
+          let same : min a m ≡ m = omega (arith, above) in
+          let x = le-mul_of_pos_right m h in
+          let y = le-mul_of_pos_right a h in
+          rw same (omega (arith, x, y, above))
     ]

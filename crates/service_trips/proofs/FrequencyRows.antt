@@ -1,5 +1,5 @@
 -- The rows of frequencies.txt that name a trip.
-use Rattle.std.proofs.Common.{◌≡◌, ◌∙◌, sym, ap, refl, subst, ℕ, suc, ◌+◌, ◌<◌, List, [], ◌∷◌, map, length, get_or, arith}
+use Rattle.std.proofs.Common.{◌≡◌, ◌∙◌, ap, subst, ℕ, ◌<◌, List, [], map, length, get_or, arith}
 use Rattle.std.specs.Prelude.{All, filter, slice_index, ◌==◌}
 use Rattle.std.specs.List.{range_with_len}
 use Rattle.std.proofs.lemmas.List.{length-map, get_or-map}
@@ -35,3 +35,11 @@ pub trip_places : (rows : List TripFrequency) (by_trip : List (List ℕ)) (table
     → trip < table.trips → places ≡ get_or by_trip trip [] → All (λ p. p < length table.rows) places
 trip_places rows by_trip table trip places indexed is below at =
     rw (← is, at, indexed.places trip (rw (← is) at below)) (places_within rows trip)
+
+-- each key is below the number of trips
+pub keys_below : (rows : List TripFrequency) (keys : List ℕ) (trips : ℕ) → keys ≡ map key rows → All (λ f. TripFrequency.trip_row f < trips) rows → (i : ℕ) → i < length keys → slice_index keys i < trips
+keys_below rows keys trips are below i within =
+    let inside : i < length rows = omega (arith, within, ap length are, length-map rows key) in
+    let d : TripFrequency = record { row = 0; trip_row = 0; start = 0; end = 0; headway = 0 } in
+    let at : slice_index keys i ≡ key (get_or rows i d) = ap (λ ks. slice_index ks i) are ∙ get_or-map key rows i d 0 inside in
+    rw at (below i d inside)

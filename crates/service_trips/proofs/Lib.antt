@@ -7,3 +7,7 @@ pub mod Counts
 pub mod FrequencyRows
 pub mod Rows
 pub mod SizeSteps
+pub mod BeyondStarts
+pub mod BeyondRows
+pub mod SoundTrips
+pub mod Meant

@@ -1,13 +1,15 @@
 -- The trips of a service day, row after row of trips.txt.
-use Rattle.std.proofs.Common.{◌≡◌, ◌∙◌, sym, ap, refl, ℕ, zero, suc, ◌+◌, ◌<◌, ◌≤◌, List, [], ◌∷◌, ◌++◌, map, length, get_or, append_assoc, append-nil, map-id, Bool, true, false, arith}
-use Rattle.std.specs.Prelude.{All, slice_index_or}
+use Rattle.std.proofs.Common.{◌≡◌, ◌∙◌, sym, ap, refl, ℕ, ◌+◌, ◌<◌, List, [], ◌∷◌, ◌++◌, drop, set, length, get_or, append-nil, map-id, drop-drop, drop-set-lt, get_or-drop, Bool, false, arith}
+use Rattle.std.specs.Prelude.{filter, slice_index_or}
 use Rattle.std.specs.List.{flat_map, range_with_len}
 use Rattle.std.proofs.lemmas.Grind.{flat_map-append}
+use Rattle.std.proofs.lemmas.List.{get_or_read}
 use Rattle.std.proofs.lemmas.List.FromFn.{map-range_with_len_more}
 use Rattle.tb_base.specs.declared.table.Event.{Event}
 use Rattle.tb_base.specs.TimetableData.{TripData}
 use Rattle.gtfs_rows.specs.TripsFile as row
-use Rattle.service_trips.specs.ServiceDay.{FeedTrips, trips_at}
+use Rattle.service_trips.specs.Starts.{is_of_trip}
+use Rattle.service_trips.specs.ServiceDay.{FeedTrips, id_of, ride_of, trips_where, trips_at, service_trips}
 use Rattle.service_trips.specs.DayBefore.{shown}
 use Rattle.service_trips.proofs.Shown.{shown-append, shown-nil}
 
@@ -33,3 +35,29 @@ more_trips before feed runs n =
 -- trips added row after row
 pub trips_added : (before : Bool) (feed : FeedTrips) (runs : List Bool) (n : ℕ) (done new added : List TripData) → done ≡ first_trips before feed runs n → new ≡ done ++ added → added ≡ shown before (trips_at feed runs n) → new ≡ first_trips before feed runs (n + 1)
 trips_added before feed runs n done new added so_far is same = is ∙ rw (so_far, same) (sym (more_trips before feed runs n))
+
+-- the trips of the row with a number
+pub row_at : (before : Bool) (feed : FeedTrips) (runs : List Bool) (k : ℕ) (id : List ℕ) (ride : List Event) → id ≡ id_of feed k → ride ≡ ride_of feed k
+    → shown before (trips_where (slice_index_or runs k false) id (filter (is_of_trip k) feed.frequencies) ride) ≡ shown before (trips_at feed runs k)
+row_at before feed runs k id ride i r = rw (i, r) refl
+
+-- the id of a row
+pub id_at : (feed : FeedTrips) (k : ℕ) (t : row.TripData) → k < length feed.rows → t ≡ get_or feed.rows k t → t.id ≡ id_of feed k
+id_at feed k t below at = ap (λ (t : row.TripData). t.id) (get_or_read feed.rows k t below at (record { row = 0; service = []; id = [] }))
+
+-- what is left of two lists begins alike
+pub left_at : {A : Type 0} (xs ys : List A) (i : ℕ) (d : A) → drop i xs ≡ drop i ys → get_or xs i d ≡ get_or ys i d
+left_at xs ys i d same =
+    let e : i + 0 ≡ i = omega arith in
+    let x : get_or (drop i xs) 0 d ≡ get_or xs i d = get_or-drop i xs 0 d ∙ ap (λ k. get_or xs k d) e in
+    let y : get_or (drop i ys) 0 d ≡ get_or ys i d = get_or-drop i ys 0 d ∙ ap (λ k. get_or ys k d) e in
+    sym x ∙ ap (λ zs. get_or zs 0 d) same ∙ y
+
+pub left_more : {A : Type 0} (xs ys : List A) (i : ℕ) (gone : A) → drop i xs ≡ drop i ys → drop (i + 1) (set xs i gone) ≡ drop (i + 1) ys
+left_more xs ys i gone same =
+    drop-set-lt (i + 1) xs i gone (omega arith) ∙ sym (drop-drop 1 i xs) ∙ ap (drop 1) same ∙ drop-drop 1 i ys
+
+-- all rows are done
+pub all_trips : (before : Bool) (feed : FeedTrips) (runs : List Bool) (n : ℕ) → n ≡ length feed.rows → first_trips before feed runs n ≡ shown before (service_trips feed runs)
+unfolding first_trips
+all_trips before feed runs n all = rw all refl

@@ -1,5 +1,5 @@
 -- Numbers that follow one another, and those of them that pass a test.
-use Rattle.std.proofs.Common.{◌≡◌, ◌∙◌, ap, refl, ℕ, zero, suc, ◌+◌, ◌<◌, ◌≤◌, List, [], ◌∷◌, map, Bool, true, false, ◌&&◌, inl, inr, arith}
+use Rattle.std.proofs.Common.{◌≡◌, ap, refl, ℕ, zero, suc, ◌+◌, ◌<◌, ◌≤◌, List, [], ◌∷◌, map, Bool, true, false, ◌&&◌, inl, inr, arith}
 use Rattle.std.specs.Prelude.{◌==◌, filter, nat_lt}
 use Rattle.std.specs.List.{range_with_len}
 use Rattle.std.proofs.lemmas.Bool.{cases_Bool}
@@ -23,12 +23,12 @@ filter_run p a zero i (suc n) low high holds early late =
 filter_run p a (suc c) i (suc n) low high holds early late =
     elim (cases_Bool (i == a)) [
       | inl t ↦
-        let here : i ≡ a = grind (arith, nat_tests, t) in
-        rw (holds i (omega (arith, low)) (omega (arith, here)), here)
-        (ap (λ rest. a ∷ rest) (filter_run p (a + 1) c (a + 1) n (omega arith) (omega (arith, high, here)) (λ k h h'. holds k (omega (arith, h)) (omega (arith, h'))) (λ k h h'. absurd (omega (arith, h, h'))) (λ k h. late k (omega (arith, h)))))
+          let here : i ≡ a = grind (arith, nat_tests, t) in
+          rw (holds i (omega (arith, low)) (omega (arith, here)), here)
+          (ap (λ rest. a ∷ rest) (filter_run p (a + 1) c (a + 1) n (omega arith) (omega (arith, high, here)) (λ k h h'. holds k (omega (arith, h)) (omega (arith, h'))) (λ k h h'. absurd (omega (arith, h, h'))) (λ k h. late k (omega (arith, h)))))
       | inr f ↦
-        let before : i < a = grind (arith, nat_tests, f, low) in
-        rw (early i (omega arith) before) (filter_run p a (suc c) (i + 1) n (omega (arith, before)) (omega (arith, high)) holds (λ k h h'. early k (omega (arith, h)) h') late)
+          let before : i < a = grind (arith, nat_tests, f, low) in
+          rw (early i (omega arith) before) (filter_run p a (suc c) (i + 1) n (omega (arith, before)) (omega (arith, high)) holds (λ k h h'. early k (omega (arith, h)) h') late)
     ]
 
 -- two runs of the same length, where their numbers give the same
@@ -46,7 +46,7 @@ filters_map p q g (x ∷ xs) =
     elim (cases_Bool (q (g x))) [
       | inr f ↦ rw f (filters_map p q g xs)
       | inl t ↦ rw t (elim (cases_Bool (p (g x))) [
-          | inr f ↦ rw f (filters_map p q g xs)
-          | inl u ↦ rw u (ap (λ rest. g x ∷ rest) (filters_map p q g xs))
-        ])
+        | inr f ↦ rw f (filters_map p q g xs)
+        | inl u ↦ rw u (ap (λ rest. g x ∷ rest) (filters_map p q g xs))
+      ])
     ]

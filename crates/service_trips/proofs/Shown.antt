@@ -1,17 +1,13 @@
 -- What a timetable shows of the trips of a service day.
-use Rattle.std.proofs.Common.{◌≡◌, ◌∙◌, sym, ap, refl, ℕ, zero, suc, ◌+◌, ◌*◌, ◌<◌, List, [], ◌∷◌, ◌++◌, map, take, length, get_or, Bool, true, false, inl, inr, arith}
-use Rattle.std.specs.Prelude.{All, filter, codes, nat_le, nat_lt, ℤ, pos, negsuc, ◌+ℤ◌, ◌-ℤ◌}
-use Rattle.std.specs.List.{flat_map, range_with_len}
+use Rattle.std.proofs.Common.{◌≡◌, ◌∙◌, sym, ap, refl, ℕ, List, [], ◌∷◌, ◌++◌, map, Bool, true, false, inl, inr, arith}
+use Rattle.std.specs.Prelude.{filter, codes, nat_le, ℤ, pos, negsuc, ◌+ℤ◌, ◌-ℤ◌}
 use Rattle.std.proofs.lemmas.Int.{ints}
 use Rattle.std.proofs.lemmas.Bool.{cases_Bool}
 use Rattle.std.proofs.lemmas.List.{map-append}
-use Rattle.std.proofs.lemmas.List.Elements.{filter-append, All-cons, All-nil}
-use Rattle.std.proofs.lemmas.Grind.{flat_map-append}
+use Rattle.std.proofs.lemmas.List.Elements.{filter-append}
 use Rattle.tb_base.specs.declared.table.Event.{Event}
 use Rattle.tb_base.specs.TimetableData.{TripData}
 use Rattle.answer_text.specs.Times.{time_text}
-use Rattle.service_trips.specs.declared.frequency.TripFrequency.{TripFrequency}
-use Rattle.service_trips.specs.Starts.{starts}
 use Rattle.service_trips.specs.ServiceDay.{moved, first_departure, trip_starting_at}
 use Rattle.service_trips.specs.DayBefore.{shown, lowered, is_under_way}
 use Rattle.service_trips.specs.Rides.{is_shown, as_shown, shift}

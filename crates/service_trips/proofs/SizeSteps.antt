@@ -1,24 +1,23 @@
 -- The size of a timetable's trips, part after part.
-use Rattle.std.proofs.Common.{◌≡◌, ◌∙◌, sym, ap, refl, subst, ℕ, zero, suc, ◌+◌, ◌-◌, ◌*◌, ◌^◌, ◌<◌, ◌≤◌, List, [], ◌∷◌, ◌++◌, map, take, length, get_or, min, append-nil, zero-add, Bool, true, false, arith, inl, inr}
-use Rattle.std.specs.Prelude.{All, filter, nat_le, sum_by, slice_index_or}
+use Rattle.std.proofs.Common.{◌≡◌, ◌∙◌, sym, ap, refl, subst, ℕ, ◌+◌, ◌-◌, ◌*◌, ◌^◌, ◌<◌, ◌≤◌, List, [], ◌∷◌, ◌++◌, map, take, length, get_or, min, zero-add, Bool, true, false, arith, inl, inr}
+use Rattle.std.specs.Prelude.{filter, nat_le, sum_by, slice_index_or}
 use Rattle.std.specs.List.{flat_map, range_with_len}
 use Rattle.std.proofs.lemmas.Bool.{cases_Bool}
-use Rattle.std.proofs.lemmas.List.{length-map, length-append, map-append, take_more, take_all}
+use Rattle.std.proofs.lemmas.List.{length-append, map-append, take_more, take_all}
 use Rattle.std.proofs.lemmas.List.FromFn.{length-map-range_with_len}
 use Rattle.std.proofs.lemmas.List.Sums.{sum_by-append}
 use Rattle.tb_base.specs.declared.table.Event.{Event}
 use Rattle.tb_base.specs.TimetableData.{TripData}
-use Rattle.gtfs_rows.specs.TripsFile as row
 use Rattle.service_trips.specs.declared.frequency.TripFrequency.{TripFrequency}
 use Rattle.service_trips.specs.declared.size.Size.{Size}
-use Rattle.service_trips.specs.Starts.{is_of_trip, frequency_at, starts, starts_from}
-use Rattle.service_trips.specs.ServiceDay.{FeedTrips, id_of, starting_at, trip_starting_at, trips_of, trips_where, trips_at, service_trips}
-use Rattle.service_trips.specs.DayBefore.{shown, lowered, is_under_way}
+use Rattle.service_trips.specs.Starts.{is_of_trip, frequency_at, starts_from}
+use Rattle.service_trips.specs.ServiceDay.{FeedTrips, id_of, starting_at, trips_of, trips_where, trips_at, service_trips}
+use Rattle.service_trips.specs.DayBefore.{shown, is_under_way}
 use Rattle.service_trips.specs.Rides.{is_shown}
 use Rattle.service_trips.specs.Sizes.{IsSize, event_count}
-use Rattle.service_trips.proofs.Shown.{shown-nil, shown-append}
+use Rattle.service_trips.proofs.Shown.{shown-nil}
 use Rattle.service_trips.proofs.Counts.{starts_counted, row_events, min_times}
-use Rattle.service_trips.proofs.Rows.{first_trips, more_trips, no_trips}
+use Rattle.service_trips.proofs.Rows.{first_trips, more_trips}
 
 -- the starts of one row more
 pub starts_more : (least : ℕ) (rows found : List TripFrequency) (places : List ℕ) (i first c count new m : ℕ) → i < length places → found ≡ rows

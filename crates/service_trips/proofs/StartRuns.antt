@@ -1,12 +1,12 @@
 -- The starts of a row are a run of headways.
-use Rattle.std.proofs.Common.{◌≡◌, ◌∙◌, sym, ap, refl, ℕ, zero, suc, ◌+◌, ◌-◌, ◌*◌, ◌/◌, ◌<◌, ◌≤◌, List, [], ◌∷◌, map, length, Bool, true, false, ◌&&◌, inl, inr, arith}
+use Rattle.std.proofs.Common.{◌≡◌, ◌∙◌, sym, ap, refl, ℕ, suc, ◌+◌, ◌-◌, ◌*◌, ◌/◌, ◌<◌, ◌≤◌, [], map, Bool, true, false, ◌&&◌, inl, inr, arith}
 use Rattle.std.specs.Prelude.{filter, nat_lt, nat_le}
 use Rattle.std.specs.List.{range_with_len}
 use Rattle.std.proofs.Math.Nat.{div-mul-le_self, lt-div-mul-add, mul-le-mul_right, le-mul_of_pos_right}
 use Rattle.std.proofs.lemmas.Bool.{cases_Bool}
 use Rattle.std.proofs.lemmas.Bool.Decides.{nat_tests}
 use Rattle.service_trips.specs.declared.frequency.TripFrequency.{TripFrequency}
-use Rattle.service_trips.specs.Starts.{IsGoodFrequency, starts, starts_from, headways_to, first_from}
+use Rattle.service_trips.specs.Starts.{IsGoodFrequency, starts_from, headways_to, first_from}
 use Rattle.service_trips.proofs.Runs.{none_of_run, filter_run, map_runs, filters_map}
 
 abbrev start_at : TripFrequency → ℕ → ℕ
@@ -75,9 +75,9 @@ module _ (least : ℕ) (f : TripFrequency) (good : IsGoodFrequency f) where
       by_headways 0 (none_of_run passes 0 f.end (λ k h. elim (cases_Bool (nat_lt k (headways_to least f))) [
         | inl t ↦ too_early k (grind (arith, nat_tests, t))
         | inr e ↦
-          let on : headways_to least f ≤ k = grind (arith, nat_tests, e) in
-          let b = later f (headways_to least f) k on in
-          too_late k (omega (arith, b, past))
+            let on : headways_to least f ≤ k = grind (arith, nat_tests, e) in
+            let b = later f (headways_to least f) k on in
+            too_late k (omega (arith, b, past))
       ]))
 
   -- else as many as headways fit before the end, and one more
@@ -93,13 +93,13 @@ module _ (least : ℕ) (f : TripFrequency) (good : IsGoodFrequency f) where
       let wide = le-mul_of_pos_right (a + x / f.headway) good.headway in
       by_headways c (filter_run passes a c 0 f.end (omega arith) (omega (arith, last, wide))
       (λ k h h'.
-        let b = later f k (a + x / f.headway) (omega (arith, h')) in
-        and_true (nat_lt (start_at f k) f.end) (nat_le least (start_at f k)) (grind (arith, nat_tests, b, last)) (enough k h))
+      let b = later f k (a + x / f.headway) (omega (arith, h')) in
+      and_true (nat_lt (start_at f k) f.end) (nat_le least (start_at f k)) (grind (arith, nat_tests, b, last)) (enough k h))
       (λ k h h'. too_early k h')
       (λ k h.
-        let b = later f (a + c) k h in
-        let n : (a + c) * f.headway ≡ a * f.headway + x / f.headway * f.headway + f.headway = omega arith in
-        too_late k (omega (arith, b, n, up, fits))))
+      let b = later f (a + c) k h in
+      let n : (a + c) * f.headway ≡ a * f.headway + x / f.headway * f.headway + f.headway = omega arith in
+      too_late k (omega (arith, b, n, up, fits))))
 
 -- the same, by the first start
 pub no_starts_by : (least : ℕ) (f : TripFrequency) (first : ℕ) → IsGoodFrequency f → first ≡ first_from least f → f.end ≤ first → map (λ k. first + k * f.headway) (range_with_len 0 0) ≡ starts_from least f

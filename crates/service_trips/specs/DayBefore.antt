@@ -1,5 +1,5 @@
 -- The trips of a timetable: those of its day, and those of the day before that are under way.
-use Rattle.std.specs.Prelude.{ℕ, ◌-◌, ◌++◌, List, length, map, filter, slice_index_or, Bool, true, false, ℤ, pos, negsuc, int_lt, not}
+use Rattle.std.specs.Prelude.{◌-◌, ◌++◌, List, length, map, filter, slice_index_or, Bool, true, false, ℤ, pos, negsuc, int_lt, not}
 use Rattle.tb_base.specs.declared.table.Event.{Event}
 use Rattle.tb_base.specs.TimetableData.{TripData, no_event}
 use Rattle.service_trips.specs.ServiceDay.{FeedTrips, moved, service_trips}

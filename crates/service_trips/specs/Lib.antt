@@ -3,3 +3,4 @@ pub mod ServiceDay
 pub mod DayBefore
 pub mod Rides
 pub mod Sizes
+pub mod Limits

@@ -1,5 +1,5 @@
 -- The events of trips, as a timetable shows them.
-use Rattle.std.specs.Prelude.{ℕ, ◌-◌, ◌<◌, ◌≤◌, List, length, slice_index_or, All, AllPairs, Bool, true, false, not, ℤ, pos, negsuc, int_lt, ◌≤ℤ◌, ◌-ℤ◌, ◌+ℤ◌}
+use Rattle.std.specs.Prelude.{ℕ, ◌-◌, ◌<◌, ◌≤◌, List, length, slice_index_or, All, AllPairs, Bool, true, false, not, ℤ, pos, int_lt, ◌≤ℤ◌, ◌-ℤ◌, ◌+ℤ◌}
 use Rattle.tb_base.specs.declared.table.Event.{Event}
 use Rattle.tb_base.specs.TimetableData.{TripData, no_event}
 use Rattle.service_trips.specs.ServiceDay.{first_departure}
@@ -36,16 +36,12 @@ abbrev pub shift : Bool → List Event → ℕ → ℤ
 shift false ride start = pos start -ℤ first_departure ride
 shift true ride start = pos start -ℤ first_departure ride -ℤ pos 86400
 
--- a trip that starts at a time arrives at its first stop before the day
-abbrev pub begins_early : List Event → ℕ → Bool
-begins_early ride start =
-    int_lt
-    (Event.arr (slice_index_or ride 0 no_event) +ℤ (pos start -ℤ first_departure ride))
-    (pos 0)
+-- when a trip that starts at a time arrives at its first stop, and departs from its last
+abbrev pub begin_from : List Event → ℕ → ℤ
+begin_from ride start =
+    Event.arr (slice_index_or ride 0 no_event) +ℤ (pos start -ℤ first_departure ride)
 
--- a trip that starts at a time departs from its last stop after 99:59:59
-abbrev pub ends_late : List Event → ℕ → Bool
-ends_late ride start =
-    int_lt (pos 359999)
-    (Event.dep (slice_index_or ride (length ride - 1) no_event)
-    +ℤ (pos start -ℤ first_departure ride))
+abbrev pub end_from : List Event → ℕ → ℤ
+end_from ride start =
+    Event.dep (slice_index_or ride (length ride - 1) no_event)
+    +ℤ (pos start -ℤ first_departure ride)

@@ -10,11 +10,14 @@
 //! GTFS Schedule Reference.
 #![tactic(auto)]
 
+mod beyond;
 mod by_starts;
 mod frequency;
 mod ride;
 mod size;
 mod starts;
+mod timetable;
 mod trips;
 
 pub use frequency::{FrequencyTable, TripFrequency};
+pub use timetable::timetable_trips;

@@ -93,13 +93,7 @@ fn count_trips(table: &FrequencyTable, trip: usize, ride: &[Event], before: bool
 }
 
 // The size of the trips of a row of trips.txt that are shown.
-fn row_size(
-    table: &FrequencyTable,
-    trip: usize,
-    ride: &[Event],
-    runs: bool,
-    before: bool,
-) -> Size
+fn row_size(table: &FrequencyTable, trip: usize, ride: &[Event], runs: bool, before: bool) -> Size
     requires ride { IsRideOrNone ride.now }
     requires trip { trip < table.now.trips }
     ensures { (id : List ℕ) →

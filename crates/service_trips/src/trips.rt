@@ -1,8 +1,8 @@
 //! The trips of a timetable.
-ghost use Rattle.std.specs.Prelude.{◌≡◌, ◌<◌, ◌≤◌, ◌++◌, All, IfOk, OnOk, filter, length, map};
+ghost use Rattle.std.specs.Prelude.{◌≡◌, ◌<◌, ◌≤◌, ◌++◌, All, IfOk, OnOk, true, filter, length, map};
 ghost use Rattle.service_trips.specs.Starts.{is_of_trip};
 ghost use Rattle.service_trips.specs.Rides.{IsRide, IsRideOrNone};
-ghost use Rattle.service_trips.specs.ServiceDay.{trips_of, service_trips};
+ghost use Rattle.service_trips.specs.ServiceDay.{trips_where, service_trips};
 ghost use Rattle.service_trips.specs.DayBefore.{shown};
 
 use crate::FrequencyTable;
@@ -13,11 +13,12 @@ use std::alloc::Global;
 use std::mem;
 use tb_base::{Event, Memory, Name, Trip};
 
-// Adds the trips of a row of trips.txt that runs on the day. Where no row of frequencies.txt names
+// Adds the trips of a row of trips.txt, if it runs on the day. Where no row of frequencies.txt names
 // it, its events go over to its trip.
 fn add_own(
     alloc: Global,
     trips: &mut Vec<Trip>,
+    runs: bool,
     id: &Name,
     ride: Vec<Event>,
     table: &FrequencyTable,
@@ -26,9 +27,10 @@ fn add_own(
     requires ride { IsRideOrNone ride.items }
     requires trip { trip < table.now.trips }
     ensures { OnOk result (trips.new.items
-        ≡ trips.old.items ++ trips_of id.now (filter (is_of_trip trip) table.now.rows) ride.items) }
+        ≡ trips.old.items
+        ++ trips_where runs id.now (filter (is_of_trip trip) table.now.rows) ride.items) }
 {
-    if ride.is_empty() {
+    if !runs || ride.is_empty() {
         return Ok(());
     }
     if !table.places(trip).is_empty() {
@@ -43,10 +45,11 @@ fn add_own(
     Ok(())
 }
 
-// Adds the trips of a row of trips.txt that runs on the day before, as far as they are under way.
+// Adds the trips of a row of trips.txt, if it runs on the day before, as far as they are under way.
 fn add_earlier(
     alloc: Global,
     trips: &mut Vec<Trip>,
+    runs: bool,
     id: &Name,
     ride: &[Event],
     table: &FrequencyTable,
@@ -56,9 +59,9 @@ fn add_earlier(
     requires trip { trip < table.now.trips }
     ensures { OnOk result (trips.new.items
         ≡ trips.old.items
-        ++ shown true (trips_of id.now (filter (is_of_trip trip) table.now.rows) ride.now)) }
+        ++ shown true (trips_where runs id.now (filter (is_of_trip trip) table.now.rows) ride.now)) }
 {
-    if ride.is_empty() {
+    if !runs || ride.is_empty() {
         return Ok(());
     }
     if !table.places(trip).is_empty() {
@@ -102,9 +105,16 @@ pub(crate) fn earlier_trips(
 {
     let mut trips: Vec<Trip> = Vec::new(alloc);
     for trip in 0..rides.len() {
-        if runs[trip] {
-            add_earlier(alloc, &mut trips, &rows[trip].id, &rides[trip], table, trip)?;
-        }
+        let row = &rows[trip];
+        add_earlier(
+            alloc,
+            &mut trips,
+            runs[trip],
+            &row.id,
+            &rides[trip],
+            table,
+            trip,
+        )?;
     }
     Ok(trips)
 }
@@ -134,10 +144,9 @@ pub(crate) fn own_trips(
     let mut rides = given;
     let mut trips: Vec<Trip> = Vec::new(alloc);
     for trip in 0..rows.len() {
-        if runs[trip] {
-            let ride = mem::replace(&mut rides[trip], Vec::new(alloc));
-            add_own(alloc, &mut trips, &rows[trip].id, ride, table, trip)?;
-        }
+        let ride = mem::replace(&mut rides[trip], Vec::new(alloc));
+        let row = &rows[trip];
+        add_own(alloc, &mut trips, runs[trip], &row.id, ride, table, trip)?;
     }
     Ok(trips)
 }

@@ -1,4 +1,4 @@
-use Rattle.std.proofs.Common.{◌≡◌, ◌∙◌, ap, map, rules, w32}
+use Rattle.std.proofs.Common.{◌∙◌, ap, map, rules, w32}
 use Rattle.std.specs.Prelude.{ℤ, FitsSigned}
 use Rattle.std.proofs.lemmas.Int.{to_z-of_z}
 use Rattle.service_trips.specs.ServiceDay.{moved}

@@ -1,4 +1,4 @@
-use Rattle.std.proofs.Common.{◌≡◌, ◌∙◌, ◌<◌, ◌-◌, ◌^◌, ap, sym, refl, length, min, arith, inl, inr}
+use Rattle.std.proofs.Common.{◌∙◌, ◌-◌, ◌^◌, ap, sym, refl, min, arith, inl, inr}
 use Rattle.std.proofs.lemmas.Bool.{cases_Bool}
 use Rattle.std.proofs.lemmas.Bool.Decides.{nat_tests}
 use Rattle.service_trips.specs.Rides.{is_shown}

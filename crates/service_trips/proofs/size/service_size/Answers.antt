@@ -1,4 +1,4 @@
-use Rattle.std.proofs.Common.{◌≡◌, ◌∙◌, ap, sym, length, map, get_or, [], arith, Vec, Global}
+use Rattle.std.proofs.Common.{◌≡◌, ◌∙◌, ap, sym, map, get_or, [], arith, Vec, Global}
 use Rattle.std.proofs.lemmas.List.{get_or-map}
 use Rattle.tb_base.specs.declared.table.Event.{Event}
 use Rattle.service_trips.proofs.SizeSteps.{size_more, size_all}

@@ -1,4 +1,4 @@
-use Rattle.std.proofs.Common.{◌≡◌, List, length, map}
+use Rattle.std.proofs.Common.{List, map}
 use Rattle.std.specs.List.{flat_map, range_with_len}
 use Rattle.gtfs_rows.specs.TripsFile.{TripData}
 use Rattle.service_trips.specs.ServiceDay.{trips_at}

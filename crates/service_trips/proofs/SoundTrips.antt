@@ -1,0 +1,183 @@
+-- The trips of a timetable are sound.
+use Rattle.std.proofs.Common.{◌≡◌, ◌∙◌, sym, ap, ℕ, zero, suc, ◌<◌, List, [], ◌∷◌, map, length, get_or, Bool, true, false, ◌||◌, arith, inl, inr}
+use Rattle.std.specs.Prelude.{All, filter, ◌==◌, Ok, ℤ, pos, negsuc, ◌+ℤ◌, ◌-ℤ◌, ◌≤ℤ◌, slice_index_or}
+use Rattle.std.specs.List.{list_any, flat_map, range_with_len}
+use Rattle.std.proofs.lemmas.Int.{ints}
+use Rattle.std.proofs.lemmas.Bool.{cases_Bool}
+use Rattle.std.proofs.lemmas.Bool.Decides.{nat_tests}
+use Rattle.std.proofs.lemmas.List.{length-map, get_or-map}
+use Rattle.std.proofs.lemmas.List.Elements.{All-append, All-cons, All-filter, All-head, All-nil, All-tail}
+use Rattle.std.proofs.lemmas.List.Folds.{list_any_at}
+use Rattle.tb_base.specs.declared.table.Event.{Event}
+use Rattle.tb_base.specs.TimetableData.{TripData}
+use Rattle.tb_base.specs.Soundness.{IsSoundTrip}
+use Rattle.gtfs_rows.specs.Faults.{unless_wrong}
+use Rattle.trip_rides.specs.Rides.{AreSoundEvents, IsSoundRide}
+use Rattle.service_trips.specs.declared.frequency.TripFrequency.{TripFrequency}
+use Rattle.service_trips.specs.Starts.{is_of_trip, starts}
+use Rattle.service_trips.specs.ServiceDay.{FeedTrips, ride_of, id_of, moved, first_departure, starting_at, trip_starting_at, trips_of, trips_where, trips_at, service_trips}
+use Rattle.service_trips.specs.DayBefore.{shown, lowered, is_under_way, timetable_trips}
+use Rattle.service_trips.specs.Rides.{IsRideOrNone}
+use Rattle.service_trips.specs.Limits.{has_beyond, is_beyond, moves_beyond, wrong_frequency, check_frequencies}
+
+-- the events of a sound ride are those of a day
+pub day_ride : (n : ℕ) (ride : List Event) → IsSoundRide n ride → IsRideOrNone ride
+day_ride n ride sound some =
+    let s = sound some in
+    record {
+      long = s.long;
+      events = λ i d below.
+          let e = s.events i d below in
+          record { since = s.since i d below; waits = e.waits; latest = e.latest };
+      onward = s.onward;
+    }
+
+-- no item passes a test that none passes
+none_passes : {X : Type 0} (p : X → Bool) (xs : List X) → list_any p xs ≡ false → All (λ x. p x ≡ false) xs
+none_passes p xs none i d below =
+    elim (cases_Bool (p (get_or xs i d))) [
+      | inl t ↦ absurd (let yes' = list_any_at p xs i d below t in cc)
+      | inr f ↦ f
+    ]
+
+inside_low : (arr dep : ℤ) → (is_beyond arr || is_beyond dep) ≡ false → pos 0 ≤ℤ arr
+inside_low arr dep none = grind (arith, ints, none)
+
+inside_high : (arr dep : ℤ) → (is_beyond arr || is_beyond dep) ≡ false → dep ≤ℤ pos 359999
+inside_high arr dep none = grind (arith, ints, none)
+
+-- a sound ride stays sound when it is moved within the limits
+moved_sound : (n : ℕ) (ride : List Event) (secs : ℤ) → AreSoundEvents n ride → list_any has_beyond (map (moved secs) ride) ≡ false → AreSoundEvents n (map (moved secs) ride)
+moved_sound n ride secs s none =
+    let inside = none_passes has_beyond (map (moved secs) ride) none in
+    let many = length-map ride (moved secs) in
+    record {
+      long = let long = s.long in omega (arith, long, many);
+      events = λ i d below.
+          let within : i < length ride = omega (arith, below, many) in
+          let at : get_or (map (moved secs) ride) i d ≡ moved secs (get_or ride i d) = get_or-map (moved secs) ride i d d within in
+          let e = s.events i d within in
+          let ok = ap has_beyond (sym at) ∙ inside i d below in
+          let waits = e.waits in
+          let arr : ℤ = Event.arr (get_or ride i d) +ℤ secs in
+          let dep : ℤ = Event.dep (get_or ride i d) +ℤ secs in
+          let low = inside_low arr dep ok in
+          rw at (record { stop = e.stop; earliest = omega (arith, ints, low); waits = omega (arith, ints, waits); latest = inside_high arr dep ok });
+      onward = λ i j d before below.
+          let within : j < length ride = omega (arith, below, many) in
+          let at : get_or (map (moved secs) ride) i d ≡ moved secs (get_or ride i d) = get_or-map (moved secs) ride i d d (omega (arith, within, before)) in
+          let to : get_or (map (moved secs) ride) j d ≡ moved secs (get_or ride j d) = get_or-map (moved secs) ride j d d within in
+          let on = s.onward i j d before within in
+          rw (at, to) (omega (arith, ints, on));
+      since = λ i d below.
+          let within : i < length ride = omega (arith, below, many) in
+          let at : get_or (map (moved secs) ride) i d ≡ moved secs (get_or ride i d) = get_or-map (moved secs) ride i d d within in
+          let ok = ap has_beyond (sym at) ∙ inside i d below in
+          rw at (inside_low (Event.arr (get_or ride i d) +ℤ secs) (Event.dep (get_or ride i d) +ℤ secs) ok);
+    }
+
+abbrev HasSound : ℕ → TripData → Type 0
+HasSound n t = AreSoundEvents n t.events
+
+-- the trips of the starts of a row that moves no time beyond the limits
+starts_sound : (n : ℕ) (id : List ℕ) (ride : List Event) (xs : List ℕ) → AreSoundEvents n ride → All (λ start. list_any has_beyond (starting_at ride start) ≡ false) xs → All (HasSound n) (map (trip_starting_at id ride) xs)
+starts_sound n id ride [] s none = All-nil (HasSound n)
+starts_sound n id ride (x ∷ xs) s none =
+    All-cons (HasSound n) (trip_starting_at id ride x) (map (trip_starting_at id ride) xs)
+    (moved_sound n ride (pos x -ℤ first_departure ride) s (All-head (λ start. list_any has_beyond (starting_at ride start) ≡ false) x xs none))
+    (starts_sound n id ride xs s (All-tail (λ start. list_any has_beyond (starting_at ride start) ≡ false) x xs none))
+
+abbrev KeepsWithin : List Event → TripFrequency → Type 0
+KeepsWithin ride f = moves_beyond ride f ≡ false
+
+all_within : (ride : List Event) (fs : List TripFrequency) → All (KeepsWithin ride) fs → All (λ start. list_any has_beyond (starting_at ride start) ≡ false) (flat_map starts fs)
+all_within ride [] keeps = All-nil (λ start. list_any has_beyond (starting_at ride start) ≡ false)
+all_within ride (f ∷ fs) keeps =
+    All-append (λ start. list_any has_beyond (starting_at ride start) ≡ false) (starts f) (flat_map starts fs)
+    (none_passes (λ start. list_any has_beyond (starting_at ride start)) (starts f) (All-head (KeepsWithin ride) f fs keeps))
+    (all_within ride fs (All-tail (KeepsWithin ride) f fs keeps))
+
+row_sound : (n : ℕ) (id : List ℕ) (fs : List TripFrequency) (ride : List Event) → IsSoundRide n ride → All (KeepsWithin ride) fs → All (HasSound n) (trips_of id fs ride)
+row_sound n id fs [] sound keeps = All-nil (HasSound n)
+row_sound n id [] (e ∷ es) sound keeps = All-cons (HasSound n) (record { name = id; before = false; events = e ∷ es }) [] (sound (omega arith)) (All-nil (HasSound n))
+row_sound n id (f ∷ fs) (e ∷ es) sound keeps = starts_sound n id (e ∷ es) (flat_map starts (f ∷ fs)) (sound (omega arith)) (all_within (e ∷ es) (f ∷ fs) keeps)
+
+where_sound : (n : ℕ) (runs : Bool) (id : List ℕ) (fs : List TripFrequency) (ride : List Event) → IsSoundRide n ride → All (KeepsWithin ride) fs → All (HasSound n) (trips_where runs id fs ride)
+where_sound n false id fs ride sound keeps = All-nil (HasSound n)
+where_sound n true id fs ride sound keeps = row_sound n id fs ride sound keeps
+
+-- a check that nothing fails
+checked : (feed : FeedTrips) (fs rows rows' : List TripFrequency) → unless_wrong (map (wrong_frequency feed) fs) rows ≡ Ok rows' → All (λ f. moves_beyond (ride_of feed (TripFrequency.trip_row f)) f ≡ false) fs
+checked feed [] rows rows' ok = All-nil (λ f. moves_beyond (ride_of feed (TripFrequency.trip_row f)) f ≡ false)
+checked feed (f ∷ fs) rows rows' ok =
+    elim (cases_Bool (moves_beyond (ride_of feed f.trip_row) f)) [
+      | inl t ↦ absurd (let h = rw t at ok in cc)
+      | inr e ↦ All-cons (λ f. moves_beyond (ride_of feed (TripFrequency.trip_row f)) f ≡ false) f fs e (checked feed fs rows rows' (let h = rw e at ok in h))
+    ]
+
+-- the rows that name a trip keep its times within
+of_trip_within : (feed : FeedTrips) (trip : ℕ) (fs : List TripFrequency) → All (λ f. moves_beyond (ride_of feed (TripFrequency.trip_row f)) f ≡ false) fs → All (KeepsWithin (ride_of feed trip)) (filter (is_of_trip trip) fs)
+of_trip_within feed trip [] keeps = All-nil (KeepsWithin (ride_of feed trip))
+of_trip_within feed trip (f ∷ fs) keeps =
+    let rest = of_trip_within feed trip fs (All-tail (λ f. moves_beyond (ride_of feed (TripFrequency.trip_row f)) f ≡ false) f fs keeps) in
+    let here = All-head (λ f. moves_beyond (ride_of feed (TripFrequency.trip_row f)) f ≡ false) f fs keeps in
+    elim (cases_Bool (f.trip_row == trip)) [
+      | inl t ↦
+          let same : f.trip_row ≡ trip = grind (arith, nat_tests, t) in
+          rw t (All-cons (KeepsWithin (ride_of feed trip)) f (filter (is_of_trip trip) fs) (rw same at here) rest)
+      | inr e ↦ rw e rest
+    ]
+
+sound_ride_at : (n : ℕ) (rides : List (List Event)) (k : ℕ) → All (IsSoundRide n) rides → IsSoundRide n (slice_index_or rides k [])
+sound_ride_at n [] k sound = λ some. absurd (omega (arith, some))
+sound_ride_at n (r ∷ rs) zero sound = All-head (IsSoundRide n) r rs sound
+sound_ride_at n (r ∷ rs) (suc k) sound = sound_ride_at n rs k (All-tail (IsSoundRide n) r rs sound)
+
+rows_sound : (n : ℕ) (feed : FeedTrips) (runs : List Bool) (ks : List ℕ) → All (IsSoundRide n) feed.rides → All (λ f. moves_beyond (ride_of feed (TripFrequency.trip_row f)) f ≡ false) feed.frequencies
+    → All (HasSound n) (flat_map (trips_at feed runs) ks)
+rows_sound n feed runs [] sound keeps = All-nil (HasSound n)
+rows_sound n feed runs (k ∷ ks) sound keeps =
+    All-append (HasSound n) (trips_at feed runs k) (flat_map (trips_at feed runs) ks)
+    (where_sound n (slice_index_or runs k false) (id_of feed k) (filter (is_of_trip k) feed.frequencies) (ride_of feed k) (sound_ride_at n feed.rides k sound) (of_trip_within feed k feed.frequencies keeps))
+    (rows_sound n feed runs ks sound keeps)
+
+own_sound : (n : ℕ) (trips : List TripData) → All (HasSound n) trips → All (IsSoundTrip n) trips
+own_sound n trips sound i d below =
+    let s = sound i d below in
+    record { long = s.long; events = s.events; onward = s.onward }
+
+lowered_sound : (n : ℕ) (t : TripData) → HasSound n t → IsSoundTrip n (lowered t)
+lowered_sound n t s =
+    let ride = t.events in
+    let secs = negsuc 86399 in
+    let many = length-map ride (moved secs) in
+    record {
+      long = let long = s.long in omega (arith, long, many);
+      events = λ i d below.
+          let within : i < length ride = omega (arith, below, many) in
+          let at : get_or (map (moved secs) ride) i d ≡ moved secs (get_or ride i d) = get_or-map (moved secs) ride i d d within in
+          let e = s.events i d within in
+          let since = s.since i d within in
+          let waits = e.waits in
+          let latest = e.latest in
+          rw at (record { stop = e.stop; earliest = omega (arith, ints, since); waits = omega (arith, ints, waits); latest = omega (arith, ints, latest) });
+      onward = λ i j d before below.
+          let within : j < length ride = omega (arith, below, many) in
+          let at : get_or (map (moved secs) ride) i d ≡ moved secs (get_or ride i d) = get_or-map (moved secs) ride i d d (omega (arith, within, before)) in
+          let to : get_or (map (moved secs) ride) j d ≡ moved secs (get_or ride j d) = get_or-map (moved secs) ride j d d within in
+          let on = s.onward i j d before within in
+          rw (at, to) (omega (arith, ints, on));
+    }
+
+all_lowered_sound : (n : ℕ) (trips : List TripData) → All (HasSound n) trips → All (IsSoundTrip n) (map lowered trips)
+all_lowered_sound n [] sound = All-nil (IsSoundTrip n)
+all_lowered_sound n (t ∷ ts) sound = All-cons (IsSoundTrip n) (lowered t) (map lowered ts) (lowered_sound n t (All-head (HasSound n) t ts sound)) (all_lowered_sound n ts (All-tail (HasSound n) t ts sound))
+
+-- the trips of a timetable are sound where its rides are, and no row moves a time beyond the limits
+pub timetable_sound : (n : ℕ) (feed : FeedTrips) (runs runs_before : List Bool) → All (IsSoundRide n) feed.rides → check_frequencies feed ≡ Ok feed.frequencies → All (IsSoundTrip n) (timetable_trips feed runs runs_before)
+timetable_sound n feed runs runs_before sound ok =
+    let keeps = checked feed feed.frequencies feed.frequencies feed.frequencies ok in
+    let all : (runs : List Bool) → All (HasSound n) (service_trips feed runs) = λ runs. rows_sound n feed runs (range_with_len 0 (length feed.rows)) sound keeps in
+    All-append (IsSoundTrip n) (service_trips feed runs) (shown true (service_trips feed runs_before))
+    (own_sound n (service_trips feed runs) (all runs))
+    (all_lowered_sound n (filter is_under_way (service_trips feed runs_before)) (All-filter is_under_way (HasSound n) (service_trips feed runs_before) (all runs_before)))
