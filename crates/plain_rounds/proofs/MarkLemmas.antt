@@ -12,7 +12,6 @@ use Rattle.plain_rounds.specs.Labels.{label_at}
 use Rattle.plain_rounds.specs.Rounds.{last_index, IsLeftBehind}
 
 module _ (T : TimetableData) (sound : IsSound T) where
-
   pub boarded_at-few : sum (map last_index T.trips) ≤ 10000000
   boarded_at-few = subst (λ n. n ≤ 10000000) (sym (sum-map last_index T.trips))
       (omega (arith, sound.events, sum_by-le-sum_by last_index (λ (t : TripData). length t.events) T.trips (λ t. less (length t.events))))
