@@ -16,6 +16,3 @@ mod table;
 
 pub use closed::{CloseFault, Closed};
 pub use closing::close;
-
-#[cfg(test)]
-mod tests;

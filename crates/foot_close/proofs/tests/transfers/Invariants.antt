@@ -1,7 +1,0 @@
-use Rattle.std.specs.Prelude.{All}
-use Rattle.gtfs_rows.specs.TransfersFile.{TransferData}
-use Rattle.footpaths.specs.Links.{TakesAtMostADay}
-use Rattle.foot_close.proofs.tests.transfers.Given as goal
-
-abbrev pub invariant-loop-from : goal.invariant-loop-from
-invariant-loop-from l = All (λ r. TakesAtMostADay (TransferData.rule r)) l.rows.items
