@@ -1,5 +1,6 @@
 -- What a caller over one edition, to which none is added, is answered.
-use Rattle.std.proofs.Common.{◌≡◌, ◌∷◌, ℕ, [], Option, None, Some, true, refl, ap, subst, sym, length, arith}
+use Rattle.std.proofs.Common.{◌≡◌, ◌∙◌, ◌∷◌, ◌-◌, ℕ, [], Option, None, Some, true, refl, ap, subst, sym, length, arith}
+use Rattle.std.specs.Prelude.{slice_get}
 use Rattle.history.specs.Lists.{Shown}
 use Rattle.edition_store.specs.Editions.{EditionData, net_of}
 use Rattle.query_gate.specs.Callers.{AnswersAsk, AnswersProfile, HasLegNumbersIn, IsAnsweredBy, IsEditionOf, IsProfiledBy}
@@ -19,6 +20,14 @@ value_or d (Some x) = x
 -- the first edition of such a list is this one
 only_one : (e x : EditionData) → IsEditionOf (e ∷ []) 1 x → e ≡ x
 only_one e x is = ap (value_or e) is.1
+
+-- the list that such a caller is answered by is the edition alone
+pub pinned_alone : (e : EditionData) (old new p : Shown EditionData) → old ≡ alone e → (old.closed ≡ true → new ≡ old) → new ≡ p → p ≡ alone e
+pinned_alone e old new p is last kept = sym kept ∙ last (ap (λ (s : Shown EditionData). s.closed) is) ∙ is
+
+-- its last edition is this one
+pub last_alone : (e x : EditionData) (p : Shown EditionData) → p ≡ alone e → slice_get p.list (length p.list - 1) ≡ Some x → e ≡ x
+last_alone e x p same is = ap (value_or e) (subst (λ (s : Shown EditionData). slice_get s.list (length s.list - 1) ≡ Some x) same is)
 
 by_ask : (e : EditionData) (q : AskData) (reply : Reply) → q.since ≡ 0 → AnswersAsk 1 e q reply → IsAskReply (net_of e) q reply
 by_ask e q (Values choices) z h = h.1

@@ -9,10 +9,10 @@
 //! from each of them to the one before what it has reached, by the number of rides, as in the
 //! profile searches of Delling, Pajor and Werneck, Round-Based Public Transit Routing (ALENEX
 //! 2012). Each counts its looks on a counter that is lent; those of `ask` and `best_choices` are
-//! bounded. `uncounted` has them for callers without a counter. A `Caller` asks of the last edition
-//! that is published, and defers what a later one is asked for. To the layer above the crate
-//! promises that each reply is exactly the one of the definitions, and that a caller's editions
-//! never go back.
+//! bounded. `uncounted` has `best_choices` and `best_offers` for callers without a counter. A
+//! `Caller` asks of the last edition that is published, and defers what a later one is asked for.
+//! To the layer above the crate promises that each reply is exactly the one of the definitions, and
+//! that a caller's editions never go back.
 #![tactic(auto)]
 
 mod asking;

@@ -39,7 +39,7 @@ fn ask_on<L: Ledger>(
 }
 
 /// Answers a question for the best values over an edition, as `ask` does that is lent a counter.
-pub fn ask(
+pub(crate) fn ask(
     alloc: Global,
     edition: &Edition,
     desk: &mut Desk,
@@ -74,7 +74,7 @@ fn profile_on<L: Ledger>(
 }
 
 /// Answers a question for a profile over an edition, as `profile` does that is lent a counter.
-pub fn profile(
+pub(crate) fn profile(
     alloc: Global,
     edition: &Edition,
     desk: &mut Desk,

@@ -61,7 +61,7 @@ fn ask_answer<G: Gate, R: Threads + Sync>(
     ensures { IfOk result (λ text. IsInquiryText table ShowsKept inquiry.now text.items) }
 {
     let edition = edition_of(rt, alloc, table, workers, gate)?;
-    ask_text(alloc, &edition, inquiry)
+    ask_text(alloc, edition, inquiry)
 }
 
 // The profile of a window, over the edition of a timetable.
@@ -77,7 +77,7 @@ fn profile_answer<G: Gate, R: Threads + Sync>(
     ensures { IfOk result (λ text. IsProfileText table inquiry.now text.items) }
 {
     let edition = edition_of(rt, alloc, table, workers, gate)?;
-    profile_text(alloc, &edition, inquiry)
+    profile_text(alloc, edition, inquiry)
 }
 
 // The latest departures, over the edition of the mirror of a timetable.

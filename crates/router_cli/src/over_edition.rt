@@ -1,16 +1,16 @@
 //! Texts over an edition, the network of the day.
 ghost use Rattle.std.specs.Prelude.{◌≡◌, ◌≤ℤ◌, IfOk, pos};
+ghost use Rattle.edition_store.specs.Editions.{EditionData};
 ghost use Rattle.query_gate.specs.Questions.{AskData, ProfileData};
 ghost use Rattle.query_gate.specs.Replies.{HaveNumbers};
 ghost use Rattle.router_cli.specs.Answers.{IsInquiryText, IsProfileText, ShowsKept, ask_data, profile_data, reply_text};
 
 use answer_text::{choices_text, offers_text, unknown_text};
 use command_line::{Inquiry, WindowInquiry};
-use edition_store::Edition;
-use query_gate::uncounted::{ask, profile};
-use query_gate::{AskText, ProfileText, Reply};
-use segment_queue::Desk;
+use edition_store::{Edition, Naming, Opened};
+use query_gate::{AskText, Caller, ProfileText, Reply};
 use std::alloc::Global;
+use std::marker::Brand;
 use tb_base::{Memory, Name, Timetable};
 
 // What is written for an edition's answer.
@@ -53,33 +53,64 @@ fn profile_question(alloc: Global, inquiry: &WindowInquiry) -> Result<ProfileTex
     })
 }
 
-/// The best values, each with a journey by kept transfers.
-pub(crate) fn ask_text(
+// The best values, asked by a caller of a store of this edition alone.
+fn ask_alone<J: Naming>(
     alloc: Global,
-    edition: &Edition,
+    opened: Opened<Edition>,
+    edition: Edition,
     inquiry: &Inquiry,
 ) -> Result<Vec<u8>, Memory>
+    requires { opened.seen.book ≡ J.book }
     ensures { IfOk result (λ text.
-        IsInquiryText edition.now.table ShowsKept inquiry.now text.items) }
+        IsInquiryText (EditionData.table edition) ShowsKept inquiry.now text.items) }
 {
     edition.soundness();
     let question = ask_question(alloc, inquiry)?;
-    let mut desk = Desk::new(alloc);
-    let reply = ask(alloc, edition, &mut desk, &question)?;
-    reply_text(alloc, edition.table(), &reply)
+    let mut caller = Caller::<J>::alone(alloc, opened, edition)?;
+    let answer = caller.ask(alloc, &question)?;
+    let asked = answer.pinned.edition();
+    reply_text(alloc, asked.table(), &answer.reply)
+}
+
+/// The best values, each with a journey by kept transfers.
+pub(crate) fn ask_text(
+    alloc: Global,
+    edition: Edition,
+    inquiry: &Inquiry,
+) -> Result<Vec<u8>, Memory>
+    ensures { IfOk result (λ text.
+        IsInquiryText (EditionData.table edition) ShowsKept inquiry.now text.items) }
+{
+    ask_alone::<Brand>(alloc, Opened::new(), edition, inquiry)
+}
+
+// The profile of a window, asked by a caller of a store of this edition alone.
+fn profile_alone<J: Naming>(
+    alloc: Global,
+    opened: Opened<Edition>,
+    edition: Edition,
+    inquiry: &WindowInquiry,
+) -> Result<Vec<u8>, Memory>
+    requires { opened.seen.book ≡ J.book }
+    ensures { IfOk result (λ text.
+        IsProfileText (EditionData.table edition) inquiry.now text.items) }
+{
+    edition.soundness();
+    let question = profile_question(alloc, inquiry)?;
+    let mut caller = Caller::<J>::alone(alloc, opened, edition)?;
+    let answer = caller.profile(alloc, &question)?;
+    let asked = answer.pinned.edition();
+    reply_text(alloc, asked.table(), &answer.reply)
 }
 
 /// The profile of a window, each slot with a journey by kept transfers.
 pub(crate) fn profile_text(
     alloc: Global,
-    edition: &Edition,
+    edition: Edition,
     inquiry: &WindowInquiry,
 ) -> Result<Vec<u8>, Memory>
-    ensures { IfOk result (λ text. IsProfileText edition.now.table inquiry.now text.items) }
+    ensures { IfOk result (λ text.
+        IsProfileText (EditionData.table edition) inquiry.now text.items) }
 {
-    edition.soundness();
-    let question = profile_question(alloc, inquiry)?;
-    let mut desk = Desk::new(alloc);
-    let reply = profile(alloc, edition, &mut desk, &question)?;
-    reply_text(alloc, edition.table(), &reply)
+    profile_alone::<Brand>(alloc, Opened::new(), edition, inquiry)
 }
