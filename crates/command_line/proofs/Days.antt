@@ -1,6 +1,7 @@
 -- Words that name no day of a feed.
 use Rattle.std.proofs.Common.{◌≡◌, ◌<◌, ℕ, List, [], ◌∷◌, length, map, None, refl, arith, Bor}
 use Rattle.command_line.specs.DayCommands.{day_request_from}
+use Rattle.command_line.specs.Verifications.{verify_request_from}
 use Rattle.command_line.specs.declared.settings.Settings.{Settings}
 
 -- fewer than two words name none
@@ -8,3 +9,9 @@ pub too_few : (s : Settings) (name : List ℕ) (words : List (Bor (List ℕ))) �
 too_few s name [] few = refl
 too_few s name (dir ∷ []) few = refl
 too_few s name (dir ∷ date ∷ words) few = absurd (omega arith)
+
+-- nor one over which a journey is judged
+pub too_few_claimed : (s : Settings) (words : List (Bor (List ℕ))) → length words < 2 → None ≡ verify_request_from s (map (λ word. word.now) words)
+too_few_claimed s [] few = refl
+too_few_claimed s (dir ∷ []) few = refl
+too_few_claimed s (dir ∷ date ∷ words) few = absurd (omega arith)

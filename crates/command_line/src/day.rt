@@ -72,8 +72,8 @@ fn origin_inquiry_of<'a>(from: &'a str, time: &str) -> Option<OriginInquiry<'a>>
     }
 }
 
-// What is asked by the words FROM TO TIME.
-fn inquiry_from<'a>(words: &[&'a str]) -> Option<Inquiry<'a>>
+/// What is asked by the words FROM TO TIME.
+pub(crate) fn inquiry_from<'a>(words: &[&'a str]) -> Option<Inquiry<'a>>
     ensures { result ≡ inquiry_from (map (λ word. word.now) words.now) }
 {
     if words.len() != 3 {

@@ -13,10 +13,11 @@ mod day;
 mod plan;
 mod request;
 mod settings;
+mod verification;
 mod words;
 
 pub use request::{
     ArrivalInquiry, CityRequest, Command, DayRequest, Inquiry, OriginInquiry, PlannedDay, Request,
-    ServeRequest, WindowInquiry,
+    ServeRequest, VerifyRequest, WindowInquiry,
 };
 pub use words::request_of;

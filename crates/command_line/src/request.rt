@@ -145,6 +145,32 @@ impl<'a> Model for DayRequest<'a> {
     ghost invariant = { λ r. AreWithinADay r.options × AreWorkers r.workers };
 }
 
+/// A request to judge a claimed journey over one day of a feed.
+#[derive(Drop)]
+pub struct VerifyRequest<'a> {
+    pub options: Options,
+    pub dir: &'a str,
+    pub day: Day,
+    /// From where to where the journey is to lead, and from when on.
+    pub inquiry: Inquiry<'a>,
+}
+
+impl<'a> Model for VerifyRequest<'a> {
+    ghost use Rattle.command_line.specs.Settings.{AreWithinADay};
+    ghost use Rattle.command_line.specs.Verifications.{VerifyRequestData};
+
+    ghost Value = { VerifyRequestData };
+
+    ghost view = { λ r. record {
+      options = r.options;
+      dir = r.dir.now;
+      date = r.day;
+      inquiry = r.inquiry;
+    } };
+
+    ghost invariant = { λ r. AreWithinADay r.options };
+}
+
 /// A day of a feed: its folder, the day, and the word DIR@DATE that names both.
 #[derive(Drop)]
 pub struct PlannedDay<'a> {
@@ -216,4 +242,6 @@ pub enum Request<'a> {
     Serve(ServeRequest<'a>),
     /// What is built of a made city, and the best values between two of its corners.
     City(CityRequest),
+    /// Whether the journey that a source claims is one, with its value.
+    Verify(VerifyRequest<'a>),
 }

@@ -6,6 +6,7 @@ use Rattle.trip_table.specs.Answers.{feed_of}
 use Rattle.command_line.specs.declared.request.Request.{Request}
 use Rattle.command_line.specs.declared.request.Request.TheVariants as request
 use Rattle.router_cli.proofs.Endings.{IsDetermined, ending}
+use Rattle.router_cli.proofs.Claims.{verify_completed}
 use Rattle.router_cli.proofs.Runs.{run_completed}
 use Rattle.command_line.specs.Cities.{CityRequestData}
 use Rattle.router_cli.specs.Cities.{IsCityEnding, IsCityOutcome}
@@ -21,6 +22,8 @@ unread (Some (request.Day r)) told = refl
 unread (Some (request.City r)) told = refl
 unread (Some (request.Serve r)) None = ([], tt)
 unread (Some (request.Serve r)) (Some bytes) = ([], refl)
+unread (Some (request.Verify r)) None = ([], tt)
+unread (Some (request.Verify r)) (Some bytes) = ([], refl)
 
 -- neither count rose
 none_rose : (a b c d : ℕ) → (a < b) ⊎ (c < d) → b ≡ a → d ≡ c → ⊥
@@ -36,6 +39,7 @@ city_ending r status.WriteFault before now out write = absurd (write refl)
 city_ending r status.Usage before now out write = absurd out
 city_ending r (status.FeedRefused f) before now out write = absurd out
 city_ending r (status.ScriptRefused f) before now out write = absurd out
+city_ending r (status.JourneyRefused f) before now out write = absurd out
 city_ending r status.ReadFault before now out write = absurd out
 city_ending r status.Memory before now out write = inr refl
 
@@ -51,6 +55,10 @@ completed determined (Some (request.Day r)) files told s before now a b c d e f 
     (λ h. none_rose a b c d (read h) read_still take_still) (λ h. not_risen e f (write h) write_still) day is
 completed determined (Some (request.City r)) files told s before now a b c d e f promise read write =
     λ shown read_still take_still write_still. city_ending r s before now promise (λ h. not_risen e f (write h) write_still)
+completed determined (Some (request.Verify r)) files told s before now a b c d e f promise read write =
+    λ shown read_still take_still write_still day is.
+    verify_completed determined files shown told r s before now promise
+    (λ h. none_rose a b c d (read h) read_still take_still) (λ h. not_risen e f (write h) write_still) day (is.1 shown)
 completed determined (Some (request.Serve r)) files None s before now a b c d e f promise read write =
     λ shown read_still take_still write_still. tt
 completed determined (Some (request.Serve r)) files (Some bytes) s before now a b c d e f promise read write =

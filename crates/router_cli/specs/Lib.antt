@@ -2,4 +2,5 @@ pub mod Answers
 pub mod Cities
 pub mod Outcome
 pub mod Serving
+pub mod Verifying
 pub mod Promise

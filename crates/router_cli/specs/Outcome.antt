@@ -10,6 +10,8 @@ use Rattle.tb_io.specs.Files.{FileList}
 use Rattle.trip_table.specs.Answers.{feed_of}
 use Rattle.trip_table.specs.Day.{IsTimetableOf}
 use Rattle.command_line.specs.DayCommands.{DayRequestData}
+use Rattle.journey_read.specs.declared.claim.JourneyFault.{JourneyFault}
+use Rattle.journey_read.specs.declared.claim.JourneyFault.TheVariants as claim
 use Rattle.lane_serve.specs.declared.script.ScriptFault.{ScriptFault}
 use Rattle.lane_serve.specs.declared.script.ScriptFault.TheVariants as fault
 use Rattle.router_cli.specs.Answers.{IsAnswer}
@@ -25,6 +27,7 @@ status_code status.ReadFault = 4
 status_code status.WriteFault = 5
 status_code status.Memory = 6
 status_code (status.ScriptRefused f) = 7
+status_code (status.JourneyRefused f) = 9
 
 -- the number and the name of a script's fault, and its line where it has one
 abbrev pub script_fault_text : ScriptFault → List ℕ
@@ -34,6 +37,14 @@ script_fault_text (fault.TooManyLines n) = codes "3 TooManyLines line " ++ decim
 script_fault_text (fault.BadTime n) = codes "4 BadTime line " ++ decimal n
 script_fault_text fault.TooLong = codes "5 TooLong"
 script_fault_text fault.Memory = codes "Memory"
+
+-- the same of a claim's fault
+abbrev pub journey_fault_text : JourneyFault → List ℕ
+journey_fault_text (claim.BadLine n) = codes "1 BadLine line " ++ decimal n
+journey_fault_text (claim.UnknownStop n) = codes "2 UnknownStop line " ++ decimal n
+journey_fault_text (claim.NoSuchRide n) = codes "3 NoSuchRide line " ++ decimal n
+journey_fault_text claim.TooLong = codes "4 TooLong"
+journey_fault_text claim.Memory = codes "Memory"
 
 -- the line that it writes to standard error
 abbrev pub status_text : Status → List ℕ
@@ -47,6 +58,8 @@ status_text status.WriteFault = codes "router: write fault\n"
 status_text status.Memory = codes "router: out of memory\n"
 status_text (status.ScriptRefused f) =
     codes "router: script refused: " ++ script_fault_text f ++ codes "\n"
+status_text (status.JourneyRefused f) =
+    codes "router: journey refused: " ++ journey_fault_text f ++ codes "\n"
 
 -- what becomes of the day of a request: its timetable, or the first thing that is wrong with the
 -- feed
@@ -55,8 +68,8 @@ IsDayOf files r = IsTimetableOf (feed_of files r.dir) r.date r.options
 
 -- What a status says of a request, of the day's timetable or first fault, and of the bytes that a
 -- sink held before and holds now. Done: the answer was written whole. WriteFault: some first bytes
--- of it. FeedRefused: the fault is the day's. Usage and ScriptRefused don't come here. Of ReadFault
--- and Memory no clause speaks here.
+-- of it. FeedRefused: the fault is the day's. Usage and the other refusals don't come here. Of
+-- ReadFault and Memory no clause speaks here.
 abbrev pub IsOutcome : (Result TimetableData FeedFault → Type 0) → DayRequestData → Status
     → Option (List ℕ) → Option (List ℕ) → Type 0
 IsOutcome IsDay r status.Done before now =
@@ -68,6 +81,7 @@ IsOutcome IsDay r status.WriteFault before now =
 IsOutcome IsDay r (status.FeedRefused f) before now = IsDay (Err f)
 IsOutcome IsDay r status.Usage before now = ⊥
 IsOutcome IsDay r (status.ScriptRefused f) before now = ⊥
+IsOutcome IsDay r (status.JourneyRefused f) before now = ⊥
 IsOutcome IsDay r status.ReadFault before now = ⊤
 IsOutcome IsDay r status.Memory before now = ⊤
 
@@ -78,7 +92,7 @@ IsEnding (Ok T) s = (s ≡ status.Done) ⊎ (s ≡ status.Memory)
 IsEnding (Err f) s = (s ≡ status.FeedRefused f) ⊎ (s ≡ status.Memory)
 
 -- Whatever the folder tells: with Done the answer over a sound timetable was written whole, with
--- WriteFault some first bytes of it. Usage and ScriptRefused don't come here.
+-- WriteFault some first bytes of it. Usage and other refusals than of the feed don't come here.
 abbrev pub WritesAnswer : DayRequestData → Status → Option (List ℕ) → Option (List ℕ) → Type 0
 WritesAnswer r status.Done before now =
     (T : TimetableData) × (bytes : List ℕ) × IsSound T × IsAnswer T r bytes
@@ -89,5 +103,6 @@ WritesAnswer r status.WriteFault before now =
 WritesAnswer r (status.FeedRefused f) before now = ⊤
 WritesAnswer r status.Usage before now = ⊥
 WritesAnswer r (status.ScriptRefused f) before now = ⊥
+WritesAnswer r (status.JourneyRefused f) before now = ⊥
 WritesAnswer r status.ReadFault before now = ⊤
 WritesAnswer r status.Memory before now = ⊤

@@ -1,5 +1,5 @@
 -- What the program promises of a request.
-use Rattle.std.specs.Prelude.{◌≡◌, ℕ, List, Option, Some, None, IfSome, IsSome, Result, ⊤}
+use Rattle.std.specs.Prelude.{◌≡◌, ℕ, List, Option, Some, None, IfSome, IsSome, Result, Ok, ⊤}
 use Rattle.std.specs.Io.KnownBytes.{Consumes}
 use Rattle.tb_base.specs.TimetableData.{TimetableData}
 use Rattle.gtfs_rows.specs.declared.fault.FeedFault.{FeedFault}
@@ -10,6 +10,7 @@ use Rattle.lane_serve.specs.Script.{script_of}
 use Rattle.router_cli.specs.Cities.{IsCityEnding, IsCityOutcome}
 use Rattle.router_cli.specs.Outcome.{IsDayOf, IsEnding, IsOutcome, WritesAnswer}
 use Rattle.router_cli.specs.Serving.{FirstDayGives, IsRunEnding, IsRunOutcome, TellsScript, plan_of}
+use Rattle.router_cli.specs.Verifying.{DayGives, IsVerifyEnding, IsVerifyOutcome}
 use Rattle.router_cli.specs.declared.status.Status.{Status}
 
 -- What a status says of a request, of the files of a folder, where it tells them, of the bytes of a
@@ -20,12 +21,15 @@ IsRequestOutcome files told (request.Day r) s before now =
     IsSome files → IsOutcome (IsDayOf files r) r s before now
 IsRequestOutcome files told (request.Serve r) s before now = IsRunOutcome files told r s before now
 IsRequestOutcome files told (request.City r) s before now = IsCityOutcome r s before now
+IsRequestOutcome files told (request.Verify r) s before now =
+    IsVerifyOutcome files told r s before now
 
 -- How a request about a day ends, whatever the folder tells. Of others the outcome says it.
 abbrev pub WritesRequest : Request → Status → Option (List ℕ) → Option (List ℕ) → Type 0
 WritesRequest (request.Day r) s before now = WritesAnswer r s before now
 WritesRequest (request.Serve r) s before now = ⊤
 WritesRequest (request.City r) s before now = ⊤
+WritesRequest (request.Verify r) s before now = ⊤
 
 -- how a request may end where nothing fails outside, by what its day or its first day gives
 abbrev pub IsRequestEnding : Option FileList → Option (List ℕ) → Request → Status → Type 0
@@ -35,16 +39,27 @@ IsRequestEnding files told (request.Serve r) s = IfSome told (λ bytes.
     (day : Result TimetableData FeedFault) → FirstDayGives files r.options (plan_of r) day →
     IsRunEnding (script_of bytes) day s)
 IsRequestEnding files told (request.City r) s = IsCityEnding s
+IsRequestEnding files told (request.Verify r) s =
+    (day : Result TimetableData FeedFault) → DayGives files r day → IsVerifyEnding told day s
 
 -- a script's first fault comes before what the feeds give
 abbrev pub TellsFirst : Option (List ℕ) → Request → Status → Type 0
 TellsFirst told (request.Day r) s = ⊤
 TellsFirst told (request.Serve r) s = TellsScript told s
 TellsFirst told (request.City r) s = ⊤
+TellsFirst told (request.Verify r) s = ⊤
 
--- only a run takes bytes of a script
+-- a claim is read where the day has a timetable
+abbrev pub ReadsBehind : Option FileList → Request → Type 0
+ReadsBehind files (request.Day r) = ⊤
+ReadsBehind files (request.Serve r) = ⊤
+ReadsBehind files (request.City r) = ⊤
+ReadsBehind files (request.Verify r) = (T : TimetableData) × DayGives files r (Ok T)
+
+-- only a run and a claim take bytes of a source
 abbrev pub LeavesScript : Option Request → Option (List ℕ) → Option (List ℕ) → Type 0
 LeavesScript None before now = now ≡ before
 LeavesScript (Some (request.Day r)) before now = now ≡ before
 LeavesScript (Some (request.Serve r)) before now = (bs : List ℕ) × Consumes before now bs
 LeavesScript (Some (request.City r)) before now = now ≡ before
+LeavesScript (Some (request.Verify r)) before now = (bs : List ℕ) × Consumes before now bs

@@ -9,14 +9,14 @@ use query_gate::{Between, stops_between};
 use std::alloc::Global;
 use tb_base::{Memory, Query, Timetable};
 
-// The query that an inquiry means over a timetable, or the name in it that is no place.
-enum Asked<'a> {
+/// The query that an inquiry means over a timetable, or the name in it that is no place.
+pub(crate) enum Asked<'a> {
     Query(Query),
     Unknown(&'a [u8]),
 }
 
-// The query between the two places of an inquiry.
-fn query_of<'a>(
+/// The query between the two places of an inquiry.
+pub(crate) fn query_of<'a>(
     alloc: Global,
     table: &Timetable,
     inquiry: &Inquiry<'a>,

@@ -1,12 +1,13 @@
 //! All that the program does.
 ghost use Rattle.std.specs.Prelude.{◌≡◌, ◌⊎◌, ◌<◌, ◌-◌, ◌^◌, IfSome, IsSome, None, map, string_bytes};
 ghost use Rattle.command_line.specs.Requests.{request_of};
-ghost use Rattle.router_cli.specs.Promise.{IsRequestEnding, IsRequestOutcome, LeavesScript, TellsFirst, WritesRequest};
+ghost use Rattle.router_cli.specs.Promise.{IsRequestEnding, IsRequestOutcome, LeavesScript, ReadsBehind, TellsFirst, WritesRequest};
 
 use crate::day::day_outcome;
 use crate::made_city::city_outcome;
 use crate::serving::run_outcome;
 use crate::status::Status;
+use crate::verifying::verify_outcome;
 use command_line::{Request, request_of};
 use std::alloc::Global;
 use std::sync::Wait;
@@ -38,6 +39,9 @@ fn outcome<R: Threads + Wait + Sync, F: Folder + Send, S: Source, K: Sink, G: Ga
         WritesRequest r result (K.written out.old) (K.written out.new)) }
     ensures script { IfSome (request_of (map string_bytes words.now)) (λ r.
         S.faults script.new ≡ S.faults script.old → TellsFirst (S.left script.old) r result) }
+    ensures later { IfSome (request_of (map string_bytes words.now)) (λ r.
+        result ≡ Status.ReadFault → F.faults folder.new ≡ F.faults folder.old →
+        ReadsBehind (F.files folder.old) r) }
     ensures quiet { (result ≡ Status.Done) ⊎ (result ≡ Status.WriteFault)
         ⊎ (K.written out.new ≡ K.written out.old) }
     ensures read { result ≡ Status.ReadFault → (F.faults folder.old < F.faults folder.new)
@@ -58,6 +62,9 @@ fn outcome<R: Threads + Wait + Sync, F: Folder + Send, S: Source, K: Sink, G: Ga
             run_outcome(rt, alloc, request, folder, script, out, gate)
         }
         Ok(Some(Request::City(request))) => city_outcome(rt, alloc, &request, out, gate),
+        Ok(Some(Request::Verify(request))) => {
+            verify_outcome(alloc, &request, folder, script, out)
+        }
         Ok(None) => Status::Usage,
         Err(Memory) => Status::Memory,
     }
@@ -70,7 +77,8 @@ fn outcome<R: Threads + Wait + Sync, F: Folder + Send, S: Source, K: Sink, G: Ga
 /// With any status but `Done` and `WriteFault` nothing is written, since the whole text is gathered
 /// before its first byte is written. Whatever the folder is, what is written with `Done` is the
 /// answer over some sound timetable; where it tells its contents, over the timetable of the day. A
-/// script is read by a run of several days alone; its first fault comes before what the feeds give.
+/// script is read by a run of several days alone; its first fault comes before what the feeds give. A
+/// claim is read, from the same source, once the timetable of its day is there.
 /// `Memory` is free. The gate is told of the pieces that workers reduce, and of the publications and
 /// requests of a run, which may wait.
 pub fn route<R: Threads + Wait + Sync, F: Folder + Send, S: Source, K: Sink, G: Gate>(
@@ -95,6 +103,9 @@ pub fn route<R: Threads + Wait + Sync, F: Folder + Send, S: Source, K: Sink, G: 
         WritesRequest r result (K.written out.old) (K.written out.new)) }
     ensures script { IfSome (request_of (map string_bytes words.now)) (λ r.
         S.faults script.new ≡ S.faults script.old → TellsFirst (S.left script.old) r result) }
+    ensures later { IfSome (request_of (map string_bytes words.now)) (λ r.
+        result ≡ Status.ReadFault → F.faults folder.new ≡ F.faults folder.old →
+        ReadsBehind (F.files folder.old) r) }
     ensures quiet { (result ≡ Status.Done) ⊎ (result ≡ Status.WriteFault)
         ⊎ (K.written out.new ≡ K.written out.old) }
     ensures read { result ≡ Status.ReadFault → (F.faults folder.old < F.faults folder.new)

@@ -1,10 +1,11 @@
 //! How the program ends.
 ghost use Rattle.std.specs.Prelude.{◌≡◌, ◌++◌, IfOk};
 ghost use Rattle.std.specs.Fmt.{decimal};
-ghost use Rattle.router_cli.specs.Outcome.{script_fault_text, status_code, status_text};
+ghost use Rattle.router_cli.specs.Outcome.{journey_fault_text, script_fault_text, status_code, status_text};
 
 use answer_text::fault_text;
 use gtfs_rows::FeedFault;
+use journey_read::JourneyFault;
 use lane_serve::ScriptFault;
 use std::alloc::Global;
 use tb_base::Memory;
@@ -29,11 +30,13 @@ pub enum Status {
     Memory,
     /// The script has this first fault.
     ScriptRefused(ScriptFault),
+    /// The claimed journey has this first fault.
+    JourneyRefused(JourneyFault),
 }
 
 impl Status {
-    /// The number with which the program ends: 0 for `Done`, and 2 to 7 for the others in their
-    /// order.
+    /// The number with which the program ends: 0 for `Done`, 2 to 7 for the next ones in their
+    /// order, and 9 for `JourneyRefused`.
     pub fn code(&self) -> u8
         ensures { result ≡ status_code self.now }
     {
@@ -45,6 +48,7 @@ impl Status {
             Status::WriteFault => 5,
             Status::Memory => 6,
             Status::ScriptRefused(_) => 7,
+            Status::JourneyRefused(_) => 9,
         }
     }
 }
@@ -61,10 +65,12 @@ pub fn status_text(alloc: Global, status: &Status) -> Result<Vec<u8>, Memory>
         Status::WriteFault => copied(alloc, b"router: write fault\n"),
         Status::Memory => copied(alloc, b"router: out of memory\n"),
         Status::ScriptRefused(fault) => script_refusal_text(alloc, *fault),
+        Status::JourneyRefused(fault) => journey_refusal_text(alloc, *fault),
     }
 }
 
-fn copied(alloc: Global, bytes: &[u8]) -> Result<Vec<u8>, Memory>
+/// These bytes, as a text.
+pub(crate) fn copied(alloc: Global, bytes: &[u8]) -> Result<Vec<u8>, Memory>
     ensures { IfOk result (λ v. v.items ≡ bytes.now) }
 {
     let copy = bytes.to_vec(alloc)?;
@@ -81,12 +87,12 @@ fn refusal_text(alloc: Global, fault: &FeedFault) -> Result<Vec<u8>, Memory>
     Ok(line)
 }
 
-// A name, and the number of a line.
-fn at_line(alloc: Global, name: &[u8], line: u32) -> Result<Vec<u8>, Memory>
-    ensures { IfOk result (λ v. v.items ≡ name.now ++ decimal line) }
+/// A name, and a number.
+pub(crate) fn at_number(alloc: Global, name: &[u8], number: u32) -> Result<Vec<u8>, Memory>
+    ensures { IfOk result (λ v. v.items ≡ name.now ++ decimal number) }
 {
     let mut text = copied(alloc, name)?;
-    let digits = match format!(in alloc; "{line}") {
+    let digits = match format!(in alloc; "{number}") {
         Ok(digits) => digits,
         Err(_) => return Err(Memory),
     };
@@ -99,10 +105,10 @@ fn script_fault_text(alloc: Global, fault: ScriptFault) -> Result<Vec<u8>, Memor
     ensures { IfOk result (λ v. v.items ≡ script_fault_text fault) }
 {
     match fault {
-        ScriptFault::BadLine(line) => at_line(alloc, b"1 BadLine line ", line),
-        ScriptFault::TooManyLanes(line) => at_line(alloc, b"2 TooManyLanes line ", line),
-        ScriptFault::TooManyLines(line) => at_line(alloc, b"3 TooManyLines line ", line),
-        ScriptFault::BadTime(line) => at_line(alloc, b"4 BadTime line ", line),
+        ScriptFault::BadLine(line) => at_number(alloc, b"1 BadLine line ", line),
+        ScriptFault::TooManyLanes(line) => at_number(alloc, b"2 TooManyLanes line ", line),
+        ScriptFault::TooManyLines(line) => at_number(alloc, b"3 TooManyLines line ", line),
+        ScriptFault::BadTime(line) => at_number(alloc, b"4 BadTime line ", line),
         ScriptFault::TooLong => copied(alloc, b"5 TooLong"),
         ScriptFault::Memory => copied(alloc, b"Memory"),
     }
@@ -113,6 +119,29 @@ fn script_refusal_text(alloc: Global, fault: ScriptFault) -> Result<Vec<u8>, Mem
 {
     let mut line = copied(alloc, b"router: script refused: ")?;
     let text = script_fault_text(alloc, fault)?;
+    line.extend_from_slice(text.as_slice())?;
+    line.push(b'\n')?;
+    Ok(line)
+}
+
+// The number and the name of a claim's fault, and its line where it has one.
+fn journey_fault_text(alloc: Global, fault: JourneyFault) -> Result<Vec<u8>, Memory>
+    ensures { IfOk result (λ v. v.items ≡ journey_fault_text fault) }
+{
+    match fault {
+        JourneyFault::BadLine(line) => at_number(alloc, b"1 BadLine line ", line),
+        JourneyFault::UnknownStop(line) => at_number(alloc, b"2 UnknownStop line ", line),
+        JourneyFault::NoSuchRide(line) => at_number(alloc, b"3 NoSuchRide line ", line),
+        JourneyFault::TooLong => copied(alloc, b"4 TooLong"),
+        JourneyFault::Memory => copied(alloc, b"Memory"),
+    }
+}
+
+fn journey_refusal_text(alloc: Global, fault: JourneyFault) -> Result<Vec<u8>, Memory>
+    ensures { IfOk result (λ v. v.items ≡ status_text (Status.JourneyRefused fault)) }
+{
+    let mut line = copied(alloc, b"router: journey refused: ")?;
+    let text = journey_fault_text(alloc, fault)?;
     line.extend_from_slice(text.as_slice())?;
     line.push(b'\n')?;
     Ok(line)

@@ -1,0 +1,151 @@
+-- What the program's status says of a claimed journey.
+use Rattle.std.specs.Prelude.{◌≡◌, ◌↔◌, ℕ, ◌<◌, ◌≤◌, ◌⊎◌, List, ◌++◌, codes, length, take, Option, IfSome, IsSome, Result, Ok, Err, IfOk, ⊤}
+use Rattle.std.specs.Fmt.{decimal}
+use Rattle.std.specs.Io.KnownBytes.{Appends}
+use Rattle.tb_base.specs.BestValues.{ChoiceData, QueryData}
+use Rattle.tb_base.specs.JourneyRules.{SpellValue}
+use Rattle.tb_base.specs.Soundness.{IsSound}
+use Rattle.tb_base.specs.TimetableData.{TimetableData}
+use Rattle.tb_base.specs.declared.rule.Rule.{Rule}
+use Rattle.tb_base.specs.declared.rule.Rule.TheVariants as rule
+use Rattle.answer_text.specs.Times.{time_text}
+use Rattle.gtfs_rows.specs.declared.fault.FeedFault.{FeedFault}
+use Rattle.tb_io.specs.Files.{FileList}
+use Rattle.trip_table.specs.Answers.{feed_of}
+use Rattle.trip_table.specs.Day.{IsTimetableOf}
+use Rattle.journey_read.specs.Claims.{claim_of}
+use Rattle.journey_read.specs.Judging.{IsVerdict}
+use Rattle.journey_read.specs.declared.claim.JourneyFault.{JourneyFault}
+use Rattle.journey_read.specs.declared.verdict.Verdict.{Verdict}
+use Rattle.journey_read.specs.declared.verdict.Verdict.TheVariants as verdict
+use Rattle.query_gate.specs.Questions.{query_at}
+use Rattle.command_line.specs.Inquiries.{InquiryData}
+use Rattle.command_line.specs.Verifications.{VerifyRequestData}
+use Rattle.router_cli.specs.Answers.{IsTextBetween}
+use Rattle.router_cli.specs.declared.status.Status.{Status}
+use Rattle.router_cli.specs.declared.status.Status.TheVariants as status
+
+-- the name of a rule
+abbrev pub rule_text : Rule → List ℕ
+rule_text rule.BadNumber = codes "BadNumber"
+rule_text rule.TwoWalks = codes "TwoWalks"
+rule_text rule.NoWalk = codes "NoWalk"
+rule_text rule.NoBoarding = codes "NoBoarding"
+rule_text rule.NoAlighting = codes "NoAlighting"
+rule_text rule.WrongStart = codes "WrongStart"
+rule_text rule.TooEarly = codes "TooEarly"
+rule_text rule.Apart = codes "Apart"
+rule_text rule.TooLate = codes "TooLate"
+rule_text rule.WrongEnd = codes "WrongEnd"
+
+-- `yes`, or `no` with the rule and the leg that breaks it, or with the journey's own value
+abbrev pub verdict_text : Verdict → List ℕ
+verdict_text verdict.Yes = codes "yes\n"
+verdict_text (verdict.Broken r) =
+    codes "no " ++ rule_text r.rule ++ codes " leg " ++ decimal r.leg ++ codes "\n"
+verdict_text (verdict.OtherValue v) =
+    codes "no value arrive " ++ time_text v.arrive ++ codes " rides " ++ decimal v.rides
+    ++ codes "\n"
+
+-- the verdict on a claim: yes exactly where the legs spell a journey that has the claimed value
+pub record ShowsVerdict (T : TimetableData) (claimed : ChoiceData) (Q : QueryData)
+    (bytes : List ℕ) : Type 0 where
+  pub said : Verdict
+  pub is : IsVerdict T Q claimed said
+  pub yes : (said ≡ verdict.Yes) ↔ SpellValue T Q claimed.legs claimed.value
+  pub text : bytes ≡ verdict_text said
+
+-- what is written of a claim about two places
+abbrev pub IsVerifiedText : TimetableData → InquiryData → ChoiceData → List ℕ → Type 0
+IsVerifiedText T i claimed =
+    IsTextBetween T i.from i.to (λ ends. ShowsVerdict T claimed (query_at ends i.time))
+
+-- a day gives this: a sound timetable, that of the day where the folder tells its files; or, where
+-- it tells them, the feed's first fault
+abbrev pub DayGives : Option FileList → VerifyRequestData → Result TimetableData FeedFault
+    → Type 0
+DayGives files r day =
+    IfOk day IsSound
+    × (IsSome files → IsTimetableOf (feed_of files r.dir) r.date r.options day)
+
+-- where the source tells its bytes, they claim this over the timetable
+abbrev pub ClaimGives : TimetableData → Option (List ℕ) → Result ChoiceData JourneyFault → Type 0
+ClaimGives T told result = IfSome told (λ bytes. claim_of T bytes ≡ result)
+
+-- the bytes are what is written of the claim over the timetable of the day
+pub record IsVerified (files : Option FileList) (told : Option (List ℕ)) (r : VerifyRequestData)
+    (bytes : List ℕ) : Type 0 where
+  pub table : TimetableData
+  pub day : DayGives files r (Ok table)
+  pub claimed : ChoiceData
+  pub claim : ClaimGives table told (Ok claimed)
+  pub text : IsVerifiedText table r.inquiry claimed bytes
+
+-- the timetable of the day is there, and over it the claim has this first fault
+abbrev pub ClaimRefused : Option FileList → Option (List ℕ) → VerifyRequestData → JourneyFault
+    → Type 0
+ClaimRefused files told r f =
+    (T : TimetableData) × DayGives files r (Ok T) × ClaimGives T told (Err f)
+
+-- What a status says of a claim, and of the bytes that a sink held before and holds now. Done: what
+-- is written of it was written whole. WriteFault: some first bytes of that. FeedRefused: the fault
+-- is the day's. JourneyRefused: the day has a timetable, and the fault is the claim's. Usage and
+-- ScriptRefused don't come here. Of ReadFault and Memory no clause speaks here.
+abbrev pub IsVerifyOutcome : Option FileList → Option (List ℕ) → VerifyRequestData → Status
+    → Option (List ℕ) → Option (List ℕ) → Type 0
+IsVerifyOutcome files told r status.Done before now =
+    (bytes : List ℕ) × IsVerified files told r bytes × Appends before now bytes
+IsVerifyOutcome files told r status.WriteFault before now =
+    (bytes : List ℕ) × (n : ℕ) × IsVerified files told r bytes × (n ≤ length bytes)
+    × Appends before now (take n bytes)
+IsVerifyOutcome files told r (status.FeedRefused f) before now = DayGives files r (Err f)
+IsVerifyOutcome files told r (status.JourneyRefused f) before now = ClaimRefused files told r f
+IsVerifyOutcome files told r status.Usage before now = ⊥
+IsVerifyOutcome files told r (status.ScriptRefused f) before now = ⊥
+IsVerifyOutcome files told r status.ReadFault before now = ⊤
+IsVerifyOutcome files told r status.Memory before now = ⊤
+
+-- How a claim may end where nothing fails outside: by its first fault, or with what is written of
+-- it, or for want of memory.
+abbrev pub IsClaimEnding : Result ChoiceData JourneyFault → Status → Type 0
+IsClaimEnding (Ok claimed) s = (s ≡ status.Done) ⊎ (s ≡ status.Memory)
+IsClaimEnding (Err f) s = (s ≡ status.JourneyRefused f) ⊎ (s ≡ status.Memory)
+
+-- The same of a request: by the feed's first fault; else as the claim over the day's timetable.
+abbrev pub IsVerifyEnding : Option (List ℕ) → Result TimetableData FeedFault → Status → Type 0
+IsVerifyEnding told (Ok T) s = IfSome told (λ bytes. IsClaimEnding (claim_of T bytes) s)
+IsVerifyEnding told (Err f) s = (s ≡ status.FeedRefused f) ⊎ (s ≡ status.Memory)
+
+-- why a source gives no claim, by its count of faults before and now
+abbrev pub IsNoClaim : TimetableData → Option (List ℕ) → ℕ → ℕ → Status → Type 0
+IsNoClaim T told before now (status.JourneyRefused f) =
+    ClaimGives T told (Err f) × (now ≡ before)
+IsNoClaim T told before now status.ReadFault = before < now
+IsNoClaim T told before now status.Memory = now ≡ before
+IsNoClaim T told before now status.Done = ⊥
+IsNoClaim T told before now status.Usage = ⊥
+IsNoClaim T told before now status.WriteFault = ⊥
+IsNoClaim T told before now (status.FeedRefused f) = ⊥
+IsNoClaim T told before now (status.ScriptRefused f) = ⊥
+
+-- why a day gives no timetable, by the folder's count of faults before and now
+abbrev pub IsNoTable : Option FileList → VerifyRequestData → ℕ → ℕ → Status → Type 0
+IsNoTable files r before now (status.FeedRefused f) = DayGives files r (Err f) × (now ≡ before)
+IsNoTable files r before now status.ReadFault = before < now
+IsNoTable files r before now status.Memory = now ≡ before
+IsNoTable files r before now status.Done = ⊥
+IsNoTable files r before now status.Usage = ⊥
+IsNoTable files r before now status.WriteFault = ⊥
+IsNoTable files r before now (status.ScriptRefused f) = ⊥
+IsNoTable files r before now (status.JourneyRefused f) = ⊥
+
+-- why nothing is written of a claim
+abbrev pub IsUnverified : Option FileList → Option (List ℕ) → VerifyRequestData → Status → Type 0
+IsUnverified files told r (status.FeedRefused f) = DayGives files r (Err f)
+IsUnverified files told r (status.JourneyRefused f) = ClaimRefused files told r f
+IsUnverified files told r status.ReadFault = ⊤
+IsUnverified files told r status.Memory = ⊤
+IsUnverified files told r status.Done = ⊥
+IsUnverified files told r status.Usage = ⊥
+IsUnverified files told r status.WriteFault = ⊥
+IsUnverified files told r (status.ScriptRefused f) = ⊥

@@ -1,0 +1,162 @@
+//! What the program does about a claimed journey.
+ghost use Rattle.std.specs.Prelude.{◌≡◌, ◌⊎◌, ◌<◌, ◌-◌, ◌^◌, Err, IfErr, IfOk, List, Ok, length, ℕ};
+ghost use Rattle.std.specs.Io.KnownBytes.{Consumes};
+ghost use Rattle.tb_base.specs.TimetableData.{TimetableData};
+ghost use Rattle.router_cli.specs.Verifying.{ClaimGives, DayGives, IsNoClaim, IsNoTable, IsUnverified, IsVerified, IsVerifiedText, IsVerifyOutcome};
+
+use crate::over_table::{Asked, query_of};
+use crate::status::Status;
+use crate::verdicts::verdict_text;
+use answer_text::unknown_text;
+use command_line::{Inquiry, VerifyRequest};
+use journey_read::{Claimed, JourneyFault, judge, read_journey};
+use std::alloc::Global;
+use tb_base::{Memory, Timetable};
+use tb_io::{Folder, Sink, Source, Taken, put_all, take_source};
+use trip_table::{DayFault, read_day};
+
+// No claim has more bytes.
+const MOST_BYTES: u64 = 1_048_576;
+
+// The timetable of the day of a request.
+fn table_of<F: Folder>(
+    alloc: Global,
+    folder: &mut F,
+    request: &VerifyRequest,
+) -> Result<Timetable, Status>
+    requires { F.faults folder.old < 2 ^ 64 - 1 }
+    ensures day { IfOk result (λ T. DayGives (F.files folder.old) request.now (Ok T)) }
+    ensures kept { IfOk result (λ _. F.faults folder.new ≡ F.faults folder.old) }
+    ensures refused { IfErr result (IsNoTable (F.files folder.old) request.now
+        (F.faults folder.old) (F.faults folder.new)) }
+    ensures files { F.files folder.new ≡ F.files folder.old }
+{
+    match read_day(alloc, folder, request.dir, &request.day, &request.options) {
+        Ok(table) => {
+            table.soundness();
+            Ok(table)
+        }
+        Err(DayFault::Feed(fault)) => Err(Status::FeedRefused(fault)),
+        Err(DayFault::ReadFault) => Err(Status::ReadFault),
+        Err(DayFault::Memory) => Err(Status::Memory),
+    }
+}
+
+// The claim that a source makes over a timetable.
+fn claim_from<S: Source>(
+    alloc: Global,
+    table: &Timetable,
+    source: &mut S,
+) -> Result<Claimed, Status>
+    requires { S.faults source.old < 2 ^ 64 - 1 }
+    ensures claim { IfOk result (λ c. ClaimGives table.now (S.left source.old) (Ok c)) }
+    ensures count { IfOk result (λ c. length c.legs < 2 ^ 32) }
+    ensures kept { IfOk result (λ _. S.faults source.new ≡ S.faults source.old) }
+    ensures refused { IfErr result (IsNoClaim table.now (S.left source.old)
+        (S.faults source.old) (S.faults source.new)) }
+    ensures read { (bs : List ℕ) × Consumes (S.left source.old) (S.left source.new) bs }
+{
+    match take_source(alloc, source, MOST_BYTES) {
+        Ok(bytes) => match read_journey(alloc, table, bytes.as_slice()) {
+            Ok(claimed) => Ok(claimed),
+            Err(JourneyFault::Memory) => Err(Status::Memory),
+            Err(fault) => Err(Status::JourneyRefused(fault)),
+        },
+        Err(Taken::TooLarge) => Err(Status::JourneyRefused(JourneyFault::TooLong)),
+        Err(Taken::ReadFault) => Err(Status::ReadFault),
+        Err(Taken::Memory) => Err(Status::Memory),
+    }
+}
+
+// What is written of a claim between the two places of an inquiry.
+fn verified_text(
+    alloc: Global,
+    table: &Timetable,
+    inquiry: &Inquiry,
+    claimed: &Claimed,
+) -> Result<Vec<u8>, Memory>
+    requires { length claimed.now.legs < 2 ^ 32 }
+    ensures { IfOk result (λ text.
+        IsVerifiedText table.now inquiry.now claimed.now text.items) }
+{
+    match query_of(alloc, table, inquiry)? {
+        Asked::Unknown(name) => unknown_text(alloc, name),
+        Asked::Query(query) => verdict_text(alloc, judge(table, &query, claimed)),
+    }
+}
+
+// What is written for a request. The source is read once the timetable of the day is there.
+fn text_of<F: Folder, S: Source>(
+    alloc: Global,
+    folder: &mut F,
+    source: &mut S,
+    request: &VerifyRequest,
+) -> Result<Vec<u8>, Status>
+    requires folder { F.faults folder.old < 2 ^ 64 - 1 }
+    requires source { S.faults source.old < 2 ^ 64 - 1 }
+    ensures text { IfOk result (λ text.
+        IsVerified (F.files folder.old) (S.left source.old) request.now text.items) }
+    ensures refused { IfErr result
+        (IsUnverified (F.files folder.old) (S.left source.old) request.now) }
+    ensures fault { result ≡ Err Status.ReadFault → (F.faults folder.old < F.faults folder.new)
+        ⊎ (S.faults source.old < S.faults source.new) }
+    ensures later { result ≡ Err Status.ReadFault → F.faults folder.new ≡ F.faults folder.old →
+        (T : TimetableData) × DayGives (F.files folder.old) request.now (Ok T) }
+    ensures folder_kept { (result ≡ Err Status.ReadFault)
+        ⊎ (F.faults folder.new ≡ F.faults folder.old) }
+    ensures source_kept { (result ≡ Err Status.ReadFault)
+        ⊎ (S.faults source.new ≡ S.faults source.old) }
+    ensures files { F.files folder.new ≡ F.files folder.old }
+    ensures read { (bs : List ℕ) × Consumes (S.left source.old) (S.left source.new) bs }
+{
+    let table = match table_of(alloc, folder, request) {
+        Ok(table) => table,
+        Err(status) => return Err(status),
+    };
+    let claimed = match claim_from(alloc, &table, source) {
+        Ok(claimed) => claimed,
+        Err(status) => return Err(status),
+    };
+    match verified_text(alloc, &table, &request.inquiry, &claimed) {
+        Ok(text) => Ok(text),
+        Err(_) => Err(Status::Memory),
+    }
+}
+
+/// Judges the journey that a source claims over one day of a feed. It has no handle that waits, so
+/// it returns.
+pub(crate) fn verify_outcome<F: Folder, S: Source, K: Sink>(
+    alloc: Global,
+    request: &VerifyRequest,
+    folder: &mut F,
+    source: &mut S,
+    out: &mut K,
+) -> Status
+    requires folder { F.faults folder.old < 2 ^ 64 - 1 }
+    requires source { S.faults source.old < 2 ^ 64 - 1 }
+    requires out { K.faults out.old < 2 ^ 64 - 1 }
+    ensures promise { IsVerifyOutcome (F.files folder.old) (S.left source.old) request.now result
+        (K.written out.old) (K.written out.new) }
+    ensures later { result ≡ Status.ReadFault → F.faults folder.new ≡ F.faults folder.old →
+        (T : TimetableData) × DayGives (F.files folder.old) request.now (Ok T) }
+    ensures quiet { (result ≡ Status.Done) ⊎ (result ≡ Status.WriteFault)
+        ⊎ (K.written out.new ≡ K.written out.old) }
+    ensures read { result ≡ Status.ReadFault → (F.faults folder.old < F.faults folder.new)
+        ⊎ (S.faults source.old < S.faults source.new) }
+    ensures write { result ≡ Status.WriteFault → K.faults out.old < K.faults out.new }
+    ensures folder_kept { (result ≡ Status.ReadFault)
+        ⊎ (F.faults folder.new ≡ F.faults folder.old) }
+    ensures source_kept { (result ≡ Status.ReadFault)
+        ⊎ (S.faults source.new ≡ S.faults source.old) }
+    ensures out_kept { (result ≡ Status.WriteFault) ⊎ (K.faults out.new ≡ K.faults out.old) }
+    ensures files { F.files folder.new ≡ F.files folder.old }
+    ensures taken { (bs : List ℕ) × Consumes (S.left source.old) (S.left source.new) bs }
+{
+    match text_of(alloc, folder, source, request) {
+        Ok(text) => match put_all(out, text.as_slice()) {
+            Ok(()) => Status::Done,
+            Err(_) => Status::WriteFault,
+        },
+        Err(status) => status,
+    }
+}
