@@ -73,7 +73,8 @@ impl<J: Naming> Pinned<J> {
 
     /// The edition of this number, from 1. `None` for 0 and for numbers past the list's end.
     pub fn earlier(&self, number: u32) -> Option<&Edition>
-        ensures some { IfSome result (λ e. slice_get self.now.list (number - 1) ≡ Some e.now) }
+        ensures some { IfSome result
+            (λ e. (0 < number) × (slice_get self.now.list (number - 1) ≡ Some e.now)) }
         ensures none { IfNone result ((number ≡ 0) ⊎ (length self.now.list < number)) }
     {
         if number == 0 || number as usize > self.content.len() {

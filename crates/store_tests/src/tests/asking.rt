@@ -1,5 +1,5 @@
 //! A caller that asks before and after a publication.
-ghost use Rattle.std.specs.Prelude.{◌≡◌, ◌<◌, IfOk, length};
+ghost use Rattle.std.specs.Prelude.{◌≡◌, ◌<◌, ◌≤◌, IfOk, length};
 
 use super::days::{FAST, SLOW, Said, arrival_of_second, fast, slow, summary, text_to};
 use edition_store::{Edition, Naming, Opened, Pinned, Publisher, Receipt, Shared, Store};
@@ -143,6 +143,20 @@ fn whole_story<J: Naming, R: Threads + Wait + Sync>(
     })
 }
 
+// What a caller is told, and that it is told so by an edition which the publisher has published.
+fn told_published<J: Naming>(
+    alloc: Global,
+    publisher: &mut Publisher<J>,
+    caller: &mut Caller<J>,
+) -> Result<(u32, Said), Memory>
+    ensures published { IfOk result (λ t. t.0 ≤ length publisher.old) }
+    ensures same { publisher.new ≡ publisher.old }
+{
+    let answer = ask(alloc, caller, b"D".as_slice(), 0)?;
+    publisher.covers(&answer.pinned);
+    Ok(summary(&answer))
+}
+
 // What a caller is told after a publication of which it has learned nothing.
 fn unlearned<J: Naming, R: Threads + Wait + Sync>(
     rt: &R,
@@ -152,8 +166,8 @@ fn unlearned<J: Naming, R: Threads + Wait + Sync>(
     requires { opened.seen.book ≡ J.book }
 {
     let (publisher, mut caller) = started::<J, R>(rt, alloc, opened)?;
-    let (publisher, _receipt) = publish_fast(rt, alloc, publisher)?;
-    let told = told(alloc, &mut caller, b"D".as_slice(), 0);
+    let (mut publisher, _receipt) = publish_fast(rt, alloc, publisher)?;
+    let told = told_published(alloc, &mut publisher, &mut caller);
     publisher.finish(rt)?;
     told
 }

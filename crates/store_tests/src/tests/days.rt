@@ -1,5 +1,5 @@
 //! Two editions of one day, and what an answer over them says.
-ghost use Rattle.std.specs.Prelude.{◌≤ℤ◌, IfOk, pos};
+ghost use Rattle.std.specs.Prelude.{◌≡◌, ◌≤ℤ◌, IfOk, length, pos};
 
 use edition_build::build;
 use edition_store::{Edition, Naming, Shared};
@@ -106,7 +106,9 @@ fn said_of(reply: &Reply) -> Said {
 }
 
 /// The number of the list that was pinned for an answer, and what is said of its last edition.
-pub fn summary<J: Naming>(answer: &Answer<J>) -> (u32, Said) {
+pub fn summary<J: Naming>(answer: &Answer<J>) -> (u32, Said)
+    ensures { result.0 ≡ length answer.now.pinned.list }
+{
     (answer.pinned.number(), said_of(&answer.reply))
 }
 
