@@ -43,6 +43,10 @@ pub enum Line<'a> {
     Output(&'a str),
     /// How many bytes standard output takes.
     Room(&'a str),
+    /// How many bytes one read or write moves at most.
+    Moves(&'a str),
+    /// The calls that fail in turn, as `folder 15`.
+    Each(&'a str),
     /// The number with which it ends.
     Status(&'a str),
     /// A line of standard output.
@@ -121,6 +125,8 @@ fn trouble_of<'a>(word: &str, rest: &'a str) -> Option<Line<'a>> {
         "input" => Some(Line::Input(rest)),
         "output" => Some(Line::Output(rest)),
         "room" => Some(Line::Room(rest)),
+        "moves" => Some(Line::Moves(rest)),
+        "each" => Some(Line::Each(rest)),
         _ => None,
     }
 }

@@ -1,4 +1,6 @@
 //! What is asked in a case, and how it has to end.
+ghost use Rattle.std.specs.Prelude.{◌<◌};
+
 use gtfs_rows::number_of;
 use std::alloc::{AllocError, Global};
 
@@ -20,6 +22,24 @@ pub enum Asked {
     Paths,
 }
 
+/// What the program calls outside.
+#[derive(Clone, Copy, PartialEq, Eq, Debug)]
+pub enum Outside {
+    /// The folder.
+    Folder,
+    /// The reads of the script.
+    Input,
+    /// The writes to standard output.
+    Output,
+}
+
+/// How many calls there are outside, of which each fails in turn, run by run.
+#[derive(Clone, Copy)]
+pub struct Turns {
+    pub calls: Outside,
+    pub count: u32,
+}
+
 /// What goes wrong outside while the program runs.
 #[derive(Clone, Copy)]
 pub struct Trouble {
@@ -31,6 +51,8 @@ pub struct Trouble {
     pub output: Option<u32>,
     /// How many bytes standard output takes.
     pub room: u32,
+    /// How many bytes one read or write moves at most.
+    pub most: u32,
 }
 
 impl Trouble {
@@ -40,7 +62,26 @@ impl Trouble {
         input: None,
         output: None,
         room: 100_000,
+        most: u32::MAX,
     };
+
+    /// The same, where the call with this number fails, from 0.
+    pub fn with_failing(self, calls: Outside, number: u32) -> Trouble {
+        let mut trouble = self;
+        match calls {
+            Outside::Folder => trouble.folder = Some(number),
+            Outside::Input => trouble.input = Some(number),
+            Outside::Output => trouble.output = Some(number),
+        }
+        trouble
+    }
+
+    /// How many bytes one read or write moves at most: at least one.
+    pub fn piece(self) -> usize
+        ensures { 0 < result }
+    {
+        self.most.max(1) as usize
+    }
 }
 
 /// What is asked, and how it has to end.
@@ -51,6 +92,8 @@ pub struct Question {
     /// The bytes of standard input.
     pub script: Vec<u8>,
     pub trouble: Trouble,
+    /// Which calls fail in turn, where some do.
+    pub turns: Option<Turns>,
     pub want: Wanted,
 }
 
@@ -74,6 +117,21 @@ pub fn byte_of(number: &str) -> Option<u8> {
     }
 }
 
+// So many calls of an object, as `folder 15`.
+fn turns_of(line: &str) -> Option<Turns> {
+    let (calls, count) = line.split_once(' ')?;
+    let calls = match calls {
+        "folder" => Outside::Folder,
+        "input" => Outside::Input,
+        "output" => Outside::Output,
+        _ => return None,
+    };
+    Some(Turns {
+        calls,
+        count: number_of(count.as_bytes())?,
+    })
+}
+
 impl Question {
     /// The question of a line. As long as nothing else is said, nothing goes wrong, it has to end
     /// well, and to write nothing.
@@ -89,6 +147,7 @@ impl Question {
             words,
             script: Vec::new(alloc),
             trouble: Trouble::NONE,
+            turns: None,
             want,
         })
     }
@@ -152,6 +211,24 @@ impl Question {
             }
             _ => false,
         }
+    }
+
+    /// How many bytes one read or write moves at most. It is said of the program alone.
+    pub fn set_most(&mut self, number: &str) -> bool {
+        match number_of(number.as_bytes()) {
+            Some(most) if most > 0 && self.asked == Asked::Program => {
+                self.trouble.most = most;
+                true
+            }
+            _ => false,
+        }
+    }
+
+    /// So many calls that fail in turn, by their object and their number. It is said of the program
+    /// alone.
+    pub fn fail_each(&mut self, calls: &str) -> bool {
+        self.turns = turns_of(calls);
+        self.asked == Asked::Program && self.turns.is_some()
     }
 
     /// The number with which it ends. It is said once, and isn't that of a good end, which needs no

@@ -44,10 +44,8 @@ fn add_answer(alloc: Global, question: &mut Question, line: Line<'_>) -> Result<
         Line::Script(_) | Line::Scripts(_) | Line::Piece(_) | Line::Octet(_) => {
             add_script(alloc, question, line)
         }
-        Line::Folder(number) => Ok(question.fail_folder(number)),
-        Line::Input(number) => Ok(question.fail_input(number)),
-        Line::Output(number) => Ok(question.fail_output(number)),
-        Line::Room(number) => Ok(question.set_room(number)),
+        Line::Folder(_) | Line::Input(_) | Line::Output(_) => Ok(add_failure(question, line)),
+        Line::Room(_) | Line::Moves(_) | Line::Each(_) => Ok(add_trouble(question, line)),
         Line::Status(number) => Ok(question.want_status(number)),
         Line::Out(text) => add_out(alloc, question, text, "\n"),
         Line::Part(text) => add_out(alloc, question, text, ""),
@@ -71,6 +69,26 @@ fn add_script(alloc: Global, question: &mut Question, line: Line<'_>) -> Result<
         Line::Piece(text) => Ok(question.add_script(text, "")?),
         Line::Octet(number) => Ok(question.add_octet(number)?),
         _ => Ok(false),
+    }
+}
+
+// Which call a line says to fail.
+fn add_failure(question: &mut Question, line: Line<'_>) -> bool {
+    match line {
+        Line::Folder(number) => question.fail_folder(number),
+        Line::Input(number) => question.fail_input(number),
+        Line::Output(number) => question.fail_output(number),
+        _ => false,
+    }
+}
+
+// What else a line says of the outside.
+fn add_trouble(question: &mut Question, line: Line<'_>) -> bool {
+    match line {
+        Line::Room(number) => question.set_room(number),
+        Line::Moves(number) => question.set_most(number),
+        Line::Each(calls) => question.fail_each(calls),
+        _ => false,
     }
 }
 

@@ -1,10 +1,10 @@
 //! A case, tried.
-ghost use Rattle.std.specs.Prelude.{◌<◌, ◌-◌, ◌^◌};
+ghost use Rattle.std.specs.Prelude.{◌≡◌, ◌<◌, ◌-◌, ◌^◌, IfOk};
 
 use super::broken::Broken;
 use super::case::Case;
 use super::endless::Endless;
-use super::question::{Asked, Question, Trouble, Wanted};
+use super::question::{Asked, Outside, Question, Trouble, Turns, Wanted};
 use super::shown::shown_paths;
 use router_cli::{Status, route, status_text};
 use std::alloc::Global;
@@ -92,29 +92,46 @@ fn status_over<R: Threads + Wait + Sync, F: Folder + Send, K: Sink>(
     route(rt, alloc, words, folder, &mut script, sink, &IdleGate)
 }
 
-// How the program ends over the files of a case.
+// The script of a question.
+fn script_of(alloc: Global, question: &Question, trouble: Trouble) -> Result<MemSource, Memory>
+    ensures { IfOk result (λ source. source.calls.faults ≡ 0) }
+{
+    let bytes = question.script.as_slice().to_vec(alloc)?;
+    let source = MemSource::new(bytes, fails(alloc, trouble.input)?);
+    Ok(source.with_piece(trouble.piece()))
+}
+
+// Where the answer is written.
+fn sink_of(alloc: Global, trouble: Trouble) -> Result<MemSink, Memory>
+    ensures { IfOk result (λ sink. sink.calls.faults ≡ 0) }
+{
+    let sink = MemSink::new(alloc, trouble.room as usize, fails(alloc, trouble.output)?)?;
+    Ok(sink.with_piece(trouble.piece()))
+}
+
+// The folder of the files of a case.
+fn folder_of(alloc: Global, case: &Case, trouble: Trouble) -> Result<MemFolder, Memory>
+    ensures { IfOk result (λ folder. folder.calls.faults ≡ 0) }
+{
+    let folder = MemFolder::new(case.files(alloc)?, fails(alloc, trouble.folder)?);
+    Ok(folder.with_piece(trouble.piece()))
+}
+
+// How the program ends over the files of a case, with such trouble outside.
 fn program_ending<R: Threads + Wait + Sync>(
     rt: &R,
     alloc: Global,
     case: &Case,
     question: &Question,
+    trouble: Trouble,
 ) -> Result<Ending, Memory> {
     let words = question.words.as_slice();
-    let Trouble {
-        folder,
-        input,
-        output,
-        room,
-    } = question.trouble;
-    let script = MemSource::new(
-        question.script.as_slice().to_vec(alloc)?,
-        fails(alloc, input)?,
-    );
-    let mut sink = MemSink::new(alloc, room as usize, fails(alloc, output)?)?;
+    let script = script_of(alloc, question, trouble)?;
+    let mut sink = sink_of(alloc, trouble)?;
     let status = match case.endless() {
         Some(path) => status_over(rt, alloc, words, &mut Endless { path }, script, &mut sink),
         None => {
-            let mut files = MemFolder::new(case.files(alloc)?, fails(alloc, folder)?);
+            let mut files = folder_of(alloc, case, trouble)?;
             status_over(rt, alloc, words, &mut files, script, &mut sink)
         }
     };
@@ -143,7 +160,7 @@ fn ending_of<R: Threads + Wait + Sync>(
     question: &Question,
 ) -> Result<Ending, Memory> {
     match question.asked {
-        Asked::Program => program_ending(rt, alloc, case, question),
+        Asked::Program => program_ending(rt, alloc, case, question, question.trouble),
         Asked::Paths => paths_ending(alloc, case, question.words.as_slice()),
     }
 }
@@ -189,6 +206,74 @@ fn text_of(bytes: &[u8]) -> &str {
     }
 }
 
+// Whether a text may be a beginning of one that has these pieces.
+fn may_begin(text: &str, pieces: &[String]) -> bool {
+    match pieces.split_first() {
+        None => text.is_empty(),
+        Some((first, others)) => {
+            first.as_str().starts_with(text)
+                || (!others.is_empty() && text.starts_with(first.as_str()))
+        }
+    }
+}
+
+// Whether the program ended as it has to where a call of this object failed.
+fn is_refused(came: &Ending, calls: Outside, want: &Wanted) -> bool {
+    let out = text_of(came.out.as_slice());
+    let err = text_of(came.err.as_slice());
+    match calls {
+        Outside::Folder | Outside::Input => {
+            came.code == 4 && out.is_empty() && err == "router: read fault\n"
+        }
+        Outside::Output => {
+            came.code == 5
+                && may_begin(out, want.pieces.as_slice())
+                && err == "router: write fault\n"
+        }
+    }
+}
+
+// How a question ends where the call with a number fails, if it isn't as it has to: the program
+// says so, or, behind the last call, ends as if nothing were wrong.
+fn bad_turn<R: Threads + Wait + Sync>(
+    rt: &R,
+    alloc: Global,
+    case: &Case,
+    question: &Question,
+    turns: Turns,
+    number: u32,
+) -> Result<Option<Ending>, Memory> {
+    let trouble = question.trouble.with_failing(turns.calls, number);
+    let came = program_ending(rt, alloc, case, question, trouble)?;
+    let is_right = if number < turns.count {
+        is_refused(&came, turns.calls, &question.want)
+    } else {
+        is_same(&came, &question.want)
+    };
+    Ok(if is_right { None } else { Some(came) })
+}
+
+// How a question ends, if it isn't as it has to.
+fn bad_ending<R: Threads + Wait + Sync>(
+    rt: &R,
+    alloc: Global,
+    case: &Case,
+    question: &Question,
+) -> Result<Option<Ending>, Memory> {
+    let Some(turns) = question.turns else {
+        let came = ending_of(rt, alloc, case, question)?;
+        let is_right = is_same(&came, &question.want);
+        return Ok(if is_right { None } else { Some(came) });
+    };
+    for number in 0..turns.count {
+        let bad = bad_turn(rt, alloc, case, question, turns, number)?;
+        if bad.is_some() {
+            return Ok(bad);
+        }
+    }
+    bad_turn(rt, alloc, case, question, turns, turns.count)
+}
+
 // Writes what a question came to.
 fn write_ending(rt: &impl Print, question: &Question, came: &Ending) {
     let asked = match question.asked {
@@ -219,8 +304,7 @@ pub fn try_case<R: Threads + Wait + Sync + Print>(
     let title = case.title.as_str();
     let mut differs = false;
     for question in &case.questions {
-        let came = ending_of(rt, alloc, case, question)?;
-        if !is_same(&came, &question.want) {
+        if let Some(came) = bad_ending(rt, alloc, case, question)? {
             if !differs {
                 let _ = println!(rt; "differs {title}");
             }
