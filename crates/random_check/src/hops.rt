@@ -1,7 +1,7 @@
 //! The packed set of an edition's hops, and the plain one.
 ghost use Rattle.std.specs.Prelude.{◌≡◌, ◌<◌, IfOk, length};
 
-use super::tally::{Difference, FeedName, Refused};
+use super::tally::{Difference, Refused, held};
 use edition_store::Edition;
 use reduce_workers::reduce_all;
 use std::alloc::Global;
@@ -34,18 +34,16 @@ fn plain_set<R: Threads + Sync>(rt: &R, alloc: Global, edition: &Edition) -> Res
 }
 
 /// Holds the hops of an edition's packed set against those of the plain one, from each event.
-pub fn try_hops<R: Threads + Sync>(
+pub fn compare_hops<R: Threads + Sync>(
     rt: &R,
     alloc: Global,
     edition: &Edition,
-    feed: FeedName,
 ) -> Result<(), Refused> {
     let plain = plain_set(rt, alloc, edition)?;
     let table = edition.table();
     for t in 0..table.trip_count() {
-        if !same_from(&plain, edition.set(), table, TripNo(t)) {
-            return Err(Refused::Differs(Difference::Hops, feed));
-        }
+        let same = same_from(&plain, edition.set(), table, TripNo(t));
+        held(same, Difference::Hops)?;
     }
     Ok(())
 }

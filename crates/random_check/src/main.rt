@@ -2,29 +2,36 @@
 //! another.
 //!
 //! `random_check COUNT [SEED]` takes the two feeds of `made_feeds` that are made by hand and so
-//! many that look random, and asks many queries over each, between all stops of the former: the
-//! search over kept transfers and the plain rounds have the same values, the legs of each choice
-//! break no rule of a journey, and the profile of a window has the slots that asking at each of its
-//! seconds gives. One desk serves all feeds. It writes what was compared, or where the first
+//! many that look random, and asks much over each, between all stops of the former. The packed set
+//! of hops is held against the plain one; the search over kept transfers against the plain rounds;
+//! the profile of a window against asking at each of its seconds; the latest departures by a time
+//! against the profile of all times before; the best values to every stop against asking for each
+//! alone. The legs of each choice are judged as a claim, and so are claims that differ from one in
+//! a single field. One desk serves all feeds. It writes what was compared, or where the first
 //! difference is, with status 1. Nothing is promised of it but that it is safe and ends.
 #![tactic(auto)]
 
+mod arriving;
 mod between_all;
+mod claims;
+mod drawn;
 mod hops;
 mod profiles;
 mod queries;
+mod reaching;
 mod tally;
 mod trial;
 
-use between_all::try_made_feeds;
+use between_all::try_between_all;
+use made_feeds::{ring, town};
 use segment_queue::Desk;
 use std::alloc::Global;
 use std::env;
 use std::process::ExitCode;
 use std::rt::Env;
 use std::thread::Threads;
-use tally::{Refused, Tally};
-use trial::try_random_feeds;
+use tally::{Refused, Tally, read};
+use trial::try_seed;
 
 /// How many feeds, and which.
 #[derive(Clone, Copy)]
@@ -49,11 +56,64 @@ fn words_of(rt: &(impl Env + AllocGlobal)) -> Option<Words> {
     })
 }
 
-fn compared<R: Threads + Sync>(rt: &R, alloc: Global, words: Words) -> Result<Tally, Refused> {
+/// A feed that is made by hand.
+#[derive(Clone, Copy, Debug)]
+enum MadeFeed {
+    Town,
+    Ring,
+}
+
+/// A feed: one that is made by hand, or the one of a seed.
+#[derive(Clone, Copy, Debug)]
+enum FeedName {
+    Made(MadeFeed),
+    Seed(u32),
+}
+
+/// How a comparison ended early, and over which feed.
+#[derive(Clone, Copy, Debug)]
+struct Ended {
+    feed: FeedName,
+    refused: Refused,
+}
+
+// Adds what was compared over a feed, or says over which feed it ended early.
+fn add(tally: &mut Tally, feed: FeedName, compared: Result<Tally, Refused>) -> Result<(), Ended> {
+    match compared {
+        Ok(other) => {
+            tally.add(other);
+            Ok(())
+        }
+        Err(refused) => Err(Ended { feed, refused }),
+    }
+}
+
+// Compares over a feed that is made by hand.
+fn try_made<R: Threads + Sync>(
+    rt: &R,
+    alloc: Global,
+    feed: MadeFeed,
+    desk: &mut Desk,
+) -> Result<Tally, Refused> {
+    let (table, first) = match feed {
+        MadeFeed::Town => (town(alloc), 28_700),
+        MadeFeed::Ring => (ring(alloc), 30_000),
+    };
+    try_between_all(rt, alloc, read(table)?, first, desk)
+}
+
+fn compared<R: Threads + Sync>(rt: &R, alloc: Global, words: Words) -> Result<Tally, Ended> {
     let mut desk = Desk::new(alloc);
     let mut tally = Tally::NOTHING;
-    try_made_feeds(rt, alloc, &mut desk, &mut tally)?;
-    try_random_feeds(rt, alloc, &mut desk, words.count, words.seed, &mut tally)?;
+    for feed in [MadeFeed::Town, MadeFeed::Ring] {
+        let compared = try_made(rt, alloc, feed, &mut desk);
+        add(&mut tally, FeedName::Made(feed), compared)?;
+    }
+    for turn in 0..words.count {
+        let seed = words.seed.wrapping_add(turn);
+        let compared = try_seed(rt, alloc, &mut desk, seed);
+        add(&mut tally, FeedName::Seed(seed), compared)?;
+    }
     Ok(tally)
 }
 
@@ -62,12 +122,19 @@ fn write_tally(rt: &impl Print, tally: Tally) {
         feeds,
         queries,
         values,
+        claims,
         windows,
         slots,
+        arrivals,
+        departures,
+        reached,
     } = tally;
-    let _ = println!(rt;
-        "feeds {feeds} queries {queries} values {values} windows {windows} slots {slots}: no difference"
-    );
+    let _ = println!(rt; "feeds {feeds}");
+    let _ = println!(rt; "queries {queries} values {values} other claims {claims}");
+    let _ = println!(rt; "windows {windows} slots {slots}");
+    let _ = println!(rt; "times to arrive by {arrivals} latest departures {departures}");
+    let _ = println!(rt; "stops reached {reached}");
+    let _ = println!(rt; "no difference");
 }
 
 fn main(rt: HostRuntime) -> ExitCode {
@@ -80,12 +147,17 @@ fn main(rt: HostRuntime) -> ExitCode {
             write_tally(&rt, tally);
             ExitCode::from(0)
         }
-        Err(Refused::Memory) => {
+        Err(
+            Ended {
+                refused: Refused::Memory,
+                ..
+            },
+        ) => {
             let _ = eprintln!(rt; "random_check: out of memory");
             ExitCode::from(6)
         }
-        Err(refused) => {
-            let _ = println!(rt; "{refused:?}");
+        Err(ended) => {
+            let _ = println!(rt; "{ended:?}");
             ExitCode::from(1)
         }
     }

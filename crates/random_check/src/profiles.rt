@@ -1,13 +1,13 @@
 //! The profile of a window, and the best values asked at each of its seconds.
 ghost use Rattle.std.specs.Prelude.{◌≡◌, ◌<◌, ◌≤◌, ◌≤ℤ◌, pos, All, length};
-ghost use Rattle.segment_queue.specs.Queue.{Fits};
 
+use super::tally::{Difference, Refused, Tally, held};
 use edition_store::Edition;
 use plain_rounds::plain_ask;
 use query_gate::uncounted::best_offers;
 use segment_queue::Desk;
 use std::alloc::Global;
-use tb_base::{Memory, Query, Sec, Slot, Timetable, Value, Window};
+use tb_base::{Memory, Offer, Query, Sec, Slot, Timetable, Value, Window};
 
 // The best values with rides of a query, by plain rounds.
 fn ridden_values(alloc: Global, table: &Timetable, query: &Query) -> Result<Vec<Value>, Memory>
@@ -45,11 +45,23 @@ fn add_slots(
     Ok(())
 }
 
-// Asks the query at another time.
-fn ask_at(query: &mut Query, time: Sec)
-    ensures { query.new ≡ record query.old { leave = time } }
+// The best values with rides of a window's query at a time.
+fn values_at(
+    alloc: Global,
+    table: &Timetable,
+    window: &Window,
+    leave: Sec,
+) -> Result<Vec<Value>, Memory>
+    requires origins { All (λ p. p < length table.now.stops) window.now.from }
+    requires targets { All (λ p. p < length table.now.stops) window.now.to }
+    requires time { leave ≤ℤ pos 359999 }
 {
-    query.leave = time;
+    let query = Query {
+        from: Vec::from_slice(alloc, window.from.as_slice())?,
+        to: Vec::from_slice(alloc, window.to.as_slice())?,
+        leave,
+    };
+    ridden_values(alloc, table, &query)
 }
 
 // The slots of a window, second by second from its end.
@@ -64,45 +76,55 @@ fn slots_by_seconds(
     requires last { window.now.last ≤ℤ pos 359998 }
     requires seconds { seconds ≤ 86400 }
 {
-    let mut query = Query {
-        from: Vec::from_slice(alloc, window.from.as_slice())?,
-        to: Vec::from_slice(alloc, window.to.as_slice())?,
-        leave: window.last + 1,
-    };
     let mut slots = Vec::new(alloc);
-    let mut later = ridden_values(alloc, table, &query)?;
+    let mut later = values_at(alloc, table, window, window.last + 1)?;
     for back in 0..seconds {
         let leave = window.last.saturating_sub(back as i32);
-        ask_at(&mut query, leave);
-        let values = ridden_values(alloc, table, &query)?;
+        let values = values_at(alloc, table, window, leave)?;
         add_slots(&mut slots, leave, values.as_slice(), later.as_slice())?;
         later = values;
     }
     Ok(slots)
 }
 
-/// How many slots a window of so many seconds has, and none where its profile differs from asking
-/// at each second.
-pub fn same_slots(
+/// The offers of a window.
+pub fn offers_of(
+    alloc: Global,
+    edition: &Edition,
+    desk: &mut Desk,
+    window: &Window,
+) -> Result<Vec<Offer>, Memory>
+    requires origins { All (λ p. p < length edition.now.table.stops) window.now.from }
+    requires targets { All (λ p. p < length edition.now.table.stops) window.now.to }
+    requires last { window.now.last ≤ℤ pos 359998 }
+{
+    desk.make_room(edition)?;
+    best_offers(alloc, edition, window, desk)
+}
+
+/// Holds the profile of a window of so many seconds against asking at each of them.
+pub fn compare_slots(
     alloc: Global,
     edition: &Edition,
     desk: &mut Desk,
     window: &Window,
     seconds: u32,
-) -> Result<Option<usize>, Memory>
-    requires fits { Fits edition.now.table desk.old }
+) -> Result<Tally, Refused>
     requires origins { All (λ p. p < length edition.now.table.stops) window.now.from }
     requires targets { All (λ p. p < length edition.now.table.stops) window.now.to }
     requires last { window.now.last ≤ℤ pos 359998 }
     requires seconds { seconds ≤ 86400 }
-    ensures fits { Fits edition.now.table desk.new }
 {
-    let table = edition.table();
-    let asked = slots_by_seconds(alloc, table, window, seconds)?;
-    let offers = best_offers(alloc, edition, window, desk)?;
+    let asked = slots_by_seconds(alloc, edition.table(), window, seconds)?;
+    let offers = offers_of(alloc, edition, desk, window)?;
     let same = offers
         .iter()
         .map(|offer| offer.slot)
         .eq(asked.iter().copied());
-    Ok(if same { Some(asked.len()) } else { None })
+    held(same, Difference::Slots)?;
+    Ok(Tally {
+        windows: 1,
+        slots: asked.len() as u64,
+        ..Tally::NOTHING
+    })
 }

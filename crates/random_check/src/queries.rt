@@ -1,50 +1,15 @@
 //! The best values of a query, by the search and by plain rounds.
 ghost use Rattle.std.specs.Prelude.{◌<◌, ◌≤◌, ◌≤ℤ◌, pos, All, IfOk, length};
-ghost use Rattle.segment_queue.specs.Queue.{Fits};
 
+use super::claims::{claim, judged_claims, verdict_on};
+use super::tally::{Difference, Refused, Tally, held};
 use edition_store::Edition;
-use journey_read::{Claimed, Verdict, judge};
-use made_feeds::Draw;
+use journey_read::Verdict;
 use plain_rounds::plain_ask;
 use query_gate::uncounted::best_choices;
 use segment_queue::Desk;
 use std::alloc::Global;
-use tb_base::{Choice, Memory, Query, Sec, StopNo, Timetable, TripNo};
-
-// The last second of a query.
-const LAST: Sec = 359_999;
-
-/// One stop, or at times two.
-pub fn some_stops(alloc: Global, draw: &mut Draw, stops: u32) -> Result<Vec<StopNo>, Memory>
-    requires { 0 < stops }
-    ensures { IfOk result (λ found. All (λ p. p < stops) found.items) }
-{
-    let first = StopNo(draw.below(stops));
-    let second = StopNo(draw.below(stops));
-    if draw.one_in(3) {
-        return Ok(vec![in alloc; first, second]?);
-    }
-    Ok(vec![in alloc; first]?)
-}
-
-/// A time up to ten minutes before a departure, the first of some trip more often than a later one,
-/// or a second after such a time.
-pub fn some_time(draw: &mut Draw, table: &Timetable) -> Sec
-    ensures { result ≤ℤ pos 359999 }
-{
-    let before = draw.below(10) as i32 * 60 - draw.below(2) as i32;
-    if table.trip_count() == 0 {
-        return 0;
-    }
-    let trip = TripNo(draw.below(table.trip_count()));
-    let mut time = 0;
-    for event in table.trip(trip).events.as_slice() {
-        if time == 0 || draw.one_in(4) {
-            time = event.dep;
-        }
-    }
-    time.saturating_sub(before).max(0).min(LAST)
-}
+use tb_base::{Choice, Memory, Query, Timetable};
 
 // Whether the choices have the same values in the same order.
 fn have_same_values(one: &[Choice], other: &[Choice]) -> bool {
@@ -56,44 +21,81 @@ fn have_same_values(one: &[Choice], other: &[Choice]) -> bool {
 }
 
 // Whether each choice is a journey with its value.
-fn are_right(table: &Timetable, query: &Query, choices: Vec<Choice>) -> bool
+fn are_right(
+    alloc: Global,
+    table: &Timetable,
+    query: &Query,
+    choices: &[Choice],
+) -> Result<bool, Memory>
     requires origins { All (λ p. p < length table.now.stops) query.now.from }
     requires time { query.now.leave ≤ℤ pos 359999 }
 {
     for choice in choices {
-        let claimed = Claimed {
-            value: choice.value,
-            legs: choice.legs,
-        };
-        if claimed.legs.len() as u64 >= 4_294_967_296 {
-            return false;
-        }
-        if judge(table, query, &claimed) != Verdict::Yes {
-            return false;
+        let claimed = claim(alloc, choice.value, choice.legs.as_slice())?;
+        if verdict_on(table, query, &claimed) != Some(Verdict::Yes) {
+            return Ok(false);
         }
     }
-    true
+    Ok(true)
 }
 
-/// How many best values a query has, and none where the two ways differ or a choice is no journey
-/// with its value.
-pub fn same_values(
+// The choices of a query by the search over kept transfers.
+fn searched(
     alloc: Global,
     edition: &Edition,
     desk: &mut Desk,
     query: &Query,
-) -> Result<Option<usize>, Memory>
-    requires fits { Fits edition.now.table desk.old }
+) -> Result<Vec<Choice>, Memory>
     requires origins { All (λ p. p < length edition.now.table.stops) query.now.from }
     requires targets { All (λ p. p < length edition.now.table.stops) query.now.to }
     requires time { query.now.leave ≤ℤ pos 359999 }
-    ensures fits { Fits edition.now.table desk.new }
+{
+    desk.make_room(edition)?;
+    best_choices(alloc, edition, query, desk)
+}
+
+// The choices of a query by plain rounds, where the search has the same values and both have
+// journeys with them.
+fn same_choices(
+    alloc: Global,
+    edition: &Edition,
+    desk: &mut Desk,
+    query: &Query,
+) -> Result<Vec<Choice>, Refused>
+    requires origins { All (λ p. p < length edition.now.table.stops) query.now.from }
+    requires targets { All (λ p. p < length edition.now.table.stops) query.now.to }
+    requires time { query.now.leave ≤ℤ pos 359999 }
 {
     let table = edition.table();
-    let searched = best_choices(alloc, edition, query, desk)?;
+    let searched = searched(alloc, edition, desk, query)?;
     let plain = plain_ask(alloc, table, query)?;
-    let values = plain.len();
-    let same = have_same_values(searched.as_slice(), plain.as_slice());
-    let right = are_right(table, query, searched) && are_right(table, query, plain);
-    Ok(if same && right { Some(values) } else { None })
+    let (one, other) = (searched.as_slice(), plain.as_slice());
+    held(have_same_values(one, other), Difference::Values)?;
+    held(are_right(alloc, table, query, one)?, Difference::Values)?;
+    held(are_right(alloc, table, query, other)?, Difference::Values)?;
+    Ok(plain)
+}
+
+/// Holds the best values of a query against plain rounds, and claims that differ from a choice in
+/// one field against the rules.
+pub fn compare_values(
+    alloc: Global,
+    edition: &Edition,
+    desk: &mut Desk,
+    query: &Query,
+) -> Result<Tally, Refused>
+    requires origins { All (λ p. p < length edition.now.table.stops) query.now.from }
+    requires targets { All (λ p. p < length edition.now.table.stops) query.now.to }
+    requires time { query.now.leave ≤ℤ pos 359999 }
+{
+    let choices = same_choices(alloc, edition, desk, query)?;
+    match judged_claims(alloc, edition.table(), query, choices.as_slice())? {
+        None => Err(Refused::Differs(Difference::Claims)),
+        Some(claims) => Ok(Tally {
+            queries: 1,
+            values: choices.len() as u64,
+            claims: claims as u64,
+            ..Tally::NOTHING
+        }),
+    }
 }

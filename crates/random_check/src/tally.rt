@@ -3,14 +3,23 @@ use std::alloc::AllocError;
 use tb_base::{Memory, Timetable};
 use trip_table::DayFault;
 
-/// What was compared.
-#[derive(Clone, Copy)]
+/// What was compared, by numbers.
+#[derive(Clone, Copy, Debug)]
 pub struct Tally {
     pub feeds: u64,
+    /// Queries, and the best values of all of them.
     pub queries: u64,
     pub values: u64,
+    /// Claims that differ from a choice in one field.
+    pub claims: u64,
+    /// Windows, and the slots of all of them.
     pub windows: u64,
     pub slots: u64,
+    /// Times to arrive by, and the latest departures for all of them.
+    pub arrivals: u64,
+    pub departures: u64,
+    /// Stops to which all is asked at once.
+    pub reached: u64,
 }
 
 impl Tally {
@@ -19,51 +28,56 @@ impl Tally {
         feeds: 0,
         queries: 0,
         values: 0,
+        claims: 0,
         windows: 0,
         slots: 0,
+        arrivals: 0,
+        departures: 0,
+        reached: 0,
     };
 
-    /// One more feed.
-    pub fn add_feed(&mut self) {
-        self.feeds = self.feeds.wrapping_add(1);
-    }
+    /// One feed.
+    pub const FEED: Tally = Tally {
+        feeds: 1,
+        ..Tally::NOTHING
+    };
 
-    /// One more query, with so many best values.
-    pub fn add_query(&mut self, values: usize) {
-        self.queries = self.queries.wrapping_add(1);
-        self.values = self.values.wrapping_add(values as u64);
-    }
-
-    /// One more window, with so many slots.
-    pub fn add_window(&mut self, slots: usize) {
-        self.windows = self.windows.wrapping_add(1);
-        self.slots = self.slots.wrapping_add(slots as u64);
+    /// Adds what else was compared.
+    pub fn add(&mut self, other: Tally) {
+        self.feeds = self.feeds.wrapping_add(other.feeds);
+        self.queries = self.queries.wrapping_add(other.queries);
+        self.values = self.values.wrapping_add(other.values);
+        self.claims = self.claims.wrapping_add(other.claims);
+        self.windows = self.windows.wrapping_add(other.windows);
+        self.slots = self.slots.wrapping_add(other.slots);
+        self.arrivals = self.arrivals.wrapping_add(other.arrivals);
+        self.departures = self.departures.wrapping_add(other.departures);
+        self.reached = self.reached.wrapping_add(other.reached);
     }
 }
 
-/// A feed: one of the two that are made by hand, or the one of a seed.
-#[derive(Clone, Copy, Debug, PartialEq, Eq)]
-pub enum FeedName {
-    Town,
-    Ring,
-    Seed(u32),
-}
-
-/// What differs: the hops of an event; the values of a query, or the legs of a choice break a rule;
-/// or the slots of a window.
+/// What differs.
 #[derive(Clone, Copy, Debug, PartialEq, Eq)]
 pub enum Difference {
+    /// The hops of an event.
     Hops,
+    /// The best values of a query, or the legs of a choice break a rule.
     Values,
+    /// The verdict on a claim.
+    Claims,
+    /// The slots of a window.
     Slots,
+    /// The latest departures by a time, or the legs of one don't arrive by then.
+    Departures,
+    /// The best values to a stop.
+    Reach,
 }
 
-/// Why a comparison ends early: something differs over a feed, a feed has no timetable, or memory
-/// was wanting.
+/// Why a comparison ends early: something differs, a feed has no timetable, or memory was wanting.
 #[derive(Clone, Copy, Debug, PartialEq, Eq)]
 pub enum Refused {
-    Differs(Difference, FeedName),
-    NoTimetable(FeedName),
+    Differs(Difference),
+    NoTimetable,
     Memory,
 }
 
@@ -80,10 +94,19 @@ impl From<AllocError> for Refused {
 }
 
 /// The timetable of a feed, where it has one.
-pub fn read(table: Result<Timetable, DayFault>, feed: FeedName) -> Result<Timetable, Refused> {
+pub fn read(table: Result<Timetable, DayFault>) -> Result<Timetable, Refused> {
     match table {
         Ok(table) => Ok(table),
         Err(DayFault::Memory) => Err(Refused::Memory),
-        Err(_) => Err(Refused::NoTimetable(feed)),
+        Err(_) => Err(Refused::NoTimetable),
+    }
+}
+
+/// Nothing, where a comparison finds no difference.
+pub fn held(same: bool, difference: Difference) -> Result<(), Refused> {
+    if same {
+        Ok(())
+    } else {
+        Err(Refused::Differs(difference))
     }
 }

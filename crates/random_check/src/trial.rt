@@ -1,148 +1,168 @@
 //! Feeds that look random, one after another, and what is compared over each.
 ghost use Rattle.std.specs.Prelude.{◌<◌, length};
-ghost use Rattle.segment_queue.specs.Queue.{Fits};
+ghost use Rattle.mirror_table.specs.Mirror.{IsMirror};
 
-use super::hops::try_hops;
-use super::profiles::same_slots;
-use super::queries::{same_values, some_stops, some_time};
-use super::tally::{Difference, FeedName, Refused, Tally, read};
+use super::arriving::{compare_departures, mirrored};
+use super::drawn::{some_arrival, some_query, some_stops, some_time, some_window};
+use super::hops::compare_hops;
+use super::profiles::compare_slots;
+use super::queries::compare_values;
+use super::reaching::compare_reach;
+use super::tally::{Refused, Tally, read};
 use edition_build::build;
 use edition_store::Edition;
 use made_feeds::{Draw, small_feed, timetable_of};
 use segment_queue::Desk;
 use std::alloc::Global;
 use std::thread::Threads;
-use tb_base::{IdleGate, Query, Timetable, Window};
+use tb_base::{IdleGate, Timetable};
 use trip_table::Options;
 
 // How many workers reduce the transfers of a feed.
 const WORKERS: u32 = 2;
 
-// How many queries and windows are asked over each feed.
+// How much is asked over each feed.
 const QUERIES: u32 = 60;
 
 const WINDOWS: u32 = 2;
 
-// The seconds of a window are fewer than these.
+const ARRIVALS: u32 = 12;
+
+const ORIGINS: u32 = 6;
+
+// The seconds of a window are at most as many.
 const WINDOW: u32 = 900;
 
-/// A trial over the feed of a seed.
-#[derive(Drop)]
-struct Trial {
-    draw: Draw,
-    feed: FeedName,
+// The timetable of a feed.
+fn timetable(alloc: Global, draw: &mut Draw) -> Result<Timetable, Refused> {
+    let files = small_feed(alloc, draw)?;
+    let options = Options {
+        change: draw.below(2) * 60,
+        station: if draw.one_in(2) { Some(120) } else { None },
+        close: true,
+    };
+    read(timetable_of(alloc, files, &options))
 }
 
-impl Trial {
-    // The timetable of the feed.
-    fn timetable(&mut self, alloc: Global) -> Result<Timetable, Refused> {
-        let files = small_feed(alloc, &mut self.draw)?;
-        let options = Options {
-            change: self.draw.below(2) * 60,
-            station: if self.draw.one_in(2) { Some(120) } else { None },
-            close: true,
-        };
-        read(timetable_of(alloc, files, &options), self.feed)
+// Compares for queries.
+fn try_queries(
+    alloc: Global,
+    edition: &Edition,
+    desk: &mut Desk,
+    draw: &mut Draw,
+) -> Result<Tally, Refused>
+    requires { 0 < length edition.now.table.stops }
+{
+    let mut tally = Tally::NOTHING;
+    for _turn in 0..QUERIES {
+        let query = some_query(alloc, draw, edition.table())?;
+        tally.add(compare_values(alloc, edition, desk, &query)?);
     }
-
-    // Holds the best values of queries against plain rounds.
-    fn try_queries(
-        &mut self,
-        alloc: Global,
-        edition: &Edition,
-        desk: &mut Desk,
-        tally: &mut Tally,
-    ) -> Result<(), Refused>
-        requires fits { Fits edition.now.table desk.old }
-        requires stops { 0 < length edition.now.table.stops }
-        ensures fits { Fits edition.now.table desk.new }
-    {
-        let table = edition.table();
-        for _turn in 0..QUERIES {
-            let query = Query {
-                from: some_stops(alloc, &mut self.draw, table.stop_count())?,
-                to: some_stops(alloc, &mut self.draw, table.stop_count())?,
-                leave: some_time(&mut self.draw, table),
-            };
-            let Some(values) = same_values(alloc, edition, desk, &query)? else {
-                return Err(Refused::Differs(Difference::Values, self.feed));
-            };
-            tally.add_query(values);
-        }
-        Ok(())
-    }
-
-    // Holds the profiles of windows against asking at each second.
-    fn try_windows(
-        &mut self,
-        alloc: Global,
-        edition: &Edition,
-        desk: &mut Desk,
-        tally: &mut Tally,
-    ) -> Result<(), Refused>
-        requires fits { Fits edition.now.table desk.old }
-        requires stops { 0 < length edition.now.table.stops }
-        ensures fits { Fits edition.now.table desk.new }
-    {
-        let table = edition.table();
-        for _turn in 0..WINDOWS {
-            let seconds = self.draw.below(WINDOW) + 1;
-            let last = some_time(&mut self.draw, table)
-                .saturating_add(300)
-                .min(359_998)
-                .max(WINDOW as i32);
-            let window = Window {
-                from: some_stops(alloc, &mut self.draw, table.stop_count())?,
-                to: some_stops(alloc, &mut self.draw, table.stop_count())?,
-                first: last - (seconds as i32 - 1),
-                last,
-            };
-            let Some(slots) = same_slots(alloc, edition, desk, &window, seconds)? else {
-                return Err(Refused::Differs(Difference::Slots, self.feed));
-            };
-            tally.add_window(slots);
-        }
-        Ok(())
-    }
-
-    // Compares all over one feed.
-    fn run<R: Threads + Sync>(
-        &mut self,
-        rt: &R,
-        alloc: Global,
-        desk: &mut Desk,
-        tally: &mut Tally,
-    ) -> Result<(), Refused> {
-        let table = self.timetable(alloc)?;
-        let edition = build(rt, alloc, table, WORKERS, &IdleGate)?;
-        try_hops(rt, alloc, &edition, self.feed)?;
-        desk.make_room(&edition)?;
-        if edition.table().stop_count() == 0 {
-            return Ok(());
-        }
-        self.try_queries(alloc, &edition, desk, tally)?;
-        self.try_windows(alloc, &edition, desk, tally)?;
-        tally.add_feed();
-        Ok(())
-    }
+    Ok(tally)
 }
 
-/// Compares over so many feeds that look random, from a seed on.
-pub fn try_random_feeds<R: Threads + Sync>(
+// Compares for windows.
+fn try_windows(
+    alloc: Global,
+    edition: &Edition,
+    desk: &mut Desk,
+    draw: &mut Draw,
+) -> Result<Tally, Refused>
+    requires { 0 < length edition.now.table.stops }
+{
+    let mut tally = Tally::NOTHING;
+    for _turn in 0..WINDOWS {
+        let seconds = draw.below(WINDOW) + 1;
+        let window = some_window(alloc, draw, edition.table(), seconds)?;
+        tally.add(compare_slots(alloc, edition, desk, &window, seconds)?);
+    }
+    Ok(tally)
+}
+
+// Compares for times to arrive by.
+fn try_arrivals(
+    alloc: Global,
+    edition: &Edition,
+    mirrored: &Edition,
+    desk: &mut Desk,
+    draw: &mut Draw,
+) -> Result<Tally, Refused>
+    requires stops { 0 < length edition.now.table.stops }
+    requires mirror { IsMirror edition.now.table mirrored.now.table }
+{
+    let mut tally = Tally::NOTHING;
+    for _turn in 0..ARRIVALS {
+        let by = some_arrival(alloc, draw, edition.table())?;
+        tally.add(compare_departures(alloc, edition, mirrored, desk, &by)?);
+    }
+    Ok(tally)
+}
+
+// Compares from some stops to all.
+fn try_origins(
+    alloc: Global,
+    edition: &Edition,
+    desk: &mut Desk,
+    draw: &mut Draw,
+) -> Result<Tally, Refused>
+    requires { 0 < length edition.now.table.stops }
+{
+    let table = edition.table();
+    let mut tally = Tally::NOTHING;
+    for _turn in 0..ORIGINS {
+        let from = some_stops(alloc, draw, table.stop_count())?;
+        let leave = some_time(draw, table);
+        let reached = compare_reach(alloc, edition, desk, from.as_slice(), leave)?;
+        tally.add(reached);
+    }
+    Ok(tally)
+}
+
+// Compares all but the latest departures over an edition.
+fn try_edition(
+    alloc: Global,
+    edition: &Edition,
+    desk: &mut Desk,
+    draw: &mut Draw,
+) -> Result<Tally, Refused>
+    requires { 0 < length edition.now.table.stops }
+{
+    let mut tally = try_queries(alloc, edition, desk, draw)?;
+    tally.add(try_windows(alloc, edition, desk, draw)?);
+    tally.add(try_origins(alloc, edition, desk, draw)?);
+    Ok(tally)
+}
+
+// Compares the latest departures over an edition.
+fn try_mirror<R: Threads + Sync>(
+    rt: &R,
+    alloc: Global,
+    edition: &Edition,
+    desk: &mut Desk,
+    draw: &mut Draw,
+) -> Result<Tally, Refused>
+    requires { 0 < length edition.now.table.stops }
+{
+    let mirrored = mirrored(rt, alloc, edition.table())?;
+    try_arrivals(alloc, edition, &mirrored, desk, draw)
+}
+
+/// Compares all over the feed of a seed.
+pub fn try_seed<R: Threads + Sync>(
     rt: &R,
     alloc: Global,
     desk: &mut Desk,
-    count: u32,
     seed: u32,
-    tally: &mut Tally,
-) -> Result<(), Refused> {
-    for turn in 0..count {
-        let seed = seed.wrapping_add(turn);
-        let mut trial = Trial {
-            draw: Draw::new(seed as u64),
-            feed: FeedName::Seed(seed),
-        };
-        trial.run(rt, alloc, desk, tally)?;
+) -> Result<Tally, Refused> {
+    let mut draw = Draw::new(seed as u64);
+    let table = timetable(alloc, &mut draw)?;
+    let edition = build(rt, alloc, table, WORKERS, &IdleGate)?;
+    compare_hops(rt, alloc, &edition)?;
+    if edition.table().stop_count() == 0 {
+        return Ok(Tally::NOTHING);
     }
-    Ok(())
+    let mut tally = try_edition(alloc, &edition, desk, &mut draw)?;
+    tally.add(try_mirror(rt, alloc, &edition, desk, &mut draw)?);
+    tally.add(Tally::FEED);
+    Ok(tally)
 }

@@ -1,0 +1,102 @@
+//! The best values to every stop, asked at once and one by one.
+ghost use Rattle.std.specs.Prelude.{◌≡◌, ◌<◌, ◌≤ℤ◌, All, length, pos};
+
+use super::tally::{Difference, Refused, Tally, held};
+use edition_store::Edition;
+use plain_rounds::plain_ask;
+use reach_all::reach_all;
+use segment_queue::{Desk, Steps};
+use std::alloc::Global;
+use std::marker::Brand;
+use std::sync::ledger::{Blank, Ledger};
+use tb_base::{Memory, Query, Sec, StopNo, Timetable, Value};
+
+// The best values to every stop, on a ledger that nobody else counts in.
+fn reach_on<L: Ledger>(
+    alloc: Global,
+    edition: &Edition,
+    desk: &mut Desk,
+    from: &[StopNo],
+    leave: Sec,
+    blank: Blank,
+) -> Result<Vec<Vec<Value>>, Memory>
+    requires name { blank.name ≡ L.name }
+    requires parts { blank.parts ≡ L.parts }
+    requires some { 0 < L.parts }
+    requires origins { All (λ p. p < length edition.now.table.stops) from.now }
+    requires leave { leave ≤ℤ pos 359999 }
+{
+    edition.soundness();
+    desk.make_room(edition)?;
+    let mut steps = Steps::<L>::new(blank);
+    reach_all(alloc, edition, from, leave, desk, &mut steps)
+}
+
+// The best values to every stop.
+fn reach(
+    alloc: Global,
+    edition: &Edition,
+    desk: &mut Desk,
+    from: &[StopNo],
+    leave: Sec,
+) -> Result<Vec<Vec<Value>>, Memory>
+    requires origins { All (λ p. p < length edition.now.table.stops) from.now }
+    requires leave { leave ≤ℤ pos 359999 }
+{
+    reach_on::<Brand>(alloc, edition, desk, from, leave, Blank::new(1))
+}
+
+// Whether these are the best values to one stop, by plain rounds.
+fn are_best(
+    alloc: Global,
+    table: &Timetable,
+    from: &[StopNo],
+    leave: Sec,
+    stop: u32,
+    values: &[Value],
+) -> Result<bool, Memory>
+    requires origins { All (λ p. p < length table.now.stops) from.now }
+    requires leave { leave ≤ℤ pos 359999 }
+    requires stop { stop < length table.now.stops }
+{
+    let query = Query {
+        from: Vec::from_slice(alloc, from)?,
+        to: vec![in alloc; StopNo(stop)]?,
+        leave,
+    };
+    let choices = plain_ask(alloc, table, &query)?;
+    let asked = choices.iter().map(|choice| choice.value);
+    Ok(asked.eq(values.iter().copied()))
+}
+
+// The values of a stop, none where there is no such list.
+fn values_of(lists: &[Vec<Value>], stop: u32) -> &[Value] {
+    match lists.get(stop as usize) {
+        Some(values) => values.as_slice(),
+        None => &[],
+    }
+}
+
+/// Holds the best values to every stop against asking for each stop alone.
+pub fn compare_reach(
+    alloc: Global,
+    edition: &Edition,
+    desk: &mut Desk,
+    from: &[StopNo],
+    leave: Sec,
+) -> Result<Tally, Refused>
+    requires origins { All (λ p. p < length edition.now.table.stops) from.now }
+    requires leave { leave ≤ℤ pos 359999 }
+{
+    let table = edition.table();
+    let lists = reach(alloc, edition, desk, from, leave)?;
+    for stop in 0..table.stop_count() {
+        let values = values_of(lists.as_slice(), stop);
+        let same = are_best(alloc, table, from, leave, stop, values)?;
+        held(same, Difference::Reach)?;
+    }
+    Ok(Tally {
+        reached: lists.len() as u64,
+        ..Tally::NOTHING
+    })
+}
