@@ -5,20 +5,26 @@
 //! generator with a fixed seed, at random times of the day: with the method `search` over the kept
 //! transfers, with the method `plain` round by round. It writes how many choices were found and the
 //! sum of their arrivals, so both methods can be compared. With the method `profile` it asks for
-//! profiles of 24 hours instead, and writes the same of their slots. With `pin` one seat of a store
+//! profiles of 24 hours instead, and writes the same of their slots; with `reach` for the best values
+//! from a stop to every stop; with `latest` for the latest departures by a time of the day, of which
+//! it writes the sum of the departures. With `pin` one seat of a store
 //! pins the day's edition COUNT times, with `publish` COUNT stores of one seat are given 99 more
 //! shares of it each; it writes how often, and the sum of the numbers. How long one takes is the
 //! time of a run less that of a run with COUNT 0. Nothing is promised of it but that it is safe and
 //! ends.
 #![tactic(auto)]
 
+mod arrivals;
 mod queries;
+mod reaches;
 mod stores;
 mod words;
 
+use arrivals::by_arrivals;
 use edition_build::build;
 use edition_store::Edition;
 use queries::{Found, by_profiles, by_rounds, by_search};
+use reaches::by_reach;
 use service_day::Day;
 use std::alloc::Global;
 use std::process::ExitCode;
@@ -58,6 +64,8 @@ fn found<R: Threads + Wait + Sync>(
         Method::Search => by_search(alloc, &edition(rt, alloc, table)?, words.count).ok(),
         Method::Plain => by_rounds(alloc, &table, words.count).ok(),
         Method::Profile => by_profiles(alloc, &edition(rt, alloc, table)?, words.count).ok(),
+        Method::Reach => by_reach(alloc, &edition(rt, alloc, table)?, words.count).ok(),
+        Method::Latest => by_arrivals(rt, alloc, &table, words.count).ok(),
         Method::Pin => by_pins(rt, alloc, edition(rt, alloc, table)?, words.count).ok(),
         Method::Publish => by_publications(rt, alloc, edition(rt, alloc, table)?, words.count).ok(),
     }
@@ -65,7 +73,9 @@ fn found<R: Threads + Wait + Sync>(
 
 fn main(rt: HostRuntime) -> ExitCode {
     let Some(words) = words_of(&rt) else {
-        let _ = eprintln!(rt; "usage: query_bench DIR DATE COUNT search|plain|profile|pin|publish");
+        let _ = eprintln!(rt;
+            "usage: query_bench DIR DATE COUNT search|plain|profile|reach|latest|pin|publish"
+        );
         return ExitCode::from(2);
     };
     let Some(table) = timetable(&rt, words.dir.as_str(), &words.day) else {

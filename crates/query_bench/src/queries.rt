@@ -9,7 +9,7 @@ use plain_rounds::plain_ask;
 use query_gate::uncounted::{best_choices, best_offers};
 use segment_queue::Desk;
 use std::alloc::Global;
-use tb_base::{Choice, Memory, Offer, Query, Sec, StopNo, Timetable, Window};
+use tb_base::{Choice, Memory, Offer, Query, Sec, StopNo, Timetable, Value, Window};
 
 /// How many choices or slots were found, and the sum of their arrivals.
 #[derive(Clone, Copy)]
@@ -30,20 +30,34 @@ impl Found {
         self.arrivals = self.arrivals.wrapping_add(number as u64);
     }
 
-    fn add_arrival(&mut self, arrive: Sec) {
+    /// One more, with this time.
+    pub fn add_time(&mut self, time: Sec) {
         self.choices = self.choices.wrapping_add(1);
-        self.arrivals = self.arrivals.wrapping_add(arrive.unsigned_abs() as u64);
+        self.arrivals = self.arrivals.wrapping_add(time.unsigned_abs() as u64);
     }
 
-    fn add(&mut self, choices: &[Choice]) {
+    /// What else was found.
+    pub fn add(&mut self, other: Found) {
+        self.choices = self.choices.wrapping_add(other.choices);
+        self.arrivals = self.arrivals.wrapping_add(other.arrivals);
+    }
+
+    /// The arrivals of values.
+    pub fn add_values(&mut self, values: &[Value]) {
+        for value in values {
+            self.add_time(value.arrive);
+        }
+    }
+
+    fn add_choices(&mut self, choices: &[Choice]) {
         for choice in choices {
-            self.add_arrival(choice.value.arrive);
+            self.add_time(choice.value.arrive);
         }
     }
 
     fn add_offers(&mut self, offers: &[Offer]) {
         for offer in offers {
-            self.add_arrival(offer.slot.arrive);
+            self.add_time(offer.slot.arrive);
         }
     }
 }
@@ -114,7 +128,7 @@ pub fn by_search(alloc: Global, edition: &Edition, count: u32) -> Result<Found, 
     for _turn in 0..count {
         let query = query(alloc, table, &mut draw)?;
         let choices = best_choices(alloc, edition, &query, &mut desk)?;
-        found.add(choices.as_slice());
+        found.add_choices(choices.as_slice());
     }
     Ok(found)
 }
@@ -129,7 +143,7 @@ pub fn by_rounds(alloc: Global, table: &Timetable, count: u32) -> Result<Found, 
     for _turn in 0..count {
         let query = query(alloc, table, &mut draw)?;
         let choices = plain_ask(alloc, table, &query)?;
-        found.add(choices.as_slice());
+        found.add_choices(choices.as_slice());
     }
     Ok(found)
 }

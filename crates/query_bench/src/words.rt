@@ -10,6 +10,8 @@ pub enum Method {
     Search,
     Plain,
     Profile,
+    Reach,
+    Latest,
     Pin,
     Publish,
 }
@@ -28,6 +30,8 @@ fn method_named(name: &str) -> Option<Method> {
         "search" => Some(Method::Search),
         "plain" => Some(Method::Plain),
         "profile" => Some(Method::Profile),
+        "reach" => Some(Method::Reach),
+        "latest" => Some(Method::Latest),
         "pin" => Some(Method::Pin),
         "publish" => Some(Method::Publish),
         _ => None,

@@ -1,0 +1,210 @@
+//! Feeds that look random, of which one file is broken, and what is asked over each.
+ghost use Rattle.std.specs.Prelude.{◌<◌};
+
+use super::asking::{Ending, asked};
+use super::breaks::{Break, Broken, broken_files, some_broken};
+use made_feeds::{Draw, small_feed};
+use std::alloc::{AllocError, Global};
+use std::sync::Wait;
+use std::thread::Threads;
+use tb_base::Memory;
+
+// How often a feed is broken.
+const BREAKS: u32 = 16;
+
+/// What was tried.
+#[derive(Clone, Copy)]
+pub struct Tally {
+    /// Feeds of which one file is broken.
+    pub broken: u64,
+    /// Those of them that have an answer all the same.
+    pub answered: u64,
+}
+
+impl Tally {
+    /// Nothing yet.
+    pub const NOTHING: Tally = Tally {
+        broken: 0,
+        answered: 0,
+    };
+
+    /// Adds what else was tried.
+    pub fn add(&mut self, other: Tally) {
+        self.broken = self.broken.wrapping_add(other.broken);
+        self.answered = self.answered.wrapping_add(other.answered);
+    }
+}
+
+/// What is wrong with how the program ended.
+#[derive(Clone, Copy, Debug)]
+pub enum Wrong {
+    /// The feed as it was made has no answer.
+    NoAnswer,
+    /// A command ended with neither an answer nor a fault of the feed.
+    Unsound(u32),
+    /// A command ended with another status than the first.
+    OtherStatus(u32),
+    /// Both ways to the best values show different ones.
+    OtherValues,
+    /// The order of a file's rows changed the best values.
+    OrderMatters,
+}
+
+/// Why a trial ends early.
+#[derive(Clone, Copy, Debug)]
+pub enum Refused {
+    Memory,
+    Found(Wrong, Option<Broken>),
+}
+
+impl From<Memory> for Refused {
+    fn from(_memory: Memory) -> Refused {
+        Refused::Memory
+    }
+}
+
+impl From<AllocError> for Refused {
+    fn from(_refused: AllocError) -> Refused {
+        Refused::Memory
+    }
+}
+
+// Between which platforms, and when, it is asked.
+#[derive(Clone, Copy)]
+struct Question {
+    from: u32,
+    to: u32,
+    hour: u32,
+    minute: u32,
+}
+
+impl Question {
+    fn some(draw: &mut Draw) -> Question {
+        Question {
+            from: draw.below(7),
+            to: draw.below(7),
+            hour: if draw.one_in(4) { 24 } else { 8 },
+            minute: draw.below(60),
+        }
+    }
+
+    // The words of one of five commands.
+    fn line(self, alloc: Global, command: u32) -> Result<String, AllocError> {
+        let Question {
+            from,
+            to,
+            hour,
+            minute,
+        } = self;
+        match command {
+            0 => format!(in alloc;
+                "--close --workers 1 ask made 20260302 P{from} P{to} {hour}:{minute:02}:00"
+            ),
+            1 => format!(in alloc;
+                "--close --plain ask made 20260302 P{from} P{to} {hour}:{minute:02}:00"
+            ),
+            2 => format!(in alloc;
+                "--close --workers 1 latest made 20260302 P{from} P{to} {hour}:{minute:02}:00"
+            ),
+            3 => format!(in alloc;
+                "--close --workers 1 reach made 20260302 P{from} {hour}:{minute:02}:00"
+            ),
+            _ => String::from_str(alloc, "--close --workers 2 build made 20260302 list"),
+        }
+    }
+}
+
+// How a command ends over files.
+fn command_ending<R: Threads + Wait + Sync>(
+    rt: &R,
+    alloc: Global,
+    files: &[(String, Vec<u8>)],
+    question: Question,
+    command: u32,
+) -> Result<Ending, Memory> {
+    let line = question.line(alloc, command)?;
+    asked(rt, alloc, files, line.as_str())
+}
+
+// What is wrong with how the further commands end, beside the first.
+fn wrong_beside<R: Threads + Wait + Sync>(
+    rt: &R,
+    alloc: Global,
+    files: &[(String, Vec<u8>)],
+    question: Question,
+    first: &Ending,
+) -> Result<Option<Wrong>, Memory> {
+    for command in 1..5 {
+        let came = command_ending(rt, alloc, files, question, command)?;
+        if !came.is_sound() {
+            return Ok(Some(Wrong::Unsound(command)));
+        }
+        if !came.has_status_of(first) {
+            return Ok(Some(Wrong::OtherStatus(command)));
+        }
+        if command == 1 && !came.has_values_of(first) {
+            return Ok(Some(Wrong::OtherValues));
+        }
+    }
+    Ok(None)
+}
+
+// How the first command ends over files, where nothing is wrong with any.
+fn sound_ending<R: Threads + Wait + Sync>(
+    rt: &R,
+    alloc: Global,
+    files: &[(String, Vec<u8>)],
+    question: Question,
+    broken: Option<Broken>,
+) -> Result<Ending, Refused> {
+    let first = command_ending(rt, alloc, files, question, 0)?;
+    if !first.is_sound() {
+        return Err(Refused::Found(Wrong::Unsound(0), broken));
+    }
+    match wrong_beside(rt, alloc, files, question, &first)? {
+        Some(wrong) => Err(Refused::Found(wrong, broken)),
+        None => Ok(first),
+    }
+}
+
+// Tries files of which one is broken. They were answered so before.
+fn try_broken<R: Threads + Wait + Sync>(
+    rt: &R,
+    alloc: Global,
+    files: &[(String, Vec<u8>)],
+    question: Question,
+    broken: Broken,
+    whole: &Ending,
+) -> Result<Tally, Refused> {
+    let files = broken_files(alloc, files, broken)?;
+    let came = sound_ending(rt, alloc, files.as_slice(), question, Some(broken))?;
+    let same = came.has_status_of(whole) && came.has_values_of(whole);
+    if broken.how == Break::Turned && !same {
+        return Err(Refused::Found(Wrong::OrderMatters, Some(broken)));
+    }
+    Ok(Tally {
+        broken: 1,
+        answered: u64::from(came.is_answer()),
+    })
+}
+
+/// Tries the feed of a seed.
+pub fn try_seed<R: Threads + Wait + Sync>(
+    rt: &R,
+    alloc: Global,
+    seed: u32,
+) -> Result<Tally, Refused> {
+    let mut draw = Draw::new(seed as u64);
+    let files = small_feed(alloc, &mut draw)?;
+    let question = Question::some(&mut draw);
+    let whole = sound_ending(rt, alloc, files.as_slice(), question, None)?;
+    if !whole.is_answer() {
+        return Err(Refused::Found(Wrong::NoAnswer, None));
+    }
+    let mut tally = Tally::NOTHING;
+    for _turn in 0..BREAKS {
+        let broken = some_broken(&mut draw, files.as_slice());
+        tally.add(try_broken(rt, alloc, files.as_slice(), question, broken, &whole)?);
+    }
+    Ok(tally)
+}

@@ -1,0 +1,80 @@
+//! Random times to arrive by, and the latest departures.
+ghost use Rattle.std.specs.Prelude.{◌≡◌, ◌<◌, ◌≤ℤ◌, All, IfOk, length, pos};
+ghost use Rattle.edition_store.specs.Editions.{EditionData};
+ghost use Rattle.mirror_table.specs.Departures.{ArrivalData};
+ghost use Rattle.mirror_table.specs.Mirror.{IsMirror};
+
+use crate::queries::Found;
+use arrive_by::{Arrival, latest, mirror};
+use edition_build::build;
+use edition_store::Edition;
+use made_feeds::Draw;
+use segment_queue::Desk;
+use std::alloc::Global;
+use std::thread::Threads;
+use tb_base::{IdleGate, Memory, StopNo, Timetable};
+
+// The edition of a timetable's mirror, by one worker.
+fn mirrored<R: Threads + Sync>(rt: &R, alloc: Global, table: &Timetable) -> Result<Edition, Memory>
+    ensures { IfOk result (λ e. IsMirror table.now (EditionData.table e)) }
+{
+    let mirrored = mirror(alloc, table)?;
+    build(rt, alloc, mirrored, 1, &IdleGate)
+}
+
+// A time of the day to arrive by between two stops.
+fn arrival(alloc: Global, table: &Timetable, draw: &mut Draw) -> Result<Arrival, Memory>
+    requires { 0 < length table.now.stops }
+    ensures origins { IfOk result
+        (λ by. All (λ p. p < length table.now.stops) (ArrivalData.from by)) }
+    ensures targets { IfOk result
+        (λ by. All (λ p. p < length table.now.stops) (ArrivalData.to by)) }
+    ensures earliest { IfOk result (λ by. pos 0 ≤ℤ ArrivalData.by by) }
+    ensures latest { IfOk result (λ by. ArrivalData.by by ≤ℤ pos 273599) }
+{
+    let stops = table.stop_count();
+    let from = vec![in alloc; StopNo(draw.below(stops))]?;
+    let to = vec![in alloc; StopNo(draw.below(stops))]?;
+    Ok(Arrival {
+        from,
+        to,
+        by: draw.below(86_400) as i32,
+    })
+}
+
+// What so many times find over the edition of the mirror.
+fn found_by(
+    alloc: Global,
+    mirrored: &Edition,
+    table: &Timetable,
+    count: u32,
+) -> Result<Found, Memory>
+    requires mirror { IsMirror table.now mirrored.now.table }
+    requires stops { 0 < length table.now.stops }
+{
+    let mut desk = Desk::new(alloc);
+    let mut draw = Draw::new(1);
+    let mut found = Found::NOTHING;
+    for _turn in 0..count {
+        let by = arrival(alloc, table, &mut draw)?;
+        for departure in &latest(alloc, mirrored, table, &by, &mut desk)? {
+            found.add_time(departure.leave);
+        }
+    }
+    Ok(found)
+}
+
+/// The latest departures of so many random times to arrive by: how many there are, and the sum of
+/// their times.
+pub fn by_arrivals<R: Threads + Sync>(
+    rt: &R,
+    alloc: Global,
+    table: &Timetable,
+    count: u32,
+) -> Result<Found, Memory> {
+    let mirrored = mirrored(rt, alloc, table)?;
+    if table.stop_count() == 0 {
+        return Ok(Found::NOTHING);
+    }
+    found_by(alloc, &mirrored, table, count)
+}

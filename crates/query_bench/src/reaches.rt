@@ -1,0 +1,83 @@
+//! Random origins, and the best values to every stop.
+ghost use Rattle.std.specs.Prelude.{◌≡◌, ◌<◌, ◌≤ℤ◌, All, length, pos};
+
+use crate::queries::Found;
+use edition_store::Edition;
+use made_feeds::Draw;
+use reach_all::reach_all;
+use segment_queue::{Desk, Steps};
+use std::alloc::Global;
+use std::marker::Brand;
+use std::sync::ledger::{Blank, Ledger};
+use tb_base::{Memory, Sec, StopNo, Value};
+
+// The best values to every stop, on a ledger that nobody else counts in.
+fn reach_on<L: Ledger>(
+    alloc: Global,
+    edition: &Edition,
+    desk: &mut Desk,
+    from: &[StopNo],
+    leave: Sec,
+    blank: Blank,
+) -> Result<Vec<Vec<Value>>, Memory>
+    requires name { blank.name ≡ L.name }
+    requires parts { blank.parts ≡ L.parts }
+    requires some { 0 < L.parts }
+    requires origins { All (λ p. p < length edition.now.table.stops) from.now }
+    requires leave { leave ≤ℤ pos 359999 }
+{
+    edition.soundness();
+    desk.make_room(edition)?;
+    let mut steps = Steps::<L>::new(blank);
+    reach_all(alloc, edition, from, leave, desk, &mut steps)
+}
+
+// The best values to every stop.
+fn reach(
+    alloc: Global,
+    edition: &Edition,
+    desk: &mut Desk,
+    from: &[StopNo],
+    leave: Sec,
+) -> Result<Vec<Vec<Value>>, Memory>
+    requires origins { All (λ p. p < length edition.now.table.stops) from.now }
+    requires leave { leave ≤ℤ pos 359999 }
+{
+    reach_on::<Brand>(alloc, edition, desk, from, leave, Blank::new(1))
+}
+
+// What is found from a stop at a time.
+fn found_from(
+    alloc: Global,
+    edition: &Edition,
+    desk: &mut Desk,
+    stop: u32,
+    leave: Sec,
+) -> Result<Found, Memory>
+    requires stop { stop < length edition.now.table.stops }
+    requires leave { leave ≤ℤ pos 359999 }
+{
+    let from = [StopNo(stop)];
+    let mut found = Found::NOTHING;
+    for values in &reach(alloc, edition, desk, from.as_slice(), leave)? {
+        found.add_values(values.as_slice());
+    }
+    Ok(found)
+}
+
+/// What is found from so many stops to every stop, at random times of the day.
+pub fn by_reach(alloc: Global, edition: &Edition, count: u32) -> Result<Found, Memory> {
+    let stops = edition.table().stop_count();
+    let mut desk = Desk::new(alloc);
+    let mut draw = Draw::new(1);
+    let mut found = Found::NOTHING;
+    if stops == 0 {
+        return Ok(found);
+    }
+    for _turn in 0..count {
+        let from = draw.below(stops);
+        let leave = draw.below(86_400) as i32;
+        found.add(found_from(alloc, edition, &mut desk, from, leave)?);
+    }
+    Ok(found)
+}
