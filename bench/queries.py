@@ -1,8 +1,9 @@
 #!/usr/bin/env python3
-"""Measures queries and profiles: queries.py [city:TRIPS ..] [network:PATTERNS ..] [--with PROGRAM]
+"""Measures queries and profiles: queries.py [city:TRIPS ..] [network:PATTERNS ..] [METHOD ..] [--with PROGRAM]
 
 Writes each feed, a made city or a network with the density of a real one, to a temporary folder and asks it 1,000 random queries
-by the search and round by round, and 50 random profiles of 24 hours, with the proved program
+by the search and round by round, 50 random profiles of 24 hours, 1,000 random latest departures, and the best values from 20 random
+stops to every stop, with the proved program
 (crates/query_bench/out/query_bench, which `rt run` in crates/query_bench builds). Prints processor milliseconds a query, without
 what a run with no query takes. With another build of query_bench both are measured in one run, one after the other.
 """
@@ -15,7 +16,7 @@ HERE = os.path.dirname(os.path.abspath(__file__))
 PROGRAM = os.path.join(HERE, "..", "crates", "query_bench", "out", "query_bench")
 DAY = "20260302"
 FEEDS = ["city:2000", "city:20000", "network:300"]
-COUNTS = {"search": 1000, "plain": 1000, "profile": 50}
+COUNTS = {"search": 1000, "plain": 1000, "profile": 50, "latest": 1000, "reach": 20}
 
 
 def seconds(program, folder, count, method):
@@ -40,6 +41,7 @@ def measure(program, folder, method):
 
 
 def main(words):
+    methods = [word for word in words if word in COUNTS] or COUNTS
     other = words[words.index("--with") + 1] if "--with" in words else None
     feeds = [word for word in words if word.startswith(("city:", "network:"))] or FEEDS
     programs = [("this", PROGRAM)] + ([("other", other)] if other else [])
@@ -48,7 +50,7 @@ def main(words):
         kind, size = feed.split(":")
         with tempfile.TemporaryDirectory() as folder:
             subprocess.run([sys.executable, os.path.join(HERE, f"make_{kind}.py"), folder, size], check=True)
-            for method in COUNTS:
+            for method in methods:
                 for name, program in programs:
                     each, found = measure(program, folder, method)
                     shown = "" if each is None else f"{each:.2f}"
