@@ -137,8 +137,8 @@ impl Scan for Edition {
         self.view().last_at(trip)
     }
 
-    fn after(&self, trip: TripNo) -> Option<TripNo> {
-        self.view().after(trip)
+    fn onward(&self, trip: TripNo) -> &[TripNo] {
+        self.view().trips_onward(trip)
     }
 }
 

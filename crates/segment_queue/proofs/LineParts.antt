@@ -1,6 +1,6 @@
 -- The part of a line from one of its trips on.
-use Rattle.std.proofs.Common.{◌≡◌, ◌≢◌, ◌∙◌, ℕ, ◌<◌, ◌⊎◌, inl, inr, List, [], ◌∷◌, ◌==◌, true, false, cond, length, refl, sym, ap, subst, arith, Option, Some, None}
-use Rattle.std.specs.Prelude.{All, AllPairs, slice_get}
+use Rattle.std.proofs.Common.{◌≡◌, ◌≢◌, ◌∙◌, ℕ, ◌<◌, ◌⊎◌, inl, inr, List, [], ◌∷◌, ◌==◌, true, false, cond, length, refl, sym, ap, subst, arith}
+use Rattle.std.specs.Prelude.{All, AllPairs}
 use Rattle.std.specs.List.{concat}
 use Rattle.std.proofs.lemmas.List.Elements.{All-head, All-tail, All-nil, All-cons}
 use Rattle.tb_base.specs.TimetableData.{TimetableData}
@@ -10,7 +10,7 @@ use Rattle.tb_base.proofs.Ordered.{Member, Member-from_Contains, AllPairs-tail}
 use Rattle.tb_base.proofs.Members.{Member-append, Member-left, Member-right}
 use Rattle.tb_base.proofs.LineFacts.{MayFollow, no_later}
 use Rattle.segment_queue.specs.Scans.{trips_from}
-use Rattle.segment_queue.proofs.Distinct.{has, has_member, same_or_other, member_or_not, before_member, pairs_from_head, pairs_left, pairs_right, AreDistinct, in_one_part}
+use Rattle.segment_queue.proofs.Distinct.{has, same_or_other, member_or_not, before_member, pairs_from_head, pairs_left, pairs_right, AreDistinct, in_one_part}
 
 pub line_from-same : (t x : ℕ) (xs : List ℕ) → (x == t) ≡ true → line_from t (x ∷ xs) ≡ x ∷ xs
 line_from-same t x xs e = ap (λ b. cond b (x ∷ xs) (line_from t xs)) e
@@ -99,79 +99,6 @@ itself t (line ∷ lines) h =
         elim (same_or_other x t) [
           | inl e ↦ subst (λ l. Member t l) (sym (line_from-same t x xs e.1)) (inl e.0)
           | inr e ↦ subst (λ l. Member t l) (sym (line_from-other t x xs e.1)) (on_line xs (elim k [ inl f ↦ absurd (e.0 f) | inr m ↦ m ]))
-        ]
-
--- the trips from the next one on
-abbrev pub onward : List (List ℕ) → Option ℕ → List ℕ
-onward lines None = []
-onward lines (Some u) = trips_from lines u
-
-abbrev onward_on : List ℕ → Option ℕ → List ℕ
-onward_on line None = []
-onward_on line (Some u) = line_from u line
-
-second_member : (xs : List ℕ) (u : ℕ) → slice_get xs 1 ≡ Some u → Member u xs
-second_member [] u h = cc
-second_member (x ∷ []) u h = cc
-second_member (x ∷ y ∷ ys) u h = inr (inl (let e : y ≡ u = cc in e))
-
--- on a line, a trip is followed by the part from the next one on
-line_next : (t : ℕ) (line : List ℕ) → AreDistinct line → Member t line → line_from t line ≡ t ∷ onward_on line (slice_get (line_from t line) 1)
-line_next t [] distinct h = absurd h
-line_next t (x ∷ xs) distinct h =
-    elim (same_or_other x t) [
-      | inl e ↦ (let p = line_from-same t x xs e.1 in subst (λ l. l ≡ t ∷ onward_on (x ∷ xs) (slice_get l 1)) (sym p) (ap (λ y. y ∷ xs) e.0 ∙ ap (λ l. t ∷ l) (rest xs distinct)))
-      | inr e ↦
-          let p = line_from-other t x xs e.1 in
-          let on_rest : Member t xs = elim h [ inl f ↦ absurd (e.0 f) | inr m ↦ m ] in
-          subst (λ l. l ≡ t ∷ onward_on (x ∷ xs) (slice_get l 1)) (sym p)
-          (line_next t xs (AllPairs-tail (λ t u. t ≢ u) x xs distinct) on_rest ∙ ap (λ l. t ∷ l) (past (slice_get (line_from t xs) 1) (λ u q. member_from u t xs (second_member (line_from t xs) u q))))
-    ]
-  where
-    rest : (xs : List ℕ) → AreDistinct (x ∷ xs) → xs ≡ onward_on (x ∷ xs) (slice_get (x ∷ xs) 1)
-    rest [] d = refl
-    rest (y ∷ ys) d =
-        elim (same_or_other x y) [
-          | inl e ↦ absurd (before_member (λ t u. t ≢ u) x (y ∷ ys) y d (inl refl) e.0)
-          | inr e ↦ sym (line_from-other y x (y ∷ ys) e.1 ∙ line_from-same y y ys (elim (same_or_other y y) [ inl f ↦ f.1 | inr f ↦ absurd (f.0 refl) ]))
-        ]
-
-    past : (o : Option ℕ) → ((u : ℕ) → o ≡ Some u → Member u xs) → onward_on xs o ≡ onward_on (x ∷ xs) o
-    past None inside = refl
-    past (Some u) inside =
-        elim (same_or_other x u) [
-          | inl e ↦ absurd (before_member (λ t u. t ≢ u) x xs u distinct (inside u refl) e.0)
-          | inr e ↦ sym (line_from-other u x xs e.1)
-        ]
-
--- a trip is followed by the part of its line from the next one on
-pub next_part : (t : ℕ) (lines : List (List ℕ)) → AreDistinct (concat lines) → Member t (concat lines) → trips_from lines t ≡ t ∷ onward lines (slice_get (trips_from lines t) 1)
-next_part t [] distinct h = absurd h
-next_part t (line ∷ lines) distinct h =
-    elim (member_or_not t line) [
-      | inl e ↦
-          let p = trips_from-here line lines t e.1 in
-          subst (λ l. l ≡ t ∷ onward (line ∷ lines) (slice_get l 1)) (sym p)
-          (line_next t line (pairs_left (λ t u. t ≢ u) line (concat lines) distinct) e.0
-          ∙ ap (λ l. t ∷ l) (same_line (slice_get (line_from t line) 1) (λ u q. member_from u t line (second_member (line_from t line) u q))))
-      | inr e ↦
-          let p = trips_from-past line lines t e.1 in
-          let on_rest : Member t (concat lines) = elim (Member-append t line (concat lines) h) [ inl k ↦ absurd (e.0 k) | inr k ↦ k ] in
-          subst (λ l. l ≡ t ∷ onward (line ∷ lines) (slice_get l 1)) (sym p)
-          (next_part t lines (pairs_right (λ t u. t ≢ u) line (concat lines) distinct) on_rest
-          ∙ ap (λ l. t ∷ l) (later_line (slice_get (trips_from lines t) 1) (λ u q. member_lines u t lines (second_member (trips_from lines t) u q))))
-    ]
-  where
-    same_line : (o : Option ℕ) → ((u : ℕ) → o ≡ Some u → Member u line) → onward_on line o ≡ onward (line ∷ lines) o
-    same_line None inside = refl
-    same_line (Some u) inside = sym (trips_from-here line lines u (has_member u line (inside u refl)))
-
-    later_line : (o : Option ℕ) → ((u : ℕ) → o ≡ Some u → Member u (concat lines)) → onward lines o ≡ onward (line ∷ lines) o
-    later_line None inside = refl
-    later_line (Some u) inside =
-        elim (member_or_not u line) [
-          | inl e ↦ absurd (in_one_part u line (concat lines) distinct e.0 (inside u refl))
-          | inr e ↦ sym (trips_from-past line lines u e.1)
         ]
 
 -- Along each line: where a trip stands from t on, so do those after it.

@@ -1,14 +1,13 @@
 -- What a view finds in lines is what a scan shows.
-use Rattle.std.proofs.Common.{◌≡◌, ◌≢◌, ◌∙◌, ℕ, ℤ, zero, suc, ◌+◌, ◌<◌, ◌≤◌, ◌⊎◌, inl, inr, ◌==◌, List, [], ◌∷◌, ◌++◌, Bool, true, false, cond, length, map, take, drop, get_or, refl, sym, ap, subst, arith, Option, Some, None, length-append, add-one}
+use Rattle.std.proofs.Common.{◌≡◌, ◌≢◌, ◌∙◌, ℕ, ℤ, zero, suc, ◌<◌, ◌≤◌, inl, inr, ◌==◌, List, [], ◌∷◌, ◌++◌, Bool, true, false, cond, length, map, take, drop, get_or, refl, sym, ap, subst, arith, Option, Some, None, length-append, add-one}
 use Rattle.std.specs.Prelude.{All, filter, flat_map, fold, slice_get, sum_by}
 use Rattle.std.specs.List.{concat}
 use Rattle.std.specs.Option.{option_map}
 use Rattle.std.proofs.lemmas.Grind.{flat_map-append}
-use Rattle.std.proofs.lemmas.List.{get_or-map, length-map, length_push, map-append, take_all, take_more}
+use Rattle.std.proofs.lemmas.List.{get_or-map, length-map, length_push, take_all, take_more}
 use Rattle.std.proofs.lemmas.Simd.{map-map}
 use Rattle.std.proofs.lemmas.List.Elements.{All-cons, All-head, All-nil, All-tail}
 use Rattle.std.proofs.lemmas.List.Sums.{sum_by-append, sum_by-cons}
-use Rattle.std.proofs.lemmas.Option.{get_or_from_slice_get, slice_get_read}
 use Rattle.tb_base.specs.TimetableData.{TimetableData, event_total, events_of, stop_at}
 use Rattle.tb_base.specs.Lines.{AreDividedInto, AreLines, may_join, place_trip}
 use Rattle.tb_base.specs.Transfers.{earliest_trip, line_from, may_be_boarded, numbers_below}
@@ -18,7 +17,7 @@ use Rattle.line_split.specs.declared.lines.Berth.{Berth}
 use Rattle.line_split.specs.LinesOf.{berths_at, calls_at, line_events}
 use Rattle.segment_queue.specs.Scans.{LineIndex, boarding_hop, first_trip, indices_at, line_indices_at, no_line_index, trips_from}
 use Rattle.segment_queue.proofs.Distinct.{AreDistinct, before_member, has_member, in_one_part, member_or_not, of_member, pairs_left, pairs_right, same_or_other}
-use Rattle.segment_queue.proofs.LineParts.{line_from-other, line_from-same, trips_from-here, trips_from-past}
+use Rattle.segment_queue.proofs.LineParts.{line_from-other, line_from-same, member_lines, trips_from-here, trips_from-past}
 use Rattle.segment_queue.proofs.Totals.{distinct_sum, all_events}
 use Rattle.tb_base.proofs.Lists.{map-flat_map, length-numbers_below}
 
@@ -139,18 +138,14 @@ trips_from-drop (line ∷ lines) t (suc l) k distinct is =
       | inr e ↦ trips_from-past line lines t e.1 ∙ trips_from-drop lines t l k (pairs_right (λ t u. t ≢ u) line (concat lines) distinct) is
     ]
 
-pub second_of_drop : (xs : List ℕ) (k : ℕ) → slice_get (drop k xs) 1 ≡ slice_get xs (k + 1)
-second_of_drop xs zero = refl
-second_of_drop [] (suc k) = refl
-second_of_drop (x ∷ xs) (suc k) = second_of_drop xs k ∙ ap (slice_get (x ∷ xs)) (let e : suc (k + 1) ≡ suc k + 1 = omega arith in e)
+-- the trips from one on are of the lines
+pub trips_from-inside : (lines : List (List ℕ)) (t n : ℕ) → All (λ u. u < n) (concat lines) → All (λ u. u < n) (trips_from lines t)
+trips_from-inside lines t n all k d h = of_member (λ u. u < n) (concat lines) (get_or (trips_from lines t) k d) all (member_lines (get_or (trips_from lines t) k d) t lines (member_at (trips_from lines t) k d h))
 
 pub stands_inside : (lines : List (List ℕ)) (l k t : ℕ) → slice_get (get_or lines l []) k ≡ Some t → l < length lines
 stands_inside [] l k t e = cc
 stands_inside (x ∷ xs) zero k t e = omega arith
 stands_inside (x ∷ xs) (suc l) k t e = omega (arith, stands_inside xs l k t e)
-
-pub next_read : (xs list : List ℕ) (k t : ℕ) → list ≡ xs → k < length list → t ≡ get_or list k t → slice_get xs k ≡ Some t
-next_read xs list k t same h is = subst (λ l. slice_get l k ≡ Some t) same (slice_get_read list (length list) k t refl h is)
 
 pub berths_count : (T : TimetableData) (lines : List (List ℕ)) (p : ℕ) → length (berths_at T lines p) ≡ length (line_indices_at T lines p)
 berths_count T lines p = sym (length-map (berths_at T lines p) (index_of lines)) ∙ ap length (berths_are T lines p)

@@ -1,14 +1,14 @@
 -- Marks that fall along a line.
-use Rattle.std.proofs.Common.{◌≡◌, ◌≢◌, ◌∙◌, ℕ, ◌<◌, ◌≤◌, inl, inr, List, ◌∷◌, ◌||◌, true, false, cond, length, set, sym, ap, subst, arith, Option, Some, None}
-use Rattle.std.specs.Prelude.{AllPairs, min, slice_get, unwrap_or}
-use Rattle.std.proofs.lemmas.List.{get_or-set_same, get_or-set_other}
+use Rattle.std.proofs.Common.{◌≡◌, ◌≢◌, ◌∙◌, ℕ, ◌+◌, ◌<◌, ◌≤◌, inl, inr, List, ◌∷◌, drop, get_or, ◌||◌, true, false, cond, length, set, sym, ap, subst, arith, Option, Some, None}
+use Rattle.std.specs.Prelude.{AllPairs, min, unwrap_or}
+use Rattle.std.proofs.lemmas.List.{drop_more, get_or-set_same, get_or-set_other}
 use Rattle.tb_base.specs.TimetableData.{TimetableData}
 use Rattle.tb_base.specs.Lines.{AreDividedInto}
 use Rattle.tb_base.proofs.Ordered.{Member, AllPairs-tail}
 use Rattle.segment_queue.specs.Scans.{trips_from}
 use Rattle.segment_queue.specs.Queue.{IsFalling, lowered, mark_of, last_index}
 use Rattle.segment_queue.proofs.Distinct.{has, has_member, same_or_other, member_or_not, before_member, pairs_weaker}
-use Rattle.segment_queue.proofs.LineParts.{onward, next_part, of_lines, pairs_of, all_distinct}
+use Rattle.segment_queue.proofs.LineParts.{pairs_of, all_distinct}
 
 pub lowered-in : (trips : List ℕ) (at u m : ℕ) → has u trips ≡ true → lowered trips at u m ≡ min m at
 lowered-in trips at u m e = ap (λ b. cond b (min m at) m) e
@@ -51,38 +51,54 @@ one_done T marks t at rest inside above u =
     min_at : (m : ℕ) → at < m → min m at ≡ at
     min_at m h = omega (arith, h)
 
-module _ (T : TimetableData) (lines : List (List ℕ)) (divided : AreDividedInto T lines) where
-  pub rest_todo : (marks : List (Option ℕ)) (t at : ℕ) → t < length T.trips → length T.trips ≤ length marks → at < mark_of T marks t → (u : ℕ)
-      → lowered (trips_from lines t) at u (mark_of T marks u) ≡ lowered (onward lines (slice_get (trips_from lines t) 1)) at u (mark_of T (set marks t (Some at)) u)
-  rest_todo marks t at inside room above u =
-      ap (λ trips. lowered trips at u (mark_of T marks u)) (next_part t lines divided.once (of_lines T lines t divided inside))
-      ∙ one_done T marks t at (onward lines (slice_get (trips_from lines t) 1)) (omega (arith, inside, room)) above u
+drop_item : (trips : List ℕ) (k t : ℕ) → k < length trips → t ≡ get_or trips k t → drop k trips ≡ t ∷ drop (k + 1) trips
+drop_item trips k t there is = drop_more trips k t there ∙ ap (λ x. x ∷ drop (k + 1) trips) (sym is)
 
-  pub rest_smaller : (t : ℕ) → t < length T.trips → length (onward lines (slice_get (trips_from lines t) 1)) < length (trips_from lines t)
-  rest_smaller t inside = omega (arith, ap length (next_part t lines divided.once (of_lines T lines t divided inside)))
+-- The marks of the rest of the trips are still to be lowered.
+pub record StillToLower (T : TimetableData) (whole rest : List ℕ) (at : ℕ) (old marks : List (Option ℕ)) : Type 0 where
+  pub todo : (u : ℕ) → u < length T.trips → lowered whole at u (mark_of T old u) ≡ lowered rest at u (mark_of T marks u)
+  pub falling : IsFalling T marks rest
+  pub distinct : AllPairs (λ x y. x ≢ y) rest
 
-  pub rest_falling : (marks : List (Option ℕ)) (t at : ℕ) → t < length T.trips → IsFalling T marks (trips_from lines t)
-      → IsFalling T (set marks t (Some at)) (onward lines (slice_get (trips_from lines t) 1))
-  rest_falling marks t at inside falling =
-      let rest : List ℕ = onward lines (slice_get (trips_from lines t) 1) in
-      let whole : trips_from lines t ≡ t ∷ rest = next_part t lines divided.once (of_lines T lines t divided inside) in
-      let falls : IsFalling T marks (t ∷ rest) = subst (λ trips. IsFalling T marks trips) whole falling in
-      let distinct : AllPairs (λ x y. x ≢ y) (t ∷ rest) = subst (λ trips. AllPairs (λ x y. x ≢ y) trips) whole (pairs_of (λ x y. x ≢ y) t lines (all_distinct lines divided.once)) in
-      let other : (x : ℕ) → Member x rest → mark_of T (set marks t (Some at)) x ≡ mark_of T marks x
-      = λ x h. mark-set_other T marks t at x (λ e. before_member (λ x y. x ≢ y) t rest x distinct h (sym e)) in
-      pairs_weaker (λ x y. mark_of T marks y ≤ mark_of T marks x) (λ x y. mark_of T (set marks t (Some at)) y ≤ mark_of T (set marks t (Some at)) x) rest
+-- those of all trips from one on, when it begins
+pub all_to_lower : (T : TimetableData) (lines : List (List ℕ)) (t at : ℕ) (trips : List ℕ) (marks : List (Option ℕ)) → AreDividedInto T lines → trips ≡ trips_from lines t → IsFalling T marks (trips_from lines t)
+    → StillToLower T (trips_from lines t) trips at marks marks
+all_to_lower T lines t at trips marks divided same falling = record {
+  todo = λ u h. ap (λ xs. lowered xs at u (mark_of T marks u)) (sym same);
+  falling = subst (λ xs. IsFalling T marks xs) (sym same) falling;
+  distinct = subst (λ xs. AllPairs (λ x y. x ≢ y) xs) (sym same) (pairs_of (λ x y. x ≢ y) t lines (all_distinct lines divided.once));
+}
+
+one_lowered : (T : TimetableData) (whole rest : List ℕ) (t at : ℕ) (old marks : List (Option ℕ)) → StillToLower T whole (t ∷ rest) at old marks → t < length marks → at < mark_of T marks t
+    → StillToLower T whole rest at old (set marks t (Some at))
+one_lowered T whole rest t at old marks still inside above = record {
+  todo = λ u h. still.todo u h ∙ one_done T marks t at rest inside above u;
+  falling = pairs_weaker (λ x y. mark_of T marks y ≤ mark_of T marks x) (λ x y. mark_of T (set marks t (Some at)) y ≤ mark_of T (set marks t (Some at)) x) rest
       (λ x y h k r. omega (arith, other x h, other y k, r))
-      (AllPairs-tail (λ x y. mark_of T marks y ≤ mark_of T marks x) t rest falls)
+      (AllPairs-tail (λ x y. mark_of T marks y ≤ mark_of T marks x) t rest still.falling);
+  distinct = AllPairs-tail (λ x y. x ≢ y) t rest still.distinct;
+}
+  where
+    other : (x : ℕ) → Member x rest → mark_of T (set marks t (Some at)) x ≡ mark_of T marks x
+    other x h = mark-set_other T marks t at x (λ e. before_member (λ x y. x ≢ y) t rest x still.distinct h (sym e))
 
-  -- where the trip's mark isn't above the index, nor are those of later trips
-  pub none_todo : (marks : List (Option ℕ)) (t at : ℕ) → t < length T.trips → mark_of T marks t ≤ at → IsFalling T marks (trips_from lines t) → (u : ℕ)
-      → lowered (trips_from lines t) at u (mark_of T marks u) ≡ mark_of T marks u
-  none_todo marks t at inside low falling u =
-      let rest : List ℕ = onward lines (slice_get (trips_from lines t) 1) in
-      let whole : trips_from lines t ≡ t ∷ rest = next_part t lines divided.once (of_lines T lines t divided inside) in
-      let falls : IsFalling T marks (t ∷ rest) = subst (λ trips. IsFalling T marks trips) whole falling in
-      lowered-kept (trips_from lines t) at u (mark_of T marks u) (λ h. below rest falls (subst (λ trips. Member u trips) whole h))
-    where
-      below : (rest : List ℕ) → IsFalling T marks (t ∷ rest) → Member u (t ∷ rest) → mark_of T marks u ≤ at
-      below rest falls (inl e) = subst (λ k. mark_of T marks k ≤ at) e low
-      below rest falls (inr h) = omega (arith, before_member (λ x y. mark_of T marks y ≤ mark_of T marks x) t rest u falls h, low)
+-- the mark of one more trip has been lowered
+pub one_more_lowered : (T : TimetableData) (whole trips : List ℕ) (k t at : ℕ) (old marks new : List (Option ℕ)) → StillToLower T whole (drop k trips) at old marks → k < length trips → t ≡ get_or trips k t
+    → t < length marks → at < mark_of T marks t → new ≡ set marks t (Some at) → StillToLower T whole (drop (k + 1) trips) at old new
+one_more_lowered T whole trips k t at old marks new still there is inside above same =
+    subst (λ (m : List (Option ℕ)). StillToLower T whole (drop (k + 1) trips) at old m) (sym same)
+    (one_lowered T whole (drop (k + 1) trips) t at old marks (subst (λ (xs : List ℕ). StillToLower T whole xs at old marks) (drop_item trips k t there is) still) inside above)
+
+stops : (T : TimetableData) (whole rest : List ℕ) (t at : ℕ) (old marks : List (Option ℕ)) → StillToLower T whole (t ∷ rest) at old marks → mark_of T marks t ≤ at
+    → (u : ℕ) → u < length T.trips → mark_of T marks u ≡ lowered whole at u (mark_of T old u)
+stops T whole rest t at old marks still low u h = sym (still.todo u h ∙ lowered-kept (t ∷ rest) at u (mark_of T marks u) below)
+  where
+    below : Member u (t ∷ rest) → mark_of T marks u ≤ at
+    below (inl e) = subst (λ k. mark_of T marks k ≤ at) e low
+    below (inr m) = omega (arith, before_member (λ x y. mark_of T marks y ≤ mark_of T marks x) t rest u still.falling m, low)
+
+-- where a trip's mark isn't above the index, nor are those of later trips
+pub no_more_to_lower : (T : TimetableData) (whole trips : List ℕ) (k t at : ℕ) (old marks : List (Option ℕ)) → StillToLower T whole (drop k trips) at old marks → k < length trips → t ≡ get_or trips k t → mark_of T marks t ≤ at
+    → (u : ℕ) → u < length T.trips → mark_of T marks u ≡ lowered whole at u (mark_of T old u)
+no_more_to_lower T whole trips k t at old marks still there is low =
+    stops T whole (drop (k + 1) trips) t at old marks (subst (λ (xs : List ℕ). StillToLower T whole xs at old marks) (drop_item trips k t there is) still) low

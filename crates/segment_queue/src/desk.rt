@@ -106,13 +106,11 @@ pub(crate) fn lower_marks<S: Scan>(marks: &mut Marks, scan: &S, trip: TripNo, at
         ≡ lowered (trips_from (S.net scan.now).lines trip) at u
         (mark_of (S.net scan.now).table marks.old u) }
 {
-    let mut next = Some(trip);
-    while let Some(later) = next {
-        if mark_on(marks, scan, later) <= at {
+    for later in scan.onward(trip) {
+        if mark_on(marks, scan, *later) <= at {
             return;
         }
-        marks.set(later, at);
-        next = scan.after(later);
+        marks.set(*later, at);
     }
 }
 

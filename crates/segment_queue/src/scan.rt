@@ -62,11 +62,11 @@ pub trait Scan {
         requires { trip < length (net self.now).table.trips }
         ensures { result + 1 ≡ length (events_of (net self.now).table trip) };
 
-    /// The next trip of the trip's line, where there is one.
-    fn after(&self, trip: TripNo) -> Option<TripNo>
+    /// The trips of the trip's line from it on, in order: it is the first.
+    fn onward(&self, trip: TripNo) -> &[TripNo]
         requires { trip < length (net self.now).table.trips }
-        ensures next { result ≡ slice_get (trips_from (net self.now).lines trip) 1 }
-        ensures there { IfSome result (λ u. u < length (net self.now).table.trips) };
+        ensures trips { result.now ≡ trips_from (net self.now).lines trip }
+        ensures there { All (λ u. u < length (net self.now).table.trips) result.now };
 }
 
 /// The looks of a search at a network: who boards a line, and an event of a trip. Each is a step on

@@ -1,6 +1,7 @@
 ghost use Rattle.std.specs.Prelude.{◌≡◌, ◌<◌, ◌+◌, ◌≤◌, ℕ, Some, All, AllPairs, IfSome, IsTrue, ◌↔◌, length, slice_get, slice_index_or};
 ghost use Rattle.tb_base.specs.Soundness.{IsSoundPath};
 ghost use Rattle.tb_base.specs.TimetableData.{arrival_at, event_at, events_of, stop_at};
+ghost use Rattle.segment_queue.specs.Scans.{trips_from};
 
 use super::scan::{Look, Scan, Shape, Visit};
 use super::steps::Steps;
@@ -51,6 +52,18 @@ impl<'a, O: OutSet> View<'a, O> {
     {
         let table = self.table;
         table.paths(p)
+    }
+
+    /// The trips of a trip's line from it on, in order, for as long as the lines are lent.
+    pub fn trips_onward(&self, trip: TripNo) -> &'a [TripNo]
+        requires { trip < length self.now.0.trips }
+        ensures trips { result.now ≡ trips_from self.now.1.lines trip }
+        ensures there { All (λ u. u < length self.now.0.trips) result.now }
+    {
+        let lines = self.lines;
+        lines.soundness();
+        let (line, place) = lines.of(trip);
+        &lines.trips(line)[place as usize..]
     }
 
     /// Event `at` of a trip, for as long as the set is lent. It is a step.
@@ -115,16 +128,8 @@ impl<'a, O: OutSet> Scan for View<'a, O> {
         (events.len() - 1) as u32
     }
 
-    fn after(&self, trip: TripNo) -> Option<TripNo> {
-        let lines = self.lines;
-        lines.soundness();
-        let (line, place) = lines.of(trip);
-        let trips = lines.trips(line);
-        let next = place as usize + 1;
-        if next >= trips.len() {
-            return None;
-        }
-        Some(trips[next])
+    fn onward(&self, trip: TripNo) -> &[TripNo] {
+        self.trips_onward(trip)
     }
 }
 

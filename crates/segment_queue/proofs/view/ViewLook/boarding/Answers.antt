@@ -1,4 +1,4 @@
-use Rattle.std.proofs.Common.{◌≡◌, ◌∙◌, ◌<◌, length, get_or, [], sym, ap, subst, Some, None, w32}
+use Rattle.std.proofs.Common.{◌∙◌, ◌<◌, length, get_or, [], sym, ap, subst, Some, None, w32}
 use Rattle.std.proofs.lemmas.Int.{to_z-of_z}
 use Rattle.tb_base.specs.TimetableData.{TimetableData}
 use Rattle.tb_base.specs.Transfers.{earliest_trip}

@@ -1,7 +1,5 @@
 use Rattle.std.proofs.Common.{◌≡◌, ◌∙◌, ◌<◌, length, sym, ap, subst, arith}
-use Rattle.std.proofs.lemmas.List.{length-map}
 use Rattle.tb_base.specs.TimetableData.{TimetableData, event_total}
-use Rattle.line_split.specs.LinesOf.{berths_at}
 use Rattle.segment_queue.specs.Scans.{line_indices_at}
 use Rattle.segment_queue.proofs.LineViews.{berths_count, indices_le_events}
 use Rattle.segment_queue.proofs.view.ViewScan.berths.Goals as goal
