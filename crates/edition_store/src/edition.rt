@@ -105,7 +105,7 @@ impl Edition {
     }
 
     // Its parts, as a search looks at them.
-    fn view(&self) -> View<'_, Set>
+    fn view(&self) -> View<'_>
         ensures table { result.0 ≡ self.now.table }
         ensures lines { result.1.lines ≡ self.now.lines }
         ensures set { result.2 ≡ self.now.set }

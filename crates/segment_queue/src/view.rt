@@ -2,6 +2,7 @@ ghost use Rattle.std.specs.Prelude.{◌≡◌, ◌<◌, ◌+◌, ◌≤◌, ℕ,
 ghost use Rattle.tb_base.specs.Soundness.{IsSoundPath};
 ghost use Rattle.tb_base.specs.TimetableData.{arrival_at, event_at, events_of, stop_at};
 ghost use Rattle.segment_queue.specs.Scans.{trips_from};
+ghost use Rattle.transfer_pack.specs.Packed.{packed};
 
 use super::scan::{Look, Scan, Shape, Visit};
 use super::steps::Steps;
@@ -9,33 +10,35 @@ use line_split::Lines;
 use std::marker::Model;
 use std::sync::ledger::Ledger;
 use tb_base::{Hop, OutSet, Path, Sec, StopNo, Timetable, TripNo};
+use transfer_pack::Set;
 
 /// A timetable, its lines and a set of hops, as a search looks at them.
 #[derive(Drop)]
-pub struct View<'a, O: OutSet> {
+pub struct View<'a> {
     table: &'a Timetable,
     lines: &'a Lines,
-    set: &'a O,
+    set: &'a Set,
 }
 
-impl<'a, O: OutSet> Model for View<'a, O> {
+impl<'a> Model for View<'a> {
     ghost use Rattle.std.specs.Prelude.{◌≡◌};
     ghost use Rattle.tb_base.specs.TimetableData.{TimetableData};
     ghost use Rattle.line_split.specs.LinesData.{LinesData};
+    ghost use Rattle.transfer_pack.specs.Packed.{PackedHops};
 
-    ghost Value = { TimetableData × LinesData × O };
+    ghost Value = { TimetableData × LinesData × PackedHops };
 
     ghost view = { λ v. (v.table.now, v.lines.now, v.set.now) };
 
     ghost invariant = { λ v. (v.lines.now.table ≡ v.table.now)
-        × (O.table v.set.now ≡ v.table.now) };
+        × (v.set.now.table ≡ v.table.now) };
 }
 
-impl<'a, O: OutSet> View<'a, O> {
+impl<'a> View<'a> {
     /// The view of a timetable, its lines and a set of hops for its events.
-    pub fn new(table: &'a Timetable, lines: &'a Lines, set: &'a O) -> View<'a, O>
+    pub fn new(table: &'a Timetable, lines: &'a Lines, set: &'a Set) -> View<'a>
         requires lines { lines.now.table ≡ table.now }
-        requires set { O.table set.now ≡ table.now }
+        requires set { set.now.table ≡ table.now }
         ensures table { result.0 ≡ table.now }
         ensures lines { result.1 ≡ lines.now }
         ensures set { result.2 ≡ set.now }
@@ -73,24 +76,25 @@ impl<'a, O: OutSet> View<'a, O> {
         ensures stop { result.stop ≡ stop_at self.now.0 trip at }
         ensures arr { result.arr ≡ arrival_at self.now.0 trip at }
         ensures alight { result.alight ≡ (event_at self.now.0 trip at).alight }
-        ensures out { result.out.now ≡ O.hops self.now.2 trip at }
+        ensures out { result.out.now ≡ packed self.now.2 trip at }
         ensures step { steps.new ≡ steps.old + 1 }
     {
         steps.tick();
-        let table = self.table;
-        let event = table.trip(trip).events[at as usize];
         let set = self.set;
+        let call = set.call(trip, at);
         Visit {
-            stop: event.stop,
-            arr: event.arr,
-            alight: event.alight,
+            stop: call.stop,
+            arr: call.arr,
+            alight: call.alight,
             out: set.out(trip, at),
         }
     }
 }
 
-impl<'a, O: OutSet> Scan for View<'a, O> {
-    ghost net = { λ v. record { table = v.0; lines = v.1.lines; hops = O.hops v.2 } };
+impl<'a> Scan for View<'a> {
+    ghost use Rattle.transfer_pack.specs.Packed.{packed};
+
+    ghost net = { λ v. record { table = v.0; lines = v.1.lines; hops = packed v.2 } };
 
     fn soundness(&self) {
         let lines = self.lines;
@@ -133,7 +137,7 @@ impl<'a, O: OutSet> Scan for View<'a, O> {
     }
 }
 
-impl<'a, O: OutSet, L: Ledger> Look<L> for View<'a, O> {
+impl<'a, L: Ledger> Look<L> for View<'a> {
     fn boarding(&self, p: StopNo, berth: u32, time: Sec, steps: &mut Steps<L>) -> Option<Hop> {
         steps.tick();
         let table = self.table;

@@ -1,5 +1,5 @@
 -- Transfers put one behind the other.
-use Rattle.std.proofs.Common.{◌≡◌, ◌∙◌, ℕ, zero, suc, ◌+◌, ◌-◌, ◌<◌, ◌≤◌, ◌==◌, ◌⊎◌, inl, inr, List, [], ◌∷◌, ◌++◌, Bool, true, false, cond, length, map, get_or, take, refl, sym, ap, subst, arith, length-append}
+use Rattle.std.proofs.Common.{◌≡◌, ◌∙◌, ℕ, zero, suc, ◌+◌, ◌-◌, ◌<◌, ◌≤◌, ◌==◌, ◌⊎◌, inl, inr, List, [], ◌∷◌, ◌++◌, Bool, true, false, cond, length, map, get_or, take, drop, refl, sym, ap, subst, arith, length-append}
 use Rattle.std.specs.Prelude.{All, filter, nat_lt}
 use Rattle.std.proofs.lemmas.Bool.Decides.{nat_tests}
 use Rattle.std.proofs.lemmas.Grind.{get_or_default_zero}
@@ -8,12 +8,17 @@ use Rattle.std.proofs.Math.Seq.{get_or-append_right}
 use Rattle.std.proofs.lemmas.List.Elements.{filter-append}
 use Rattle.tb_base.specs.declared.transfer.Hop.{Hop}
 use Rattle.tb_base.specs.declared.transfer.Transfer.{Transfer}
-use Rattle.tb_base.specs.TimetableData.{TripData, TimetableData, events_of, no_trip}
+use Rattle.tb_base.specs.declared.table.Event.{Event}
+use Rattle.tb_base.specs.TimetableData.{TripData, TimetableData, event_at, events_of, no_event, no_trip}
 use Rattle.tb_base.specs.OutSets.{AreRowsOf, hops_at, row_of}
 use Rattle.tb_base.specs.Transfers.{numbers_below}
 use Rattle.tb_base.proofs.Listing.{from_events, hop_of}
 use Rattle.transfer_pack.specs.Packed.{AreBounds, FitsRuns, PackedHops, packed, runs_in}
-use Rattle.transfer_pack.proofs.Bounds.{bounds_more, runs_more}
+use Rattle.transfer_pack.specs.declared.call.Call.{Call}
+use Rattle.transfer_pack.specs.declared.set.Spot.{Spot}
+use Rattle.transfer_pack.specs.Calls.{call_of, no_call}
+use Rattle.transfer_pack.specs.Spots.{AreCalls, calls_in, ends_in}
+use Rattle.transfer_pack.proofs.Bounds.{IsRun, bounds_more, length-runs_in, run_at, runs_more}
 use Rattle.tb_base.proofs.Lists.{length-numbers_below}
 use Rattle.tb_base.proofs.NumberFacts.{below_or_last}
 
@@ -48,32 +53,40 @@ number_at (suc n) t d h = by_case (λ k. number_at n t d k) (below_or_last t n h
     by_case more (inl k) = (let within : t < length (numbers_below n) = omega (arith, k, length-numbers_below n) in get_or_append_left (numbers_below n) (n ∷ []) d t within ∙ more k)
     by_case more (inr e) = last_one (numbers_below n) n d t (omega (arith, e, length-numbers_below n)) ∙ sym e
 
--- the first n trips are packed: their runs begin where their starts say
-pub record ArePacked (T : TimetableData) (rows : List (List Transfer)) (n : ℕ) (starts : List ℕ) (runs : List (List Hop)) : Type 0 where
+-- the first n trips are packed: their runs begin where their starts say, and their calls one place on
+pub record ArePacked (T : TimetableData) (rows : List (List Transfer)) (n : ℕ) (starts : List ℕ) (runs : List (List Hop)) (called : List Call) : Type 0 where
   pub long : length starts ≡ n
   pub events : (t : ℕ) → t < n → get_or starts t 0 + length (events_of T t) ≤ length runs
   pub hops : (t i : ℕ) → t < n → i < length (events_of T t) → get_or runs (get_or starts t 0 + i) [] ≡ hops_at (row_of rows t) i
+  pub calls : (t i : ℕ) → t < n → i < length (events_of T t) → get_or called (suc (get_or starts t 0 + i)) no_call ≡ call_of (event_at T t i)
 
 -- one trip more
-pub trip_packed : (T : TimetableData) (rows : List (List Transfer)) (n : ℕ) (starts : List ℕ) (runs : List (List Hop)) (row : List Transfer) (many : ℕ) → ArePacked T rows n starts runs → row ≡ row_of rows n → many ≡ length (events_of T n)
-    → ArePacked T rows (n + 1) (starts ++ length runs ∷ []) (runs ++ map (hops_at row) (numbers_below many))
-trip_packed T rows n starts runs row many are row_is many_is = record {
+pub trip_packed : (T : TimetableData) (rows : List (List Transfer)) (n : ℕ) (starts : List ℕ) (runs : List (List Hop)) (calls : List Call) (row : List Transfer) (events : List Event) → ArePacked T rows n starts runs calls → length calls ≡ suc (length runs) → row ≡ row_of rows n → events ≡ events_of T n
+    → ArePacked T rows (n + 1) (starts ++ length runs ∷ []) (runs ++ map (hops_at row) (numbers_below (length events))) (calls ++ map call_of events)
+trip_packed T rows n starts runs calls row events are counted row_is events_are = record {
   long = omega (arith, length-append starts (length runs ∷ []), are.long);
   events = λ t below. elim (below_or_last t n (omega (arith, below))) [
     | inl h ↦ omega (arith, left t h, are.events t h, length-append runs block)
-    | inr e ↦ omega (arith, right t e, length-append runs block, block_long, ap (λ k. length (events_of T k)) e, many_is)
+    | inr e ↦ omega (arith, right t e, length-append runs block, block_long, many t e)
   ];
   hops = λ t i below inside. elim (below_or_last t n (omega (arith, below))) [
     | inl h ↦ ap (λ k. get_or (runs ++ block) (k + i) []) (left t h) ∙ get_or_append_left runs block [] (get_or starts t 0 + i) (omega (arith, are.events t h, inside)) ∙ are.hops t i h inside
-    | inr e ↦ ap (λ k. get_or (runs ++ block) (k + i) []) (right t e) ∙ in_block i (omega (arith, inside, ap (λ k. length (events_of T k)) e, many_is)) ∙ ap (λ xs. hops_at xs i) (row_is ∙ ap (row_of rows) (sym e))
+    | inr e ↦ ap (λ k. get_or (runs ++ block) (k + i) []) (right t e) ∙ in_block i (omega (arith, inside, many t e)) ∙ ap (λ xs. hops_at xs i) (row_is ∙ ap (row_of rows) (sym e))
+  ];
+  calls = λ t i below inside. elim (below_or_last t n (omega (arith, below))) [
+    | inl h ↦ ap (λ k. get_or (calls ++ map call_of events) (suc (k + i)) no_call) (left t h) ∙ get_or_append_left calls (map call_of events) no_call (suc (get_or starts t 0 + i)) (omega (arith, are.events t h, inside, counted)) ∙ are.calls t i h inside
+    | inr e ↦ ap (λ k. get_or (calls ++ map call_of events) (suc (k + i)) no_call) (right t e) ∙ in_calls i (omega (arith, inside, many t e)) ∙ ap (λ es. call_of (get_or es i no_event)) (events_are ∙ ap (events_of T) (sym e))
   ];
 }
   where
     block : List (List Hop)
-    block = map (hops_at row) (numbers_below many)
+    block = map (hops_at row) (numbers_below (length events))
 
-    block_long : length block ≡ many
-    block_long = length-map (numbers_below many) (hops_at row) ∙ length-numbers_below many
+    block_long : length block ≡ length events
+    block_long = length-map (numbers_below (length events)) (hops_at row) ∙ length-numbers_below (length events)
+
+    many : (t : ℕ) → t ≡ n → length (events_of T t) ≡ length events
+    many t e = ap (λ k. length (events_of T k)) e ∙ ap length (sym events_are)
 
     left : (t : ℕ) → t < n → get_or (starts ++ length runs ∷ []) t 0 ≡ get_or starts t 0
     left t h = get_or_append_left starts (length runs ∷ []) 0 t (omega (arith, h, are.long))
@@ -81,14 +94,23 @@ trip_packed T rows n starts runs row many are row_is many_is = record {
     right : (t : ℕ) → t ≡ n → get_or (starts ++ length runs ∷ []) t 0 ≡ length runs
     right t e = last_one starts (length runs) 0 t (omega (arith, e, are.long))
 
-    behind : (a i : ℕ) → a + i - a ≡ i
-    behind a i = omega arith
+    behind : (a b i : ℕ) → a ≡ suc b → suc (b + i) - a ≡ i
+    behind a b i e = omega (arith, e)
 
-    in_block : (i : ℕ) → i < many → get_or (runs ++ block) (length runs + i) [] ≡ hops_at row i
+    same_place : (a i : ℕ) → a + i - a ≡ i
+    same_place a i = omega arith
+
+    in_block : (i : ℕ) → i < length events → get_or (runs ++ block) (length runs + i) [] ≡ hops_at row i
     in_block i h =
         get_or-append_right runs block (length runs + i) [] (omega arith)
-        ∙ ap (λ k. get_or block k []) (behind (length runs) i)
-        ∙ get_or-map (hops_at row) (numbers_below many) i 0 [] (omega (arith, h, length-numbers_below many)) ∙ ap (hops_at row) (number_at many i 0 h)
+        ∙ ap (λ k. get_or block k []) (same_place (length runs) i)
+        ∙ get_or-map (hops_at row) (numbers_below (length events)) i 0 [] (omega (arith, h, length-numbers_below (length events))) ∙ ap (hops_at row) (number_at (length events) i 0 h)
+
+    in_calls : (i : ℕ) → i < length events → get_or (calls ++ map call_of events) (suc (length runs + i)) no_call ≡ call_of (get_or events i no_event)
+    in_calls i h =
+        get_or-append_right calls (map call_of events) (suc (length runs + i)) no_call (omega (arith, counted))
+        ∙ ap (λ k. get_or (map call_of events) k no_call) (behind (length calls) (length runs) i counted)
+        ∙ get_or-map call_of events i no_event no_call h
 
 none_at : (row : List Transfer) (n i : ℕ) → All (λ r. r.at < n) row → n ≤ i → hops_at row i ≡ []
 none_at [] n i all le = refl
@@ -98,8 +120,8 @@ none_at (r ∷ row) n i all le =
     ap (λ b. map hop_of (cond b (r ∷ filter (λ q. q.at == i) row) (filter (λ q. q.at == i) row))) test ∙ none_at row n i (λ k d h. all (suc k) d (omega (arith, h))) le
 
 -- what is packed is what the rows have
-pub packed_all : (T : TimetableData) (rows : List (List Transfer)) (S : PackedHops) → S.table ≡ T → AreRowsOf T rows → ArePacked T rows (length T.trips) S.starts S.runs → (t i : ℕ) → packed S t i ≡ hops_at (row_of rows t) i
-packed_all T rows S same rows_of are t i = by_test (nat_lt i (length (events_of S.table t))) refl
+pub packed_all : (T : TimetableData) (rows : List (List Transfer)) (S : PackedHops) (calls : List Call) → S.table ≡ T → AreRowsOf T rows → ArePacked T rows (length T.trips) S.starts S.runs calls → (t i : ℕ) → packed S t i ≡ hops_at (row_of rows t) i
+packed_all T rows S calls same rows_of are t i = by_test (nat_lt i (length (events_of S.table t))) refl
   where
     trip_or_none : (t < length T.trips) ⊎ (length T.trips ≤ t)
     trip_or_none = grind arith
@@ -124,16 +146,70 @@ packed_all T rows S same rows_of are t i = by_test (nat_lt i (length (events_of 
         ]
 
 -- one event more
-pub event_packed : (row : List Transfer) (hops hops' : List Hop) (bounds bounds' : List ℕ) (runs : List (List Hop)) (at : ℕ) → AreBounds bounds (length hops) → runs_in hops bounds ≡ runs ++ map (hops_at row) (numbers_below at) → hops' ≡ hops ++ hops_at row at → bounds' ≡ bounds ++ length hops' ∷ []
-    → AreBounds bounds' (length hops') × (runs_in hops' bounds' ≡ runs ++ map (hops_at row) (numbers_below (at + 1)))
-event_packed row hops hops' bounds bounds' runs at are so_far is bounds_is = (
-  subst (λ bs. AreBounds bs (length hops')) (sym bounds_is) (bounds_more bounds (length hops) (length hops') are (omega (arith, ap length is, length-append hops (hops_at row at)))),
-  ap (runs_in hops') bounds_is ∙ ap (λ hs. runs_in hs (bounds ++ length hs ∷ [])) is ∙ runs_more hops (hops_at row at) bounds are ∙ ap (λ rs. rs ++ hops_at row at ∷ []) so_far
+pub event_packed : (row : List Transfer) (hops hops' : List Hop) (spots spots' : List Spot) (runs : List (List Hop)) (calls : List Call) (events : List Event) (e : Event) (s : Spot) (at : ℕ) → AreBounds (ends_in spots) (length hops)
+    → runs_in hops (ends_in spots) ≡ runs ++ map (hops_at row) (numbers_below at) → calls_in spots ≡ calls ++ map call_of (take at events) → at < length events → e ≡ get_or events at e
+    → hops' ≡ hops ++ hops_at row at → spots' ≡ spots ++ s ∷ [] → s.call ≡ call_of e → s.end ≡ length hops'
+    → AreBounds (ends_in spots') (length hops') × (runs_in hops' (ends_in spots') ≡ runs ++ map (hops_at row) (numbers_below (at + 1))) × (calls_in spots' ≡ calls ++ map call_of (take (at + 1) events))
+event_packed row hops hops' spots spots' runs calls events e s at are so_far calls_are inside e_is is spots_is call_is end_is = (
+  subst (λ bs. AreBounds bs (length hops')) (sym ends_are) (bounds_more (ends_in spots) (length hops) (length hops') are (omega (arith, ap length is, length-append hops (hops_at row at)))),
+  ap (runs_in hops') ends_are ∙ ap (λ hs. runs_in hs (ends_in spots ++ length hs ∷ [])) is ∙ runs_more hops (hops_at row at) (ends_in spots) are ∙ ap (λ rs. rs ++ hops_at row at ∷ []) so_far
       ∙ append_assoc runs (map (hops_at row) (numbers_below at)) (hops_at row at ∷ []) ∙ ap (λ rs. runs ++ rs) (sym (map-append (hops_at row) (numbers_below at) (at ∷ [])) ∙ ap (λ n. map (hops_at row) (numbers_below n)) next),
+  ap calls_in spots_is ∙ map-append (λ (x : Spot). x.call) spots (s ∷ []) ∙ ap (λ c. calls_in spots ++ c ∷ []) call_is ∙ ap (λ cs. cs ++ call_of e ∷ []) calls_are
+      ∙ append_assoc calls (map call_of (take at events)) (call_of e ∷ [])
+      ∙ ap (λ cs. calls ++ cs) (sym (map-append call_of (take at events) (e ∷ [])) ∙ ap (λ x. map call_of (take at events ++ x ∷ [])) e_is ∙ ap (map call_of) (sym (take_more events at e inside))),
 )
   where
     next : suc at ≡ at + 1
     next = omega arith
+
+    ends_are : ends_in spots' ≡ ends_in spots ++ length hops' ∷ []
+    ends_are = ap ends_in spots_is ∙ map-append (λ (x : Spot). x.end) spots (s ∷ []) ∙ ap (λ n. ends_in spots ++ n ∷ []) end_is
+
+-- there is a spot more than runs
+pub spots_counted : (hops : List Hop) (spots : List Spot) → AreBounds (ends_in spots) (length hops) → length spots ≡ suc (length (runs_in hops (ends_in spots)))
+spots_counted hops spots are = sym (length-map spots (λ (s : Spot). s.end)) ∙ length-runs_in hops (ends_in spots) (length hops) are
+
+-- where the hops of a spot end
+pub end_at : (spots : List Spot) (k : ℕ) (s : Spot) → k < length spots → (get_or spots k s).end ≡ get_or (ends_in spots) k 0
+end_at spots k s inside = sym (get_or-map (λ (x : Spot). x.end) spots k s 0 inside)
+
+-- the run of hops between the ends of two spots
+pub record IsSpotRun (hops : List Hop) (spots : List Spot) (k : ℕ) (s r : Spot) : Type 0 where
+  pub from : (get_or spots k s).end ≤ (get_or spots (k + 1) r).end
+  pub to : (get_or spots (k + 1) r).end ≤ length hops
+  pub run : get_or (runs_in hops (ends_in spots)) k [] ≡ take ((get_or spots (k + 1) r).end - (get_or spots k s).end) (drop (get_or spots k s).end hops)
+
+pub spot_run : (hops : List Hop) (spots : List Spot) (k : ℕ) (s r : Spot) → AreBounds (ends_in spots) (length hops) → k + 1 < length spots → IsSpotRun hops spots k s r
+spot_run hops spots k s r are inside =
+    let found : IsRun hops (ends_in spots) (length hops) k = run_at hops (ends_in spots) (length hops) k are (omega (arith, inside, length-map spots (λ (x : Spot). x.end))) in
+    let first : (get_or spots k s).end ≡ get_or (ends_in spots) k 0 = end_at spots k s (omega (arith, inside)) in
+    let second : (get_or spots (k + 1) r).end ≡ get_or (ends_in spots) (suc k) 0 = end_at spots (k + 1) r inside ∙ ap (λ n. get_or (ends_in spots) n 0) (next k) in record {
+      from = omega (arith, found.from, first, second);
+      to = omega (arith, found.to, second);
+      run = found.run ∙ ap (λ n. take (get_or (ends_in spots) (suc k) 0 - n) (drop n hops)) (sym first) ∙ ap (λ n. take (n - (get_or spots k s).end) (drop (get_or spots k s).end hops)) (sym second);
+    }
+  where
+    next : (k : ℕ) → k + 1 ≡ suc k
+    next k = omega arith
+
+-- the spot behind an event's
+pub spot_inside : (hops : List Hop) (spots : List Spot) (S : PackedHops) (n : ℕ) → AreBounds (ends_in spots) (length hops) → S.runs ≡ runs_in hops (ends_in spots) → n < length S.runs → n + 1 < length spots
+spot_inside hops spots S n are same inside = omega (arith, inside, ap length same, spots_counted hops spots are)
+
+-- the call of a spot
+pub call_at : (spots : List Spot) (k : ℕ) (s : Spot) → k < length spots → s ≡ get_or spots k s → s.call ≡ get_or (calls_in spots) k no_call
+call_at spots k s inside is = ap (λ (x : Spot). x.call) is ∙ sym (get_or-map (λ (x : Spot). x.call) spots k s no_call inside)
+
+-- the call of an event stands one place on
+pub call_found : (S S' : PackedHops) (spots : List Spot) (t i n : ℕ) (s : Spot) → S' ≡ S → AreCalls S'.table S'.starts (calls_in spots) → t < length S.table.trips → i < length (events_of S.table t) → n ≡ get_or S.starts t 0 + i → n + 1 < length spots → s ≡ get_or spots (n + 1) s
+    → s.call ≡ call_of (event_at S.table t i)
+call_found S S' spots t i n s same are trip at is inside s_is =
+    call_at spots (n + 1) s inside s_is
+    ∙ ap (λ k. get_or (calls_in spots) k no_call) (place n (get_or S.starts t 0) is)
+    ∙ subst (λ (x : PackedHops). AreCalls x.table x.starts (calls_in spots)) same are t i trip at
+  where
+    place : (n a : ℕ) → n ≡ a + i → n + 1 ≡ suc (a + i)
+    place n a e = omega (arith, e)
 
 -- the list of an event is one of the runs
 pub run_inside : (S : PackedHops) (t i start : ℕ) → FitsRuns S → t < length S.table.trips → i < length (events_of S.table t) → start ≡ get_or S.starts t start → start + i < length S.runs

@@ -1,1 +1,3 @@
+pub mod Calls
 pub mod Packed
+pub mod Spots

@@ -1,41 +1,74 @@
 ghost use Rattle.std.specs.Prelude.{◌≡◌, ◌+◌, ◌<◌, ◌++◌, ◌∷◌, ◌-◌, ◌≤◌, [], ℕ, List, IfOk, OnOk, length, map, slice_index_or, take, drop};
 ghost use Rattle.tb_base.specs.OutSets.{AreRowsOf, hops_at, row_of};
 ghost use Rattle.tb_base.specs.Transfers.{numbers_below};
+ghost use Rattle.transfer_pack.specs.Calls.{call_of};
 ghost use Rattle.transfer_pack.specs.Packed.{AreBounds, packed, runs_in};
+ghost use Rattle.transfer_pack.specs.Spots.{calls_in, ends_in};
 
+use super::call::Call;
 use std::alloc::Global;
 use std::marker::Model;
 use std::snapshot::Snapshot;
-use tb_base::{Hop, Memory, OutSet, Timetable, Transfer, TripNo};
+use tb_base::{Event, Hop, Memory, OutSet, StopNo, Timetable, Transfer, TripNo};
 
-/// A set of transfers: the hops of all events one behind the other, and where those of each event
-/// begin and end. It remembers for contracts of which timetable it is; that takes no room.
+// An event as a search reads it, and where its hops end. They begin where those of the spot before end.
+#[derive(Clone, Copy)]
+struct Spot {
+    call: Call,
+    end: u32,
+}
+
+// What stands before the first event.
+const NO_SPOT: Spot = Spot {
+    call: Call {
+        stop: StopNo(0),
+        arr: 0,
+        alight: false,
+    },
+    end: 0,
+};
+
+/// A set of transfers, and what a search reads of events: the hops of all events one behind the
+/// other, and for each event where its hops end, beside its stop and its arrival. It remembers for
+/// contracts of which timetable it is; that takes no room.
 #[derive(Drop)]
 pub struct Set {
     table: Snapshot<Timetable>,
     starts: Vec<usize>,
-    bounds: Vec<usize>,
+    spots: Vec<Spot>,
     hops: Vec<Hop>,
 }
 
 impl Model for Set {
     ghost use Rattle.std.specs.Prelude.{length};
     ghost use Rattle.transfer_pack.specs.Packed.{AreBounds, FitsRuns, PackedHops, runs_in};
+    ghost use Rattle.transfer_pack.specs.Spots.{AreCalls, calls_in, ends_in};
 
     ghost Value = { PackedHops };
 
     ghost view = { λ s. record {
       table = s.table.value;
       starts = s.starts.items;
-      runs = runs_in s.hops.items s.bounds.items;
+      runs = runs_in s.hops.items (ends_in s.spots.items);
     } };
 
-    ghost invariant = { λ s. AreBounds s.bounds.items (length s.hops.items)
+    ghost invariant = { λ s. AreBounds (ends_in s.spots.items) (length s.hops.items)
         × FitsRuns (record {
           table = s.table.value;
           starts = s.starts.items;
-          runs = runs_in s.hops.items s.bounds.items;
-        }) };
+          runs = runs_in s.hops.items (ends_in s.spots.items);
+        })
+        × AreCalls s.table.value s.starts.items (calls_in s.spots.items) };
+}
+
+// A number that fits: more memory than there is would be needed else.
+fn number(count: usize) -> Result<u32, Memory>
+    ensures { IfOk result (λ n. n ≡ count) }
+{
+    if count > u32::MAX as usize {
+        return Err(Memory);
+    }
+    Ok(count as u32)
 }
 
 // Adds the hops of a trip's transfers from one of its events.
@@ -54,30 +87,35 @@ fn add_event(hops: &mut Vec<Hop>, row: &[Transfer], at: usize) -> Result<(), Mem
     Ok(())
 }
 
-// Adds the hops of a trip's transfers from so many of its events, event after event, and where they
-// end.
+// Adds the events of a trip, each with the hops of the trip's transfers from there.
 fn add_trip(
     hops: &mut Vec<Hop>,
-    bounds: &mut Vec<usize>,
+    spots: &mut Vec<Spot>,
     row: &[Transfer],
-    events: usize,
+    events: &[Event],
 ) -> Result<(), Memory>
-    requires { AreBounds bounds.old.items (length hops.old.items) }
-    ensures bounds { OnOk result (AreBounds bounds.new.items (length hops.new.items)) }
-    ensures runs { OnOk result (runs_in hops.new.items bounds.new.items
-        ≡ runs_in hops.old.items bounds.old.items
-        ++ map (hops_at row.now) (numbers_below events)) }
+    requires { AreBounds (ends_in spots.old.items) (length hops.old.items) }
+    ensures bounds { OnOk result (AreBounds (ends_in spots.new.items) (length hops.new.items)) }
+    ensures runs { OnOk result (runs_in hops.new.items (ends_in spots.new.items)
+        ≡ runs_in hops.old.items (ends_in spots.old.items)
+        ++ map (hops_at row.now) (numbers_below (length events.now))) }
+    ensures calls { OnOk result (calls_in spots.new.items
+        ≡ calls_in spots.old.items ++ map call_of events.now) }
 {
-    for at in 0..events {
+    for at in 0..events.len() {
         add_event(hops, row, at)?;
-        bounds.push(hops.len())?;
+        spots.push(Spot {
+            call: Call::of(&events[at]),
+            end: number(hops.len())?,
+        })?;
     }
     Ok(())
 }
 
 impl Set {
     /// The set of these transfers: one list for each trip, of transfers from its events, in any
-    /// order. Takes memory by the numbers of events and transfers. Refused only for want of memory.
+    /// order. Takes memory by the numbers of events and transfers. Refused only for want of memory,
+    /// which more than 4,294,967,295 transfers are counted as.
     pub fn build(alloc: Global, table: &Timetable, rows: &[Vec<Transfer>]) -> Result<Set, Memory>
         requires { AreRowsOf table.now (map (λ row. row.items) rows.now) }
         ensures table { IfOk result (λ set. set.table ≡ table.now) }
@@ -86,18 +124,18 @@ impl Set {
             ≡ hops_at (row_of (map (λ row. row.items) rows.now) t) i) }
     {
         let mut starts = Vec::new(alloc);
-        let mut bounds = Vec::new(alloc);
+        let mut spots = Vec::new(alloc);
         let mut hops = Vec::new(alloc);
-        bounds.push(0)?;
+        spots.push(NO_SPOT)?;
         for t in 0..table.trip_count() {
-            let events = table.trip(TripNo(t)).events.len();
-            starts.push(bounds.len() - 1)?;
-            add_trip(&mut hops, &mut bounds, rows[t as usize].as_slice(), events)?;
+            starts.push(spots.len() - 1)?;
+            let events = table.events(TripNo(t));
+            add_trip(&mut hops, &mut spots, rows[t as usize].as_slice(), events)?;
         }
         Ok(Set {
             table: Snapshot::of(table),
             starts,
-            bounds,
+            spots,
             hops,
         })
     }
@@ -112,17 +150,27 @@ fn run(hops: &[Hop], from: usize, to: usize) -> &[Hop]
     &hops[from..to]
 }
 
-// The run between a bound and the next.
-fn run_behind<'a>(hops: &'a [Hop], bounds: &[usize], k: usize) -> &'a [Hop]
-    requires bounds { AreBounds bounds.now (length hops.now) }
-    requires inside { k + 1 < length bounds.now }
-    ensures { result.now ≡ slice_index_or (runs_in hops.now bounds.now) k [] }
+// The run between the ends of a spot and of the next.
+fn run_behind<'a>(hops: &'a [Hop], spots: &[Spot], k: usize) -> &'a [Hop]
+    requires bounds { AreBounds (ends_in spots.now) (length hops.now) }
+    requires inside { k + 1 < length spots.now }
+    ensures { result.now ≡ slice_index_or (runs_in hops.now (ends_in spots.now)) k [] }
 {
-    run(hops, bounds[k], bounds[k + 1])
+    run(hops, spots[k].end as usize, spots[k + 1].end as usize)
 }
 
 impl Set {
-    ghost use Rattle.tb_base.specs.TimetableData.{events_of};
+    ghost use Rattle.tb_base.specs.TimetableData.{event_at, events_of};
+
+    // The number of an event: how many events there are before it.
+    fn event(&self, trip: TripNo, at: u32) -> usize
+        requires trip { trip < length self.now.table.trips }
+        requires at { at < length (events_of self.now.table trip) }
+        ensures number { result ≡ slice_index_or self.now.starts trip 0 + at }
+        ensures inside { result < length self.now.runs }
+    {
+        self.starts[trip.index()] + at as usize
+    }
 
     // The hops from an event.
     fn run_of(&self, trip: TripNo, at: u32) -> &[Hop]
@@ -130,8 +178,18 @@ impl Set {
         requires at { at < length (events_of self.now.table trip) }
         ensures { result.now ≡ packed self.now trip at }
     {
-        let event = self.starts[trip.index()] + at as usize;
-        run_behind(self.hops.as_slice(), self.bounds.as_slice(), event)
+        let event = self.event(trip, at);
+        run_behind(self.hops.as_slice(), self.spots.as_slice(), event)
+    }
+
+    /// Event `at` of a trip.
+    pub fn call(&self, trip: TripNo, at: u32) -> Call
+        requires trip { trip < length self.now.table.trips }
+        requires at { at < length (events_of self.now.table trip) }
+        ensures { result ≡ call_of (event_at self.now.table trip at) }
+    {
+        let event = self.event(trip, at);
+        self.spots[event + 1].call
     }
 }
 

@@ -5,12 +5,12 @@ use Rattle.segment_queue.proofs.LineViews.{berths_count, indices_le_events}
 use Rattle.segment_queue.proofs.view.ViewScan.berths.Goals as goal
 
 pub at-requires : goal.at-requires
-at-requires g c =
+at-requires c =
     let inside : c.args.p < length c.self.inside.table.now.stops = rw (← c.self.view_is) at c.requires in
     subst (λ (T : TimetableData). c.args.p < length T.stops) (sym c.self.invariant.0) inside
 
 pub overflow_cast-result : goal.overflow_cast-result
-overflow_cast-result g c =
+overflow_cast-result c =
     let T = c.self.inside.lines.now.table in
     let lines = c.self.inside.lines.now.lines in
     omega (
@@ -23,7 +23,7 @@ overflow_cast-result g c =
     )
 
 pub returns : goal.returns
-returns g c =
+returns c =
     let T = c.self.inside.lines.now.table in
     let lines = c.self.inside.lines.now.lines in
     let long : length c.at.result.now ≡ length (line_indices_at T lines c.args.p) = ap length c.at.ensures ∙ berths_count T lines c.args.p in
