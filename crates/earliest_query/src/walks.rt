@@ -15,6 +15,9 @@ pub(crate) fn walk_secs<S: Scan>(scan: &S, p: StopNo, q: StopNo) -> Option<u32>
     if p.index() == q.index() {
         return Some(0);
     }
+    if !scan.may_walk(p, q) {
+        return None;
+    }
     path_secs(scan.walks(p), q)
 }
 

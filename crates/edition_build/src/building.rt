@@ -5,6 +5,7 @@ ghost use Rattle.reduce_workers.specs.Reductions.{reduced};
 use edition_store::{Edition, Shared};
 use line_split::{Lines, split};
 use reduce_workers::{Reduced, reduce_all};
+use segment_queue::WalkGroups;
 use std::alloc::Global;
 use std::thread::Threads;
 use tb_base::{Gate, Memory, Timetable};
@@ -28,7 +29,8 @@ pub fn assemble(
     lines.soundness();
     let kept = transfers.kept;
     let set = transfers.into_set(alloc, &table)?;
-    Ok(Edition::new(table, lines, set, kept))
+    let groups = WalkGroups::of(alloc, &table)?;
+    Ok(Edition::new(table, lines, set, groups, kept))
 }
 
 /// The edition of a timetable. So many workers reduce its transfers, at least one and at most 64;

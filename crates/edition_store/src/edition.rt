@@ -5,18 +5,20 @@ ghost use Rattle.transfer_pack.specs.Packed.{packed};
 ghost use Rattle.edition_store.specs.Editions.{EditionData, IsEdition, kept_count, net_of};
 
 use line_split::Lines;
-use segment_queue::{Look, Scan, Shape, Steps, View, Visit};
+use segment_queue::{Look, Scan, Shape, Steps, View, Visit, WalkGroups};
 use std::marker::Model;
 use std::sync::ledger::Ledger;
 use tb_base::{Hop, Path, Sec, StopNo, Timetable, TripNo};
 use transfer_pack::Set;
 
-/// The network of a day: a timetable, its lines, and the set of its kept transfers.
+/// The network of a day: a timetable, its lines, and the set of its kept transfers. It holds the
+/// groups of its stops too, which a search looks at.
 #[derive(Drop)]
 pub struct Edition {
     table: Timetable,
     lines: Lines,
     set: Set,
+    groups: WalkGroups,
     kept: u64,
 }
 
@@ -34,6 +36,7 @@ impl Model for Edition {
     } };
 
     ghost invariant = { λ e. (e.lines.table ≡ e.table) × (e.set.table ≡ e.table)
+        × (e.groups ≡ e.table)
         × IsEdition (record {
           table = e.table;
           lines = e.lines.lines;
@@ -43,11 +46,18 @@ impl Model for Edition {
 }
 
 impl Edition {
-    /// The edition of a timetable with its lines, the set of exactly its kept transfers, and how
-    /// many these are. Takes no memory.
-    pub fn new(table: Timetable, lines: Lines, set: Set, kept: u64) -> Edition
+    /// The edition of a timetable with its lines, the set of exactly its kept transfers, how many
+    /// these are, and the groups of its stops. Takes no memory.
+    pub fn new(
+        table: Timetable,
+        lines: Lines,
+        set: Set,
+        groups: WalkGroups,
+        kept: u64,
+    ) -> Edition
         requires lines { lines.table ≡ table }
         requires set { set.table ≡ table }
+        requires groups { groups ≡ table }
         requires hops { (t i : ℕ) → packed set t i ≡ kept_hops table lines.lines t i }
         requires kept { kept ≡ kept_count table lines.lines }
         ensures { result ≡
@@ -59,6 +69,7 @@ impl Edition {
             table,
             lines,
             set,
+            groups,
             kept,
         }
     }
@@ -110,7 +121,7 @@ impl Edition {
         ensures lines { result.1.lines ≡ self.now.lines }
         ensures set { result.2 ≡ self.now.set }
     {
-        View::new(&self.table, &self.lines, &self.set)
+        View::new(&self.table, &self.lines, &self.set, &self.groups)
     }
 }
 
@@ -127,6 +138,10 @@ impl Scan for Edition {
 
     fn walks(&self, p: StopNo) -> &[Path] {
         self.view().paths_from(p)
+    }
+
+    fn may_walk(&self, p: StopNo, q: StopNo) -> bool {
+        self.view().may_walk(p, q)
     }
 
     fn berths(&self, p: StopNo) -> u32 {

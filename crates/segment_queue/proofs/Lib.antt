@@ -7,3 +7,4 @@ pub mod InStep
 pub mod LineViews
 pub mod KeptLevels
 pub mod Rounds
+pub mod Settled

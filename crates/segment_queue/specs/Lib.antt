@@ -3,3 +3,4 @@ pub mod Scans
 pub mod Queue
 pub mod Traced
 pub mod Levels
+pub mod WalkGroups

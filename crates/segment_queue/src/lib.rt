@@ -12,6 +12,7 @@ mod marks;
 mod scan;
 mod steps;
 mod view;
+mod walk_groups;
 
 pub use desk::{Desk, Hit, LastLeg, Segment};
 pub use levels::Levels;
@@ -19,3 +20,4 @@ pub use marks::Marks;
 pub use scan::{Look, Scan, Shape, Visit};
 pub use steps::Steps;
 pub use view::View;
+pub use walk_groups::WalkGroups;

@@ -1,6 +1,7 @@
-ghost use Rattle.std.specs.Prelude.{◌≡◌, ◌+◌, ◌<◌, ◌≤◌, ◌∷◌, [], All, AllPairs, IfSome, IsTrue, Some, length, slice_get, slice_index_or};
+ghost use Rattle.std.specs.Prelude.{◌≡◌, ◌+◌, ◌<◌, ◌≤◌, ◌∷◌, [], ℕ, All, AllPairs, IfSome, IsTrue, Some, length, slice_get, slice_index_or};
 ghost use Rattle.tb_base.specs.Lines.{AreDividedInto};
 ghost use Rattle.tb_base.specs.Soundness.{IsSound, IsSoundPath};
+ghost use Rattle.tb_base.specs.Walking.{walk};
 ghost use Rattle.tb_base.specs.TimetableData.{arrival_at, event_at, event_total, events_of, stop_at};
 ghost use Rattle.segment_queue.specs.Scans.{boarding_hop, line_indices_at, no_line_index, trips_from};
 
@@ -51,6 +52,12 @@ pub trait Scan {
         ensures paths { slice_get (net self.now).table.footpaths.paths p ≡ Some result.now }
         ensures sound { All (IsSoundPath (length (net self.now).table.stops) p) result.now }
         ensures ascending { AllPairs (λ f g. f.to < g.to) result.now };
+
+    /// Whether there may be a walk from a stop to another. Where it says no there is none; to say
+    /// yes too often only costs time.
+    fn may_walk(&self, p: StopNo, q: StopNo) -> bool
+        requires { p < length (net self.now).table.stops }
+        ensures { (secs : ℕ) → walk (net self.now).table p q ≡ Some secs → IsTrue result };
 
     /// How many line indices are at a stop.
     fn berths(&self, p: StopNo) -> u32

@@ -6,6 +6,7 @@ ghost use Rattle.transfer_pack.specs.Packed.{packed};
 
 use super::scan::{Look, Scan, Shape, Visit};
 use super::steps::Steps;
+use super::walk_groups::WalkGroups;
 use line_split::Lines;
 use std::marker::Model;
 use std::sync::ledger::Ledger;
@@ -18,6 +19,7 @@ pub struct View<'a> {
     table: &'a Timetable,
     lines: &'a Lines,
     set: &'a Set,
+    groups: &'a WalkGroups,
 }
 
 impl<'a> Model for View<'a> {
@@ -31,19 +33,31 @@ impl<'a> Model for View<'a> {
     ghost view = { λ v. (v.table.now, v.lines.now, v.set.now) };
 
     ghost invariant = { λ v. (v.lines.now.table ≡ v.table.now)
-        × (v.set.now.table ≡ v.table.now) };
+        × (v.set.now.table ≡ v.table.now) × (v.groups.now ≡ v.table.now) };
 }
 
 impl<'a> View<'a> {
-    /// The view of a timetable, its lines and a set of hops for its events.
-    pub fn new(table: &'a Timetable, lines: &'a Lines, set: &'a Set) -> View<'a>
+    /// The view of a timetable, its lines, a set of hops for its events, and the groups of its
+    /// stops.
+    pub fn new(
+        table: &'a Timetable,
+        lines: &'a Lines,
+        set: &'a Set,
+        groups: &'a WalkGroups,
+    ) -> View<'a>
         requires lines { lines.now.table ≡ table.now }
         requires set { set.now.table ≡ table.now }
+        requires groups { groups.now ≡ table.now }
         ensures table { result.0 ≡ table.now }
         ensures lines { result.1 ≡ lines.now }
         ensures set { result.2 ≡ set.now }
     {
-        View { table, lines, set }
+        View {
+            table,
+            lines,
+            set,
+            groups,
+        }
     }
 
     /// The footpaths that leave a stop, for as long as the timetable is lent.
@@ -115,6 +129,11 @@ impl<'a> Scan for View<'a> {
 
     fn walks(&self, p: StopNo) -> &[Path] {
         self.paths_from(p)
+    }
+
+    fn may_walk(&self, p: StopNo, q: StopNo) -> bool {
+        let groups = self.groups;
+        groups.may_walk(p, q)
     }
 
     fn berths(&self, p: StopNo) -> u32 {

@@ -12,6 +12,7 @@ invariant_of-result c =
     let divided : AreDividedInto T lines = subst (λ (t : TimetableData). AreDividedInto t lines) c.requires.lines c.soundness-2.ensures.divided in (
       c.requires.lines,
       c.requires.set,
+      c.requires.groups,
       record {
         sound = c.soundness.ensures;
         lines = subst (λ (t : TimetableData). AreLines t lines) c.requires.lines c.soundness-2.ensures.lines;
