@@ -48,13 +48,7 @@ impl Model for Edition {
 impl Edition {
     /// The edition of a timetable with its lines, the set of exactly its kept transfers, how many
     /// these are, and the groups of its stops. Takes no memory.
-    pub fn new(
-        table: Timetable,
-        lines: Lines,
-        set: Set,
-        groups: WalkGroups,
-        kept: u64,
-    ) -> Edition
+    pub fn new(table: Timetable, lines: Lines, set: Set, groups: WalkGroups, kept: u64) -> Edition
         requires lines { lines.table ≡ table }
         requires set { set.table ≡ table }
         requires groups { groups ≡ table }
