@@ -11,6 +11,7 @@ use Rattle.service_trips.specs.Sizes.{check_size}
 use Rattle.service_trips.specs.Limits.{check_frequencies, checked_trips}
 
 after : (feed : FeedTrips) (runs runs_before : List Bool) (r : Result (List TripFrequency) FeedFault) → check_frequencies feed ≡ r → checked_trips feed runs runs_before ≡ and_then r (λ _. check_size (timetable_trips feed runs runs_before))
+unfolding checked_trips
 after feed runs runs_before r e = ap (λ (r : Result (List TripFrequency) FeedFault). and_then r (λ _. check_size (timetable_trips feed runs runs_before))) e
 
 pub beyond_meant : (feed : FeedTrips) (runs runs_before : List Bool) (f : FeedFault) → check_frequencies feed ≡ Err f → checked_trips feed runs runs_before ≡ Err f

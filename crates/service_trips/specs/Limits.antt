@@ -39,7 +39,7 @@ check_frequencies feed =
 
 -- The trips of a timetable, or the first thing that is wrong: a row of frequencies.txt that moves a
 -- time beyond the limits, whether its trip runs or not; then too many trips; then too many events.
-abbrev pub checked_trips : FeedTrips → List Bool → List Bool → Result (List TripData) FeedFault
+unfoldable pub checked_trips : FeedTrips → List Bool → List Bool → Result (List TripData) FeedFault
 checked_trips feed runs runs_before =
     and_then (check_frequencies feed) (λ _.
     check_size (timetable_trips feed runs runs_before))

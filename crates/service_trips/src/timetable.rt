@@ -52,8 +52,7 @@ fn made_trips(
 /// or not, then too many trips, then too many events. Nothing is made before they are counted.
 ///
 /// For each row of trips.txt there are its events, none for fewer than two stop times, and whether
-/// its service runs on the day and on the day before. The events of a trip that neither runs nor is
-/// named in frequencies.txt don't matter.
+/// its service runs on the day and on the day before.
 pub fn timetable_trips(
     alloc: Global,
     rows: &[TripRow],

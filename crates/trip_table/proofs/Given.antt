@@ -22,8 +22,8 @@ use Rattle.footpaths.specs.Law.{IsFirstBreach}
 use Rattle.tb_base.specs.Soundness.{IsSoundFootpaths}
 use Rattle.footpaths.proofs.Sound.{secs_day, sound_paths}
 use Rattle.tb_base.proofs.Lists.{length-filter_le}
-use Rattle.trip_table.specs.Feed.{Feed, check_unbuilt, sized, rows_in, file_rows, or_missing, required}
-use Rattle.trip_table.specs.References.{Rows, rows_of, stops_of, services_of, trips_of, times_of, transfer_rows_of, transfers_of}
+use Rattle.trip_table.specs.Feed.{Feed, sized, rows_in, file_rows, or_missing, required}
+use Rattle.trip_table.specs.References.{Rows, rows_of, stops_of, services_of, trips_of, times_of, transfer_rows_of, transfers_of, frequencies_of}
 use Rattle.trip_table.specs.Day.{DayParts, day_parts, given_footpaths, trips_on, breach_fault, timetable, KeepTheLaw, AreClosedOrTested, IsTimetableOf, IsTimetableOfParts, Then}
 use Rattle.trip_table.proofs.DayTrips.{unless_wrong-value}
 use Rattle.trip_table.proofs.TransferTimes.{rows_day}
@@ -119,11 +119,11 @@ given_sound stops options transfers footpaths h k few days e =
 parts_sound : (feed : Feed) (day : ℕ) (options : Options) (parts : DayParts) → options.change ≤ 86400 → IfSome options.station (λ secs. secs ≤ 86400) → day_parts feed day options ≡ Ok parts → IsSoundFootpaths parts.footpaths
 unfolding day_parts
 parts_sound feed day options parts h k e =
-    let unbuilt = stepped (check_unbuilt feed file.Frequencies) _ parts e in
-    let rows = stepped (rows_of feed) _ parts unbuilt.2 in
+    let rows = stepped (rows_of feed) _ parts e in
     let transfers = stepped (transfers_of feed rows.0.stops) _ parts rows.2 in
+    let frequencies = stepped (frequencies_of feed rows.0.trips) _ parts transfers.2 in
     let given = given_footpaths rows.0.stops options transfers.0 in
-    let trips = stepped (trips_on rows.0 day) _ parts transfers.2 in
+    let trips = stepped (trips_on rows.0 frequencies.0 day) _ parts frequencies.2 in
     let footpaths = stepped given _ parts trips.2 in
     let same = one_value (record { stops = rows.0.stops; footpaths = footpaths.0; trips = trips.0 }) parts footpaths.2 in
     let sound = given_sound rows.0.stops options transfers.0 footpaths.0 h k (few_stops feed rows.0.stops (stops_given feed rows.0 rows.1)) (short feed rows.0.stops transfers.0 transfers.1) footpaths.1 in

@@ -1,5 +1,5 @@
 -- The files of a feed, and the rows that they have.
-use Rattle.std.specs.Prelude.{ℕ, List, ◌++◌, length, codes, nat_le, is_some, Option, Some, None, Result, Ok, Err, if◌then◌else◌}
+use Rattle.std.specs.Prelude.{ℕ, List, ◌++◌, length, codes, nat_le, Option, Some, None, Result, Ok, Err, if◌then◌else◌}
 use Rattle.tb_io.specs.Files.{FileList, file_at}
 use Rattle.gtfs_rows.specs.Steps.{and_then}
 use Rattle.gtfs_rows.specs.FileNames.{file_name}
@@ -48,7 +48,3 @@ or_missing file (Some rows) = Ok rows
 abbrev pub required : {A : Type 0} → Feed → FeedFile → (RawRow → Result (Option A) FeedFault) →
     Result (List A) FeedFault
 required feed file read = and_then (file_rows feed file read) (or_missing file)
-
--- nothing is wrong with a file that isn't there; one that is there isn't read yet
-abbrev pub check_unbuilt : Feed → FeedFile → Result (Unit {0}) FeedFault
-check_unbuilt feed file = if is_some (feed file) then Err (fault.NotBuilt file) else Ok tt

@@ -12,33 +12,38 @@ use crate::assemble::assemble;
 use crate::closing::settled;
 use crate::day_fault::DayFault;
 use crate::day_trips::trips_on;
-use crate::feed::refuse_unbuilt;
+use crate::frequencies::read_frequencies;
 use crate::laws::timetable_determined;
 use crate::paths::read_paths;
 use crate::rows::{FeedRows, read_rows};
 use footpaths::Paths;
-use gtfs_rows::{FeedFault, FeedFile, Many, RowsFault};
+use gtfs_rows::{FeedFault, Many, RowsFault};
 use service_day::Day;
+use service_trips::FrequencyTable;
 use std::alloc::Global;
 use tb_base::{Memory, Timetable};
 use tb_io::Folder;
 
 // The timetable of the rows of a feed on a day, or the first thing that is wrong with the times of
-// a trip, with the size of the day, or with its footpaths.
+// a trip, with those that starts give, with the size of the day, or with its footpaths.
 fn timetable_of(
     alloc: Global,
     rows: &FeedRows,
+    frequencies: &FrequencyTable,
     told: Option<Paths>,
     day: &Day,
     close: bool,
 ) -> Result<Timetable, RowsFault>
+    requires trips { frequencies.now.trips ≡ length rows.now.trips }
     requires sound { IfSome told IsSoundFootpaths }
     requires many { IfSome told
         (λ paths. length (FootpathData.change paths) ≡ length (platforms rows.now.stops)) }
     ensures { (counted : Result FootpathData FeedFault) → IsCounted counted told →
-        GivesRows (Then (parts_on rows.now day.now counted) (IsTimetableOfParts close)) result }
+        GivesRows
+        (Then (parts_on rows.now frequencies.now.rows day.now counted) (IsTimetableOfParts close))
+        result }
 {
-    let trips = match trips_on(alloc, rows, day) {
+    let trips = match trips_on(alloc, rows, frequencies, day) {
         Ok(trips) => trips,
         Err(fault) => return Err(fault),
     };
@@ -72,10 +77,6 @@ fn read_timetable<F: Folder>(
     ensures leaves { Leaves (F.files folder.old) (F.files folder.new) (F.faults folder.old)
         (F.faults folder.new) result }
 {
-    match refuse_unbuilt(alloc, folder, dir, FeedFile::Frequencies) {
-        Ok(()) => {}
-        Err(fault) => return Err(fault),
-    }
     let rows = match read_rows(alloc, folder, dir) {
         Ok(rows) => rows,
         Err(fault) => return Err(fault),
@@ -84,7 +85,11 @@ fn read_timetable<F: Folder>(
         Ok(told) => told,
         Err(fault) => return Err(fault),
     };
-    match timetable_of(alloc, &rows, told, day, options.close) {
+    let frequencies = match read_frequencies(alloc, folder, dir, rows.trips()) {
+        Ok(frequencies) => frequencies,
+        Err(fault) => return Err(fault),
+    };
+    match timetable_of(alloc, &rows, &frequencies, told, day, options.close) {
         Ok(table) => Ok(table),
         Err(RowsFault::Feed(fault)) => Err(DayFault::Feed(fault)),
         Err(RowsFault::Memory) => Err(DayFault::Memory),
@@ -92,8 +97,8 @@ fn read_timetable<F: Folder>(
 }
 
 /// The timetable of a day, from the files of a feed in a directory of a folder, or the first thing
-/// that is wrong with the feed: with a file, then with the times of a trip, then with the size of
-/// the day, then with its footpaths.
+/// that is wrong with the feed: with a file, then with the times of a trip, then with those that
+/// starts give, then with the size of the day, then with its footpaths.
 ///
 /// Footpaths are closed over chains where the options ask for it; else they have to keep the law.
 /// `ReadFault` comes only where the folder's count of faults rose, and where it stands, the answer

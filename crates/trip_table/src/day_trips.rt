@@ -1,24 +1,21 @@
 //! The trips of a day.
-ghost use Rattle.std.specs.Prelude.{◌≡◌, ◌++◌, ◌∷◌, [], ◌<◌, ◌≤◌, ◌-◌, ◌^◌, All, Err, bytes_eq, IfOk, MatchOption, Ok, OnOk, length, map, min, sum_by};
+ghost use Rattle.std.specs.Prelude.{◌≡◌, ◌≤◌, All, bytes_eq, IfOk, length, map, sum_by};
 ghost use Rattle.std.specs.List.{list_any};
 ghost use Rattle.tb_base.specs.Soundness.{IsSoundTrip};
 ghost use Rattle.tb_base.specs.TimetableData.{TripData};
 ghost use Rattle.gtfs_rows.specs.TripsFile as row;
-ghost use Rattle.footpaths.specs.Stops.{platforms};
 ghost use Rattle.gtfs_rows.specs.Refused.{IsRefused, Yields};
-ghost use Rattle.trip_table.specs.Day.{runs_on, trips_with, check_size_of_day, trips_on};
+ghost use Rattle.footpaths.specs.Stops.{platforms};
+ghost use Rattle.trip_rides.specs.Rides.{IsSoundRide};
+ghost use Rattle.trip_table.specs.Day.{runs_on, runs_before, rides_of, trips_on};
 
 use crate::rows::FeedRows;
-use gtfs_rows::{FeedFault, Many, RowsFault, TripRow};
+use gtfs_rows::{RowsFault, TripRow};
 use service_day::{Day, Services, running};
+use service_trips::{FrequencyTable, timetable_trips};
 use std::alloc::Global;
-use std::mem;
-use tb_base::{Event, Memory, Name, Trip};
+use tb_base::{Event, Memory, Trip};
 use trip_rides::rides_of;
-
-const MOST_TRIPS: usize = 500_000;
-
-const MOST_EVENTS: u64 = 10_000_000;
 
 // Whether the service of each row runs.
 fn services_run(alloc: Global, services: &Services, trips: &[TripRow]) -> Result<Vec<bool>, Memory>
@@ -49,90 +46,72 @@ fn runs_on(alloc: Global, rows: &FeedRows, day: &Day) -> Result<Vec<bool>, Memor
     services_run(alloc, &services, rows.trips().rows())
 }
 
-// Adds the trip of a row, where it has events.
-fn add_trip(
+// The same of the day before; where there is none, no service runs.
+fn runs_before(alloc: Global, rows: &FeedRows, day: &Day) -> Result<Vec<bool>, Memory>
+    ensures runs { IfOk result (λ runs. runs.items ≡ runs_before rows.now day.now) }
+    ensures long { IfOk result (λ runs. length runs.items ≡ length rows.now.trips) }
+{
+    match day.before() {
+        Some(before) => runs_on(alloc, rows, &before),
+        None => all_rows(alloc, rows, false),
+    }
+}
+
+// One answer for each row of trips.txt.
+fn all_rows(alloc: Global, rows: &FeedRows, answer: bool) -> Result<Vec<bool>, Memory>
+    ensures answers { IfOk result (λ answers. answers.items ≡ map (λ t. answer) rows.now.trips) }
+    ensures long { IfOk result (λ answers. length answers.items ≡ length rows.now.trips) }
+    ensures few { IfOk result (λ answers. length answers.items ≤ 2000000) }
+{
+    let answers = vec![in alloc; answer; rows.trips().rows().len()]?;
+    Ok(answers)
+}
+
+// The events of each row of trips.txt, or the first thing that is wrong with their times.
+fn all_rides(alloc: Global, rows: &FeedRows) -> Result<Vec<Vec<Event>>, RowsFault>
+    ensures rides { Yields IsRefused result (λ rides. map (λ ride. ride.items) rides.items)
+        (rides_of rows.now) }
+    ensures long { IfOk result (λ rides. length rides.items ≡ length rows.now.trips) }
+    ensures sound { IfOk result (λ rides.
+        All (λ ride. IsSoundRide (length (platforms rows.now.stops)) ride.items) rides.items) }
+{
+    let wanted = all_rows(alloc, rows, true)?;
+    match rides_of(alloc, rows.times(), wanted.as_slice()) {
+        Ok(rides) => Ok(rides),
+        Err(fault) => Err(fault),
+    }
+}
+
+/// The trips of a day, or the first thing that is wrong with the times of a trip, with those that
+/// starts give, or with the size of the day.
+pub(crate) fn trips_on(
     alloc: Global,
-    trips: &mut Vec<Trip>,
-    row: &TripRow,
-    events: Vec<Event>,
-) -> Result<(), Memory>
-    ensures { OnOk result
-        (trips.new.items ≡ trips.old.items ++ trips_with (row.now ∷ []) (events.items ∷ [])) }
-{
-    if events.is_empty() {
-        return Ok(());
-    }
-    let name = Name::new(alloc, row.id.bytes())?;
-    trips.push(Trip {
-        name,
-        before: false,
-        events,
-    })?;
-    Ok(())
-}
-
-// The trips with events. The events of each ride go over to its trip.
-fn trips_with(alloc: Global, rows: &[TripRow], given: Vec<Vec<Event>>) -> Result<Vec<Trip>, Memory>
-    requires { length rows.now ≡ length given.items }
-    ensures { IfOk result
-        (λ trips. trips.items ≡ trips_with rows.now (map (λ ride. ride.items) given.items)) }
-{
-    let mut rides = given;
-    let mut trips: Vec<Trip> = Vec::new(alloc);
-    for i in 0..rows.len() {
-        let events = mem::replace(&mut rides[i], Vec::new(alloc));
-        add_trip(alloc, &mut trips, &rows[i], events)?;
-    }
-    Ok(trips)
-}
-
-// How many events the trips have, up to the last number of 64 bits.
-fn events_in(trips: &[Trip]) -> u64
-    ensures { result ≡ min (sum_by (λ t. length (TripData.events t)) trips.now) (2 ^ 64 - 1) }
-{
-    let mut events: u64 = 0;
-    for trip in trips {
-        events = events.saturating_add(trip.events.len() as u64);
-    }
-    events
-}
-
-// The first limit that the trips of a day pass.
-fn size_fault(trips: &[Trip]) -> Option<FeedFault>
-    ensures { MatchOption result (check_size_of_day trips.now ≡ Ok trips.now)
-        (λ f. check_size_of_day trips.now ≡ Err f) }
-{
-    if trips.len() > MOST_TRIPS {
-        return Some(FeedFault::TooMany(Many::RunningTrips, 0));
-    }
-    if events_in(trips) > MOST_EVENTS {
-        return Some(FeedFault::TooMany(Many::Events, 0));
-    }
-    None
-}
-
-/// The trips of a day, or the first thing that is wrong with the times of a trip or with the size
-/// of the day.
-pub(crate) fn trips_on(alloc: Global, rows: &FeedRows, day: &Day) -> Result<Vec<Trip>, RowsFault>
-    ensures trips { Yields IsRefused result (λ trips. trips.items) (trips_on rows.now day.now) }
+    rows: &FeedRows,
+    frequencies: &FrequencyTable,
+    day: &Day,
+) -> Result<Vec<Trip>, RowsFault>
+    requires { frequencies.now.trips ≡ length rows.now.trips }
+    ensures trips { Yields IsRefused result (λ trips. trips.items)
+        (trips_on rows.now frequencies.now.rows day.now) }
     ensures trip_count { IfOk result (λ trips. length trips.items ≤ 500000) }
     ensures event_count { IfOk result
         (λ trips. sum_by (λ t. length (TripData.events t)) trips.items ≤ 10000000) }
     ensures sound { IfOk result
         (λ trips. All (IsSoundTrip (length (platforms rows.now.stops))) trips.items) }
 {
-    let Ok(runs) = runs_on(alloc, rows, day) else {
-        return Err(RowsFault::Memory);
-    };
-    let rides = match rides_of(alloc, rows.times(), runs.as_slice()) {
+    let runs = runs_on(alloc, rows, day)?;
+    let before = runs_before(alloc, rows, day)?;
+    let rides = match all_rides(alloc, rows) {
         Ok(rides) => rides,
         Err(fault) => return Err(fault),
     };
-    let Ok(trips) = trips_with(alloc, rows.trips().rows(), rides) else {
-        return Err(RowsFault::Memory);
-    };
-    match size_fault(trips.as_slice()) {
-        Some(fault) => Err(RowsFault::Feed(fault)),
-        None => Ok(trips),
-    }
+    let trips = rows.trips().rows();
+    timetable_trips(
+        alloc,
+        trips,
+        rides,
+        frequencies,
+        runs.as_slice(),
+        before.as_slice(),
+    )
 }

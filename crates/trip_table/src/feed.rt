@@ -1,11 +1,11 @@
 //! The files of a feed, taken from a folder.
-ghost use Rattle.std.specs.Prelude.{◌≡◌, ◌≤◌, ◌<◌, ◌-◌, ◌^◌, ℕ, List, Ok, Some, None, IfOk, IfSome, IsSome, option_map, length, string_bytes, is_some, false};
+ghost use Rattle.std.specs.Prelude.{◌≡◌, ◌≤◌, ◌<◌, ◌-◌, ◌^◌, ℕ, List, Ok, Some, None, IfOk, IfSome, IsSome, option_map, length, string_bytes};
 ghost use Rattle.gtfs_rows.specs.Refused.{Yields};
 ghost use Rattle.gtfs_rows.specs.RawRows.{typed_rows};
 ghost use Rattle.gtfs_rows.specs.Columns.{row_limit};
 ghost use Rattle.gtfs_rows.specs.Faults.{spot};
 ghost use Rattle.gtfs_rows.specs.Refused as rows;
-ghost use Rattle.trip_table.specs.Feed.{path_in, sized, rows_in, file_rows, check_unbuilt};
+ghost use Rattle.trip_table.specs.Feed.{path_in, sized, rows_in, file_rows};
 ghost use Rattle.trip_table.specs.Answers.{IsRefused, Leaves, feed_of};
 
 use crate::DayFault;
@@ -109,29 +109,5 @@ pub fn file_rows<F: Folder, R: RowReader>(
         Ok(rows) => Ok(rows),
         Err(RowsFault::Feed(fault)) => Err(DayFault::Feed(fault)),
         Err(RowsFault::Memory) => Err(DayFault::Memory),
-    }
-}
-
-/// Refuses a file that is there, and isn't read yet.
-pub fn refuse_unbuilt<F: Folder>(
-    alloc: Global,
-    folder: &mut F,
-    dir: &str,
-    file: FeedFile,
-) -> Result<(), DayFault>
-    requires { F.faults folder.old < 2 ^ 64 - 1 }
-    ensures told { IsSome (F.files folder.old) →
-        Yields IsRefused result (λ _. tt)
-        (check_unbuilt (feed_of (F.files folder.old) dir.now) file) }
-    ensures leaves { Leaves (F.files folder.old) (F.files folder.new) (F.faults folder.old)
-        (F.faults folder.new) result }
-{
-    let Ok(path) = path_in(alloc, dir, file) else {
-        return Err(DayFault::Memory);
-    };
-    match folder.has(path.as_str()) {
-        Ok(true) => Err(DayFault::Feed(FeedFault::NotBuilt(file))),
-        Ok(false) => Ok(()),
-        Err(_) => Err(DayFault::ReadFault),
     }
 }
