@@ -93,12 +93,19 @@ impl From<AllocError> for Refused {
     }
 }
 
+// Why a feed without a timetable ends a comparison.
+fn refusal(fault: DayFault) -> Refused {
+    match fault {
+        DayFault::Memory => Refused::Memory,
+        _ => Refused::NoTimetable,
+    }
+}
+
 /// The timetable of a feed, where it has one.
 pub fn read(table: Result<Timetable, DayFault>) -> Result<Timetable, Refused> {
     match table {
         Ok(table) => Ok(table),
-        Err(DayFault::Memory) => Err(Refused::Memory),
-        Err(_) => Err(Refused::NoTimetable),
+        Err(fault) => Err(refusal(fault)),
     }
 }
 
