@@ -1,0 +1,2 @@
+pub mod Retimings
+pub mod Untouched

@@ -1,0 +1,45 @@
+-- The trips that a change of times touches.
+use Rattle.std.specs.Prelude.{ℕ, ◌==◌, ◌&&◌, ◌||◌, not, Bool, List, length, filter, slice_index_or, false, ◌≡◌, ◌<◌}
+use Rattle.std.specs.List.{list_any}
+use Rattle.std.specs.Ordering.{int_eq}
+use lib.Pointwise.{pointwise}
+use Rattle.tb_base.specs.declared.table.Event.{Event}
+use Rattle.tb_base.specs.declared.transfer.Transfer.{Transfer}
+use Rattle.tb_base.specs.TimetableData.{TimetableData, events_of}
+use Rattle.tb_base.specs.Transfers.{candidates, numbers_below, transfers_of}
+use Rattle.line_split.specs.LinesData.{LinesData}
+
+-- two events have the same arrival and the same departure
+abbrev pub same_times : Event → Event → Bool
+same_times e f = int_eq e.arr f.arr && int_eq e.dep f.dep
+
+-- trip t has other times in the two timetables
+abbrev pub has_other_times : TimetableData → TimetableData → ℕ → Bool
+has_other_times T U t = not (pointwise same_times (events_of T t) (events_of U t))
+
+-- two transfers lead from the same event to the same event
+abbrev pub same_transfer : Transfer → Transfer → Bool
+same_transfer r s =
+    (r.trip == s.trip) && (r.at == s.at) && (r.to_trip == s.to_trip) && (r.to_at == s.to_at)
+
+-- the candidates of trip t, from its last event down
+abbrev pub candidates_of : LinesData → ℕ → List Transfer
+candidates_of L t = transfers_of L.table (candidates L.table L.lines t) t
+
+-- Trip t is touched by the change from one timetable with its lines to another: it has other times,
+-- or another list of candidates, or a trip in that list has other times.
+abbrev pub is_touched : LinesData → LinesData → ℕ → Bool
+is_touched L M t =
+    has_other_times L.table M.table t
+    || not (pointwise same_transfer (candidates_of L t) (candidates_of M t))
+    || list_any (λ r. has_other_times L.table M.table r.to_trip) (candidates_of L t)
+
+-- how many trips are touched
+abbrev pub touched_count : LinesData → LinesData → ℕ
+touched_count L M = length (filter (is_touched L M) (numbers_below (length L.table.trips)))
+
+-- for each trip, whether it has other times
+pub record TellsOtherTimes (T U : TimetableData) (others : List Bool) : Type 0 where
+  pub long : length others ≡ length T.trips
+  pub told : (t : ℕ) → t < length T.trips →
+      slice_index_or others t false ≡ has_other_times T U t
