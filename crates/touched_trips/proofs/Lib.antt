@@ -1,2 +1,6 @@
+pub mod ListFacts
 pub mod Retimings
 pub mod Untouched
+pub mod SameLines
+pub mod FarTrips
+pub mod NearStops

@@ -1,12 +1,14 @@
 -- What two timetables that differ in times alone have in common, and what a trip keeps that has the
 -- same times in both.
-use Rattle.std.proofs.Common.{◌≡◌, ◌∙◌, sym, ap, refl, ℕ, true, false, List, [], ◌∷◌, length, map, get_or, ◌&&◌, ◌==◌, ℤ, arith}
+use Rattle.std.proofs.Common.{◌≡◌, ◌∙◌, sym, ap, subst, refl, ℕ, true, false, List, [], ◌∷◌, length, map, get_or, ◌&&◌, ◌==◌, ℤ, arith}
 use Rattle.std.specs.Ordering.{int_eq}
 use Rattle.std.proofs.Math.ListN.{get_or-map}
-use Rattle.std.proofs.lemmas.Bool.{and_parts, eqb-true, not-false}
+use Rattle.std.proofs.lemmas.Bool.{and_parts, eqb-true, eq-eqb, not-false}
 use Rattle.std.proofs.lemmas.Bool.Decides.{Decides-int_eq}
 use Rattle.std.proofs.lemmas.List.{length-map}
-use lib.Pointwise.{pointwise}
+use Rattle.std.specs.List.{list_any}
+use Rattle.tb_base.proofs.Lists.{list_any-over_map}
+use lib.Pointwise.{pointwise, pointwise_decides}
 use Rattle.tb_base.specs.declared.table.Event.{Event}
 use Rattle.tb_base.specs.declared.transfer.Transfer.{Transfer}
 use Rattle.tb_base.specs.TimetableData.{TimetableData, TripData, no_trip, events_of}
@@ -59,16 +61,11 @@ same_trip T U same t times = same_events (events_of T t) (events_of U t) (untime
 
 -- ---- the same transfers
 
-pub same_rows : (rs ss : List Transfer) → pointwise same_transfer rs ss ≡ true → rs ≡ ss
-same_rows [] [] h = refl
-same_rows [] (s ∷ ss) h = cc
-same_rows (r ∷ rs) [] h = cc
-same_rows (r ∷ rs) (s ∷ ss) h =
-    let both = and_parts (same_transfer r s) (pointwise same_transfer rs ss) h in
-    λ k. same_row r s both.0 k ∷ same_rows rs ss both.1 k
+transfer_decides : (r s : Transfer) → (same_transfer r s ≡ true → r ≡ s) × (r ≡ s → same_transfer r s ≡ true)
+transfer_decides r s = (told r s, λ e. subst (λ (x : Transfer). same_transfer r x ≡ true) e (itself r))
   where
-    same_row : (r s : Transfer) → same_transfer r s ≡ true → r ≡ s
-    same_row r s h =
+    told : (r s : Transfer) → same_transfer r s ≡ true → r ≡ s
+    told r s h =
         let three = and_parts ((r.trip == s.trip) && (r.at == s.at) && (r.to_trip == s.to_trip)) (r.to_at == s.to_at) h in
         let two = and_parts ((r.trip == s.trip) && (r.at == s.at)) (r.to_trip == s.to_trip) three.0 in
         let one = and_parts (r.trip == s.trip) (r.at == s.at) two.0 in
@@ -78,3 +75,18 @@ same_rows (r ∷ rs) (s ∷ ss) h =
           to_trip = eqb-true r.to_trip s.to_trip two.1 k;
           to_at = eqb-true r.to_at s.to_at three.1 k;
         }
+
+    itself : (r : Transfer) → same_transfer r r ≡ true
+    itself r = λ k. eq-eqb r.trip r.trip refl k && eq-eqb r.at r.at refl k && eq-eqb r.to_trip r.to_trip refl k && eq-eqb r.to_at r.to_at refl k
+
+pub same_rows : (rs ss : List Transfer) → (pointwise same_transfer rs ss ≡ true → rs ≡ ss) × (rs ≡ ss → pointwise same_transfer rs ss ≡ true)
+same_rows = pointwise_decides transfer_decides
+
+-- ---- the same calls
+
+pub same_calls : (T U : TimetableData) → IsRetimed T U → (q t : ℕ) → list_any (λ e. e.stop == q) (events_of T t) ≡ list_any (λ e. e.stop == q) (events_of U t)
+same_calls T U same q t =
+    sym (untimed (events_of T t)) ∙ ap (list_any (λ (e : Event). e.stop == q)) (untimed_events T U same t) ∙ untimed (events_of U t)
+  where
+    untimed : (es : List Event) → list_any (λ (e : Event). e.stop == q) (map untimed_event es) ≡ list_any (λ (e : Event). e.stop == q) es
+    untimed es = list_any-over_map (λ (e : Event). e.stop == q) untimed_event es

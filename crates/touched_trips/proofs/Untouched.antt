@@ -20,38 +20,8 @@ use Rattle.tb_base.proofs.Members.{Member-flat_map, Member-flat_map_back, Member
 use Rattle.line_split.specs.LinesData.{LinesData}
 use Rattle.touched_trips.specs.Retimed.{IsRetimed}
 use Rattle.touched_trips.specs.Touched.{candidates_of, has_other_times, is_touched, same_transfer}
+use Rattle.touched_trips.proofs.ListFacts.{filter-same, flat_map-same, last_or_below, list_any-none, Member-numbers_down, Member-numbers_down_back}
 use Rattle.touched_trips.proofs.Retimings.{same_rows, same_trip}
-
--- ---- lists
-
-list_any-none : {X : Type 0} (p : X → Bool) (xs : List X) → list_any p xs ≡ false → (x : X) → Member x xs → p x ≡ false
-list_any-none p [] h x m = absurd m
-list_any-none p (y ∷ ys) h x (inl e) = ap p (sym e) ∙ (or_parts (p y) (list_any p ys) h).0
-list_any-none p (y ∷ ys) h x (inr m) = list_any-none p ys (or_parts (p y) (list_any p ys) h).1 x m
-
-flat_map-same : {X Y : Type 0} (f g : X → List Y) (xs : List X) → ((x : X) → Member x xs → f x ≡ g x) → flat_map f xs ≡ flat_map g xs
-flat_map-same f g [] h = refl
-flat_map-same f g (x ∷ xs) h = (λ k. h x (inl refl) k ++ flat_map-same f g xs (λ y m. h y (inr m)) k)
-
-filter-same : {X : Type 0} (p q : X → Bool) (xs : List X) → ((x : X) → Member x xs → p x ≡ q x) → filter p xs ≡ filter q xs
-filter-same p q [] h = refl
-filter-same p q (x ∷ xs) h = (λ k. cond (h x (inl refl) k) (x ∷ filter-same p q xs (λ y m. h y (inr m)) k) (filter-same p q xs (λ y m. h y (inr m)) k))
-
-last_or_below : (k n : ℕ) → k < suc n → (n ≡ k) ⊎ (k < n)
-last_or_below k n h = grind arith
-
-Member-numbers_down : (k n : ℕ) → k < n → Member k (numbers_down n)
-Member-numbers_down k zero h = absurd (omega arith)
-Member-numbers_down k (suc n) h = by_case (λ l. Member-numbers_down k n l) (last_or_below k n h)
-  where
-    by_case : (k < n → Member k (numbers_down n)) → (n ≡ k) ⊎ (k < n) → (n ≡ k) ⊎ Member k (numbers_down n)
-    by_case more (inl e) = inl e
-    by_case more (inr l) = inr (more l)
-
-Member-numbers_down_back : (k n : ℕ) → Member k (numbers_down n) → k < n
-Member-numbers_down_back k zero h = absurd h
-Member-numbers_down_back k (suc n) (inl e) = omega (arith, e)
-Member-numbers_down_back k (suc n) (inr m) = omega (arith, Member-numbers_down_back k n m)
 
 -- ---- the candidates of each event, out of those of all events
 
@@ -139,7 +109,7 @@ module _ (L M : LinesData) (t : ℕ) (same : IsRetimed L.table M.table) (untouch
   own = same_trip L.table M.table same t first.0
 
   rows : candidates_of L t ≡ candidates_of M t
-  rows = same_rows (candidates_of L t) (candidates_of M t) (not-false (pointwise same_transfer (candidates_of L t) (candidates_of M t)) first.1)
+  rows = (same_rows (candidates_of L t) (candidates_of M t)).0 (not-false (pointwise same_transfer (candidates_of L t) (candidates_of M t)) first.1)
 
   hops : (i : ℕ) → i < length (events_of L.table t) → candidates L.table L.lines t i ≡ candidates M.table M.lines t i
   hops i h =

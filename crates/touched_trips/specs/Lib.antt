@@ -1,2 +1,3 @@
 pub mod Retimed
+pub mod Near
 pub mod Touched

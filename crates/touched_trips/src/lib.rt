@@ -8,6 +8,7 @@
 #![tactic(auto)]
 
 pub mod laws;
+mod near;
 mod network;
 mod retiming;
 mod times;

@@ -1,16 +1,16 @@
 //! The trips that a change of times touches.
-ghost use Rattle.std.specs.Prelude.{◌≡◌, ◌<◌, ◌||◌, IfOk, length, not};
+ghost use Rattle.std.specs.Prelude.{◌≡◌, ◌<◌, ◌||◌, IfOk, false, length, not};
 ghost use Rattle.std.specs.List.{list_any};
 ghost use lib.Pointwise.{pointwise};
 ghost use Rattle.touched_trips.specs.Retimed.{IsRetimed};
 ghost use Rattle.touched_trips.specs.Touched.{candidates_of, has_other_times, is_touched, same_transfer};
 
+use super::near::{calls_at, near_stops};
 use super::network::Network;
 use super::times::other_times;
 use std::alloc::Global;
 use std::marker::Model;
 use tb_base::{Memory, Transfer, TripNo};
-use transfer_make::make;
 
 /// A network, and the same with other times.
 #[derive(Drop)]
@@ -18,10 +18,12 @@ pub struct Retiming<'a> {
     before: Network<'a>,
     after: Network<'a>,
     other_times: Vec<bool>,
+    near: Vec<bool>,
 }
 
 impl<'a> Model for Retiming<'a> {
     ghost use Rattle.touched_trips.specs.Retimed.{IsRetimed, RetimingData};
+    ghost use Rattle.touched_trips.specs.Near.{MarksNear};
     ghost use Rattle.touched_trips.specs.Touched.{TellsOtherTimes};
 
     ghost Value = { RetimingData };
@@ -29,7 +31,8 @@ impl<'a> Model for Retiming<'a> {
     ghost view = { λ r. record { before = r.before; after = r.after } };
 
     ghost invariant = { λ r. IsRetimed r.before.table r.after.table
-        × TellsOtherTimes r.before.table r.after.table r.other_times.items };
+        × TellsOtherTimes r.before.table r.after.table r.other_times.items
+        × MarksNear r.before.table r.other_times.items r.near.items };
 }
 
 impl<'a> Retiming<'a> {
@@ -43,11 +46,13 @@ impl<'a> Retiming<'a> {
         ensures before { IfOk result (λ retiming. retiming.before ≡ before.entry) }
         ensures after { IfOk result (λ retiming. retiming.after ≡ after.entry) }
     {
-        let other_times = other_times(alloc, before.table, after.table)?;
+        let other_times = other_times(alloc, before.table(), after.table())?;
+        let near = near_stops(alloc, before.table(), other_times.as_slice())?;
         Ok(Retiming {
             before,
             after,
             other_times,
+            near,
         })
     }
 
@@ -68,6 +73,18 @@ impl<'a> Retiming<'a> {
         rows.iter().any(|row| self.has_other_times(row.to_trip))
     }
 
+    // Whether a trip calls where a change leads to a trip with other times. One that doesn't is not
+    // touched, if its own times are the same.
+    fn is_near(&self, trip: TripNo) -> bool
+        requires { trip < length self.now.before.table.trips }
+        ensures { has_other_times self.now.before.table self.now.after.table trip ≡ false →
+            result ≡ false → is_touched self.now.before self.now.after trip ≡ false }
+    {
+        self.before.soundness();
+        self.after.soundness();
+        calls_at(self.before.events(trip), self.near.as_slice())
+    }
+
     /// Whether a trip is touched: it has other times, or another list of candidates, or a trip in
     /// that list has other times. Refused only for want of memory.
     pub fn is_touched(&self, alloc: Global, trip: TripNo) -> Result<bool, Memory>
@@ -78,8 +95,11 @@ impl<'a> Retiming<'a> {
         if self.has_other_times(trip) {
             return Ok(true);
         }
-        let old = make(alloc, self.before.table, self.before.lines, trip)?;
-        let new = make(alloc, self.after.table, self.after.lines, trip)?;
+        if !self.is_near(trip) {
+            return Ok(false);
+        }
+        let old = self.before.candidates(alloc, trip)?;
+        let new = self.after.candidates(alloc, trip)?;
         Ok(
             !same_transfers(old.as_slice(), new.as_slice())
                 || self.leads_to_other_times(old.as_slice()),
