@@ -12,7 +12,7 @@ use Rattle.tb_base.specs.declared.query.Value.{Value}
 use Rattle.journey_read.specs.declared.claim.JourneyFault.{JourneyFault}
 use Rattle.journey_read.specs.declared.claim.JourneyFault.TheVariants as fault
 use Rattle.journey_read.specs.declared.rides.Ends.{Ends}
-use Rattle.journey_read.specs.Lines.{lines_of}
+use Rattle.text_lines.specs.Lines.{lines_of}
 use Rattle.journey_read.specs.Rides.{ride_among}
 use Rattle.journey_read.specs.Times.{shown_time_of}
 

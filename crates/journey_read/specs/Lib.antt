@@ -1,4 +1,3 @@
-pub mod Lines
 pub mod Times
 pub mod Rides
 pub mod Claims

@@ -3,13 +3,13 @@ ghost use Rattle.std.specs.Prelude.{◌≡◌, ◌<◌, ◌^◌, ◌+◌, ◌-�
 ghost use Rattle.tb_base.specs.LineWords.{line_words};
 ghost use Rattle.tb_base.specs.TimetableData.{TimetableData};
 ghost use Rattle.journey_read.specs.Claims.{IsRefused, Reads, ReadsWords, claim_of, claim_so_far};
-ghost use Rattle.journey_read.specs.Lines.{last_line, without_cr};
 
 use crate::claim::{Claimed, JourneyFault};
 use crate::legs::{leg_of, value_of};
 use std::alloc::Global;
 use std::marker::Model;
 use tb_base::{Name, Timetable, line_words};
+use text_lines::first_line;
 
 const MOST_BYTES: usize = 1_048_576;
 
@@ -26,18 +26,6 @@ impl Model for ClaimReader {
     ghost Value = { SoFar };
 
     ghost view = { λ r. record { lines = r.lines; claimed = r.claimed } };
-}
-
-// A line without a carriage return at its end.
-fn without_cr(text: &[u8]) -> &[u8]
-    ensures { result.now ≡ without_cr text.now }
-{
-    let before = text.len().saturating_sub(1);
-    if &text[before..] == b"\r".as_slice() {
-        &text[..before]
-    } else {
-        text
-    }
 }
 
 // The claim with the next line, whose words these are: its value, or one leg more.
@@ -115,26 +103,6 @@ impl ClaimReader {
             None => Err(JourneyFault::BadLine(0)),
         }
     }
-
-    // The claim, at the end of a text with these bytes behind its last line feed.
-    fn end_behind(
-        self,
-        alloc: Global,
-        table: &Timetable,
-        text: &[u8],
-    ) -> Result<Claimed, JourneyFault>
-        requires { self.lines < 2 ^ 32 - 1 }
-        ensures { MatchResult result (λ c. claim_so_far table.now self (last_line text.now) ≡ Ok c)
-            (λ f. IsRefused f (claim_so_far table.now self (last_line text.now))) }
-    {
-        if text.is_empty() {
-            return self.end();
-        }
-        match self.take(alloc, table, without_cr(text)) {
-            Ok(reader) => reader.end(),
-            Err(fault) => Err(fault),
-        }
-    }
 }
 
 /// The journey that a text claims, or exactly its first fault: bytes in lines, each up to a line
@@ -156,15 +124,10 @@ pub fn read_journey(alloc: Global, table: &Timetable, bytes: &[u8]) -> Result<Cl
         lines: 0,
         claimed: None,
     };
-    let mut from = 0;
-    for at in 0..bytes.len() {
-        if bytes[at] == b'\n' {
-            reader = match reader.take(alloc, table, without_cr(&bytes[from..at])) {
-                Ok(next) => next,
-                Err(fault) => return Err(fault),
-            };
-            from = at + 1;
-        }
+    let mut text = bytes;
+    while let Some(cut) = first_line(text) {
+        reader = reader.take(alloc, table, cut.line)?;
+        text = cut.rest;
     }
-    reader.end_behind(alloc, table, &bytes[from..])
+    reader.end()
 }

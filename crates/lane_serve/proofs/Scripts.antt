@@ -1,17 +1,16 @@
 -- Scripts are read line by line.
-use Rattle.std.proofs.Common.{◌≡◌, ◌∙◌, refl, sym, ap, subst, ℕ, zero, suc, ◌+◌, ◌-◌, ◌<◌, ◌≤◌, List, [], ◌∷◌, ◌++◌, take, drop, length, get_or, slice_set, Option, Some, None, Result, Ok, Err, Bool, true, false, arith}
-use Rattle.std.specs.Prelude.{◌==◌, nat_lt, sum_by, All, IfSome}
+use Rattle.std.proofs.Common.{◌≡◌, ◌∙◌, refl, sym, ap, subst, ℕ, zero, suc, ◌+◌, ◌-◌, ◌<◌, ◌≤◌, List, [], ◌∷◌, ◌++◌, length, get_or, slice_set, Option, Some, None, Result, Ok, Err, Bool, true, false, arith}
+use Rattle.std.specs.Prelude.{nat_lt, sum_by, All}
 use Rattle.std.specs.Bool.{if◌then◌else◌}
-use Rattle.std.proofs.lemmas.List.{length-append, get_or-drop, take_more, take_all, length-drop}
-use Rattle.std.proofs.lemmas.Bool.{eq-eqb, ne_eqb}
-use Rattle.std.proofs.Math.Seq.{drop-cons}
+use Rattle.std.proofs.lemmas.List.{length-append}
 use Rattle.std.proofs.lemmas.List.Sums.{sum_by-cons}
 use Rattle.std.proofs.lemmas.List.Elements.{All-append, All-cons, All-nil}
 use Rattle.gtfs_rows.specs.Steps.{and_then}
+use Rattle.text_lines.specs.Lines.{lines_of}
 use Rattle.lane_serve.specs.declared.script.Line.{Line}
 use Rattle.lane_serve.specs.declared.script.ScriptFault.{ScriptFault}
 use Rattle.lane_serve.specs.declared.script.ScriptFault.TheVariants as fault
-use Rattle.lane_serve.specs.Script.{LaneData, SoFar, HasTimes, IsRefused, IsWithinLimits, after_line, last_line, lines_from, request_count, script_from, script_of, with_request, without_cr}
+use Rattle.lane_serve.specs.Script.{LaneData, SoFar, HasTimes, IsRefused, IsWithinLimits, after_line, request_count, script_from, script_of, with_request}
 
 -- the last lane gets one more request
 pub set_last : (lanes : List LaneData) (i : ℕ) (request : Line) (name : List ℕ) (lines : List Line) →
@@ -90,117 +89,8 @@ refused_on (fault.BadTime n) step rest h = rw h refl
 refused_on fault.TooLong step rest h = rw h refl
 refused_on fault.Memory step rest h = tt
 
--- the bytes between two places
-abbrev pub between : List ℕ → ℕ → ℕ → List ℕ
-between bytes from at = take (at - from) (drop from bytes)
-
--- what the lines say that end before a place, where the line there begins at another place
-pub record IsReadTo (bytes : List ℕ) (at from : ℕ) (s : SoFar) : Type 0 where
-  pub order : from ≤ at
-  pub lines : s.lines ≤ from
-  pub rest : script_from (record { lines = 0; requests = 0; lanes = [] }) (lines_from [] bytes)
-      ≡ script_from s (lines_from (between bytes from at) (drop at bytes))
-
-next_byte : (bytes begun : List ℕ) (at d : ℕ) → at < length bytes →
-    lines_from begun (drop at bytes) ≡
-    (if get_or bytes at d == 10 then without_cr begun ∷ lines_from [] (drop (at + 1) bytes)
-    else lines_from (begun ++ get_or bytes at d ∷ []) (drop (at + 1) bytes))
-next_byte bytes begun at d lt =
-    let e : suc at ≡ at + 1 = omega arith in
-    subst (λ n. lines_from begun (drop at bytes) ≡
-    (if get_or bytes at d == 10 then without_cr begun ∷ lines_from [] (drop n bytes)
-    else lines_from (begun ++ get_or bytes at d ∷ []) (drop n bytes))) e
-    (ap (lines_from begun) (drop-cons bytes at d lt))
-
--- another byte belongs to the line
-pub byte_read : (bytes : List ℕ) (at from d : ℕ) (s : SoFar) → IsReadTo bytes at from s → at < length bytes →
-    (get_or bytes at d == 10) ≡ false → IsReadTo bytes (at + 1) from s
-byte_read bytes at from d s h lt is =
-    let o = h.order in
-    let far : at - from < length (drop from bytes) = omega (arith, length-drop from bytes) in
-    let here : from + (at - from) ≡ at = omega arith in
-    let grown : between bytes from at ++ get_or bytes at d ∷ [] ≡ between bytes from (at + 1) =
-    let m = take_more (drop from bytes) (at - from) d far in
-    let g : get_or (drop from bytes) (at - from) d ≡ get_or bytes at d =
-    get_or-drop from bytes (at - from) d ∙ ap (λ k. get_or bytes k d) here in
-    let k : at - from + 1 ≡ at + 1 - from = omega arith in
-    ap (λ x. between bytes from at ++ x ∷ []) (sym g) ∙ sym m ∙ ap (λ n. take n (drop from bytes)) k in
-    let step = next_byte bytes (between bytes from at) at d lt in
-    let chosen = ap (λ b. if b then without_cr (between bytes from at) ∷ lines_from [] (drop (at + 1) bytes)
-    else lines_from (between bytes from at ++ get_or bytes at d ∷ []) (drop (at + 1) bytes)) is in
-    record {
-      order = omega arith;
-      lines = h.lines;
-      rest = h.rest ∙ ap (script_from s) (step ∙ chosen ∙ ap (λ l. lines_from l (drop (at + 1) bytes)) grown);
-    }
-
--- at a line feed the line ends
-line_ended : (bytes : List ℕ) (at from d : ℕ) (s : SoFar) → IsReadTo bytes at from s → at < length bytes →
-    (get_or bytes at d == 10) ≡ true →
-    script_from (record { lines = 0; requests = 0; lanes = [] }) (lines_from [] bytes)
-    ≡ and_then (after_line s (without_cr (between bytes from at)))
-    (λ next. script_from next (lines_from [] (drop (at + 1) bytes)))
-line_ended bytes at from d s h lt is =
-    let step = next_byte bytes (between bytes from at) at d lt in
-    let chosen = ap (λ b. if b then without_cr (between bytes from at) ∷ lines_from [] (drop (at + 1) bytes)
-    else lines_from (between bytes from at ++ get_or bytes at d ∷ []) (drop (at + 1) bytes)) is in
-    h.rest ∙ ap (script_from s) (step ∙ chosen)
-
-pub line_read : (bytes : List ℕ) (at from d : ℕ) (s next : SoFar) → IsReadTo bytes at from s → at < length bytes →
-    (get_or bytes at d == 10) ≡ true → after_line s (without_cr (between bytes from at)) ≡ Ok next →
-    next.lines ≡ s.lines + 1 → IsReadTo bytes (at + 1) (at + 1) next
-line_read bytes at from d s next h lt is good more =
-    let o = h.order in
-    let l = h.lines in
-    let none : at + 1 - (at + 1) ≡ 0 = omega arith in
-    let nothing : between bytes (at + 1) (at + 1) ≡ [] = ap (λ n. take n (drop (at + 1) bytes)) none in
-    let ended = line_ended bytes at from d s h lt is in
-    let went = ap (λ r. and_then r (λ t. script_from t (lines_from [] (drop (at + 1) bytes)))) good in
-    record {
-      order = omega arith;
-      lines = omega (arith, o, l, more);
-      rest = ended ∙ went ∙ ap (λ b. script_from next (lines_from b (drop (at + 1) bytes))) (sym nothing);
-    }
-
-short : (bytes : List ℕ) → length bytes ≤ 33554432 →
-    script_of bytes ≡ script_from (record { lines = 0; requests = 0; lanes = [] }) (lines_from [] bytes)
-short bytes le = by (nat_lt 33554432 (length bytes)) (grind arith) where
-  by : (b : Bool) → b ≡ false →
-      (if b then Err fault.TooLong else script_from (record { lines = 0; requests = 0; lanes = [] }) (lines_from [] bytes))
-      ≡ script_from (record { lines = 0; requests = 0; lanes = [] }) (lines_from [] bytes)
-  by false e = refl
-  by true e = absurd (cc e)
-
-pub line_refused : (bytes : List ℕ) (at from d : ℕ) (s : SoFar) (f : ScriptFault) → length bytes ≤ 33554432 →
-    IsReadTo bytes at from s → at < length bytes → (get_or bytes at d == 10) ≡ true →
-    IsRefused f (after_line s (without_cr (between bytes from at))) → IsRefused f (script_of bytes)
-line_refused bytes at from d s f le h lt is refused =
-    subst (λ r. IsRefused f r) (sym (short bytes le ∙ line_ended bytes at from d s h lt is))
-    (refused_on f (after_line s (without_cr (between bytes from at)))
-    (λ next. script_from next (lines_from [] (drop (at + 1) bytes))) refused)
-
-drop_all : {A : Type 0} (xs : List A) (n : ℕ) → length xs ≤ n → drop n xs ≡ []
-drop_all [] zero le = refl
-drop_all [] (suc n) le = refl
-drop_all (x ∷ xs) zero le = absurd (omega arith)
-drop_all (x ∷ xs) (suc n) le = drop_all xs n (omega arith)
-
--- at the end the last line is left
-pub all_read : (bytes : List ℕ) (at from : ℕ) (s : SoFar) → length bytes ≤ 33554432 → IsReadTo bytes at from s →
-    length bytes ≤ at → script_of bytes ≡ script_from s (last_line (drop from bytes))
-all_read bytes at from s le h past =
-    let o = h.order in
-    let none = drop_all bytes at past in
-    let whole : between bytes from at ≡ drop from bytes =
-    take_all (at - from) (drop from bytes) (omega (arith, length-drop from bytes)) in
-    short bytes le ∙ h.rest ∙ ap (λ r. script_from s (lines_from (between bytes from at) r)) none
-    ∙ ap (λ b. script_from s (last_line b)) whole
-
-pub is_ten : (b : ℕ) → b ≡ 10 → (b == 10) ≡ true
-is_ten b e = eq-eqb b 10 e
-
-pub not_ten : (b : ℕ) → (b ≡ 10 → ⊥) → (b == 10) ≡ false
-not_ten b ne = ne_eqb b 10 ne
-
-pub read_same : (bytes : List ℕ) (at from now : ℕ) (s t : SoFar) → now ≡ from → t ≡ s → IsReadTo bytes at from s → IsReadTo bytes at now t
-read_same bytes at from now s t f r h = subst (λ n. IsReadTo bytes at n t) (sym f) (subst (λ u. IsReadTo bytes at from u) (sym r) h)
+-- what the first lines say, where the text behind them is still to be read
+pub record IsReadTo (bytes text : List ℕ) (s : SoFar) : Type 0 where
+  pub count : s.lines + length text ≤ length bytes
+  pub rest : script_from (record { lines = 0; requests = 0; lanes = [] }) (lines_of bytes)
+      ≡ script_from s (lines_of text)

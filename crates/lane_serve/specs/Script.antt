@@ -4,6 +4,7 @@ use Rattle.std.specs.Option.{option_and_then, option_map}
 use Rattle.gtfs_rows.specs.Numbers.{number_of, time_of}
 use Rattle.gtfs_rows.specs.Steps.{and_then}
 use Rattle.tb_base.specs.LineWords.{line_words}
+use Rattle.text_lines.specs.Lines.{lines_of}
 use Rattle.query_gate.specs.Questions.{AskData, ProfileData}
 use Rattle.lane_serve.specs.declared.said.Said.{Said}
 use Rattle.lane_serve.specs.declared.said.Said.TheVariants as said
@@ -16,22 +17,6 @@ use Rattle.lane_serve.specs.declared.script.ScriptFault.TheVariants as fault
 pub record LaneData : Type 0 where
   pub name : List ℕ
   pub lines : List Line
-
--- a line without a carriage return at its end
-abbrev pub without_cr : List ℕ → List ℕ
-without_cr text =
-    if bytes_eq (drop (length text - 1) text) (13 ∷ []) then take (length text - 1) text else text
-
--- what stands behind the last line feed is a line, unless it is empty
-abbrev pub last_line : List ℕ → List (List ℕ)
-last_line [] = []
-last_line (b ∷ begun) = without_cr (b ∷ begun) ∷ []
-
--- the lines of a text behind those bytes of a line, each up to a line feed or the text's end
-abbrev pub lines_from : List ℕ → List ℕ → List (List ℕ)
-lines_from begun [] = last_line begun
-lines_from begun (b ∷ rest) =
-    if b == 10 then without_cr begun ∷ lines_from [] rest else lines_from (begun ++ b ∷ []) rest
 
 -- FROM TO TIME: a request for the best values, which is none where the time isn't one
 abbrev pub ask_of : ℕ → List (List ℕ) → Option Said
@@ -143,7 +128,7 @@ script_from s (text ∷ rest) = and_then (after_line s text) (λ next. script_fr
 abbrev pub script_of : List ℕ → Result (List LaneData) ScriptFault
 script_of bytes =
     if nat_lt 33554432 (length bytes) then Err fault.TooLong
-    else script_from (record { lines = 0; requests = 0; lanes = [] }) (lines_from [] bytes)
+    else script_from (record { lines = 0; requests = 0; lanes = [] }) (lines_of bytes)
 
 -- the fault is the script's; want of memory says nothing
 abbrev pub IsRefused : {A : Type 0} → ScriptFault → Result A ScriptFault → Type 0

@@ -2,13 +2,14 @@
 ghost use Rattle.std.specs.Prelude.{◌≡◌, ◌<◌, ◌^◌, ◌+◌, ◌-◌, [], Ok, IfOk, IfSome, OnErr, OnOk, MatchResult, length};
 ghost use Rattle.std.specs.Option.{option_and_then};
 ghost use Rattle.tb_base.specs.LineWords.{line_words};
-ghost use Rattle.lane_serve.specs.Script.{HasTimes, IsRefused, IsScript, Reads, SaysTimes, after_lane, after_line, after_request, after_said, at_end, last_line, said_of, script_from, script_of, with_request, without_cr};
+ghost use Rattle.lane_serve.specs.Script.{HasTimes, IsRefused, IsScript, Reads, SaysTimes, after_lane, after_line, after_request, after_said, at_end, said_of, script_of, with_request};
 
 use crate::said::{Said, said_of};
 use query_gate::{AskText, ProfileText};
 use std::alloc::Global;
 use std::marker::Model;
 use tb_base::{Memory, Name, line_words};
+use text_lines::first_line;
 
 const MOST_BYTES: usize = 33_554_432;
 
@@ -117,18 +118,6 @@ fn add_request(lanes: &mut Vec<Lane>, request: Line) -> Result<(), Memory>
     Ok(())
 }
 
-// A line without a carriage return at its end.
-fn without_cr(text: &[u8]) -> &[u8]
-    ensures { result.now ≡ without_cr text.now }
-{
-    let before = text.len().saturating_sub(1);
-    if &text[before..] == b"\r".as_slice() {
-        &text[..before]
-    } else {
-        text
-    }
-}
-
 impl ScriptReader {
     // A reader at the start of a script.
     fn new(alloc: Global) -> ScriptReader
@@ -220,23 +209,6 @@ impl ScriptReader {
         }
         Ok(Script { lanes: self.lanes })
     }
-
-    // The lanes, at the end of a script with these bytes behind its last line feed.
-    fn end_behind(self, text: &[u8]) -> Result<Script, ScriptFault>
-        requires { self.lines < 2 ^ 32 - 1 }
-        ensures script { MatchResult result (λ s. script_from self (last_line text.now) ≡ Ok s)
-            (λ f. IsRefused f (script_from self (last_line text.now))) }
-        ensures good { IfOk result (λ s. IsScript s) }
-    {
-        if text.is_empty() {
-            return self.end();
-        }
-        let mut reader = self;
-        match reader.take(without_cr(text)) {
-            Ok(()) => reader.end(),
-            Err(fault) => Err(fault),
-        }
-    }
 }
 
 // What a line of a script says, or none.
@@ -266,12 +238,10 @@ pub fn read_script(alloc: Global, bytes: &[u8]) -> Result<Script, ScriptFault>
         return Err(ScriptFault::TooLong);
     }
     let mut reader = ScriptReader::new(alloc);
-    let mut from = 0;
-    for at in 0..bytes.len() {
-        if bytes[at] == b'\n' {
-            reader.take(without_cr(&bytes[from..at]))?;
-            from = at + 1;
-        }
+    let mut text = bytes;
+    while let Some(cut) = first_line(text) {
+        reader.take(cut.line)?;
+        text = cut.rest;
     }
-    reader.end_behind(&bytes[from..])
+    reader.end()
 }

@@ -9,7 +9,7 @@ use Rattle.tb_base.specs.TimetableData.{TimetableData}
 use Rattle.tb_base.specs.declared.query.Leg.{Leg}
 use Rattle.tb_base.specs.declared.query.Value.{Value}
 use Rattle.journey_read.specs.Claims.{claim_at, claim_from, claim_of, claim_with, good, leg_of, legs_from, legs_on, value_of}
-use Rattle.journey_read.specs.Lines.{last_line, lines_from, lines_of, without_cr}
+use Rattle.text_lines.specs.Lines.{last_line, lines_from, lines_of, without_cr}
 use Rattle.journey_read.specs.declared.claim.JourneyFault.{JourneyFault}
 use Rattle.journey_read.specs.declared.claim.JourneyFault.TheVariants as fault
 
