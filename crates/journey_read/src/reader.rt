@@ -1,5 +1,5 @@
 //! Claims are read line by line.
-ghost use Rattle.std.specs.Prelude.{◌≡◌, ◌<◌, ◌^◌, ◌+◌, ◌-◌, ℕ, List, [], ◌∷◌, IfOk, MatchResult, None, Ok, length};
+ghost use Rattle.std.specs.Prelude.{◌≡◌, ◌<◌, ◌^◌, ◌+◌, ◌-◌, [], IfOk, MatchResult, None, Ok, length};
 ghost use Rattle.tb_base.specs.LineWords.{line_words};
 ghost use Rattle.tb_base.specs.TimetableData.{TimetableData};
 ghost use Rattle.journey_read.specs.Claims.{IsRefused, Reads, ReadsWords, claim_of, claim_so_far};

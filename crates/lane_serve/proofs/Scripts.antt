@@ -1,7 +1,6 @@
 -- Scripts are read line by line.
-use Rattle.std.proofs.Common.{◌≡◌, ◌∙◌, refl, sym, ap, subst, ℕ, zero, suc, ◌+◌, ◌-◌, ◌<◌, ◌≤◌, List, [], ◌∷◌, ◌++◌, length, get_or, slice_set, Option, Some, None, Result, Ok, Err, Bool, true, false, arith}
-use Rattle.std.specs.Prelude.{nat_lt, sum_by, All}
-use Rattle.std.specs.Bool.{if◌then◌else◌}
+use Rattle.std.proofs.Common.{◌≡◌, refl, sym, ap, subst, ℕ, zero, suc, ◌+◌, ◌-◌, ◌<◌, ◌≤◌, List, [], ◌∷◌, ◌++◌, length, get_or, slice_set, Result, arith}
+use Rattle.std.specs.Prelude.{All}
 use Rattle.std.proofs.lemmas.List.{length-append}
 use Rattle.std.proofs.lemmas.List.Sums.{sum_by-cons}
 use Rattle.std.proofs.lemmas.List.Elements.{All-append, All-cons, All-nil}
@@ -10,7 +9,7 @@ use Rattle.text_lines.specs.Lines.{lines_of}
 use Rattle.lane_serve.specs.declared.script.Line.{Line}
 use Rattle.lane_serve.specs.declared.script.ScriptFault.{ScriptFault}
 use Rattle.lane_serve.specs.declared.script.ScriptFault.TheVariants as fault
-use Rattle.lane_serve.specs.Script.{LaneData, SoFar, HasTimes, IsRefused, IsWithinLimits, after_line, request_count, script_from, script_of, with_request}
+use Rattle.lane_serve.specs.Script.{LaneData, SoFar, HasTimes, IsRefused, IsWithinLimits, request_count, script_from, with_request}
 
 -- the last lane gets one more request
 pub set_last : (lanes : List LaneData) (i : ℕ) (request : Line) (name : List ℕ) (lines : List Line) →

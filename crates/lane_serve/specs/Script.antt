@@ -1,5 +1,5 @@
 -- What a script says: lanes of requests, or the first bad line.
-use Rattle.std.specs.Prelude.{◌≡◌, ℕ, ◌+◌, ◌-◌, ◌<◌, ◌≤◌, ◌==◌, List, [], ◌∷◌, ◌++◌, take, drop, length, codes, bytes_eq, nat_lt, sum_by, ℤ, ◌≤ℤ◌, pos, Option, Some, None, Result, Ok, Err, MatchResult, All, ⊤, if◌then◌else◌}
+use Rattle.std.specs.Prelude.{◌≡◌, ℕ, ◌+◌, ◌<◌, ◌≤◌, ◌==◌, List, [], ◌∷◌, ◌++◌, length, codes, bytes_eq, nat_lt, sum_by, ℤ, ◌≤ℤ◌, pos, Option, Some, None, Result, Ok, Err, MatchResult, All, ⊤, if◌then◌else◌}
 use Rattle.std.specs.Option.{option_and_then, option_map}
 use Rattle.gtfs_rows.specs.Numbers.{number_of, time_of}
 use Rattle.gtfs_rows.specs.Steps.{and_then}
