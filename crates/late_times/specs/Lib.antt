@@ -1,0 +1,3 @@
+pub mod Amended
+pub mod Finding
+pub mod Lates

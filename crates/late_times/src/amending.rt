@@ -1,0 +1,30 @@
+ghost use Rattle.std.specs.Prelude.{◌≡◌, MatchResult, Ok};
+ghost use Rattle.late_times.specs.Amended.{amended};
+ghost use Rattle.late_times.specs.Lates.{IsRefused};
+
+use crate::late::{Late, LateFault};
+use crate::moving::MovingTrips;
+use std::alloc::Global;
+use table_copies::{change_times, paths, stations, stops};
+use tb_base::{Parts, Timetable};
+
+/// The timetable amended by lates, each of which moves what those before it left, or exactly the
+/// first fault of one. Takes time by the size of the timetable, and by the events that are moved.
+pub fn amended(alloc: Global, table: &Timetable, lates: &[Late]) -> Result<Timetable, LateFault>
+    ensures { MatchResult result (λ new. amended table.now lates.now ≡ Ok new)
+        (λ f. IsRefused f (amended table.now lates.now)) }
+{
+    let mut trips = MovingTrips::of(alloc, table)?;
+    for late in lates {
+        trips.apply(late)?;
+    }
+    table.soundness();
+    let parts = Parts {
+        stops: stops(alloc, table)?,
+        stations: stations(alloc, table)?,
+        trips: trips.into_trips(),
+        change: change_times(alloc, table)?,
+        paths: paths(alloc, table)?,
+    };
+    Ok(Timetable::new(alloc, parts)?)
+}
