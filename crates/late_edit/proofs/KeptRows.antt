@@ -1,0 +1,89 @@
+-- The kept transfers of trips, one after another.
+use Rattle.std.proofs.Common.{◌≡◌, ◌∙◌, sym, ap, refl, subst, ℕ, suc, ◌+◌, ◌≤◌, List, [], ◌∷◌, ◌++◌, length, map, cond, Bool, true, false, append_assoc, arith}
+use Rattle.std.specs.Prelude.{filter, flat_map, if◌then◌else◌}
+use Rattle.std.proofs.lemmas.List.{length-append, length-map}
+use Rattle.std.proofs.lemmas.List.Elements.{filter-append}
+use Rattle.tb_base.specs.declared.transfer.Hop.{Hop}
+use Rattle.tb_base.specs.declared.transfer.Transfer.{Transfer}
+use Rattle.tb_base.specs.TimetableData.{TimetableData, events_of}
+use Rattle.tb_base.specs.Transfers.{kept_hops, numbers_below, numbers_down, transfers_of}
+use Rattle.tb_base.proofs.Lists.{length-filter_le, length-numbers_below}
+use Rattle.line_split.specs.LinesData.{LinesData}
+use Rattle.reduce_workers.specs.Reductions.{rows_from}
+use Rattle.reduce_workers.proofs.Counts.{rows_more}
+use Rattle.reduce_workers.proofs.MoreTrips.{one_more_count}
+use Rattle.touched_trips.specs.Touched.{is_touched, touched_count}
+use Rattle.touched_trips.specs.Retimed.{IsRetimed, untimed_event}
+use Rattle.touched_trips.proofs.Retimings.{same_length, untimed_events}
+use Rattle.edition_store.specs.Editions.{EditionData}
+use Rattle.late_edit.specs.Amending.{AreKeptRows, RowsData, network_of}
+
+-- a trip's transfers by the hops of one of its events, and of the first n events, the last one
+-- first
+abbrev pub transfers_at : (ℕ → List Hop) → ℕ → ℕ → List Transfer
+transfers_at hops t i = map (λ (h : Hop). record { trip = t; at = i; to_trip = h.trip; to_at = h.at }) (hops i)
+
+abbrev pub transfers_below : (ℕ → List Hop) → ℕ → ℕ → List Transfer
+transfers_below hops t n = flat_map (transfers_at hops t) (numbers_down n)
+
+-- with one event more
+pub event_added : (hops : ℕ → List Hop) (t i n : ℕ) (row new all : List Transfer) → n ≡ suc i → new ≡ row ++ transfers_at hops t i → row ++ transfers_below hops t n ≡ all → new ++ transfers_below hops t i ≡ all
+event_added hops t i n row new all next added so_far =
+    ap (λ r. r ++ transfers_below hops t i) added ∙ (append_assoc row (transfers_at hops t i) (transfers_below hops t i)
+    ∙ (sym (ap (λ k. row ++ transfers_below hops t k) next) ∙ so_far))
+
+one_or_none : (t : ℕ) (c : Bool) → length (cond c (t ∷ []) []) ≡ if c then 1 else 0
+one_or_none t true = refl
+one_or_none t false = refl
+
+-- with one trip more
+redone_more : (before after : LinesData) (t : ℕ) (b : Bool) → b ≡ is_touched before after t
+    → length (filter (is_touched before after) (numbers_below (t + 1))) ≡ length (filter (is_touched before after) (numbers_below t)) + (if b then 1 else 0)
+redone_more before after t b is =
+    let p = is_touched before after in
+    let next : t + 1 ≡ suc t = omega arith in
+    ap (λ n. length (filter p (numbers_below n))) next ∙ (ap length (filter-append p (numbers_below t) (t ∷ []))
+    ∙ (length-append (filter p (numbers_below t)) (filter p (t ∷ [])) ∙ ap (λ n. length (filter p (numbers_below t)) + n) (one_or_none t (p t) ∙ ap (λ c. if c then 1 else 0) (sym is))))
+
+pub redone_le : (before after : LinesData) (t : ℕ) → length (filter (is_touched before after) (numbers_below t)) ≤ t
+redone_le before after t = omega (arith, length-filter_le (is_touched before after) (numbers_below t), length-numbers_below t)
+
+pub trip_added : (before after : LinesData) (t : ℕ) (old new : RowsData) (row : List Transfer) (touched : Bool) → AreKeptRows before after t old
+    → new ≡ record { rows = old.rows ++ row ∷ []; kept = old.kept + length row; redone = old.redone + (if touched then 1 else 0) }
+    → row ≡ transfers_of after.table (kept_hops after.table after.lines t) t → touched ≡ is_touched before after t → AreKeptRows before after (t + 1) new
+trip_added before after t old new row touched so_far added is told =
+    let T = after.table in
+    let hops = kept_hops T after.lines in
+    let at : 0 + t ≡ t = omega arith in
+    let one : rows_from T hops (0 + t) 1 ≡ row ∷ [] = ap (λ k. rows_from T hops k 1) at ∙ ap (λ (r : List Transfer). r ∷ []) (sym is) in
+    record {
+      rows = ap (λ (r : RowsData). r.rows) added ∙ ((λ i. so_far.rows i ++ sym one i) ∙ sym (rows_more T hops 0 t 1));
+      kept = ap (λ (r : RowsData). r.kept) added ∙ ((λ i. so_far.kept i + length (is i)) ∙ sym (one_more_count T hops 0 t t at));
+      redone = ap (λ (r : RowsData). r.redone) added ∙ (ap (λ n. n + (if touched then 1 else 0)) so_far.redone ∙ sym (redone_more before after t touched told));
+    }
+
+-- a trip that keeps its hops keeps its transfers
+pub same_row : (L M : LinesData) (T : TimetableData) (t : ℕ) → M.table ≡ T → IsRetimed L.table T → (IsRetimed L.table M.table → (i : ℕ) → kept_hops L.table L.lines t i ≡ kept_hops M.table M.lines t i)
+    → transfers_of L.table (kept_hops L.table L.lines t) t ≡ transfers_of T (kept_hops T M.lines t) t
+same_row L M T t own retimed each =
+    let as_own : IsRetimed L.table M.table = subst (IsRetimed L.table) (sym own) retimed in
+    let hops : kept_hops L.table L.lines t ≡ kept_hops T M.lines t = (λ i k. each as_own k i) ∙ ap (λ U. kept_hops U M.lines t) own in
+    let many : length (events_of L.table t) ≡ length (events_of T t) =
+    sym (length-map (events_of L.table t) untimed_event) ∙ (ap length (untimed_events L.table T retimed t) ∙ length-map (events_of T t) untimed_event) in
+    λ i. flat_map (transfers_at (hops i) t) (numbers_down (many i))
+
+-- a network is its timetable and its lines
+pub network_is : (e : EditionData) (L : LinesData) → L.table ≡ e.table → L.lines ≡ e.lines → L ≡ network_of e
+network_is e L table lines = λ i. record { table = table i; lines = lines i }
+
+-- the transfers of all trips, over the timetable that the lines are of
+pub all_rows : (before after : LinesData) (T : TimetableData) (n : ℕ) (r : RowsData) → after.table ≡ T → AreKeptRows before after n r → r.rows ≡ rows_from T (kept_hops T after.lines) 0 n
+all_rows before after T n r own are = are.rows ∙ ap (λ U. rows_from U (kept_hops U after.lines) 0 n) own
+
+-- the touched trips are counted
+pub all_touched : (e f : EditionData) (M : LinesData) (T : TimetableData) (r : RowsData) → M.table ≡ T → IsRetimed e.table T → f.table ≡ T → f.lines ≡ M.lines → AreKeptRows (network_of e) M (length T.trips) r
+    → r.redone ≡ touched_count (network_of e) (network_of f)
+all_touched e f M T r own retimed table lines are =
+    let after : M ≡ network_of f = network_is f M (own ∙ sym table) (sym lines) in
+    let many : length T.trips ≡ length e.table.trips = sym (same_length e.table T retimed) in
+    are.redone ∙ (λ i. length (filter (is_touched (network_of e) (after i)) (numbers_below (many i))))
