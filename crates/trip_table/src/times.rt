@@ -1,5 +1,5 @@
 //! The rows of stop_times.txt, by the numbers of what their ids name.
-ghost use Rattle.std.specs.Prelude.{◌≡◌, ◌<◌, ◌≤◌, ◌-◌, ◌^◌, IfOk, IsSome};
+ghost use Rattle.std.specs.Prelude.{◌≡◌, ◌<◌, ◌≤◌, ◌-◌, ◌^◌, IfOk, IsSome, length};
 ghost use Rattle.gtfs_rows.specs.Faults.{check_rows};
 ghost use Rattle.gtfs_rows.specs.Refused.{IsRefused, Yields};
 ghost use Rattle.gtfs_rows.specs.TimesFile.{time_data};
@@ -16,7 +16,7 @@ use crate::trips::TripTable;
 use footpaths::{Found, StopTable};
 use gtfs_rows::{FeedFault, FeedFile, RowCursor, RowReader, RowsFault, TimeFields, time_fields};
 use std::alloc::Global;
-use tb_base::StopNo;
+use tb_base::{Memory, StopNo};
 use tb_io::Folder;
 use trip_rides::StopTime;
 
@@ -81,8 +81,42 @@ fn platform_number(count: u32, found: &Option<Found>) -> u32
 }
 
 // Refuses the first row that names no trip or no platform, or whose trip has had its
-// `stop_sequence`.
+// `stop_sequence`. The rows of a trip mostly stand in order, and as long as they do, one number a
+// trip tells: the least that its next row may have.
 fn check_times(
+    alloc: Global,
+    stops: &StopTable,
+    trips: &TripTable,
+    rows: &[StopTime],
+) -> Result<(), RowsFault>
+    ensures { Yields IsRefused result (λ _. rows.now)
+        (check_rows (wrong_time stops.now trips.now) rows.now) }
+{
+    let mut least = zeros(alloc, trips.rows().len())?;
+    for row in rows {
+        match name_fault(stops, trips, row) {
+            Some(fault) => return Err(RowsFault::Feed(fault)),
+            None => {}
+        }
+        let trip = row.trip_row as usize;
+        if (row.sequence as u64) < least[trip] {
+            return check_keys(alloc, stops, trips, rows);
+        }
+        least[trip] = row.sequence as u64 + 1;
+    }
+    Ok(())
+}
+
+// The least number of the next row of each of so many trips, before their first rows.
+fn zeros(alloc: Global, trips: usize) -> Result<Vec<u64>, Memory>
+    ensures { IfOk result (λ v. length v.items ≡ trips) }
+{
+    let least = vec![in alloc; 0; trips]?;
+    Ok(least)
+}
+
+// The same of rows in any order, by a set of the numbers that trips have had.
+fn check_keys(
     alloc: Global,
     stops: &StopTable,
     trips: &TripTable,
