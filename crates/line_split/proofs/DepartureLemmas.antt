@@ -26,7 +26,7 @@ middle a b r c n m e f =
 pub middle_within : {X : Type 0} (a b r c : List X) (n m : ℕ) → n ≡ length a + length b → m ≡ length r → n + m ≤ length (a ++ (b ++ (r ++ c)))
 middle_within a b r c n m e f = omega (arith, e, f, length-append a (b ++ (r ++ c)), length-append b (r ++ c), length-append r c)
 
-flat_map-at : {X A : Type 0} (f : X → List A) (xs : List X) (i : ℕ) (d : X) → i < length xs → flat_map f xs ≡ flat_map f (take i xs) ++ (f (get_or xs i d) ++ flat_map f (drop (i + 1) xs))
+pub flat_map-at : {X A : Type 0} (f : X → List A) (xs : List X) (i : ℕ) (d : X) → i < length xs → flat_map f xs ≡ flat_map f (take i xs) ++ (f (get_or xs i d) ++ flat_map f (drop (i + 1) xs))
 flat_map-at f xs i d h =
     ap (flat_map f) (sym (take-append-drop i xs)) ∙ flat_map-append f (take i xs) (drop i xs) ∙ ap (λ ys. flat_map f (take i xs) ++ flat_map f ys) (drop_more xs i d h)
 
@@ -138,10 +138,10 @@ pub lines_more : {X : Type 0} (f : List ℕ → List X) (lines : List (List ℕ)
 lines_more f lines n before new h e k =
     k ∙ ap (λ xs. xs ++ f (get_or lines n [])) e ∙ flat_map_more f [] (take n lines) (get_or lines n []) ∙ ap (flat_map f) (sym (take_more lines n [] h))
 
-pub starts_more : (T : TimetableData) (lines : List (List ℕ)) (n x : ℕ) (old new : List ℕ) → old ≡ map (λ k. length (flat_map (line_departures T) (take k lines))) (range_with_len 0 n) → new ≡ old ++ x ∷ []
-    → x ≡ length (flat_map (line_departures T) (take n lines)) → new ≡ map (λ k. length (flat_map (line_departures T) (take k lines))) (range_with_len 0 (n + 1))
-starts_more T lines n x old new e h is =
-    h ∙ (λ i. e i ++ is i ∷ []) ∙ sym (map-range_with_len_more (λ k. length (flat_map (line_departures T) (take k lines))) 0 n n (zero_more n))
+pub starts_more : {X : Type 0} (f : List ℕ → List X) (lines : List (List ℕ)) (n x : ℕ) (old new : List ℕ) → old ≡ map (λ k. length (flat_map f (take k lines))) (range_with_len 0 n) → new ≡ old ++ x ∷ []
+    → x ≡ length (flat_map f (take n lines)) → new ≡ map (λ k. length (flat_map f (take k lines))) (range_with_len 0 (n + 1))
+starts_more f lines n x old new e h is =
+    h ∙ (λ i. e i ++ is i ∷ []) ∙ sym (map-range_with_len_more (λ k. length (flat_map f (take k lines))) 0 n n (zero_more n))
 
 -- what a search along the departures found is the line's first trip in time
 pub found_at : (T : TimetableData) (line row : List ℕ) (at place : ℕ) (time asked : ℤ) (departures : List ℤ) → asked ≡ time → departures ≡ departures_at T line at → row ≡ line →

@@ -1,13 +1,11 @@
 -- Two trips, event for event.
-use Rattle.std.proofs.Common.{◌≡◌, ◌∙◌, ℕ, ◌+◌, ◌<◌, ◌≤◌, ◌==◌, ◌&&◌, Bool, List, length, drop, get_or, refl, arith, zero, suc, [], ◌∷◌, ◌⊎◌, inl, inr}
+use Rattle.std.proofs.Common.{◌≡◌, ◌∙◌, ℕ, ◌≤◌, ◌==◌, ◌&&◌, Bool, List, length, drop, refl, arith, zero, suc, [], ◌∷◌, ◌⊎◌, inl, inr}
 use Rattle.std.specs.Prelude.{int_le}
-use Rattle.std.specs.Ordering.{int_cmp, nat_cmp, ordering_then}
-use Rattle.std.specs.declared.cmp.Ordering.{Ordering}
-use Rattle.std.specs.declared.cmp.Ordering.TheVariants.{Less, Equal, Greater}
+use Rattle.std.specs.Ordering.{int_cmp, nat_cmp}
+use Rattle.std.specs.declared.cmp.Ordering.TheVariants.{Less, Greater}
 use Rattle.std.specs.Cmp.Lexicographic.{slice_cmp}
-use Rattle.std.proofs.lemmas.List.{drop_more, drop_all}
 use Rattle.tb_base.specs.declared.table.Event.{Event}
-use Rattle.tb_base.specs.Lines.{may_follow, same_mark, times_of}
+use Rattle.tb_base.specs.Lines.{same_mark, times_of}
 
 -- the test of one event and the next
 abbrev pub follows : Event → Event → Bool

@@ -6,6 +6,7 @@ pub mod Placing
 pub mod TripOrders
 pub mod CallLemmas
 pub mod DepartureLemmas
+pub mod RunLemmas
 pub mod PlaceLemmas
 pub mod Counts
 pub mod CallTotals

@@ -1,10 +1,8 @@
 -- The places of the trips of one line more.
-use Rattle.std.proofs.Common.{◌≡◌, ◌≢◌, ◌∙◌, sym, ap, subst, refl, ℕ, ◌+◌, ◌<◌, ◌⊎◌, inl, inr, List, [], length, get_or, set, Some, arith, length-set, get_or-set_same, get_or-set_other}
-use Rattle.std.specs.Prelude.{slice_get}
+use Rattle.std.proofs.Common.{◌≡◌, ◌≢◌, ◌∙◌, sym, ap, subst, refl, ℕ, ◌+◌, ◌<◌, ◌⊎◌, inl, inr, List, length, get_or, set, Some, length-set, get_or-set_same, get_or-set_other}
 use Rattle.std.proofs.lemmas.Bool.{cases_eq}
 use Rattle.std.proofs.lemmas.Option.{slice_get-get_or}
 use Rattle.line_split.specs.Places.{IsNoted, NotesLine}
-use Rattle.line_split.specs.LinesOf.{StandsAt}
 use Rattle.tb_base.proofs.NumberFacts.{below_or_at}
 
 pub notes_more : (line : ℕ) (trips : List ℕ) (i t : ℕ) (old before new : List (ℕ × ℕ)) → i < length trips → t ≡ get_or trips i 0 → t < length before → new ≡ set before t (line, i)

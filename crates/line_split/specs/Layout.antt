@@ -1,18 +1,21 @@
 -- How the lines of a timetable are laid out, for each thing that is looked up.
-use Rattle.std.specs.Prelude.{◌≡◌, ℕ, ◌<◌, ◌^◌, List, [], length, map, flat_map, take, ℤ, slice_index_or}
+use Rattle.std.specs.Prelude.{◌≡◌, ℕ, ◌-◌, ◌<◌, ◌≤◌, ◌^◌, List, [], length, map, flat_map, take, drop, ℤ, slice_index_or}
 use Rattle.std.specs.List.{range_with_len}
 use Rattle.tb_base.specs.TimetableData.{TimetableData, departure_at}
 use Rattle.tb_base.specs.Lines.{AreLines}
 use Rattle.tb_base.specs.Transfers.{numbers_below}
 use Rattle.line_split.specs.declared.lines.Berth.{Berth}
-use Rattle.line_split.specs.LinesOf.{StandsAt, berths_at, line_events}
+use Rattle.line_split.specs.LinesOf.{IsRestOfLine, StandsAt, berths_at, line_events}
 
--- The trips of each line; for each trip its line and its place in it; for each stop where lines
+-- The trips of each line; for each trip its line and its place in it; all trips, line after line,
+-- and for each trip where its line from it on begins and ends there; for each stop where lines
 -- call; and the departures, line after line and within a line index after index, with the place
 -- where each line's begin.
 pub record LinesLayout : Type 0 where
   pub lines : List (List ℕ)
   pub places : List (ℕ × ℕ)
+  pub in_order : List ℕ
+  pub runs : List (ℕ × ℕ)
   pub berths : List (List Berth)
   pub starts : List ℕ
   pub departures : List ℤ
@@ -30,6 +33,17 @@ line_departures T line =
 abbrev pub start_of : TimetableData → List (List ℕ) → ℕ → ℕ
 start_of T lines l = length (flat_map (line_departures T) (take l lines))
 
+-- how many trips the first l lines have
+abbrev pub order_start : List (List ℕ) → ℕ → ℕ
+order_start lines l = length (flat_map (λ line. line) (take l lines))
+
+-- this run of the trips is a line from trip t on
+pub record IsRunFrom (lines : List (List ℕ)) (in_order : List ℕ) (t : ℕ) (run : ℕ × ℕ) : Type 0
+  where
+    pub ascends : run.0 ≤ run.1
+    pub within : run.1 ≤ length in_order
+    pub rest : IsRestOfLine lines t (take (run.1 - run.0) (drop run.0 in_order))
+
 -- the lines of a timetable, with all that is looked up in them
 pub record AreLaidOut (T : TimetableData) (L : LinesLayout) : Type 0 where
   pub lines : AreLines T L.lines
@@ -37,6 +51,9 @@ pub record AreLaidOut (T : TimetableData) (L : LinesLayout) : Type 0 where
   pub trips : length L.places ≡ length T.trips
   pub places : (t : ℕ) → t < length T.trips →
       StandsAt L.lines t (slice_index_or L.places t (0, 0))
+  pub counted : length L.runs ≡ length T.trips
+  pub runs : (t : ℕ) → t < length T.trips →
+      IsRunFrom L.lines L.in_order t (slice_index_or L.runs t (0, 0))
   pub stops : length L.berths ≡ length T.stops
   pub berths : (q : ℕ) → q < length T.stops →
       slice_index_or L.berths q [] ≡ berths_at T L.lines q

@@ -1,5 +1,5 @@
 -- What is looked up in the lines of a timetable.
-use Rattle.std.specs.Prelude.{◌≡◌, ℕ, ◌==◌, List, [], length, map, filter, flat_map, Some, slice_get, slice_index_or}
+use Rattle.std.specs.Prelude.{◌≡◌, ℕ, ◌==◌, List, [], length, map, filter, flat_map, drop, Some, slice_get, slice_index_or}
 use Rattle.tb_base.specs.declared.table.Event.{Event}
 use Rattle.tb_base.specs.TimetableData.{TimetableData, events_of, stop_at}
 use Rattle.tb_base.specs.Transfers.{numbers_below}
@@ -25,3 +25,9 @@ berths_at T lines q =
 -- trip t stands on this line at this place
 abbrev pub StandsAt : List (List ℕ) → ℕ → ℕ × ℕ → Type 0
 StandsAt lines t place = slice_get (slice_index_or lines place.0 []) place.1 ≡ Some t
+
+-- these are the trips of a line from trip t on, which is the first of them
+pub record IsRestOfLine (lines : List (List ℕ)) (t : ℕ) (trips : List ℕ) : Type 0 where
+  pub place : ℕ × ℕ
+  pub stands : StandsAt lines t place
+  pub rest : trips ≡ drop place.1 (slice_index_or lines place.0 [])

@@ -3,7 +3,7 @@
 //!
 //! `split` makes the lines. The layer above is promised that they are the lines of the timetable
 //! (`Lines::soundness`), and finds in them without taking memory: the line of a trip and its place
-//! there, the trips of a line, where lines call at a stop, and the first trip of a line that
+//! there, the trips of a line, all or from one on, where lines call at a stop, and the first trip of a line that
 //! departs at an index no earlier than a time, by one binary search along a run of departures.
 #![tactic(auto)]
 
@@ -16,6 +16,7 @@ mod events;
 pub mod laws;
 mod lines;
 mod nested;
+mod onward;
 mod order;
 mod place;
 mod places;
@@ -23,6 +24,7 @@ mod places;
 use berths::berths_of;
 use departures::departures_of;
 pub use lines::{Berth, Lines};
+use onward::onward_of;
 use order::trip_order;
 use place::place_trips;
 use places::places_of;
@@ -40,9 +42,12 @@ pub fn split(alloc: Global, table: &Timetable) -> Result<Lines, Memory>
     let order = trip_order(alloc, table)?;
     let lines = place_trips(alloc, table, order.as_slice())?;
     let places = places_of(alloc, table.trip_count(), &lines)?;
+    let (in_order, runs) = onward_of(alloc, &lines, places.as_slice())?;
     let berths = berths_of(alloc, table, &lines)?;
     let (starts, departures) = departures_of(alloc, table, &lines)?;
-    let split = Lines::new(table, lines, places, berths, starts, departures);
+    let split = Lines::new(
+        table, lines, places, in_order, runs, berths, starts, departures,
+    );
     split.soundness();
     Ok(split)
 }

@@ -22,6 +22,8 @@ pub struct Lines {
     table: Snapshot<Timetable>,
     lines: Nested<TripNo>,
     places: Vec<(LineNo, u32)>,
+    in_order: Vec<TripNo>,
+    runs: Vec<(u32, u32)>,
     berths: Nested<Berth>,
     starts: Vec<usize>,
     departures: Vec<Sec>,
@@ -38,6 +40,8 @@ impl Model for Lines {
     ghost invariant = { λ l. AreLaidOut l.table.value (record {
       lines = l.lines;
       places = l.places.items;
+      in_order = l.in_order.items;
+      runs = l.runs.items;
       berths = l.berths;
       starts = l.starts.items;
       departures = l.departures.items;
@@ -49,13 +53,15 @@ impl Lines {
     ghost use Rattle.tb_base.specs.TimetableData.{TimetableData};
     ghost use Rattle.tb_base.specs.Transfers.{earliest_trip, may_be_boarded};
     ghost use Rattle.line_split.specs.Layout.{AreLaidOut, departures_at};
-    ghost use Rattle.line_split.specs.LinesOf.{StandsAt, berths_at, line_events};
+    ghost use Rattle.line_split.specs.LinesOf.{IsRestOfLine, StandsAt, berths_at, line_events};
 
     // The lines with these parts.
     pub(crate) fn new(
         table: &Timetable,
         lines: Nested<TripNo>,
         places: Vec<(LineNo, u32)>,
+        in_order: Vec<TripNo>,
+        runs: Vec<(u32, u32)>,
         berths: Nested<Berth>,
         starts: Vec<usize>,
         departures: Vec<Sec>,
@@ -63,6 +69,8 @@ impl Lines {
         requires { AreLaidOut table.now (record {
           lines = lines;
           places = places.items;
+          in_order = in_order.items;
+          runs = runs.items;
           berths = berths;
           starts = starts.items;
           departures = departures.items;
@@ -73,6 +81,8 @@ impl Lines {
             table: Snapshot::of(table),
             lines,
             places,
+            in_order,
+            runs,
             berths,
             starts,
             departures,
@@ -101,6 +111,16 @@ impl Lines {
         ensures { StandsAt self.now.lines trip result }
     {
         self.places[trip.index()]
+    }
+
+    /// The trips of a trip's line from it on, in order.
+    pub fn onward(&self, trip: TripNo) -> &[TripNo]
+        requires { trip < length self.now.table.trips }
+        ensures { IsRestOfLine self.now.lines trip result.now }
+    {
+        let (from, to) = self.runs[trip.index()];
+        let in_order = self.in_order.as_slice();
+        &in_order[from as usize..to as usize]
     }
 
     /// The trips of a line, in order.

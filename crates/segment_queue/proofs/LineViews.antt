@@ -142,11 +142,6 @@ trips_from-drop (line ∷ lines) t (suc l) k distinct is =
 pub trips_from-inside : (lines : List (List ℕ)) (t n : ℕ) → All (λ u. u < n) (concat lines) → All (λ u. u < n) (trips_from lines t)
 trips_from-inside lines t n all k d h = of_member (λ u. u < n) (concat lines) (get_or (trips_from lines t) k d) all (member_lines (get_or (trips_from lines t) k d) t lines (member_at (trips_from lines t) k d h))
 
-pub stands_inside : (lines : List (List ℕ)) (l k t : ℕ) → slice_get (get_or lines l []) k ≡ Some t → l < length lines
-stands_inside [] l k t e = cc
-stands_inside (x ∷ xs) zero k t e = omega arith
-stands_inside (x ∷ xs) (suc l) k t e = omega (arith, stands_inside xs l k t e)
-
 pub berths_count : (T : TimetableData) (lines : List (List ℕ)) (p : ℕ) → length (berths_at T lines p) ≡ length (line_indices_at T lines p)
 berths_count T lines p = sym (length-map (berths_at T lines p) (index_of lines)) ∙ ap length (berths_are T lines p)
 

@@ -2,13 +2,14 @@
 use Rattle.std.proofs.Common.{◌≡◌, ◌≢◌, ◌∙◌, ℕ, ◌+◌, ◌<◌, ◌≤◌, inl, inr, List, ◌∷◌, drop, get_or, ◌||◌, true, false, cond, length, set, sym, ap, subst, arith, Option, Some, None}
 use Rattle.std.specs.Prelude.{AllPairs, min, unwrap_or}
 use Rattle.std.proofs.lemmas.List.{drop_more, get_or-set_same, get_or-set_other}
-use Rattle.tb_base.specs.TimetableData.{TimetableData}
+use Rattle.tb_base.specs.TimetableData.{TimetableData, events_of}
 use Rattle.tb_base.specs.Lines.{AreDividedInto}
 use Rattle.tb_base.proofs.Ordered.{Member, AllPairs-tail}
 use Rattle.segment_queue.specs.Scans.{trips_from}
 use Rattle.segment_queue.specs.Queue.{IsFalling, lowered, mark_of, last_index}
 use Rattle.segment_queue.proofs.Distinct.{has, has_member, same_or_other, member_or_not, before_member, pairs_weaker}
-use Rattle.segment_queue.proofs.LineParts.{pairs_of, all_distinct}
+use Rattle.segment_queue.proofs.LineParts.{pairs_of, all_distinct, trips_no_later}
+use Rattle.segment_queue.proofs.LineViews.{member_at}
 
 pub lowered-in : (trips : List ℕ) (at u m : ℕ) → has u trips ≡ true → lowered trips at u m ≡ min m at
 lowered-in trips at u m e = ap (λ b. cond b (min m at) m) e
@@ -102,3 +103,12 @@ pub no_more_to_lower : (T : TimetableData) (whole trips : List ℕ) (k t at : �
     → (u : ℕ) → u < length T.trips → mark_of T marks u ≡ lowered whole at u (mark_of T old u)
 no_more_to_lower T whole trips k t at old marks still there is low =
     stops T whole (drop (k + 1) trips) t at old marks (subst (λ (xs : List ℕ). StillToLower T whole xs at old marks) (drop_item trips k t there is) still) low
+
+-- the mark of a trip of the line, where one that has none is given the last index of the first
+pub mark_by_last : (T : TimetableData) (lines : List (List ℕ)) (t : ℕ) (trips : List ℕ) (k u last at : ℕ) (marks : List (Option ℕ)) → AreDividedInto T lines → trips ≡ trips_from lines t → k < length trips → u ≡ get_or trips k u
+    → last + 1 ≡ length (events_of T t) → at ≡ unwrap_or (get_or marks u None) last → at ≡ mark_of T marks u
+mark_by_last T lines t trips k u last at marks divided same there is counted read =
+    read ∙ ap (unwrap_or (get_or marks u None)) (omega (arith, counted, (trips_no_later T lines t u divided here).long))
+  where
+    here : Member u (trips_from lines t)
+    here = subst (λ xs. Member u xs) same (subst (λ v. Member v trips) (sym is) (member_at trips k u there))

@@ -93,7 +93,7 @@ pub(crate) fn mark_on<S: Scan>(marks: &Marks, scan: &S, trip: TripNo) -> u32
 }
 
 // Lowers the marks of a trip and of the later trips of its line to the index, where they are greater. Along a line marks
-// never rise, so it stops at the first that isn't greater.
+// never rise, so it stops at the first that isn't greater. All trips of a line have the same last index.
 pub(crate) fn lower_marks<S: Scan>(marks: &mut Marks, scan: &S, trip: TripNo, at: u32)
     requires trip { trip < length (S.net scan.now).table.trips }
     requires room { length (S.net scan.now).table.trips ≤ length marks.old }
@@ -106,8 +106,9 @@ pub(crate) fn lower_marks<S: Scan>(marks: &mut Marks, scan: &S, trip: TripNo, at
         ≡ lowered (trips_from (S.net scan.now).lines trip) at u
         (mark_of (S.net scan.now).table marks.old u) }
 {
+    let last = scan.last_at(trip);
     for later in scan.onward(trip) {
-        if mark_on(marks, scan, *later) <= at {
+        if marks.get_or(*later, last) <= at {
             return;
         }
         marks.set(*later, at);
@@ -186,6 +187,9 @@ impl Desk {
             (EntersSegment (S.net scan.now) trip at parent self.old self.new)
             (self.new ≡ self.old) }
     {
+        if self.marks.is_reached(trip, at) {
+            return false;
+        }
         let end = mark_on(&self.marks, scan, trip);
         if end <= at {
             return false;

@@ -1,4 +1,4 @@
-ghost use Rattle.std.specs.Prelude.{◌≡◌, ◌-◌, ◌<◌, ◌≤◌, ◌++◌, [], None, Some, OnErr, OnOk, length, replicate, slice_index_or, slice_set};
+ghost use Rattle.std.specs.Prelude.{◌≡◌, ◌-◌, ◌<◌, ◌≤◌, ◌++◌, ◌↔◌, [], IsSomeAnd, IsTrue, None, Some, OnErr, OnOk, length, replicate, slice_index_or, slice_set, unwrap_or};
 
 use std::alloc::Global;
 use std::marker::Model;
@@ -110,6 +110,28 @@ impl Marks {
         } else {
             None
         }
+    }
+
+    /// The index of a trip, and this one where it has none.
+    pub fn get_or(&self, trip: TripNo, otherwise: u32) -> u32
+        requires { trip < length self.now }
+        ensures { result ≡ unwrap_or (slice_index_or self.now trip None) otherwise }
+    {
+        let entry = self.entries[trip.index()];
+        if entry.stamp == self.stamp {
+            entry.at
+        } else {
+            otherwise
+        }
+    }
+
+    /// Whether a trip has an index that is at most this one.
+    pub fn is_reached(&self, trip: TripNo, at: u32) -> bool
+        requires { trip < length self.now }
+        ensures { IsTrue result ↔ IsSomeAnd (slice_index_or self.now trip None) (λ m. m ≤ at) }
+    {
+        let entry = self.entries[trip.index()];
+        entry.stamp == self.stamp && entry.at <= at
     }
 
     /// Gives a trip this index.

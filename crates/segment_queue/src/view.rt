@@ -79,8 +79,7 @@ impl<'a> View<'a> {
     {
         let lines = self.lines;
         lines.soundness();
-        let (line, place) = lines.of(trip);
-        &lines.trips(line)[place as usize..]
+        lines.onward(trip)
     }
 
     /// Event `at` of a trip, for as long as the set is lent. It is a step.
