@@ -114,6 +114,10 @@ pub start_at : (T : TimetableData) (lines : List (List ℕ)) (starts : List ℕ)
     → x ≡ get_or starts l x → x ≡ length (flat_map (line_departures T) (take l lines))
 start_at T lines starts l x e h is = is ∙ ap (λ xs. get_or xs l x) e ∙ get_or-map-range_with_len (λ k. length (flat_map (line_departures T) (take k lines))) 0 (length lines) l l x h (zero_more l)
 
+pub start_of_line : (T : TimetableData) (lines : List (List ℕ)) (starts : List ℕ) (l : ℕ) → starts ≡ map (λ k. length (flat_map (line_departures T) (take k lines))) (range_with_len 0 (length lines)) → l < length lines
+    → get_or starts l 0 ≡ length (flat_map (line_departures T) (take l lines))
+start_of_line T lines starts l e h = ap (λ xs. get_or xs l 0) e ∙ get_or-map-range_with_len (λ k. length (flat_map (line_departures T) (take k lines))) 0 (length lines) l l 0 h (zero_more l)
+
 -- the run of a line at an index, where lines are laid out
 pub run_in : (T : TimetableData) (L : LinesLayout) (l i x count : ℕ) → AreLaidOut T L → l < length L.lines → i < length (line_events T (get_or L.lines l [])) →
     x ≡ get_or L.starts l x → count ≡ length (get_or L.lines l []) → IsRun T L.lines l i x count L.departures

@@ -10,3 +10,4 @@ pub mod RunLemmas
 pub mod PlaceLemmas
 pub mod Counts
 pub mod CallTotals
+pub mod BerthLemmas

@@ -1,8 +1,8 @@
 -- What is looked up in the lines of a timetable.
-use Rattle.std.specs.Prelude.{◌≡◌, ℕ, ◌==◌, List, [], length, map, filter, flat_map, drop, Some, slice_get, slice_index_or}
+use Rattle.std.specs.Prelude.{◌≡◌, ℕ, ◌<◌, ◌==◌, Bool, List, [], length, map, filter, flat_map, drop, Some, slice_get, slice_index_or}
 use Rattle.tb_base.specs.declared.table.Event.{Event}
 use Rattle.tb_base.specs.TimetableData.{TimetableData, events_of, stop_at}
-use Rattle.tb_base.specs.Transfers.{numbers_below}
+use Rattle.tb_base.specs.Transfers.{may_be_boarded, numbers_below}
 use Rattle.line_split.specs.declared.lines.Berth.{Berth}
 
 -- the events of a line: those of its first trip, which has the stops and marks of all
@@ -21,6 +21,16 @@ berths_at T lines q =
     flat_map
     (λ l. map (λ j. record { line = l; at = j }) (calls_at T (slice_index_or lines l []) q))
     (numbers_below (length lines))
+
+-- an index of one of the lines
+pub record IsBerth (T : TimetableData) (lines : List (List ℕ)) (b : Berth) : Type 0 where
+  pub line : b.line < length lines
+  pub at : b.at < length (line_events T (slice_index_or lines b.line []))
+
+-- the line may be boarded there
+abbrev pub is_boarded : TimetableData → List (List ℕ) → Berth → Bool
+is_boarded T lines b =
+    may_be_boarded T (slice_index_or (slice_index_or lines b.line []) 0 0) b.at
 
 -- trip t stands on this line at this place
 abbrev pub StandsAt : List (List ℕ) → ℕ → ℕ × ℕ → Type 0

@@ -3,14 +3,16 @@
 //!
 //! `split` makes the lines. The layer above is promised that they are the lines of the timetable
 //! (`Lines::soundness`), and finds in them without taking memory: the line of a trip and its place
-//! there, the trips of a line, all or from one on, where lines call at a stop, and the first trip of a line that
-//! departs at an index no earlier than a time, by one binary search along a run of departures.
+//! there, the trips of a line, all or from one on, where lines call at a stop, which of them may be
+//! boarded there, and the first trip of a line that departs at an index no earlier than a time, by
+//! one binary search along a run of departures, which a boarding knows.
 #![tactic(auto)]
 
 ghost use Rattle.std.specs.Prelude.{◌≡◌, IfOk};
 ghost use Rattle.tb_base.specs.Lines.{AreLines};
 
 mod berths;
+mod boardings;
 mod departures;
 mod events;
 pub mod laws;
@@ -22,6 +24,8 @@ mod place;
 mod places;
 
 use berths::berths_of;
+pub use boardings::Boarding;
+use boardings::boardings_of;
 use departures::departures_of;
 pub use lines::{Berth, Lines};
 use onward::onward_of;
@@ -45,8 +49,16 @@ pub fn split(alloc: Global, table: &Timetable) -> Result<Lines, Memory>
     let (in_order, runs) = onward_of(alloc, &lines, places.as_slice())?;
     let berths = berths_of(alloc, table, &lines)?;
     let (starts, departures) = departures_of(alloc, table, &lines)?;
+    let boardings = boardings_of(
+        alloc,
+        table,
+        &lines,
+        &berths,
+        starts.as_slice(),
+        departures.as_slice(),
+    )?;
     let split = Lines::new(
-        table, lines, places, in_order, runs, berths, starts, departures,
+        table, lines, places, in_order, runs, berths, boardings, starts, departures,
     );
     split.soundness();
     Ok(split)

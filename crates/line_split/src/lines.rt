@@ -2,7 +2,7 @@ ghost use Rattle.std.specs.Prelude.{◌≡◌, ◌<◌, ◌≤◌, ◌≤ℤ◌,
 ghost use Rattle.std.specs.List.{AllWithin};
 
 use super::berths::first_of;
-use super::events::events_of;
+use super::boardings::{Boarding, may_be_boarded, run_start};
 use super::nested::Nested;
 use std::marker::Model;
 use std::snapshot::Snapshot;
@@ -25,6 +25,7 @@ pub struct Lines {
     in_order: Vec<TripNo>,
     runs: Vec<(u32, u32)>,
     berths: Nested<Berth>,
+    boardings: Nested<Boarding>,
     starts: Vec<usize>,
     departures: Vec<Sec>,
 }
@@ -43,16 +44,18 @@ impl Model for Lines {
       in_order = l.in_order.items;
       runs = l.runs.items;
       berths = l.berths;
+      boardings = l.boardings;
       starts = l.starts.items;
       departures = l.departures.items;
     }) };
 }
 
 impl Lines {
+    ghost use Rattle.std.specs.Prelude.{MatchOption, slice_get};
     ghost use Rattle.tb_base.specs.Lines.{AreDividedInto, AreLines};
     ghost use Rattle.tb_base.specs.TimetableData.{TimetableData};
     ghost use Rattle.tb_base.specs.Transfers.{earliest_trip, may_be_boarded};
-    ghost use Rattle.line_split.specs.Layout.{AreLaidOut, departures_at};
+    ghost use Rattle.line_split.specs.Layout.{AreBoardings, AreLaidOut, IsBoarding, departures_at};
     ghost use Rattle.line_split.specs.LinesOf.{IsRestOfLine, StandsAt, berths_at, line_events};
 
     // The lines with these parts.
@@ -63,6 +66,7 @@ impl Lines {
         in_order: Vec<TripNo>,
         runs: Vec<(u32, u32)>,
         berths: Nested<Berth>,
+        boardings: Nested<Boarding>,
         starts: Vec<usize>,
         departures: Vec<Sec>,
     ) -> Lines
@@ -72,6 +76,7 @@ impl Lines {
           in_order = in_order.items;
           runs = runs.items;
           berths = berths;
+          boardings = boardings;
           starts = starts.items;
           departures = departures.items;
         }) }
@@ -84,6 +89,7 @@ impl Lines {
             in_order,
             runs,
             berths,
+            boardings,
             starts,
             departures,
         }
@@ -147,9 +153,7 @@ impl Lines {
         ensures { result ≡ may_be_boarded table.now
             (slice_index_or (slice_index_or self.now.lines line []) 0 0) at }
     {
-        let events = events_of(table, self.first(line));
-        let at = at as usize;
-        at < events.len() && events[at].board && at + 1 < events.len()
+        may_be_boarded(table, self.lines.row(line.index()), at)
     }
 
     /// Where lines call at a stop: every index of every line there, by line, then by index.
@@ -158,6 +162,43 @@ impl Lines {
         ensures { result.now ≡ berths_at self.now.table self.now.lines stop }
     {
         self.berths.row(stop.index())
+    }
+
+    /// The lines that may be boarded at a stop, by line, then by index.
+    pub fn boardings(&self, stop: StopNo) -> &[Boarding]
+        requires { stop < length self.now.table.stops }
+        ensures { AreBoardings self.now.table self.now.lines
+            (berths_at self.now.table self.now.lines stop) result.now }
+    {
+        self.boardings.row(stop.index())
+    }
+
+    /// The first trip of a line that departs where it is boarded no earlier than the time, in
+    /// seconds, and the trip's place in the line, counted from 0.
+    pub fn boarded(&self, boarding: &Boarding, time: Sec) -> Option<(TripNo, usize)>
+        requires { IsBoarding self.now.table self.now.lines boarding.now }
+        ensures { let line = slice_index_or self.now.lines boarding.now.line [] in
+            MatchOption result (earliest_trip self.now.table line boarding.now.at time ≡ None)
+            (λ r. (earliest_trip self.now.table line boarding.now.at time ≡ Some r.0)
+            × (slice_get line r.1 ≡ Some r.0)) }
+    {
+        self.soundness();
+        let place = first_from(self.boarded_at(boarding), time);
+        let trips = self.lines.row(boarding.line.index());
+        if place < trips.len() {
+            Some((trips[place], place))
+        } else {
+            None
+        }
+    }
+
+    // The departures of a line where it is boarded, in the order of the trips.
+    fn boarded_at(&self, boarding: &Boarding) -> &[Sec]
+        requires { IsBoarding self.now.table self.now.lines boarding.now }
+        ensures { result.now ≡ departures_at self.now.table
+            (slice_index_or self.now.lines boarding.now.line []) boarding.now.at }
+    {
+        part(self.departures.as_slice(), boarding.start, boarding.count)
     }
 
     // The departures of a line's trips at one index, in the order of the trips.
@@ -198,8 +239,15 @@ fn run(departures: &[Sec], start: usize, at: usize, count: usize) -> &[Sec]
     requires { start + at * count + count ≤ length departures.now }
     ensures { result.now ≡ take count (drop (start + at * count) departures.now) }
 {
-    let from = start + at * count;
-    &departures[from..from + count]
+    part(departures, run_start(departures, start, at, count), count)
+}
+
+// So many departures from a place on.
+fn part(departures: &[Sec], start: usize, count: usize) -> &[Sec]
+    requires { start + count ≤ length departures.now }
+    ensures { result.now ≡ take count (drop start departures.now) }
+{
+    &departures[start..start + count]
 }
 
 // The first place from which on no departure is earlier than the time.

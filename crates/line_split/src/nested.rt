@@ -55,12 +55,19 @@ impl<T: Drop> Nested<T> {
         self.rows[i].as_slice()
     }
 
+    /// A row more, behind the others.
+    pub(crate) fn open_row(&mut self, row: Vec<T>) -> Result<(), Memory>
+        ensures { OnOk result (self.new ≡ self.old ++ row.items ∷ []) }
+    {
+        self.rows.push(row)?;
+        Ok(())
+    }
+
     /// A row more, behind the others, without an item.
     pub(crate) fn open(&mut self, alloc: Global) -> Result<(), Memory>
         ensures { OnOk result (self.new ≡ self.old ++ [] ∷ []) }
     {
-        self.rows.push(Vec::new(alloc))?;
-        Ok(())
+        self.open_row(Vec::new(alloc))
     }
 
     /// A row more, behind the others, with one item.
@@ -69,8 +76,7 @@ impl<T: Drop> Nested<T> {
     {
         let mut row = Vec::new(alloc);
         row.push(item)?;
-        self.rows.push(row)?;
-        Ok(())
+        self.open_row(row)
     }
 
     /// An item more, at the end of a row.

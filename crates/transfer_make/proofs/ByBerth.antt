@@ -1,9 +1,9 @@
 -- The candidates of an event are the transfers onto the lines where they call, stop by stop.
-use Rattle.std.proofs.Common.{◌≡◌, ◌≢◌, ◌∙◌, sym, ap, subst, refl, ℕ, zero, suc, ◌+◌, ◌-◌, ◌<◌, ◌≤◌, ◌⊎◌, inl, inr, Bool, true, false, cond, ◌==◌, ◌&&◌, List, [], ◌∷◌, ◌++◌, length, map, get_or, take, drop, Option, Some, None, ℤ, pos, ◌+ℤ◌, arith, append_assoc}
-use Rattle.std.specs.Prelude.{All, AllPairs, filter, filter_map, flat_map, find, int_le, nat_le, nat_lt, slice_get}
-use Rattle.std.specs.List.{AllWithin, concat, cons_option}
+use Rattle.std.proofs.Common.{◌≡◌, ◌≢◌, ◌∙◌, sym, ap, refl, ℕ, zero, suc, ◌+◌, ◌-◌, ◌<◌, ◌≤◌, inl, inr, Bool, true, false, cond, ◌==◌, ◌&&◌, List, [], ◌∷◌, ◌++◌, length, map, get_or, take, drop, Option, Some, None, ℤ, pos, ◌+ℤ◌, arith, append_assoc}
+use Rattle.std.specs.Prelude.{All, AllPairs, filter, filter_map, flat_map, find, nat_lt, slice_get}
+use Rattle.std.specs.List.{AllWithin, cons_option}
 use Rattle.std.specs.Option.{option_map, option_and_then, option_to_list}
-use Rattle.std.proofs.lemmas.List.{flat_map_more, take_more, take_all, take_rest}
+use Rattle.std.proofs.lemmas.List.{take_more, take_all, take_rest}
 use Rattle.std.proofs.lemmas.Option.{get_or_from_slice_get}
 use Rattle.std.proofs.lemmas.List.Elements.{filter_map-append, All-contains}
 use Rattle.std.proofs.lemmas.List.Concat.{flat_map-append}
@@ -11,17 +11,16 @@ use Rattle.std.proofs.lemmas.Bool.{eqb-true, and_from}
 use Rattle.tb_base.specs.declared.table.Path.{Path}
 use Rattle.tb_base.specs.declared.transfer.Transfer.{Transfer}
 use Rattle.tb_base.specs.Soundness.{IsSoundPath}
-use Rattle.tb_base.specs.Lines.{AreDividedInto}
-use Rattle.tb_base.specs.TimetableData.{TimetableData, events_of, event_at, stop_at, arrival_at, departure_at}
+use Rattle.tb_base.specs.TimetableData.{TimetableData, events_of, event_at, stop_at, arrival_at}
 use Rattle.tb_base.specs.Transfers.{candidates, boarding_indexes, earliest_trip, hop_onto, is_own_line_onward, may_be_boarded, numbers_below, numbers_down}
 use Rattle.tb_base.specs.Walking.{change}
 use Rattle.tb_base.proofs.Ordered.{Member, Contains-from_Member}
-use Rattle.tb_base.proofs.Members.{All-from_Member, find_found, Member-filter_back, Member-flat_map_back, Member-numbers_below_back, Member-concat_at}
 use Rattle.tb_laws.proofs.Triangles.{change-same, change-other}
+use Rattle.line_split.specs.declared.boardings.Boarding.{Boarding}
 use Rattle.line_split.specs.declared.lines.Berth.{Berth}
-use Rattle.line_split.specs.LinesOf.{StandsAt, berths_at, calls_at, line_events}
-use Rattle.transfer_make.specs.ByBerth.{IsBerth, hop_at, own_rows, row_by, row_of, rows_after, rows_at}
-use Rattle.transfer_make.proofs.OwnLine.{own_line, placed_at}
+use Rattle.line_split.specs.Layout.{AreBoardings, berth_of}
+use Rattle.line_split.specs.LinesOf.{berths_at, calls_at, is_boarded}
+use Rattle.transfer_make.specs.ByBerth.{hop_at, own_rows, row_by, row_of, rows_after, rows_at}
 use Rattle.transfer_make.proofs.Sparse.{flat_map-sparse, stops_between, targets, find-own, find-none, Member-from_at}
 use Rattle.tb_base.proofs.Lists.{map-flat_map, numbers_below-range}
 
@@ -222,35 +221,26 @@ module _ (T : TimetableData) (lines : List (List ℕ)) (t i p n : ℕ) (fs : Lis
       first : (i : ℕ) → 0 < i → nat_lt 0 i ≡ true
       first i h = grind arith
 
--- ---- what is known of a trip that is found on a line
+-- ---- where lines are boarded
 
-pub found_trip : (T : TimetableData) (lines : List (List ℕ)) → AreDividedInto T lines → (n j : ℕ) (time : ℤ) (u : ℕ) → earliest_trip T (get_or lines n []) j time ≡ Some u →
-    (u < length T.trips) × ((t i l p : ℕ) (place : ℕ × ℕ) → StandsAt lines t (l, p) → StandsAt lines u place → is_own_line_onward (get_or lines n []) t i u j ≡ ((n == l) && nat_le i j && nat_le p place.1))
-found_trip T lines divided n j time u h =
-    let member = (find_found (λ u. int_le time (departure_at T u j)) (get_or lines n []) u h).0 in
-    let there = placed_at (get_or lines n []) u member in
-    let among = Member-concat_at lines n there.0 u there.1 in
-    (All-contains (λ t. t < length T.trips) (concat lines) u divided.trips (Contains-from_Member u (concat lines) among), λ t i l p place stands found. own_line T lines divided t i u j l p n there.0 place stands found there.1)
-
--- ---- where lines call
-
-pub berths_inside : (T : TimetableData) (lines : List (List ℕ)) (q : ℕ) → All (IsBerth T lines) (berths_at T lines q)
-berths_inside T lines q = All-from_Member (IsBerth T lines) (berths_at T lines q) (λ b m. inside b m)
+filter_map-filter : {X Y : Type 0} (h : X → Option Y) (test : X → Bool) → ((x : X) → test x ≡ false → h x ≡ None) → (xs : List X) → filter_map h (filter test xs) ≡ filter_map h xs
+filter_map-filter h test none [] = refl
+filter_map-filter h test none (x ∷ xs) = by_test (test x) refl (filter_map-filter h test none xs)
   where
-    mapped : (l : ℕ) (js : List ℕ) (b : Berth) → Member b (map (λ j. record { line = l; at = j }) js) → (b.line ≡ l) × Member b.at js
-    mapped l [] b m = absurd m
-    mapped l (j ∷ js) b (inl e) = (ap (λ (c : Berth). c.line) (sym e), inl (ap (λ (c : Berth). c.at) e))
-    mapped l (j ∷ js) b (inr m) = let r = mapped l js b m in (r.0, inr r.1)
+    by_test : (b : Bool) → b ≡ test x → filter_map h (filter test xs) ≡ filter_map h xs → filter_map h (cond b (x ∷ filter test xs) (filter test xs)) ≡ cons_option (h x) (filter_map h xs)
+    by_test true e more = ap (cons_option (h x)) more
+    by_test false e more = more ∙ ap (λ o. cons_option o (filter_map h xs)) (sym (none x (sym e)))
 
-    inside : (b : Berth) → Member b (berths_at T lines q) → IsBerth T lines b
-    inside b m =
-        let on = Member-flat_map_back (λ l. map (λ j. record { line = l; at = j }) (calls_at T (get_or lines l []) q)) b (numbers_below (length lines)) m in
-        let at = mapped on.0 (calls_at T (get_or lines on.0 []) q) b on.2 in
-        let index = (Member-filter_back (λ j. stop_at T (get_or (get_or lines on.0 []) 0 0) j == q) b.at (numbers_below (length (line_events T (get_or lines on.0 [])))) at.1).0 in
-        record {
-          line = let h : on.0 < length lines = Member-numbers_below_back on.0 (length lines) on.1 in omega (arith, h, at.0);
-          at = subst (λ l. b.at < length (line_events T (get_or lines l []))) (sym at.0) (Member-numbers_below_back b.at (length (line_events T (get_or lines on.0 []))) index);
-        }
+-- the rows by the boardings at a stop are those by all berths there
+pub boarded_rows : (T : TimetableData) (lines : List (List ℕ)) (t i : ℕ) (time : ℤ) (berths : List Berth) (row : List Boarding) → AreBoardings T lines berths row →
+    filter_map (λ b. row_by T lines t i time (berth_of b)) row ≡ filter_map (row_by T lines t i time) berths
+boarded_rows T lines t i time berths row are =
+    sym (filter_map-map (row_by T lines t i time) berth_of row) ∙ ap (filter_map (row_by T lines t i time)) are.called ∙ filter_map-filter (row_by T lines t i time) (is_boarded T lines) none berths
+  where
+    none : (b : Berth) → is_boarded T lines b ≡ false → row_by T lines t i time b ≡ None
+    none b e =
+        ap (λ c. option_map (λ u. record { trip = t; at = i; to_trip = u; to_at = b.at })
+        (cond c (option_and_then (λ u. cond (is_own_line_onward (get_or lines b.line []) t i u b.at) None (Some u)) (earliest_trip T (get_or lines b.line []) b.at time)) None)) e
 
 -- ---- a trip, from its last event down
 

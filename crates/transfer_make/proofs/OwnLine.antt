@@ -103,7 +103,7 @@ and_swap true false true = refl
 and_swap true false false = refl
 and_swap false b c = refl
 
-pub placed_at : (xs : List ℕ) (t : ℕ) → Member t xs → (k : ℕ) × (slice_get xs k ≡ Some t)
+placed_at : (xs : List ℕ) (t : ℕ) → Member t xs → (k : ℕ) × (slice_get xs k ≡ Some t)
 placed_at [] t m = absurd m
 placed_at (x ∷ xs) t (inl e) = (0, ap (λ v. Some v) e)
 placed_at (x ∷ xs) t (inr m) = let r = placed_at xs t m in (suc r.0, r.1)

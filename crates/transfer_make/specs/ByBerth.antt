@@ -7,7 +7,7 @@ use Rattle.tb_base.specs.TimetableData.{TimetableData, events_of, arrival_at}
 use Rattle.tb_base.specs.Transfers.{earliest_trip, is_own_line_onward, may_be_boarded}
 use Rattle.tb_base.specs.Walking.{change_time}
 use Rattle.line_split.specs.declared.lines.Berth.{Berth}
-use Rattle.line_split.specs.LinesOf.{StandsAt, berths_at, line_events}
+use Rattle.line_split.specs.LinesOf.{StandsAt, berths_at}
 use Rattle.transfer_make.specs.declared.alighting.Alighting.{Alighting}
 
 -- an event past the first one of a trip, with its arrival and the place of its trip
@@ -19,11 +19,6 @@ pub record IsAlighting (T : TimetableData) (lines : List (List ℕ)) (a : Alight
   pub earliest : negsuc 86399 ≤ℤ a.arr
   pub latest : a.arr ≤ℤ pos 359999
   pub placed : StandsAt lines a.trip (a.line, a.place)
-
--- an index of one of the lines
-pub record IsBerth (T : TimetableData) (lines : List (List ℕ)) (b : Berth) : Type 0 where
-  pub line : b.line < length lines
-  pub at : b.at < length (line_events T (slice_index_or lines b.line []))
 
 -- from t@i onto the line where it calls, no earlier than the time: its first trip, unless staying
 -- does as well

@@ -13,20 +13,18 @@ use tb_base::{Memory, Path, StopNo, Timetable, Transfer, TripNo};
 // Adds the candidates at the stops that footpaths lead to.
 fn add_paths(
     rows: &mut Vec<Transfer>,
-    table: &Timetable,
     lines: &Lines,
     from: &Alighting,
     paths: &[Path],
 ) -> Result<(), Memory>
-    requires lines { lines.now.table ≡ table.now }
-    requires from { IsAlighting table.now lines.now.lines from.now }
-    requires paths { All (λ f. (f.to < length table.now.stops) × (f.secs ≤ 86400)) paths.now }
+    requires from { IsAlighting lines.now.table lines.now.lines from.now }
+    requires paths { All (λ f. (f.to < length lines.now.table.stops) × (f.secs ≤ 86400)) paths.now }
     ensures { OnOk result (rows.new.items ≡ rows.old.items
-        ++ flat_map (λ f. rows_at table.now lines.now.lines from.now.trip from.now.at f.to f.secs
-        from.now.arr) paths.now) }
+        ++ flat_map (λ f. rows_at lines.now.table lines.now.lines from.now.trip from.now.at f.to
+        f.secs from.now.arr) paths.now) }
 {
     for path in paths {
-        add_stop(rows, table, lines, from, path.to, path.secs)?;
+        add_stop(rows, lines, from, path.to, path.secs)?;
     }
     Ok(())
 }
@@ -46,7 +44,7 @@ fn add_own(
         ++ own_rows table.now lines.now.lines from.now.trip from.now.at stop from.now.arr) }
 {
     if let Some(secs) = table.change(stop, stop) {
-        add_stop(rows, table, lines, from, stop, secs)?;
+        add_stop(rows, lines, from, stop, secs)?;
     }
     Ok(())
 }
@@ -81,9 +79,9 @@ fn add_alighting(
     table.soundness();
     let paths = table.paths(stop);
     let below = paths_below(paths, stop);
-    add_paths(rows, table, lines, from, &paths[..below])?;
+    add_paths(rows, lines, from, &paths[..below])?;
     add_own(rows, table, lines, from, stop)?;
-    add_paths(rows, table, lines, from, &paths[below..])
+    add_paths(rows, lines, from, &paths[below..])
 }
 
 /// Adds the candidates of an event of a trip.

@@ -52,6 +52,8 @@ new-split-requires c =
       runs = λ t inside. c.in_ok-in_order.ensures.runs t (omega (arith, inside, ap length c.as_slice-2.ensures.value, c.in_ok-places.ensures.length, c.trip_count.ensures));
       stops = c.in_ok-berths.ensures.length;
       berths = c.in_ok-berths.ensures.berths;
+      boarded = c.in_ok-boardings.ensures.length;
+      boardings = c.in_ok-boardings.ensures.boardings;
       starts = c.in_ok-starts.ensures.starts;
       departures = c.in_ok-starts.ensures.departures;
     }

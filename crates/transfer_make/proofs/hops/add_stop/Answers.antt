@@ -1,20 +1,25 @@
-use Rattle.std.proofs.Common.{◌≡◌, ◌∙◌, sym, ap, subst, pos, ◌+ℤ◌}
-use Rattle.std.specs.Prelude.{All}
-use Rattle.tb_base.specs.TimetableData.{TimetableData}
+use Rattle.std.proofs.Common.{◌∙◌, ap, arith, ◌++◌, pos, ◌+ℤ◌}
+use Rattle.std.specs.Prelude.{filter_map}
+use Rattle.std.proofs.lemmas.List.{take_all}
+use Rattle.line_split.specs.Layout.{berth_of}
 use Rattle.line_split.specs.LinesOf.{berths_at}
-use Rattle.transfer_make.specs.ByBerth.{IsBerth, row_by}
-use Rattle.transfer_make.proofs.ByBerth.{berths_inside, rows_more}
+use Rattle.transfer_make.specs.ByBerth.{row_by}
+use Rattle.transfer_make.proofs.ByBerth.{boarded_rows, rows_more}
 use Rattle.transfer_make.proofs.hops.add_stop.Goals as goal
 
-pub add_berth-requires-clause-berth : goal.add_berth-requires-clause-berth
-add_berth-requires-clause-berth c =
-    let T = c.args.table.now in
-    let lines = c.args.lines.now.lines in
-    let items : c.at-berth-items.result.now ≡ berths_at c.args.table.now c.args.lines.now.lines c.args.stop = c.at-berth-items.ensures ∙ ap (λ (T : TimetableData). berths_at T c.args.lines.now.lines c.args.stop) c.requires.lines in
-    subst (IsBerth T lines) (sym c.berth-item.is) (subst (λ bs. All (IsBerth T lines) bs) (sym items) (berths_inside T lines c.args.stop) c.loop-berth.berth-index c.berth-item.result c.loop-berth-test.true)
+pub loop-boarding-preserved : goal.loop-boarding-preserved
+loop-boarding-preserved c =
+    rows_more (λ b. row_by c.args.lines.now.table c.args.lines.now.lines c.args.from.now.trip c.args.from.now.at (c.args.from.now.arr +ℤ pos c.args.secs) (berth_of b))
+    c.boardings-boarding-items.result.now c.loop-boarding.boarding-index c.boarding-item.result c.args.rows.now.items c.loop-boarding.rows.items c.add_boarding.new.rows.items
+    c.loop-boarding-test.true c.boarding-item.is c.loop-boarding.invariant c.in_ok-add_boarding.ensures
 
-pub loop-berth-preserved : goal.loop-berth-preserved
-loop-berth-preserved c =
-    rows_more (row_by c.args.table.now c.args.lines.now.lines c.args.from.now.trip c.args.from.now.at (c.args.from.now.arr +ℤ pos c.args.secs))
-    c.at-berth-items.result.now c.loop-berth.berth-index c.berth-item.result c.args.rows.now.items c.loop-berth.rows.items c.add_berth.new.rows.items
-    c.loop-berth-test.true c.berth-item.is c.loop-berth.invariant c.in_ok-add_berth.ensures
+pub returns : goal.returns
+returns c =
+    let T = c.args.lines.now.table in
+    let lines = c.args.lines.now.lines in
+    let from = c.args.from.now in
+    let items = c.boardings-boarding-items.result.now in
+    let time = c.args.from.now.arr +ℤ pos c.args.secs in
+    c.loop-boarding.invariant
+    ∙ ap (λ bs. c.args.rows.now.items ++ filter_map (λ b. row_by T lines from.trip from.at time (berth_of b)) bs) (take_all c.loop-boarding.boarding-index items (omega arith))
+    ∙ ap (λ ys. c.args.rows.now.items ++ ys) (boarded_rows T lines from.trip from.at time (berths_at T lines c.args.stop) items c.boardings-boarding-items.ensures)
