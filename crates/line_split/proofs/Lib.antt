@@ -11,3 +11,4 @@ pub mod PlaceLemmas
 pub mod Counts
 pub mod CallTotals
 pub mod BerthLemmas
+pub mod EndLemmas

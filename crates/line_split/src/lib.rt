@@ -14,6 +14,7 @@ ghost use Rattle.tb_base.specs.Lines.{AreLines};
 mod berths;
 mod boardings;
 mod departures;
+mod ends;
 mod events;
 pub mod laws;
 mod lines;

@@ -1,14 +1,16 @@
 //! Trips are placed on lines, one after another.
-ghost use Rattle.std.specs.Prelude.{◌≡◌, ◌<◌, ◌≤◌, ℕ, [], IfOk, OnOk, All, find, fold, length, slice_index_or};
+ghost use Rattle.std.specs.Prelude.{◌≡◌, ◌<◌, ◌≤◌, ◌++◌, ◌∷◌, ℕ, [], IfOk, OnOk, All, find, fold, length, replicate, slice_index_or, slice_set};
 ghost use Rattle.tb_base.specs.TimetableData.{events_of};
 ghost use Rattle.tb_base.specs.Lines.{last_trip, may_follow, place_trip};
 ghost use Rattle.line_split.specs.Patterns.{bucket_of};
 ghost use Rattle.line_split.specs.Buckets.{AreBucketed};
+ghost use Rattle.line_split.specs.Ends.{AreEnds, AreEndsOf};
 
+use super::ends::{Ends, end_of};
 use super::events::{events_of, may_follow, pattern_hash};
 use super::nested::Nested;
 use std::alloc::Global;
-use tb_base::{Event, Memory, Timetable, TripNo};
+use tb_base::{Event, Memory, Sec, Timetable, TripNo};
 
 /// The lines: each trip in turn joins the first line that it may follow the last trip of, else it
 /// opens a new one.
@@ -23,31 +25,55 @@ pub(crate) fn place_trips(
 {
     let mut lines = Nested::new(alloc);
     let mut buckets = Nested::with_rows(alloc, order.len())?;
+    let mut ends = no_ends(alloc, order.len())?;
     for trip in order {
-        place(alloc, table, &mut lines, &mut buckets, *trip)?;
+        place(
+            alloc,
+            table,
+            &mut lines,
+            &mut buckets,
+            ends.as_mut_slice(),
+            *trip,
+        )?;
     }
     Ok(lines)
 }
 
-// Places one trip. The buckets hold the numbers of the lines, by the hash of their pattern.
+// For each of so many buckets no end of a line.
+fn no_ends(alloc: Global, count: usize) -> Result<Vec<Ends>, Memory>
+    ensures { IfOk result (λ ends. ends.items ≡ replicate count []) }
+{
+    let mut ends = Vec::new(alloc);
+    for _bucket in 0..count {
+        ends.push(Ends::new(alloc))?;
+    }
+    Ok(ends)
+}
+
+// Places one trip. The buckets hold the numbers of the lines, by the hash of their pattern; the
+// ends of their lines are those of the trips that opened them.
 fn place(
     alloc: Global,
     table: &Timetable,
     lines: &mut Nested<TripNo>,
     buckets: &mut Nested<usize>,
+    ends: &mut [Ends],
     trip: TripNo,
 ) -> Result<(), Memory>
     requires room { 0 < length buckets.old }
     requires bucketed { AreBucketed table.now lines.old buckets.old }
+    requires ends { AreEnds table.now lines.old buckets.old ends.old }
     ensures placed { OnOk result (lines.new ≡ place_trip table.now lines.old trip) }
     ensures room { OnOk result (length buckets.new ≡ length buckets.old) }
     ensures bucketed { OnOk result (AreBucketed table.now lines.new buckets.new) }
+    ensures ends { OnOk result (AreEnds table.now lines.new buckets.new ends.new) }
 {
     let events = events_of(table, trip);
     let bucket = bucket_of(events, buckets.len());
-    match first_line(table, lines, buckets.row(bucket), events) {
+    match first_line(table, lines, buckets.row(bucket), &ends[bucket], trip) {
         Some(line) => lines.add(line, trip),
         None => {
+            add_end(ends, bucket, end_of(events))?;
             buckets.add(bucket, lines.len())?;
             lines.open_with(alloc, trip)
         }
@@ -73,22 +99,38 @@ fn last_trip(trips: &[TripNo]) -> TripNo
     trips[trips.len() - 1]
 }
 
-// The first of these lines that a trip with the events may join.
+// The end of a line more, behind the others of its bucket.
+fn add_end(ends: &mut [Ends], bucket: usize, time: Sec) -> Result<(), Memory>
+    requires { bucket < length ends.old }
+    ensures { OnOk result
+        (ends.new ≡ slice_set ends.old bucket (slice_index_or ends.old bucket [] ++ time ∷ [])) }
+{
+    ends[bucket].add(time)
+}
+
+// The first of these lines that a trip may join. Lines that end after it are passed over.
 fn first_line(
     table: &Timetable,
     lines: &Nested<TripNo>,
     among: &[usize],
-    events: &[Event],
+    ends: &Ends,
+    trip: TripNo,
 ) -> Option<usize>
-    requires { All (λ l. l < length lines.now) among.now }
+    requires lines { All (λ l. l < length lines.now) among.now }
+    requires ends { AreEndsOf table.now lines.now among.now ends.now }
     ensures { result ≡ find (λ l.
-        may_follow (events_of table.now (last_trip (slice_index_or lines.now l []))) events.now)
-        among.now }
+        may_follow (events_of table.now (last_trip (slice_index_or lines.now l [])))
+        (events_of table.now trip)) among.now }
 {
-    for line in among {
-        if may_follow(events_of(table, last_trip(lines.row(*line))), events) {
-            return Some(*line);
+    let events = events_of(table, trip);
+    let end = end_of(events);
+    let mut place = ends.first_by(0, end);
+    while place < among.len() {
+        let line = among[place];
+        if may_follow(events_of(table, last_trip(lines.row(line))), events) {
+            return Some(line);
         }
+        place = ends.first_by(place + 1, end);
     }
     None
 }

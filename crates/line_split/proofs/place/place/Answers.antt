@@ -1,30 +1,35 @@
-use Rattle.std.proofs.Common.{◌≡◌, arith, ◌∙◌, ◌<◌, length}
+use Rattle.std.proofs.Common.{◌≡◌, arith, rules, ap, sym, subst, ◌∙◌, ◌<◌, [], ◌∷◌, ◌++◌, find, get_or, set, length}
+use Rattle.std.specs.Int.{w32}
+use Rattle.std.specs.Prelude.{FitsSigned}
+use Rattle.std.proofs.lemmas.Int.{to_z-of_z}
 use Rattle.line_split.specs.Patterns.{bucket_of}
 use Rattle.tb_base.specs.TimetableData.{events_of}
 use Rattle.line_split.specs.Buckets.{AreBucketed}
-use Rattle.line_split.proofs.Placing.{look, found_inside, placed_on, placed_behind, bucketed_on, bucketed_behind, more_buckets-is}
+use Rattle.line_split.specs.Ends.{AreEnds, end_of}
+use Rattle.line_split.proofs.EndLemmas.{ends_joined, ends_opened}
+use Rattle.line_split.proofs.Placing.{look, found_inside, placed_on, placed_behind, bucketed_on, bucketed_behind, joins, more_buckets-is}
 use Rattle.line_split.proofs.RowLemmas.{on_ok_subst}
 use Rattle.line_split.proofs.place.place.Goals as goal
 
 pub add-requires : goal.add-requires
 add-requires c =
-    let f = look c.args.table.now c.args.lines.now c.args.buckets.now c.requires.bucketed c.args.trip _ _ _ _ _ c.events_of-events.ensures c.len.ensures c.bucket_of-bucket.ensures.value c.row.ensures c.first_line.ensures ∙ c.in-Some.is in
+    let f = look c.args.table.now c.args.lines.now c.args.buckets.now c.requires.bucketed c.args.trip _ _ _ _ _ c.events_of-events.ensures c.len.ensures c.bucket_of-bucket.ensures.value c.row.ensures (c.first_line.ensures ∙ ap (λ es. find (joins c.args.table.now c.args.lines.now es) c.row.result.now) (sym c.events_of-events.ensures)) ∙ c.in-Some.is in
     (found_inside c.args.table.now c.args.lines.now c.args.buckets.now c.requires.bucketed c.args.trip c.in-Some.line f).0
 
 pub returns-in-Some-clause-placed : goal.returns-in-Some-clause-placed
 returns-in-Some-clause-placed c =
-    let f = look c.args.table.now c.args.lines.now c.args.buckets.now c.requires.bucketed c.args.trip _ _ _ _ _ c.events_of-events.ensures c.len.ensures c.bucket_of-bucket.ensures.value c.row.ensures c.first_line.ensures ∙ c.in-Some.is in
+    let f = look c.args.table.now c.args.lines.now c.args.buckets.now c.requires.bucketed c.args.trip _ _ _ _ _ c.events_of-events.ensures c.len.ensures c.bucket_of-bucket.ensures.value c.row.ensures (c.first_line.ensures ∙ ap (λ es. find (joins c.args.table.now c.args.lines.now es) c.row.result.now) (sym c.events_of-events.ensures)) ∙ c.in-Some.is in
     rw (placed_on c.args.table.now c.args.lines.now c.args.buckets.now c.requires.bucketed c.args.trip c.in-Some.line f) c.add.ensures
 
 pub returns-in-Some-clause-bucketed : goal.returns-in-Some-clause-bucketed
 returns-in-Some-clause-bucketed c =
-    let f = look c.args.table.now c.args.lines.now c.args.buckets.now c.requires.bucketed c.args.trip _ _ _ _ _ c.events_of-events.ensures c.len.ensures c.bucket_of-bucket.ensures.value c.row.ensures c.first_line.ensures ∙ c.in-Some.is in
+    let f = look c.args.table.now c.args.lines.now c.args.buckets.now c.requires.bucketed c.args.trip _ _ _ _ _ c.events_of-events.ensures c.len.ensures c.bucket_of-bucket.ensures.value c.row.ensures (c.first_line.ensures ∙ ap (λ es. find (joins c.args.table.now c.args.lines.now es) c.row.result.now) (sym c.events_of-events.ensures)) ∙ c.in-Some.is in
     let found = found_inside c.args.table.now c.args.lines.now c.args.buckets.now c.requires.bucketed c.args.trip c.in-Some.line f in
     on_ok_subst c.add.result (λ ls. AreBucketed c.args.table.now ls c.args.buckets.now) c.add.new.self _ c.add.ensures (bucketed_on c.args.table.now c.args.lines.now c.args.buckets.now c.requires.bucketed c.args.trip c.in-Some.line found.0 found.1)
 
 pub returns-in_ok-add-in-None-clause-placed : goal.returns-in_ok-add-in-None-clause-placed
 returns-in_ok-add-in-None-clause-placed c =
-    let f = look c.args.table.now c.args.lines.now c.args.buckets.now c.requires.bucketed c.args.trip _ _ _ _ _ c.events_of-events.ensures c.len.ensures c.bucket_of-bucket.ensures.value c.row.ensures c.first_line.ensures ∙ c.in-None.is in
+    let f = look c.args.table.now c.args.lines.now c.args.buckets.now c.requires.bucketed c.args.trip _ _ _ _ _ c.events_of-events.ensures c.len.ensures c.bucket_of-bucket.ensures.value c.row.ensures (c.first_line.ensures ∙ ap (λ es. find (joins c.args.table.now c.args.lines.now es) c.row.result.now) (sym c.events_of-events.ensures)) ∙ c.in-None.is in
     rw (placed_behind c.args.table.now c.args.lines.now c.args.buckets.now c.requires.bucketed c.args.trip f) c.open_with.ensures
 
 pub returns-in_ok-add-in-None-clause-bucketed : goal.returns-in_ok-add-in-None-clause-bucketed
@@ -35,3 +40,24 @@ returns-in_ok-add-in-None-clause-bucketed c =
     let more = more_buckets-is c.args.table.now c.args.lines.now c.args.buckets.now c.requires.bucketed c.args.trip _ _ c.add-in-None.new.self own c.len-in-None.ensures c.in_ok-add-in-None.ensures in
     on_ok_subst c.open_with.result (λ ls. AreBucketed c.args.table.now ls c.add-in-None.new.self) c.open_with.new.self _ c.open_with.ensures
     (rw more (bucketed_behind c.args.table.now c.args.lines.now c.args.buckets.now c.requires.bucketed c.args.trip below))
+
+pub returns-in-Some-clause-ends : goal.returns-in-Some-clause-ends
+returns-in-Some-clause-ends c =
+    let f = look c.args.table.now c.args.lines.now c.args.buckets.now c.requires.bucketed c.args.trip _ _ _ _ _ c.events_of-events.ensures c.len.ensures c.bucket_of-bucket.ensures.value c.row.ensures (c.first_line.ensures ∙ ap (λ es. find (joins c.args.table.now c.args.lines.now es) c.row.result.now) (sym c.events_of-events.ensures)) ∙ c.in-Some.is in
+    let found = found_inside c.args.table.now c.args.lines.now c.args.buckets.now c.requires.bucketed c.args.trip c.in-Some.line f in
+    on_ok_subst c.add.result (λ ls. AreEnds c.args.table.now ls c.args.buckets.now c.args.ends.now) c.add.new.self _ c.add.ensures (ends_joined c.args.table.now c.args.lines.now c.args.buckets.now c.args.ends.now c.args.trip c.in-Some.line found.0 found.1 c.requires.ends)
+
+pub returns-in_ok-add-in-None-clause-ends : goal.returns-in_ok-add-in-None-clause-ends
+returns-in_ok-add-in-None-clause-ends c =
+    let T = c.args.table.now in
+    let lines = c.args.lines.now in
+    let buckets = c.args.buckets.now in
+    let b = c.bucket_of-bucket.result in
+    let fits : FitsSigned w32 c.end_of.result = search rules in
+    let below : c.bucket_of-bucket.result < length c.args.buckets.now = omega (arith, c.bucket_of-bucket.ensures.below, c.len.ensures) in
+    let is = to_z-of_z w32 c.end_of.result fits ∙ c.end_of.ensures ∙ ap end_of c.events_of-events.ensures in
+    let listed = c.in_ok-add-in-None.ensures ∙ ap (λ n. set buckets b (get_or buckets b [] ++ n ∷ [])) c.len-in-None.ensures in
+    on_ok_subst c.open_with.result (λ ls. AreEnds T ls c.add-in-None.new.self c.add_end.new.ends) c.open_with.new.self _ c.open_with.ensures
+    (subst (λ bs. AreEnds T (lines ++ (c.args.trip ∷ []) ∷ []) bs c.add_end.new.ends) (sym listed)
+    (subst (λ es. AreEnds T (lines ++ (c.args.trip ∷ []) ∷ []) (set buckets b (get_or buckets b [] ++ length lines ∷ [])) es) (sym c.in_ok-add_end-in-None.ensures)
+    (ends_opened T lines buckets c.args.ends.now c.args.trip b _ c.requires.ends c.requires.bucketed.known below is)))
