@@ -1,8 +1,8 @@
 #!/usr/bin/env python3
 """Holds the proved program against its limits from both sides: limits.py [NAME ..]
 
-Writes a feed just at a limit and one just past it, runs `direct` over each, and prints status, seconds and memory. The files take
-up to two gigabytes of a temporary folder at a time.
+Writes a feed or a script just at a limit and one just past it, runs `direct` or `serve` over each, and prints status, seconds and
+memory. The files take up to two gigabytes of a temporary folder at a time.
 """
 import os
 import sys
@@ -84,9 +84,40 @@ def footpaths(folder, more):
     """Stations whose platforms an option joins each to each, 2,000,000 footpaths in all, and so many stations of two platforms."""
     sizes = [101] * 198 + [14, 4, 3] + [2] * more
     rows = "stop_id,location_type,parent_station\nA,,\nB,,\n"
-    for station, size in enumerate(sizes + [2]):
+    for station, size in enumerate(sizes):
         rows += f"S{station},1,\n" + "".join(f"S{station}:{n},,S{station}\n" for n in range(size))
     write_feed(folder, rows)
+
+
+def rows_of_transfers(folder, more):
+    """2,000,000 rows of transfers.txt, each a footpath, between the stops of groups of 22 and between A and B, and so many more."""
+
+    def rows():
+        for group in range(4329):
+            for one in range(22):
+                yield from (f"P{group}:{one},P{group}:{other},2,60\n" for other in range(22) if one != other)
+        yield "A,B,2,600\nB,A,2,600\n"
+        yield from (f"P0:0,P1:{other},2,60\n" for other in range(more))
+
+    stops = "stop_id\nA\nB\n" + "".join(f"P{group}:{one}\n" for group in range(4329) for one in range(22))
+    write_feed(folder, stops, transfers=rows())
+
+
+def lanes(more):
+    return "".join(f"lane {n}\nask A B 08:00:00\n" for n in range(64 + more))
+
+
+def requests(more):
+    """20,000 requests in 64 lanes, and so many more."""
+    script = "".join(f"lane {n}\n" + "ask A B 08:00:00\n" * 312 for n in range(64))
+    return script + "ask A B 08:00:00\n" * (20_000 - 64 * 312 + more)
+
+
+def bytes_of_script(more):
+    """A script of 33,554,432 bytes and so many more, most of them in remarks."""
+    script = "lane a\nask A B 08:00:00\n"
+    left = 33_554_432 + more - len(script)
+    return script + ("#" * 1000 + "\n") * (left // 1001) + "#" * (left % 1001)
 
 
 LIMITS = {
@@ -96,23 +127,36 @@ LIMITS = {
     "rows_of_times": (rows_of_times, []),
     "bytes": (bytes_of_file, []),
     "footpaths": (footpaths, ["--station", "60"]),
+    "rows_of_transfers": (rows_of_transfers, []),
 }
+SCRIPTS = {"lanes": lanes, "requests": requests, "bytes_of_script": bytes_of_script}
 
 
 def megabytes_of(folder):
     return sum(os.path.getsize(os.path.join(folder, name)) for name in os.listdir(folder)) / 1e6
 
 
+def run_feed(name, folder, more):
+    """The megabytes of a feed, and the run over it."""
+    make, options = LIMITS[name]
+    make(folder, more)
+    return megabytes_of(folder), Run([*options, "direct", folder, DAY, "A", "B", "08:00:00"])
+
+
+def run_script(name, folder, more):
+    """The megabytes of a script, and the run that serves it."""
+    write_feed(folder)
+    script = SCRIPTS[name](more).encode()
+    return len(script) / 1e6, Run(["serve", f"{folder}@{DAY}"], given=script)
+
+
 def main(names):
-    print("| at the limit of | feed MB | status | first line | processor seconds | memory MB |\n|---|---|---|---|---|---|")
-    for name in names or LIMITS:
-        make, options = LIMITS[name]
+    print("| at the limit of | MB | status | first line | processor seconds | memory MB |\n|---|---|---|---|---|---|")
+    for name in names or [*LIMITS, *SCRIPTS]:
         for more in (0, 1):
             with tempfile.TemporaryDirectory() as folder:
-                make(folder, more)
-                run = Run([*options, "direct", folder, DAY, "A", "B", "08:00:00"])
+                size, run = (run_feed if name in LIMITS else run_script)(name, folder, more)
                 side = "just past" if more else "just at"
-                size = megabytes_of(folder)
                 print(f"| {name}, {side} | {size:.0f} | {run.status} | {run.first_line()} | {run.seconds:.1f} | {run.megabytes:.0f} |", flush=True)
 
 

@@ -1,10 +1,13 @@
 #!/usr/bin/env python3
-"""Writes a feed with the density of a real network: make_network.py FOLDER PATTERNS [SEED]
+"""Writes a feed with the density of a real network: make_network.py FOLDER PATTERNS [SEED] [frequencies|written|without]
 
 Stations stand in a square grid, with two to six platforms each: as many as their routes need, joined by footpaths. A route runs
 both ways over the same stations, by way of a hub, some 28 calls a trip; each direction is a pattern of stops, with some 54
 trips a weekday: more often in the two peaks, when they are slower too, and seldom in the evening. No trip overtakes another of
 its pattern. Where routes meet one can change, to some nine lines from an event. The same words give the same bytes.
+
+With the word `frequencies` every second route runs by rows of frequencies.txt: the times of one trip a pattern and service, and
+the same number of departures a headway apart. With `written` the same trips are written out, with `without` they are left out.
 """
 import os
 import random
@@ -112,17 +115,55 @@ def departures(share):
     return found
 
 
-def ride(legs, depart):
-    """The times at which a trip arrives; it departs after a dwell. Legs take up to a quarter longer in a peak."""
+def ride(legs, depart, crowded=True):
+    """The times at which a trip arrives; it departs after a dwell. Legs take up to a quarter longer in a peak, where it's crowded."""
     secs = depart - DWELL
     yield secs
     for leg in legs:
         secs += DWELL
-        secs += leg + int(leg * crowd(secs) / 4)
+        secs += leg + (int(leg * crowd(secs) / 4) if crowded else 0)
         yield secs
 
 
-def main(folder, patterns, seed):
+def headways(departs):
+    """Rows of frequencies.txt that give these departures: the first, a second behind the last, and the seconds between."""
+    at = 0
+    while at < len(departs):
+        end = at + 1
+        gap = departs[end] - departs[at] if end < len(departs) else 60
+        while end < len(departs) and departs[end] - departs[end - 1] == gap:
+            end += 1
+        yield departs[at], departs[end - 1] + 1, gap
+        at = end
+
+
+class Trips:
+    """Rows of trips.txt, stop_times.txt and frequencies.txt."""
+
+    def __init__(self):
+        self.trips = ["route_id,service_id,trip_id"]
+        self.times = ["trip_id,arrival_time,departure_time,stop_id,stop_sequence,pickup_type,drop_off_type"]
+        self.frequencies = ["trip_id,start_time,end_time,headway_secs"]
+
+    def add(self, pattern, service, name, calls, run):
+        """A trip with these calls, platforms, and the times at which it arrives there."""
+        trip = f"T{pattern}:{name}"
+        last = len(calls) - 1
+        self.trips.append(f"R{pattern.partition(':')[0]},{service},{trip}")
+        for at, (secs, platform) in enumerate(zip(run, calls)):
+            marks = f"{int(at == last)},{int(at == 0)}"
+            self.times.append(f"{trip},{clock(secs)},{clock(secs + DWELL)},{platform},{at + 1},{marks}")
+
+    def add_by_frequency(self, pattern, departs, calls, legs):
+        """Of each service one trip, and the departures of a pattern by headways."""
+        for service in sorted({service for _, service in departs}):
+            found = [depart for depart, other in departs if other == service]
+            self.add(pattern, service, service, calls, ride(legs, found[0], False))
+            for first, end, gap in headways(found):
+                self.frequencies.append(f"T{pattern}:{service},{clock(first)},{clock(end)},{gap}")
+
+
+def main(folder, patterns, seed, half=None):
     random.seed(seed)
     os.makedirs(folder, exist_ok=True)
     side = max(round((patterns / PATTERNS_PER_STATION) ** 0.5), 36)
@@ -133,23 +174,24 @@ def main(folder, patterns, seed):
         for station in stations:
             called[station] += 1
     platforms = [2 if count < 3 else 4 if count < 6 else 6 for count in called]
-    trips = ["route_id,service_id,trip_id"]
-    times = ["trip_id,arrival_time,departure_time,stop_id,stop_sequence,pickup_type,drop_off_type"]
+    trips = Trips()
     for number, stations in enumerate(routes):
-        legs = [60 + random.randrange(90) for _ in stations[1:]]
+        outward = [60 + random.randrange(90) for _ in stations[1:]]
         share = random.choice((0.6, 0.8, 1.0, 1.0, 1.3, 1.6))
+        by = half if number % 2 else None
         for direction in (0, 1):
-            calls = list(stations if direction == 0 else reversed(stations))
             # each direction has half of the platforms, and a route has one of them
-            tracks = [number % (platforms[station] // 2) * 2 + direction for station in calls]
-            last = len(calls) - 1
-            for place, (depart, service) in enumerate(departures(share)):
-                trip = f"T{number}:{direction}:{place}"
-                trips.append(f"R{number},{service},{trip}")
-                run = ride(legs if direction == 0 else legs[::-1], depart)
-                for at, (secs, station, track) in enumerate(zip(run, calls, tracks)):
-                    marks = f"{int(at == last)},{int(at == 0)}"
-                    times.append(f"{trip},{clock(secs)},{clock(secs + DWELL)},S{station}:{track},{at + 1},{marks}")
+            calls = [
+                f"S{station}:{number % (platforms[station] // 2) * 2 + direction}"
+                for station in (stations if direction == 0 else reversed(stations))
+            ]
+            legs = outward if direction == 0 else outward[::-1]
+            departs = departures(share)
+            if by == "frequencies":
+                trips.add_by_frequency(f"{number}:{direction}", departs, calls, legs)
+            elif by != "without":
+                for place, (depart, service) in enumerate(departs):
+                    trips.add(f"{number}:{direction}", service, place, calls, ride(legs, depart, by is None))
     write(folder, "stops.txt", stops(platforms))
     write(folder, "transfers.txt", transfers(side, platforms))
     write(
@@ -161,9 +203,13 @@ def main(folder, patterns, seed):
             "WD,1,1,1,1,1,0,0,20260101,20261231",
         ],
     )
-    write(folder, "trips.txt", trips)
-    write(folder, "stop_times.txt", times)
+    write(folder, "trips.txt", trips.trips)
+    write(folder, "stop_times.txt", trips.times)
+    if half == "frequencies":
+        write(folder, "frequencies.txt", trips.frequencies)
 
 
 if __name__ == "__main__":
-    main(sys.argv[1], int(sys.argv[2]), int(sys.argv[3]) if len(sys.argv) > 3 else 7)
+    HALVES = ("frequencies", "written", "without")
+    numbers = [word for word in sys.argv[2:] if word not in HALVES]
+    main(sys.argv[1], int(numbers[0]), int(numbers[1]) if len(numbers) > 1 else 7, next((word for word in sys.argv if word in HALVES), None))

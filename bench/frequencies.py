@@ -1,0 +1,67 @@
+#!/usr/bin/env python3
+"""Measures reading trips by frequency: frequencies.py [PATTERNS ..]
+
+Writes each network three times: every second route by rows of frequencies.txt, with the same trips written out, and without
+them. Reads each and makes the timetable of a weekday with the proved program (crates/query_bench/out/query_bench, which `rt run`
+in crates/query_bench builds), the least of five runs, and prints seconds of processor time and microseconds for each trip of the
+half by frequency and of the half written out, beside those of the other half. Both ways have to give the same answers.
+"""
+import os
+import subprocess
+import sys
+import tempfile
+
+HERE = os.path.dirname(os.path.abspath(__file__))
+PROGRAM = os.environ.get("QUERY_BENCH", os.path.join(HERE, "..", "crates", "query_bench", "out", "query_bench"))
+DAY = "20260302"
+HALVES = ("frequencies", "written", "without")
+RUNS = 5
+
+
+def seconds(folder):
+    """The processor seconds of reading a feed and making its timetable."""
+    child = subprocess.Popen([PROGRAM, folder, DAY, "0", "plain"], stdout=subprocess.DEVNULL, stderr=subprocess.DEVNULL)
+    _, status, used = os.wait4(child.pid, 0)
+    assert status == 0, status
+    return used.ru_utime + used.ru_stime
+
+
+def found(folder):
+    words = [PROGRAM, folder, DAY, "100", "plain"]
+    return subprocess.run(words, capture_output=True, text=True, check=True).stdout
+
+
+def rows(folder, name):
+    with open(os.path.join(folder, name), encoding="ascii") as file:
+        return sum(1 for _ in file) - 1
+
+
+def measure(patterns, folder):
+    folders = {half: os.path.join(folder, half) for half in HALVES}
+    for half, path in folders.items():
+        subprocess.run([sys.executable, os.path.join(HERE, "make_network.py"), path, str(patterns), half], check=True)
+    assert found(folders["frequencies"]) == found(folders["written"])
+    taken = {half: min(seconds(path) for _ in range(RUNS)) for half, path in folders.items()}
+    other = rows(folders["without"], "trips.txt")
+    half = rows(folders["written"], "trips.txt") - other
+    each = {name: (taken[name] - taken["without"]) * 1e6 / half for name in ("frequencies", "written")}
+    print(
+        f"| {patterns:,} | {half:,} | {rows(folders['frequencies'], 'frequencies.txt'):,} | {taken['without']:.3f} "
+        f"| {taken['frequencies']:.3f} | {taken['written']:.3f} | {taken['without'] * 1e6 / other:.1f} "
+        f"| {each['frequencies']:.1f} | {each['written']:.1f} |",
+        flush=True,
+    )
+
+
+def main(words):
+    print(
+        "| patterns | trips of the half | rows of frequencies.txt | without it s | by frequency s | written out s "
+        "| other half, us a trip | by frequency | written out |\n|---|---|---|---|---|---|---|---|---|"
+    )
+    for patterns in [int(word) for word in words] or [300, 3000]:
+        with tempfile.TemporaryDirectory() as folder:
+            measure(patterns, folder)
+
+
+if __name__ == "__main__":
+    main(sys.argv[1:])
