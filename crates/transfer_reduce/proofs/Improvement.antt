@@ -22,7 +22,7 @@ use Rattle.tb_base.proofs.Lists.{option_map-back}
 
 -- ---- some element passes
 
-any-none : {X : Type 0} (test : X → Bool) (xs : List X) → ((x : X) → Member x xs → test x ≡ false) → list_any test xs ≡ false
+pub any-none : {X : Type 0} (test : X → Bool) (xs : List X) → ((x : X) → Member x xs → test x ≡ false) → list_any test xs ≡ false
 any-none test [] h = refl
 any-none test (x ∷ xs) h = ap (λ b. b || list_any test xs) (h x (inl refl)) ∙ any-none test xs (λ y m. h y (inr m))
 
@@ -43,7 +43,7 @@ any-member {X} test (y ∷ ys) h = by_test (λ k. any-member test ys k) (test y)
     by_test more true e k = (y, inl refl, sym e)
     by_test more false e k = let r = more k in (r.0, inr r.1, r.2)
 
-none-member : {X : Type 0} (test : X → Bool) (xs : List X) → list_any test xs ≡ false → (x : X) → Member x xs → test x ≡ false
+pub none-member : {X : Type 0} (test : X → Bool) (xs : List X) → list_any test xs ≡ false → (x : X) → Member x xs → test x ≡ false
 none-member test [] h x m = absurd m
 none-member test (y ∷ ys) h x m = by_test (λ k l. none-member test ys k x l) (test y) refl h m
   where

@@ -186,7 +186,7 @@ label_offered secs_to (es ∷ ess) p time h = by_case (λ k. label_offered secs_
     by_case more (inr k) = let r : IsOffered secs_to ess p time = more k in record { events = r.events; among = inr r.among; event = r.event; member = r.member; offer = r.offer }
 
 -- and at most each such offer
-earliest_below : (secs_to : ℕ → ℕ → Option ℕ) (es : List Event) (p : ℕ) (e : Event) (x : ℤ) → Member e es → IsSomeAnd (offer_by secs_to e p) (λ y. y ≤ℤ x) → IsSomeAnd (earliest_offer secs_to es p) (λ y. y ≤ℤ x)
+pub earliest_below : (secs_to : ℕ → ℕ → Option ℕ) (es : List Event) (p : ℕ) (e : Event) (x : ℤ) → Member e es → IsSomeAnd (offer_by secs_to e p) (λ y. y ≤ℤ x) → IsSomeAnd (earliest_offer secs_to es p) (λ y. y ≤ℤ x)
 earliest_below secs_to [] p e x m h = absurd m
 earliest_below secs_to (f ∷ fs) p e x (inl is) h =
     subst (λ o. IsSomeAnd o (λ y. y ≤ℤ x)) (sym (earliest_offer-cons secs_to f fs p))

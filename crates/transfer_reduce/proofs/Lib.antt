@@ -2,3 +2,4 @@ pub mod Lesser
 pub mod Walks
 pub mod Improvement
 pub mod Steps
+pub mod TriedLemmas

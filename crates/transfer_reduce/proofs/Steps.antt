@@ -41,7 +41,7 @@ drop_head (suc n) [] d y ys h = cc
 drop_head zero (x ∷ xs) d y ys h = (omega arith, cc)
 drop_head (suc n) (x ∷ xs) d y ys h = let r = drop_head n xs d y ys h in (omega (arith, r.0), r.1)
 
-stops_inside : (T : TimetableData) → IsSound T → (t : ℕ) → All (λ e. e.stop < length T.stops) (events_of T t)
+pub stops_inside : (T : TimetableData) → IsSound T → (t : ℕ) → All (λ e. e.stop < length T.stops) (events_of T t)
 stops_inside T sound t = by_case (cases_lt t (length T.trips))
   where
     by_case : (t < length T.trips) ⊎ (length T.trips ≤ t) → All (λ e. e.stop < length T.stops) (events_of T t)

@@ -1,3 +1,4 @@
 pub mod Stamped
 pub mod Walked
 pub mod Reduced
+pub mod Tried

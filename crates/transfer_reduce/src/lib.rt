@@ -9,7 +9,8 @@
 //! The labels hold one number for each stop, the earliest that one may be there. One number is
 //! enough: where walks in a row are no faster than one walk, a hop that is no sooner at any stop
 //! where it ends is sooner nowhere, on foot or by a change. So footpaths are walked only from where
-//! a label falls.
+//! a label falls. A hop onto a trip that was hopped onto just before is looked at only up to where
+//! that one began.
 #![tactic(auto)]
 
 mod events;
@@ -17,6 +18,7 @@ mod labels;
 pub mod laws;
 mod offers;
 mod reduction;
+mod tried;
 
 pub use labels::Labels;
 pub use reduction::reduce;

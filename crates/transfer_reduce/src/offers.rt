@@ -5,10 +5,12 @@ ghost use Rattle.tb_base.specs.Soundness.{IsSoundEvent};
 ghost use Rattle.tb_base.specs.Transfers.{earliest_offer, is_sooner};
 ghost use Rattle.tb_base.specs.Walking.{walk};
 ghost use Rattle.tb_laws.specs.Labels.{lesser};
+ghost use Rattle.transfer_reduce.specs.Tried.{AreTried};
 ghost use Rattle.transfer_reduce.specs.Walked.{AreWalked, offer_at, offer_if, path_offer, stay_offer, hop_alightings};
 
 use super::events::events_from;
 use super::labels::Labels;
+use super::tried::{Tried, untried};
 use tb_base::{Event, Path, Timetable, Transfer, TripNo};
 
 // Lowers the label of the stop that a footpath leads to.
@@ -96,12 +98,21 @@ fn offer_all(table: &Timetable, labels: &mut Labels, events: &[Event]) -> bool
     sooner
 }
 
-/// Offers what a hop brings: whether it is sooner at some stop where one may alight.
-pub(crate) fn offer_hop(table: &Timetable, labels: &mut Labels, row: &Transfer) -> bool
+/// Offers what a hop brings: whether it is sooner at some stop where one may alight. What was
+/// offered when the trip was tried is passed over.
+pub(crate) fn offer_hop(
+    table: &Timetable,
+    labels: &mut Labels,
+    tried: &mut [Tried],
+    row: &Transfer,
+) -> bool
     requires length { length labels.old ≡ length table.now.stops }
     requires walked { AreWalked table.now labels.old }
+    requires room { 0 < length tried.old }
+    requires tried { AreTried table.now labels.old tried.old }
     ensures length { length labels.new ≡ length labels.old }
     ensures walked { AreWalked table.now labels.new }
+    ensures tried { AreTried table.now labels.new tried.new }
     ensures sooner { result
         ≡ list_any (λ e. is_sooner (Some e.arr) (slice_index_or labels.old e.stop None))
         (hop_alightings table.now row.now) }
@@ -109,11 +120,14 @@ pub(crate) fn offer_hop(table: &Timetable, labels: &mut Labels, row: &Transfer) 
         ≡ lesser (earliest_offer (walk table.now) (hop_alightings table.now row.now) p)
         (slice_index_or labels.old p None) }
 {
-    offer_all(
-        table,
-        labels,
-        events_from(table, row.to_trip, row.to_at as usize + 1),
-    )
+    table.soundness();
+    let place = row.to_trip.index() % tried.len();
+    let sooner = offer_all(table, labels, untried(table, &tried[place], row));
+    tried[place] = Tried {
+        trip: row.to_trip,
+        at: row.to_at,
+    };
+    sooner
 }
 
 /// Offers alighting at an event and staying there, if one may.

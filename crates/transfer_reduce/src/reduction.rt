@@ -1,14 +1,20 @@
 //! The reduction of the transfers of one trip.
 ghost use Rattle.std.specs.Prelude.{◌≡◌, ◌<◌, ◌≤◌, ◌+◌, ◌-◌, ◌↔◌, ℕ, IsTrue, List, length, slice_index_or, slice_set};
 ghost use Rattle.tb_base.specs.Transfers.{candidates_without_u_turns, kept_hops, transfers_of};
+ghost use Rattle.transfer_reduce.specs.Tried.{AreTried};
 ghost use Rattle.transfer_reduce.specs.Walked.{AreWalked};
 ghost use Rattle.transfer_reduce.specs.Reduced.{HasRowAt, Reduces};
 ghost use Rattle.tb_base.specs.declared.transfer.Transfer.{Transfer};
+ghost use Rattle.transfer_reduce.specs.declared.tried.Tried.{Tried};
 
 use super::events::events_from;
 use super::labels::Labels;
 use super::offers::{offer_hop, offer_stay};
+use super::tried::Tried;
 use tb_base::{Timetable, Transfer, TripNo};
+
+/// How many tried trips are remembered, each in the place of the one before with the same remainder.
+const TRIED: usize = 1024;
 
 /// How far a reduction has come: the events from `at` on, `taken` rows of theirs, of which `kept`
 /// are kept.
@@ -33,16 +39,20 @@ fn put_row(rows: &mut [Transfer], from: usize, to: usize)
 fn take_row(
     table: &Timetable,
     labels: &mut Labels,
+    tried: &mut [Tried],
     rows: &mut [Transfer],
     done: Progress,
 ) -> Progress
     requires labels { length labels.old ≡ length table.now.stops }
     requires walked { AreWalked table.now labels.old }
+    requires room { 0 < length tried.old }
+    requires tried { AreTried table.now labels.old tried.old }
     requires taken { done.taken < length rows.old }
     requires kept { done.kept ≤ done.taken }
     requires here { HasRowAt rows.old done.at done.taken }
     ensures labels { length labels.new ≡ length labels.old }
     ensures walked { AreWalked table.now labels.new }
+    ensures tried { AreTried table.now labels.new tried.new }
     ensures at { result.at ≡ done.at }
     ensures taken { result.taken ≡ done.taken + 1 }
     ensures kept { result.kept ≤ result.taken }
@@ -52,7 +62,7 @@ fn take_row(
 {
     table.soundness();
     let taken = done.taken + 1;
-    if !offer_hop(table, labels, &rows[done.taken]) {
+    if !offer_hop(table, labels, tried, &rows[done.taken]) {
         return Progress {
             at: done.at,
             taken,
@@ -74,6 +84,8 @@ fn next_event(table: &Timetable, labels: &mut Labels, trip: TripNo, done: Progre
     requires at { 0 < done.at }
     ensures labels { length labels.new ≡ length labels.old }
     ensures walked { AreWalked table.now labels.new }
+    ensures tried { (xs : List Tried) → AreTried table.now labels.old xs →
+        AreTried table.now labels.new xs }
     ensures at { result.at + 1 ≡ done.at }
     ensures taken { result.taken ≡ done.taken }
     ensures kept { result.kept ≡ done.kept }
@@ -103,17 +115,21 @@ fn has_row(rows: &[Transfer], done: Progress) -> bool
 fn step(
     table: &Timetable,
     labels: &mut Labels,
+    tried: &mut [Tried],
     trip: TripNo,
     rows: &mut [Transfer],
     done: Progress,
 ) -> Progress
     requires labels { length labels.old ≡ length table.now.stops }
     requires walked { AreWalked table.now labels.old }
+    requires room { 0 < length tried.old }
+    requires tried { AreTried table.now labels.old tried.old }
     requires at { 0 < done.at }
     requires taken { done.taken ≤ length rows.old }
     requires kept { done.kept ≤ done.taken }
     ensures labels { length labels.new ≡ length labels.old }
     ensures walked { AreWalked table.now labels.new }
+    ensures tried { AreTried table.now labels.new tried.new }
     ensures taken { result.taken ≤ length rows.old }
     ensures kept { result.kept ≤ result.taken }
     ensures smaller { result.at + (length rows.old - result.taken)
@@ -123,7 +139,7 @@ fn step(
         Reduces table.now lines trip rows.new labels.new result.at result.taken result.kept }
 {
     if has_row(rows, done) {
-        return take_row(table, labels, rows, done);
+        return take_row(table, labels, tried, rows, done);
     }
     next_event(table, labels, trip, done)
 }
@@ -141,13 +157,14 @@ pub fn reduce(table: &Timetable, labels: &mut Labels, trip: TripNo, rows: &mut V
 {
     table.soundness();
     labels.clear();
+    let mut tried = [Tried::NO_TRIP; TRIED];
     let mut done = Progress {
         at: events_from(table, trip, 0).len(),
         taken: 0,
         kept: 0,
     };
     while done.at > 0 {
-        done = step(table, labels, trip, rows.as_mut_slice(), done);
+        done = step(table, labels, &mut tried, trip, rows.as_mut_slice(), done);
     }
     rows.truncate(done.kept);
 }
