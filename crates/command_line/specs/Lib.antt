@@ -3,6 +3,7 @@ pub mod Arguments
 pub mod Settings
 pub mod DayCommands
 pub mod Verifications
+pub mod LateTrips
 pub mod Plans
 pub mod Cities
 pub mod Requests

@@ -10,6 +10,7 @@
 mod arguments;
 mod city;
 mod day;
+mod late_trips;
 mod plan;
 mod request;
 mod settings;
@@ -17,7 +18,7 @@ mod verification;
 mod words;
 
 pub use request::{
-    ArrivalInquiry, CityRequest, Command, DayRequest, Inquiry, OriginInquiry, PlannedDay, Request,
-    ServeRequest, VerifyRequest, WindowInquiry,
+    ArrivalInquiry, CityRequest, Command, DayRequest, Inquiry, LateRequest, OriginInquiry,
+    PlannedDay, Request, ServeRequest, VerifyRequest, WindowInquiry,
 };
 pub use words::request_of;

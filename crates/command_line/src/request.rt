@@ -171,6 +171,38 @@ impl<'a> Model for VerifyRequest<'a> {
     ghost invariant = { λ r. AreWithinADay r.options };
 }
 
+/// A request about one day of a feed, amended by late trips.
+#[derive(Drop)]
+pub struct LateRequest<'a> {
+    pub options: Options,
+    /// How many workers reduce the transfers: 1 to 64.
+    pub workers: u32,
+    pub dir: &'a str,
+    pub day: Day,
+    /// The path of the file that names the late trips.
+    pub file: &'a str,
+    /// From where to where a journey is asked for, and from when on.
+    pub inquiry: Inquiry<'a>,
+}
+
+impl<'a> Model for LateRequest<'a> {
+    ghost use Rattle.command_line.specs.LateTrips.{LateRequestData};
+    ghost use Rattle.command_line.specs.Settings.{AreWithinADay, AreWorkers};
+
+    ghost Value = { LateRequestData };
+
+    ghost view = { λ r. record {
+      options = r.options;
+      workers = r.workers;
+      dir = r.dir.now;
+      date = r.day;
+      file = r.file.now;
+      inquiry = r.inquiry;
+    } };
+
+    ghost invariant = { λ r. AreWithinADay r.options × AreWorkers r.workers };
+}
+
 /// A day of a feed: its folder, the day, and the word DIR@DATE that names both.
 #[derive(Drop)]
 pub struct PlannedDay<'a> {
@@ -244,4 +276,6 @@ pub enum Request<'a> {
     City(CityRequest),
     /// Whether the journey that a source claims is one, with its value.
     Verify(VerifyRequest<'a>),
+    /// The best values over a day that late trips amend.
+    Late(LateRequest<'a>),
 }

@@ -7,6 +7,7 @@ ghost use Rattle.command_line.specs.Settings.{AreSettings};
 use crate::arguments::router_arguments;
 use crate::city::city_request;
 use crate::day::day_request_from;
+use crate::late_trips::late_request_from;
 use crate::plan::serve_request;
 use crate::request::Request;
 use crate::settings::{Settings, settings_given};
@@ -38,6 +39,10 @@ fn request_named<'a>(
         },
         "verify" => match verify_request_from(settings, words) {
             Some(request) => Ok(Some(Request::Verify(request))),
+            None => Ok(None),
+        },
+        "late" => match late_request_from(settings, words) {
+            Some(request) => Ok(Some(Request::Late(request))),
             None => Ok(None),
         },
         _ => match day_request_from(settings, name, words) {
@@ -78,8 +83,9 @@ fn request_by<'a>(alloc: Global, matches: &ArgMatches<'a>) -> Result<Option<Requ
 /// and anywhere before `--`; behind `--` every word is taken as it is. The commands are `direct DIR
 /// DATE FROM TO TIME`, `ask DIR DATE FROM TO TIME`, `profile DIR DATE FROM TO FIRST LAST`, `latest
 /// DIR DATE FROM TO TIME`, `reach DIR DATE FROM TIME`, `build DIR DATE`, `build DIR DATE list`,
-/// `verify DIR DATE FROM TO TIME`, `serve DIR@DATE ..` of 1 to 100 days, and `city N` of 2 to 40
-/// rows. `None` comes exactly where the words have no meaning, `Memory` only for want of it.
+/// `verify DIR DATE FROM TO TIME`, `late DIR DATE FILE FROM TO TIME`, `serve DIR@DATE ..` of 1 to
+/// 100 days, and `city N` of 2 to 40 rows. `None` comes exactly where the words have no meaning,
+/// `Memory` only for want of it.
 pub fn request_of<'a>(alloc: Global, words: &'a [String]) -> Result<Option<Request<'a>>, Memory>
     ensures { IfOk result (λ request. request ≡ request_of (map string_bytes words.now)) }
 {

@@ -8,4 +8,4 @@ pub returns-in-None-day_request_from : goal.returns-in-None-day_request_from
 returns-in-None-day_request_from c =
     let none = sym c.in-None-day_request_from.is ∙ c.day_request_from.ensures in
     ap (option_map request.Day) none
-    ∙ sym (about_a_day c.args.settings c.args.name.now (map (λ word. word.now) c.args.words.now) c.in_default.not-serve c.in_default.not-city c.in_default.not-verify)
+    ∙ sym (about_a_day c.args.settings c.args.name.now (map (λ word. word.now) c.args.words.now) c.in_default.not-serve c.in_default.not-city c.in_default.not-verify c.in_default.not-late)
