@@ -26,6 +26,9 @@ def cases(folder):
         yield "a full disk behind standard output", 5, "", "router: write fault\n", Run(ask, out=full)
     yield "30 MB for a made city that takes 46", 6, "", "router: out of memory\n", Run(["--workers", "1", "city", "40"], memory=30_000_000)
     yield "a bad line in a script", 7, "", "router: script refused: 1 BadLine line 4\n", Run(serve, f"{SCRIPT}more\n".encode())
+    with open(os.path.join(folder, "late"), "w") as late:
+        late.write("late T1 1 120\nlate T9 0 60\n")
+    yield "a late trip that isn't there", 8, "", "router: late refused: 1 UnknownTrip line 2\n", Run(["late", feed, DAY, late.name, *ASK[1:]])
     yield "a claim without a value", 9, "", "router: journey refused: 1 BadLine line 1\n", Run(["verify", feed, *ASK], b"more\n")
 
 

@@ -13,7 +13,7 @@ pub struct Case {
     pub title: String,
     // The folder of the feed that was named last.
     folder: String,
-    // Files that stand in place of those of feeds.
+    // Files that stand in place of those of feeds, or beside them.
     changed: Files,
     // Files of feeds.
     given: Files,
@@ -80,6 +80,13 @@ impl Case {
             return Ok(false);
         }
         let path = self.path(alloc, name)?;
+        self.changed.push((path, Vec::new(alloc)))?;
+        Ok(true)
+    }
+
+    /// A file at a path of its own begins.
+    pub fn begin_beside(&mut self, alloc: Global, path: &str) -> Result<bool, Broken> {
+        let path = String::from_str(alloc, path)?;
         self.changed.push((path, Vec::new(alloc)))?;
         Ok(true)
     }

@@ -13,6 +13,8 @@ pub enum Line<'a> {
     Without(&'a str),
     /// A file that stands in place of the feed's begins.
     File(&'a str),
+    /// A file at this path, beside those of feeds, begins.
+    Beside(&'a str),
     /// A line of that file.
     Row(&'a str),
     /// So many lines of that file, in which the sign `#` stands for 0, 1 and so on.
@@ -67,6 +69,7 @@ impl Line<'_> {
             Line::Feed(_)
                 | Line::Without(_)
                 | Line::File(_)
+                | Line::Beside(_)
                 | Line::Row(_)
                 | Line::Rows(_)
                 | Line::Cut(_)
@@ -98,6 +101,7 @@ fn setting_of<'a>(word: &str, rest: &'a str) -> Option<Line<'a>> {
         "feed" => Some(Line::Feed(rest)),
         "without" => Some(Line::Without(rest)),
         "file" => Some(Line::File(rest)),
+        "beside" => Some(Line::Beside(rest)),
         "row" => Some(Line::Row(rest)),
         "rows" => Some(Line::Rows(rest)),
         "cut" => Some(Line::Cut(rest)),

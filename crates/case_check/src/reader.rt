@@ -17,6 +17,7 @@ fn add_setting<R: Files>(
         Line::Feed(name) => case.add_feed(rt, alloc, name),
         Line::Without(name) => case.take_away(alloc, name),
         Line::File(name) => case.begin_file(alloc, name),
+        Line::Beside(path) => case.begin_beside(alloc, path),
         Line::Row(text) => case.add_text(text, "\n"),
         Line::Rows(text) => case.add_rows(alloc, text),
         Line::Cut(text) => case.add_text(text, ""),

@@ -45,6 +45,7 @@ verify_completed same files shown told r status.ReadFault before now h read writ
 verify_completed same files shown told r status.WriteFault before now h read write day given = absurd (write refl)
 verify_completed same files shown told r status.Memory before now h read write day given = out_of_memory told day
 verify_completed same files shown told r (status.ScriptRefused f) before now h read write day given = absurd h
+verify_completed same files shown told r (status.LateRefused f) before now h read write day given = absurd h
 verify_completed same files shown told r (status.JourneyRefused f) before now (T, is, claim) read write day given =
     subst (λ d. IsVerifyEnding told d (status.JourneyRefused f)) (same (feed_of files r.dir) r.date r.options (Ok T) day (is.1 shown) given)
     (without_claim told T f claim)

@@ -7,6 +7,7 @@ use Rattle.command_line.specs.declared.request.Request.{Request}
 use Rattle.command_line.specs.declared.request.Request.TheVariants as request
 use Rattle.router_cli.proofs.Endings.{IsDetermined, ending}
 use Rattle.router_cli.proofs.Claims.{verify_completed}
+use Rattle.router_cli.proofs.LateEndings.{late_completed}
 use Rattle.router_cli.proofs.Runs.{run_completed}
 use Rattle.command_line.specs.Cities.{CityRequestData}
 use Rattle.router_cli.specs.Cities.{IsCityEnding, IsCityOutcome}
@@ -20,6 +21,7 @@ pub unread : (asked : Option Request) (told : Option (List ℕ)) → LeavesScrip
 unread None told = refl
 unread (Some (request.Day r)) told = refl
 unread (Some (request.City r)) told = refl
+unread (Some (request.Late r)) told = refl
 unread (Some (request.Serve r)) None = ([], tt)
 unread (Some (request.Serve r)) (Some bytes) = ([], refl)
 unread (Some (request.Verify r)) None = ([], tt)
@@ -39,6 +41,7 @@ city_ending r status.WriteFault before now out write = absurd (write refl)
 city_ending r status.Usage before now out write = absurd out
 city_ending r (status.FeedRefused f) before now out write = absurd out
 city_ending r (status.ScriptRefused f) before now out write = absurd out
+city_ending r (status.LateRefused f) before now out write = absurd out
 city_ending r (status.JourneyRefused f) before now out write = absurd out
 city_ending r status.ReadFault before now out write = absurd out
 city_ending r status.Memory before now out write = inr refl
@@ -58,6 +61,10 @@ completed determined (Some (request.City r)) files told s before now a b c d e f
 completed determined (Some (request.Verify r)) files told s before now a b c d e f promise read write =
     λ shown read_still take_still write_still day is.
     verify_completed determined files shown told r s before now promise
+    (λ h. none_rose a b c d (read h) read_still take_still) (λ h. not_risen e f (write h) write_still) day (is.1 shown)
+completed determined (Some (request.Late r)) files told s before now a b c d e f promise read write =
+    λ shown read_still take_still write_still day is.
+    late_completed determined files shown r s before now promise
     (λ h. none_rose a b c d (read h) read_still take_still) (λ h. not_risen e f (write h) write_still) day (is.1 shown)
 completed determined (Some (request.Serve r)) files None s before now a b c d e f promise read write =
     λ shown read_still take_still write_still. tt

@@ -32,5 +32,6 @@ ending IsDay same r (status.FeedRefused f) before now out read write day is =
 ending IsDay same r status.Usage before now out read write day is = absurd out
 ending IsDay same r status.ReadFault before now out read write day is = absurd (read refl)
 ending IsDay same r (status.ScriptRefused f) before now out read write day is = absurd out
+ending IsDay same r (status.LateRefused f) before now out read write day is = absurd out
 ending IsDay same r (status.JourneyRefused f) before now out read write day is = absurd out
 ending IsDay same r status.Memory before now out read write day is = out_of_memory day

@@ -3,5 +3,7 @@ pub mod Endings
 pub mod Runs
 pub mod ClaimLegs
 pub mod Claims
+pub mod LateEndings
+pub mod LastEdition
 pub mod Completed
 pub mod Corners

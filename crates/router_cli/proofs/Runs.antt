@@ -70,6 +70,7 @@ run_completed same files told bytes r status.Done before now (lanes, text, scrip
     by_script (script_of bytes) lanes day status.Done script
     (by_day day (Ok first.0) status.Done (first_day same files told r.options plan (Ok first.0) day first.1 is) (inl refl))
 run_completed same files told bytes r status.Usage before now h read write day is = absurd h
+run_completed same files told bytes r (status.LateRefused f) before now h read write day is = absurd h
 run_completed same files told bytes r (status.JourneyRefused f) before now h read write day is = absurd h
 run_completed same files told bytes r (status.FeedRefused f) before now ((lanes, script), refused) read write day is =
     let plan = map item_of r.plan in

@@ -37,6 +37,7 @@ IsCityOutcome r status.WriteFault before now =
 IsCityOutcome r status.Usage before now = ⊥
 IsCityOutcome r (status.FeedRefused f) before now = ⊥
 IsCityOutcome r (status.ScriptRefused f) before now = ⊥
+IsCityOutcome r (status.LateRefused f) before now = ⊥
 IsCityOutcome r (status.JourneyRefused f) before now = ⊥
 IsCityOutcome r status.ReadFault before now = ⊥
 IsCityOutcome r status.Memory before now = ⊤

@@ -3,4 +3,5 @@ pub mod Cities
 pub mod Outcome
 pub mod Serving
 pub mod Verifying
+pub mod LateTrips
 pub mod Promise

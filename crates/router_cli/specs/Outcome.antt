@@ -1,10 +1,11 @@
 -- What the program's status says of the words, the files and the bytes written.
-use Rattle.std.specs.Prelude.{◌≡◌, ℕ, ◌≤◌, ◌⊎◌, List, [], ◌++◌, codes, length, take, Option, Result, Err, Ok, ⊤}
+use Rattle.std.specs.Prelude.{◌≡◌, ℕ, ◌<◌, ◌≤◌, ◌⊎◌, List, [], ◌++◌, codes, length, take, Option, IsSome, Result, Err, Ok, IfOk, ⊤}
 use Rattle.std.specs.Fmt.{decimal}
 use Rattle.std.specs.Io.KnownBytes.{Appends}
 use Rattle.tb_base.specs.Soundness.{IsSound}
 use Rattle.tb_base.specs.TimetableData.{TimetableData}
 use Rattle.answer_text.specs.Faults.{fault_text}
+use Rattle.footpaths.specs.declared.paths.Options.{Options}
 use Rattle.gtfs_rows.specs.declared.fault.FeedFault.{FeedFault}
 use Rattle.tb_io.specs.Files.{FileList}
 use Rattle.trip_table.specs.Answers.{feed_of}
@@ -12,6 +13,8 @@ use Rattle.trip_table.specs.Day.{IsTimetableOf}
 use Rattle.command_line.specs.DayCommands.{DayRequestData}
 use Rattle.journey_read.specs.declared.claim.JourneyFault.{JourneyFault}
 use Rattle.journey_read.specs.declared.claim.JourneyFault.TheVariants as claim
+use Rattle.late_times.specs.declared.late.LateFault.{LateFault}
+use Rattle.late_times.specs.declared.late.LateFault.TheVariants as late
 use Rattle.lane_serve.specs.declared.script.ScriptFault.{ScriptFault}
 use Rattle.lane_serve.specs.declared.script.ScriptFault.TheVariants as fault
 use Rattle.router_cli.specs.Answers.{IsAnswer}
@@ -27,6 +30,7 @@ status_code status.ReadFault = 4
 status_code status.WriteFault = 5
 status_code status.Memory = 6
 status_code (status.ScriptRefused f) = 7
+status_code (status.LateRefused f) = 8
 status_code (status.JourneyRefused f) = 9
 
 -- the number and the name of a script's fault, and its line where it has one
@@ -37,6 +41,17 @@ script_fault_text (fault.TooManyLines n) = codes "3 TooManyLines line " ++ decim
 script_fault_text (fault.BadTime n) = codes "4 BadTime line " ++ decimal n
 script_fault_text fault.TooLong = codes "5 TooLong"
 script_fault_text fault.Memory = codes "Memory"
+
+-- the same of a fault of late trips
+abbrev pub late_fault_text : LateFault → List ℕ
+late_fault_text (late.UnknownTrip n) = codes "1 UnknownTrip line " ++ decimal n
+late_fault_text (late.TimeRunsBack n) = codes "2 TimeRunsBack line " ++ decimal n
+late_fault_text (late.OutOfRange n) = codes "3 OutOfRange line " ++ decimal n
+late_fault_text (late.BadEvent n) = codes "4 BadEvent line " ++ decimal n
+late_fault_text (late.BadLine n) = codes "5 BadLine line " ++ decimal n
+late_fault_text late.MissingFile = codes "6 MissingFile"
+late_fault_text late.TooLarge = codes "7 TooLarge"
+late_fault_text late.Memory = codes "Memory"
 
 -- the same of a claim's fault
 abbrev pub journey_fault_text : JourneyFault → List ℕ
@@ -58,8 +73,17 @@ status_text status.WriteFault = codes "router: write fault\n"
 status_text status.Memory = codes "router: out of memory\n"
 status_text (status.ScriptRefused f) =
     codes "router: script refused: " ++ script_fault_text f ++ codes "\n"
+status_text (status.LateRefused f) =
+    codes "router: late refused: " ++ late_fault_text f ++ codes "\n"
 status_text (status.JourneyRefused f) =
     codes "router: journey refused: " ++ journey_fault_text f ++ codes "\n"
+
+-- a day of a folder gives this: a sound timetable, that of the day where the folder tells its files;
+-- or, where it tells them, the feed's first fault
+abbrev pub GivesDay : Option FileList → List ℕ → ℕ → Options → Result TimetableData FeedFault
+    → Type 0
+GivesDay files dir date options day =
+    IfOk day IsSound × (IsSome files → IsTimetableOf (feed_of files dir) date options day)
 
 -- what becomes of the day of a request: its timetable, or the first thing that is wrong with the
 -- feed
@@ -81,6 +105,7 @@ IsOutcome IsDay r status.WriteFault before now =
 IsOutcome IsDay r (status.FeedRefused f) before now = IsDay (Err f)
 IsOutcome IsDay r status.Usage before now = ⊥
 IsOutcome IsDay r (status.ScriptRefused f) before now = ⊥
+IsOutcome IsDay r (status.LateRefused f) before now = ⊥
 IsOutcome IsDay r (status.JourneyRefused f) before now = ⊥
 IsOutcome IsDay r status.ReadFault before now = ⊤
 IsOutcome IsDay r status.Memory before now = ⊤
@@ -103,6 +128,20 @@ WritesAnswer r status.WriteFault before now =
 WritesAnswer r (status.FeedRefused f) before now = ⊤
 WritesAnswer r status.Usage before now = ⊥
 WritesAnswer r (status.ScriptRefused f) before now = ⊥
+WritesAnswer r (status.LateRefused f) before now = ⊥
 WritesAnswer r (status.JourneyRefused f) before now = ⊥
 WritesAnswer r status.ReadFault before now = ⊤
 WritesAnswer r status.Memory before now = ⊤
+
+-- why a day gives no timetable, by the folder's count of faults before and now
+abbrev pub IsNoTable : Option FileList → List ℕ → ℕ → Options → ℕ → ℕ → Status → Type 0
+IsNoTable files dir date options before now (status.FeedRefused f) =
+    GivesDay files dir date options (Err f) × (now ≡ before)
+IsNoTable files dir date options before now status.ReadFault = before < now
+IsNoTable files dir date options before now status.Memory = now ≡ before
+IsNoTable files dir date options before now status.Done = ⊥
+IsNoTable files dir date options before now status.Usage = ⊥
+IsNoTable files dir date options before now status.WriteFault = ⊥
+IsNoTable files dir date options before now (status.ScriptRefused f) = ⊥
+IsNoTable files dir date options before now (status.LateRefused f) = ⊥
+IsNoTable files dir date options before now (status.JourneyRefused f) = ⊥

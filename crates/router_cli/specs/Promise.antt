@@ -8,7 +8,8 @@ use Rattle.command_line.specs.declared.request.Request.{Request}
 use Rattle.command_line.specs.declared.request.Request.TheVariants as request
 use Rattle.lane_serve.specs.Script.{script_of}
 use Rattle.router_cli.specs.Cities.{IsCityEnding, IsCityOutcome}
-use Rattle.router_cli.specs.Outcome.{IsDayOf, IsEnding, IsOutcome, WritesAnswer}
+use Rattle.router_cli.specs.LateTrips.{IsLateEnding, IsLateOutcome}
+use Rattle.router_cli.specs.Outcome.{GivesDay, IsDayOf, IsEnding, IsOutcome, WritesAnswer}
 use Rattle.router_cli.specs.Serving.{FirstDayGives, IsRunEnding, IsRunOutcome, TellsScript, plan_of}
 use Rattle.router_cli.specs.Verifying.{DayGives, IsVerifyEnding, IsVerifyOutcome}
 use Rattle.router_cli.specs.declared.status.Status.{Status}
@@ -23,6 +24,7 @@ IsRequestOutcome files told (request.Serve r) s before now = IsRunOutcome files 
 IsRequestOutcome files told (request.City r) s before now = IsCityOutcome r s before now
 IsRequestOutcome files told (request.Verify r) s before now =
     IsVerifyOutcome files told r s before now
+IsRequestOutcome files told (request.Late r) s before now = IsLateOutcome files r s before now
 
 -- How a request about a day ends, whatever the folder tells. Of others the outcome says it.
 abbrev pub WritesRequest : Request → Status → Option (List ℕ) → Option (List ℕ) → Type 0
@@ -30,6 +32,7 @@ WritesRequest (request.Day r) s before now = WritesAnswer r s before now
 WritesRequest (request.Serve r) s before now = ⊤
 WritesRequest (request.City r) s before now = ⊤
 WritesRequest (request.Verify r) s before now = ⊤
+WritesRequest (request.Late r) s before now = ⊤
 
 -- how a request may end where nothing fails outside, by what its day or its first day gives
 abbrev pub IsRequestEnding : Option FileList → Option (List ℕ) → Request → Status → Type 0
@@ -41,6 +44,9 @@ IsRequestEnding files told (request.Serve r) s = IfSome told (λ bytes.
 IsRequestEnding files told (request.City r) s = IsCityEnding s
 IsRequestEnding files told (request.Verify r) s =
     (day : Result TimetableData FeedFault) → DayGives files r day → IsVerifyEnding told day s
+IsRequestEnding files told (request.Late r) s =
+    (day : Result TimetableData FeedFault) → GivesDay files r.dir r.date r.options day →
+    IsLateEnding files r day s
 
 -- a script's first fault comes before what the feeds give
 abbrev pub TellsFirst : Option (List ℕ) → Request → Status → Type 0
@@ -48,6 +54,7 @@ TellsFirst told (request.Day r) s = ⊤
 TellsFirst told (request.Serve r) s = TellsScript told s
 TellsFirst told (request.City r) s = ⊤
 TellsFirst told (request.Verify r) s = ⊤
+TellsFirst told (request.Late r) s = ⊤
 
 -- a claim is read where the day has a timetable
 abbrev pub ReadsBehind : Option FileList → Request → Type 0
@@ -55,6 +62,7 @@ ReadsBehind files (request.Day r) = ⊤
 ReadsBehind files (request.Serve r) = ⊤
 ReadsBehind files (request.City r) = ⊤
 ReadsBehind files (request.Verify r) = (T : TimetableData) × DayGives files r (Ok T)
+ReadsBehind files (request.Late r) = ⊤
 
 -- only a run and a claim take bytes of a source
 abbrev pub LeavesScript : Option Request → Option (List ℕ) → Option (List ℕ) → Type 0
@@ -63,3 +71,4 @@ LeavesScript (Some (request.Day r)) before now = now ≡ before
 LeavesScript (Some (request.Serve r)) before now = (bs : List ℕ) × Consumes before now bs
 LeavesScript (Some (request.City r)) before now = now ≡ before
 LeavesScript (Some (request.Verify r)) before now = (bs : List ℕ) × Consumes before now bs
+LeavesScript (Some (request.Late r)) before now = now ≡ before

@@ -38,7 +38,7 @@ pub record IsRunText (files : Option FileList) (r : ServeRequestData) (lanes : L
 -- What a status says of a run, of the script and of the bytes that a sink held before and holds
 -- now. Done: the text of a run was written whole. WriteFault: some first bytes of it. ScriptRefused:
 -- the fault is the script's. FeedRefused: the script is good, and the fault is the first day's.
--- Usage and JourneyRefused don't come here. Of ReadFault and Memory no clause speaks here.
+-- Usage and the other refusals don't come here. Of ReadFault and Memory no clause speaks here.
 abbrev pub IsRunOutcome : Option FileList → Option (List ℕ) → ServeRequestData → Status
     → Option (List ℕ) → Option (List ℕ) → Type 0
 IsRunOutcome files told r status.Done before now =
@@ -51,6 +51,7 @@ IsRunOutcome files told r (status.ScriptRefused f) before now = ScriptGives told
 IsRunOutcome files told r (status.FeedRefused f) before now =
     ((lanes : List LaneData) × ScriptGives told (Ok lanes))
     × FirstGives files r.options (plan_of r) f
+IsRunOutcome files told r (status.LateRefused f) before now = ⊥
 IsRunOutcome files told r (status.JourneyRefused f) before now = ⊥
 IsRunOutcome files told r status.Usage before now = ⊥
 IsRunOutcome files told r status.ReadFault before now = ⊤
@@ -83,6 +84,7 @@ IsNoScript told before now status.Done = ⊥
 IsNoScript told before now status.Usage = ⊥
 IsNoScript told before now status.WriteFault = ⊥
 IsNoScript told before now (status.FeedRefused f) = ⊥
+IsNoScript told before now (status.LateRefused f) = ⊥
 IsNoScript told before now (status.JourneyRefused f) = ⊥
 
 -- why a run has no text, by the folder's count of faults before and now
@@ -95,6 +97,7 @@ IsNoRun files r before now status.Done = ⊥
 IsNoRun files r before now status.Usage = ⊥
 IsNoRun files r before now status.WriteFault = ⊥
 IsNoRun files r before now (status.ScriptRefused f) = ⊥
+IsNoRun files r before now (status.LateRefused f) = ⊥
 IsNoRun files r before now (status.JourneyRefused f) = ⊥
 
 -- the status that a fault of a run is told as

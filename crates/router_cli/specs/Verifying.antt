@@ -1,18 +1,15 @@
 -- What the program's status says of a claimed journey.
-use Rattle.std.specs.Prelude.{◌≡◌, ◌↔◌, ℕ, ◌<◌, ◌≤◌, ◌⊎◌, List, ◌++◌, codes, length, take, Option, IfSome, IsSome, Result, Ok, Err, IfOk, ⊤}
+use Rattle.std.specs.Prelude.{◌≡◌, ◌↔◌, ℕ, ◌<◌, ◌≤◌, ◌⊎◌, List, ◌++◌, codes, length, take, Option, IfSome, Result, Ok, Err, ⊤}
 use Rattle.std.specs.Fmt.{decimal}
 use Rattle.std.specs.Io.KnownBytes.{Appends}
 use Rattle.tb_base.specs.BestValues.{ChoiceData, QueryData}
 use Rattle.tb_base.specs.JourneyRules.{SpellValue}
-use Rattle.tb_base.specs.Soundness.{IsSound}
 use Rattle.tb_base.specs.TimetableData.{TimetableData}
 use Rattle.tb_base.specs.declared.rule.Rule.{Rule}
 use Rattle.tb_base.specs.declared.rule.Rule.TheVariants as rule
 use Rattle.answer_text.specs.Times.{time_text}
 use Rattle.gtfs_rows.specs.declared.fault.FeedFault.{FeedFault}
 use Rattle.tb_io.specs.Files.{FileList}
-use Rattle.trip_table.specs.Answers.{feed_of}
-use Rattle.trip_table.specs.Day.{IsTimetableOf}
 use Rattle.journey_read.specs.Claims.{claim_of}
 use Rattle.journey_read.specs.Judging.{IsVerdict}
 use Rattle.journey_read.specs.declared.claim.JourneyFault.{JourneyFault}
@@ -22,6 +19,7 @@ use Rattle.query_gate.specs.Questions.{query_at}
 use Rattle.command_line.specs.Inquiries.{InquiryData}
 use Rattle.command_line.specs.Verifications.{VerifyRequestData}
 use Rattle.router_cli.specs.Answers.{IsTextBetween}
+use Rattle.router_cli.specs.Outcome.{GivesDay}
 use Rattle.router_cli.specs.declared.status.Status.{Status}
 use Rattle.router_cli.specs.declared.status.Status.TheVariants as status
 
@@ -60,13 +58,10 @@ abbrev pub IsVerifiedText : TimetableData → InquiryData → ChoiceData → Lis
 IsVerifiedText T i claimed =
     IsTextBetween T i.from i.to (λ ends. ShowsVerdict T claimed (query_at ends i.time))
 
--- a day gives this: a sound timetable, that of the day where the folder tells its files; or, where
--- it tells them, the feed's first fault
+-- the timetable of a request's day, or the feed's first fault
 abbrev pub DayGives : Option FileList → VerifyRequestData → Result TimetableData FeedFault
     → Type 0
-DayGives files r day =
-    IfOk day IsSound
-    × (IsSome files → IsTimetableOf (feed_of files r.dir) r.date r.options day)
+DayGives files r = GivesDay files r.dir r.date r.options
 
 -- where the source tells its bytes, they claim this over the timetable
 abbrev pub ClaimGives : TimetableData → Option (List ℕ) → Result ChoiceData JourneyFault → Type 0
@@ -90,7 +85,7 @@ ClaimRefused files told r f =
 -- What a status says of a claim, and of the bytes that a sink held before and holds now. Done: what
 -- is written of it was written whole. WriteFault: some first bytes of that. FeedRefused: the fault
 -- is the day's. JourneyRefused: the day has a timetable, and the fault is the claim's. Usage and
--- ScriptRefused don't come here. Of ReadFault and Memory no clause speaks here.
+-- the other refusals don't come here. Of ReadFault and Memory no clause speaks here.
 abbrev pub IsVerifyOutcome : Option FileList → Option (List ℕ) → VerifyRequestData → Status
     → Option (List ℕ) → Option (List ℕ) → Type 0
 IsVerifyOutcome files told r status.Done before now =
@@ -102,6 +97,7 @@ IsVerifyOutcome files told r (status.FeedRefused f) before now = DayGives files 
 IsVerifyOutcome files told r (status.JourneyRefused f) before now = ClaimRefused files told r f
 IsVerifyOutcome files told r status.Usage before now = ⊥
 IsVerifyOutcome files told r (status.ScriptRefused f) before now = ⊥
+IsVerifyOutcome files told r (status.LateRefused f) before now = ⊥
 IsVerifyOutcome files told r status.ReadFault before now = ⊤
 IsVerifyOutcome files told r status.Memory before now = ⊤
 
@@ -127,17 +123,7 @@ IsNoClaim T told before now status.Usage = ⊥
 IsNoClaim T told before now status.WriteFault = ⊥
 IsNoClaim T told before now (status.FeedRefused f) = ⊥
 IsNoClaim T told before now (status.ScriptRefused f) = ⊥
-
--- why a day gives no timetable, by the folder's count of faults before and now
-abbrev pub IsNoTable : Option FileList → VerifyRequestData → ℕ → ℕ → Status → Type 0
-IsNoTable files r before now (status.FeedRefused f) = DayGives files r (Err f) × (now ≡ before)
-IsNoTable files r before now status.ReadFault = before < now
-IsNoTable files r before now status.Memory = now ≡ before
-IsNoTable files r before now status.Done = ⊥
-IsNoTable files r before now status.Usage = ⊥
-IsNoTable files r before now status.WriteFault = ⊥
-IsNoTable files r before now (status.ScriptRefused f) = ⊥
-IsNoTable files r before now (status.JourneyRefused f) = ⊥
+IsNoClaim T told before now (status.LateRefused f) = ⊥
 
 -- why nothing is written of a claim
 abbrev pub IsUnverified : Option FileList → Option (List ℕ) → VerifyRequestData → Status → Type 0
@@ -149,3 +135,4 @@ IsUnverified files told r status.Done = ⊥
 IsUnverified files told r status.Usage = ⊥
 IsUnverified files told r status.WriteFault = ⊥
 IsUnverified files told r (status.ScriptRefused f) = ⊥
+IsUnverified files told r (status.LateRefused f) = ⊥

@@ -1,19 +1,48 @@
 //! What the program does about one day of a feed.
-ghost use Rattle.std.specs.Prelude.{◌≡◌, ◌⊎◌, ◌<◌, ◌-◌, ◌^◌, IfOk, IsSome, MatchResult, Ok};
+ghost use Rattle.std.specs.Prelude.{◌≡◌, ◌⊎◌, ◌<◌, ◌-◌, ◌^◌, IfErr, IfOk, IsSome, MatchResult, Ok};
 ghost use Rattle.tb_base.specs.Soundness.{IsSound};
 ghost use Rattle.tb_base.specs.TimetableData.{TimetableData};
 ghost use Rattle.trip_table.specs.Answers.{IsFault, Leaves};
+ghost use Rattle.command_line.specs.Settings.{AreWithinADay};
 ghost use Rattle.router_cli.specs.Answers.{IsAnswer};
-ghost use Rattle.router_cli.specs.Outcome.{IsDayOf, IsOutcome, WritesAnswer};
+ghost use Rattle.router_cli.specs.Outcome.{GivesDay, IsDayOf, IsNoTable, IsOutcome, WritesAnswer};
 
 use crate::answers::answer;
 use crate::status::Status;
 use command_line::DayRequest;
 use std::alloc::Global;
 use std::thread::Threads;
-use tb_base::Gate;
+use tb_base::{Gate, Timetable};
 use tb_io::{Folder, Sink, put_all};
-use trip_table::{DayFault, read_day};
+use trip_table::{Day, DayFault, Options, read_day};
+
+/// The timetable of a day, from the files of a folder.
+pub(crate) fn table_of<F: Folder>(
+    alloc: Global,
+    folder: &mut F,
+    dir: &str,
+    day: &Day,
+    options: &Options,
+) -> Result<Timetable, Status>
+    requires count { F.faults folder.old < 2 ^ 64 - 1 }
+    requires options { AreWithinADay options.now }
+    ensures day { IfOk result (λ T.
+        GivesDay (F.files folder.old) dir.now day.now options.now (Ok T)) }
+    ensures kept { IfOk result (λ _. F.faults folder.new ≡ F.faults folder.old) }
+    ensures refused { IfErr result (IsNoTable (F.files folder.old) dir.now day.now options.now
+        (F.faults folder.old) (F.faults folder.new)) }
+    ensures files { F.files folder.new ≡ F.files folder.old }
+{
+    match read_day(alloc, folder, dir, day, options) {
+        Ok(table) => {
+            table.soundness();
+            Ok(table)
+        }
+        Err(DayFault::Feed(fault)) => Err(Status::FeedRefused(fault)),
+        Err(DayFault::ReadFault) => Err(Status::ReadFault),
+        Err(DayFault::Memory) => Err(Status::Memory),
+    }
+}
 
 // The text of the answer to a request, from the files of its folder.
 fn text_of<R: Threads + Sync, F: Folder, G: Gate>(

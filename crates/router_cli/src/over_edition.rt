@@ -13,8 +13,8 @@ use std::alloc::Global;
 use std::marker::Brand;
 use tb_base::{Memory, Name, Timetable};
 
-// What is written for an edition's answer.
-fn reply_text(alloc: Global, table: &Timetable, reply: &Reply) -> Result<Vec<u8>, Memory>
+/// What is written for an edition's answer.
+pub(crate) fn reply_text(alloc: Global, table: &Timetable, reply: &Reply) -> Result<Vec<u8>, Memory>
     requires { HaveNumbers table.now reply.now }
     ensures { IfOk result (λ text. text.items ≡ reply_text table.now reply.now) }
 {
@@ -26,8 +26,8 @@ fn reply_text(alloc: Global, table: &Timetable, reply: &Reply) -> Result<Vec<u8>
     }
 }
 
-// The question that an inquiry asks.
-fn ask_question(alloc: Global, inquiry: &Inquiry) -> Result<AskText, Memory>
+/// The question that an inquiry asks.
+pub(crate) fn ask_question(alloc: Global, inquiry: &Inquiry) -> Result<AskText, Memory>
     ensures question { IfOk result (λ q. q ≡ ask_data inquiry.now) }
     ensures time { IfOk result (λ q. AskData.leave q ≤ℤ pos 359999) }
 {

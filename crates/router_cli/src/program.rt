@@ -4,6 +4,7 @@ ghost use Rattle.command_line.specs.Requests.{request_of};
 ghost use Rattle.router_cli.specs.Promise.{IsRequestEnding, IsRequestOutcome, LeavesScript, ReadsBehind, TellsFirst, WritesRequest};
 
 use crate::day::day_outcome;
+use crate::late_trips::late_outcome;
 use crate::made_city::city_outcome;
 use crate::serving::run_outcome;
 use crate::status::Status;
@@ -16,7 +17,7 @@ use tb_base::{Gate, Memory};
 use tb_io::{Folder, Sink, Source};
 use trip_table::laws::timetable_determined;
 
-// Does all that the program does. Only a run has a handle that waits.
+// Does all that the program does. Only a run and a day with late trips have a handle that waits.
 fn outcome<R: Threads + Wait + Sync, F: Folder + Send, S: Source, K: Sink, G: Gate>(
     rt: &R,
     alloc: Global,
@@ -65,6 +66,7 @@ fn outcome<R: Threads + Wait + Sync, F: Folder + Send, S: Source, K: Sink, G: Ga
         Ok(Some(Request::Verify(request))) => {
             verify_outcome(alloc, &request, folder, script, out)
         }
+        Ok(Some(Request::Late(request))) => late_outcome(rt, alloc, &request, folder, out, gate),
         Ok(None) => Status::Usage,
         Err(Memory) => Status::Memory,
     }
@@ -77,10 +79,11 @@ fn outcome<R: Threads + Wait + Sync, F: Folder + Send, S: Source, K: Sink, G: Ga
 /// With any status but `Done` and `WriteFault` nothing is written, since the whole text is gathered
 /// before its first byte is written. Whatever the folder is, what is written with `Done` is the
 /// answer over some sound timetable; where it tells its contents, over the timetable of the day. A
-/// script is read by a run of several days alone; its first fault comes before what the feeds give. A
-/// claim is read, from the same source, once the timetable of its day is there.
-/// `Memory` is free. The gate is told of the pieces that workers reduce, and of the publications and
-/// requests of a run, which may wait.
+/// script is read by a run of several days alone; its first fault comes before what the feeds give.
+/// A claim is read, from the same source, and a file of late trips, from the folder, once the
+/// timetable of its day is there. `Memory` is free. The gate is told of the pieces that workers
+/// reduce, and of the publications and requests of a run. A run, and a day with late trips, may
+/// wait.
 pub fn route<R: Threads + Wait + Sync, F: Folder + Send, S: Source, K: Sink, G: Gate>(
     rt: &R,
     alloc: Global,

@@ -1,12 +1,13 @@
 //! How the program ends.
 ghost use Rattle.std.specs.Prelude.{◌≡◌, ◌++◌, IfOk};
 ghost use Rattle.std.specs.Fmt.{decimal};
-ghost use Rattle.router_cli.specs.Outcome.{journey_fault_text, script_fault_text, status_code, status_text};
+ghost use Rattle.router_cli.specs.Outcome.{journey_fault_text, late_fault_text, script_fault_text, status_code, status_text};
 
 use answer_text::fault_text;
 use gtfs_rows::FeedFault;
 use journey_read::JourneyFault;
 use lane_serve::ScriptFault;
+use late_edit::LateFault;
 use std::alloc::Global;
 use tb_base::Memory;
 
@@ -30,13 +31,15 @@ pub enum Status {
     Memory,
     /// The script has this first fault.
     ScriptRefused(ScriptFault),
+    /// The late trips of a day have this first fault.
+    LateRefused(LateFault),
     /// The claimed journey has this first fault.
     JourneyRefused(JourneyFault),
 }
 
 impl Status {
-    /// The number with which the program ends: 0 for `Done`, 2 to 7 for the next ones in their
-    /// order, and 9 for `JourneyRefused`.
+    /// The number with which the program ends: 0 for `Done`, and 2 to 9 for the others in their
+    /// order.
     pub fn code(&self) -> u8
         ensures { result ≡ status_code self.now }
     {
@@ -48,6 +51,7 @@ impl Status {
             Status::WriteFault => 5,
             Status::Memory => 6,
             Status::ScriptRefused(_) => 7,
+            Status::LateRefused(_) => 8,
             Status::JourneyRefused(_) => 9,
         }
     }
@@ -65,6 +69,7 @@ pub fn status_text(alloc: Global, status: &Status) -> Result<Vec<u8>, Memory>
         Status::WriteFault => copied(alloc, b"router: write fault\n"),
         Status::Memory => copied(alloc, b"router: out of memory\n"),
         Status::ScriptRefused(fault) => script_refusal_text(alloc, *fault),
+        Status::LateRefused(fault) => late_refusal_text(alloc, *fault),
         Status::JourneyRefused(fault) => journey_refusal_text(alloc, *fault),
     }
 }
@@ -119,6 +124,32 @@ fn script_refusal_text(alloc: Global, fault: ScriptFault) -> Result<Vec<u8>, Mem
 {
     let mut line = copied(alloc, b"router: script refused: ")?;
     let text = script_fault_text(alloc, fault)?;
+    line.extend_from_slice(text.as_slice())?;
+    line.push(b'\n')?;
+    Ok(line)
+}
+
+// The number and the name of a fault of late trips, and its line where it has one.
+fn late_fault_text(alloc: Global, fault: LateFault) -> Result<Vec<u8>, Memory>
+    ensures { IfOk result (λ v. v.items ≡ late_fault_text fault) }
+{
+    match fault {
+        LateFault::UnknownTrip(line) => at_number(alloc, b"1 UnknownTrip line ", line),
+        LateFault::TimeRunsBack(line) => at_number(alloc, b"2 TimeRunsBack line ", line),
+        LateFault::OutOfRange(line) => at_number(alloc, b"3 OutOfRange line ", line),
+        LateFault::BadEvent(line) => at_number(alloc, b"4 BadEvent line ", line),
+        LateFault::BadLine(line) => at_number(alloc, b"5 BadLine line ", line),
+        LateFault::MissingFile => copied(alloc, b"6 MissingFile"),
+        LateFault::TooLarge => copied(alloc, b"7 TooLarge"),
+        LateFault::Memory => copied(alloc, b"Memory"),
+    }
+}
+
+fn late_refusal_text(alloc: Global, fault: LateFault) -> Result<Vec<u8>, Memory>
+    ensures { IfOk result (λ v. v.items ≡ status_text (Status.LateRefused fault)) }
+{
+    let mut line = copied(alloc, b"router: late refused: ")?;
+    let text = late_fault_text(alloc, fault)?;
     line.extend_from_slice(text.as_slice())?;
     line.push(b'\n')?;
     Ok(line)

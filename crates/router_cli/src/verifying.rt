@@ -2,8 +2,9 @@
 ghost use Rattle.std.specs.Prelude.{◌≡◌, ◌⊎◌, ◌<◌, ◌-◌, ◌^◌, Err, IfErr, IfOk, List, Ok, length, ℕ};
 ghost use Rattle.std.specs.Io.KnownBytes.{Consumes};
 ghost use Rattle.tb_base.specs.TimetableData.{TimetableData};
-ghost use Rattle.router_cli.specs.Verifying.{ClaimGives, DayGives, IsNoClaim, IsNoTable, IsUnverified, IsVerified, IsVerifiedText, IsVerifyOutcome};
+ghost use Rattle.router_cli.specs.Verifying.{ClaimGives, DayGives, IsNoClaim, IsUnverified, IsVerified, IsVerifiedText, IsVerifyOutcome};
 
+use crate::day::table_of;
 use crate::over_table::{Asked, query_of};
 use crate::status::Status;
 use crate::verdicts::verdict_text;
@@ -13,34 +14,9 @@ use journey_read::{Claimed, JourneyFault, judge, read_journey};
 use std::alloc::Global;
 use tb_base::{Memory, Timetable};
 use tb_io::{Folder, Sink, Source, Taken, put_all, take_source};
-use trip_table::{DayFault, read_day};
 
 // No claim has more bytes.
 const MOST_BYTES: u64 = 1_048_576;
-
-// The timetable of the day of a request.
-fn table_of<F: Folder>(
-    alloc: Global,
-    folder: &mut F,
-    request: &VerifyRequest,
-) -> Result<Timetable, Status>
-    requires { F.faults folder.old < 2 ^ 64 - 1 }
-    ensures day { IfOk result (λ T. DayGives (F.files folder.old) request.now (Ok T)) }
-    ensures kept { IfOk result (λ _. F.faults folder.new ≡ F.faults folder.old) }
-    ensures refused { IfErr result (IsNoTable (F.files folder.old) request.now
-        (F.faults folder.old) (F.faults folder.new)) }
-    ensures files { F.files folder.new ≡ F.files folder.old }
-{
-    match read_day(alloc, folder, request.dir, &request.day, &request.options) {
-        Ok(table) => {
-            table.soundness();
-            Ok(table)
-        }
-        Err(DayFault::Feed(fault)) => Err(Status::FeedRefused(fault)),
-        Err(DayFault::ReadFault) => Err(Status::ReadFault),
-        Err(DayFault::Memory) => Err(Status::Memory),
-    }
-}
 
 // The claim that a source makes over a timetable.
 fn claim_from<S: Source>(
@@ -109,7 +85,7 @@ fn text_of<F: Folder, S: Source>(
     ensures files { F.files folder.new ≡ F.files folder.old }
     ensures read { (bs : List ℕ) × Consumes (S.left source.old) (S.left source.new) bs }
 {
-    let table = match table_of(alloc, folder, request) {
+    let table = match table_of(alloc, folder, request.dir, &request.day, &request.options) {
         Ok(table) => table,
         Err(status) => return Err(status),
     };

@@ -1,0 +1,151 @@
+-- What the program's status says of a day amended by late trips.
+use Rattle.std.specs.Prelude.{◌≡◌, ℕ, ◌<◌, ◌≤◌, ◌⊎◌, List, ◌++◌, codes, length, nat_lt, take, Option, Some, None, IfSome, Result, Ok, Err, if◌then◌else◌, ⊤}
+use Rattle.std.specs.Fmt.{decimal}
+use Rattle.std.specs.Io.KnownBytes.{Appends}
+use Rattle.tb_base.specs.Lines.{AreLines}
+use Rattle.tb_base.specs.Soundness.{IsSound}
+use Rattle.tb_base.specs.TimetableData.{TimetableData}
+use Rattle.gtfs_rows.specs.Steps.{and_then}
+use Rattle.gtfs_rows.specs.declared.fault.FeedFault.{FeedFault}
+use Rattle.tb_io.specs.Files.{FileList, file_at}
+use Rattle.late_times.specs.Amended.{amended}
+use Rattle.late_times.specs.Lates.{LateData, lates_of}
+use Rattle.late_times.specs.declared.late.LateFault.{LateFault}
+use Rattle.late_times.specs.declared.late.LateFault.TheVariants as fault
+use Rattle.touched_trips.specs.Touched.{touched_count}
+use Rattle.edition_store.specs.Editions.{kept_count}
+use Rattle.command_line.specs.Inquiries.{InquiryData}
+use Rattle.command_line.specs.LateTrips.{LateRequestData}
+use Rattle.router_cli.specs.Answers.{IsInquiryText, ShowsKept}
+use Rattle.router_cli.specs.Outcome.{GivesDay}
+use Rattle.router_cli.specs.declared.status.Status.{Status}
+use Rattle.router_cli.specs.declared.status.Status.TheVariants as status
+
+-- what a file says of late trips, or its first fault: that it isn't there, then its size, then its
+-- first bad line
+abbrev pub lates_in : Option (List ℕ) → Result (List LateData) LateFault
+lates_in None = Err fault.MissingFile
+lates_in (Some bytes) =
+    if nat_lt 33554432 (length bytes) then Err fault.TooLarge else lates_of bytes
+
+-- where the folder tells its files, the one at this path says this of late trips
+abbrev pub LatesGive : Option FileList → List ℕ → Result (List LateData) LateFault → Type 0
+LatesGive files path lates = IfSome files (λ fs. lates_in (file_at fs path) ≡ lates)
+
+-- the timetable of a request's day, or the feed's first fault
+abbrev pub DayGives : Option FileList → LateRequestData → Result TimetableData FeedFault → Type 0
+DayGives files r = GivesDay files r.dir r.date r.options
+
+-- what is told of the second edition: how many trips are touched, and how many transfers are kept
+abbrev pub amended_text : ℕ → ℕ → List ℕ
+amended_text redone kept =
+    codes "edition 2 redone " ++ decimal redone ++ codes " kept " ++ decimal kept ++ codes "\n"
+
+-- What is written where timetable T becomes U: the trips that this touches are counted, and the
+-- kept transfers of U; then comes what U answers.
+pub record IsAmendedText (T U : TimetableData) (i : InquiryData) (bytes : List ℕ) : Type 0 where
+  pub before : List (List ℕ)
+  pub lines_before : AreLines T before
+  pub after : List (List ℕ)
+  pub lines_after : AreLines U after
+  pub redone : ℕ
+  pub touched : redone ≡ touched_count (record { table = T; lines = before })
+      (record { table = U; lines = after })
+  pub answer : List ℕ
+  pub shown : IsInquiryText U ShowsKept i answer
+  pub text : bytes ≡ amended_text redone (kept_count U after) ++ answer
+
+-- the lates make a sound timetable of this one, and the bytes are what is written of the two
+pub record IsLateText (T : TimetableData) (lates : List LateData) (i : InquiryData)
+    (bytes : List ℕ) : Type 0 where
+  pub table : TimetableData
+  pub amended : amended T lates ≡ Ok table
+  pub sound : IsSound table
+  pub text : IsAmendedText T table i bytes
+
+-- the bytes are what is written over the day's timetable, amended by what the file says
+pub record IsLateDay (files : Option FileList) (r : LateRequestData) (bytes : List ℕ)
+    : Type 0 where
+  pub table : TimetableData
+  pub day : DayGives files r (Ok table)
+  pub lates : List LateData
+  pub file : LatesGive files r.file (Ok lates)
+  pub text : IsLateText table lates r.inquiry bytes
+
+-- the fault is the first one of the file, or the file is good and it is the first one of a late
+abbrev pub LateRefused : Option FileList → LateRequestData → LateFault → Type 0
+LateRefused files r f =
+    (T : TimetableData) × DayGives files r (Ok T)
+    × (LatesGive files r.file (Err f)
+    ⊎ ((lates : List LateData) × LatesGive files r.file (Ok lates) × (amended T lates ≡ Err f)))
+
+-- What a status says of such a day, and of the bytes that a sink held before and holds now. Done:
+-- what is written of it was written whole. WriteFault: some first bytes of that. FeedRefused: the
+-- fault is the day's. LateRefused: the day has a timetable, and the fault is the first one of its
+-- late trips. Usage and the other refusals don't come here. Of ReadFault and Memory no clause
+-- speaks here.
+abbrev pub IsLateOutcome : Option FileList → LateRequestData → Status → Option (List ℕ)
+    → Option (List ℕ) → Type 0
+IsLateOutcome files r status.Done before now =
+    (bytes : List ℕ) × IsLateDay files r bytes × Appends before now bytes
+IsLateOutcome files r status.WriteFault before now =
+    (bytes : List ℕ) × (n : ℕ) × IsLateDay files r bytes × (n ≤ length bytes)
+    × Appends before now (take n bytes)
+IsLateOutcome files r (status.FeedRefused f) before now = DayGives files r (Err f)
+IsLateOutcome files r (status.LateRefused f) before now = LateRefused files r f
+IsLateOutcome files r status.Usage before now = ⊥
+IsLateOutcome files r (status.ScriptRefused f) before now = ⊥
+IsLateOutcome files r (status.JourneyRefused f) before now = ⊥
+IsLateOutcome files r status.ReadFault before now = ⊤
+IsLateOutcome files r status.Memory before now = ⊤
+
+-- How late trips may end where nothing fails outside: by their first fault, or with what is written
+-- of the timetable that they make, or for want of memory.
+abbrev pub IsAmendEnding : Result TimetableData LateFault → Status → Type 0
+IsAmendEnding (Ok U) s = (s ≡ status.Done) ⊎ (s ≡ status.Memory)
+IsAmendEnding (Err f) s = (s ≡ status.LateRefused f) ⊎ (s ≡ status.Memory)
+
+-- The same of a request: by the feed's first fault; else as the late trips of the file, over the
+-- day's timetable.
+abbrev pub IsLateEnding : Option FileList → LateRequestData → Result TimetableData FeedFault
+    → Status → Type 0
+IsLateEnding files r (Ok T) s = IfSome files (λ fs.
+    IsAmendEnding (and_then (lates_in (file_at fs r.file)) (λ lates. amended T lates)) s)
+IsLateEnding files r (Err f) s = (s ≡ status.FeedRefused f) ⊎ (s ≡ status.Memory)
+
+-- why a file gives no late trips, by the folder's count of faults before and now
+abbrev pub IsNoLates : Option FileList → List ℕ → ℕ → ℕ → Status → Type 0
+IsNoLates files path before now (status.LateRefused f) =
+    LatesGive files path (Err f) × (now ≡ before)
+IsNoLates files path before now status.ReadFault = before < now
+IsNoLates files path before now status.Memory = now ≡ before
+IsNoLates files path before now status.Done = ⊥
+IsNoLates files path before now status.Usage = ⊥
+IsNoLates files path before now status.WriteFault = ⊥
+IsNoLates files path before now (status.FeedRefused f) = ⊥
+IsNoLates files path before now (status.ScriptRefused f) = ⊥
+IsNoLates files path before now (status.JourneyRefused f) = ⊥
+
+-- why late trips make no text of a timetable
+abbrev pub IsNotAmended : TimetableData → List LateData → Status → Type 0
+IsNotAmended T lates (status.LateRefused f) = amended T lates ≡ Err f
+IsNotAmended T lates status.Memory = ⊤
+IsNotAmended T lates status.Done = ⊥
+IsNotAmended T lates status.Usage = ⊥
+IsNotAmended T lates status.ReadFault = ⊥
+IsNotAmended T lates status.WriteFault = ⊥
+IsNotAmended T lates (status.FeedRefused f) = ⊥
+IsNotAmended T lates (status.ScriptRefused f) = ⊥
+IsNotAmended T lates (status.JourneyRefused f) = ⊥
+
+-- why nothing is written of such a day
+abbrev pub IsNoLateDay : Option FileList → LateRequestData → Status → Type 0
+IsNoLateDay files r (status.FeedRefused f) = DayGives files r (Err f)
+IsNoLateDay files r (status.LateRefused f) = LateRefused files r f
+IsNoLateDay files r status.ReadFault = ⊤
+IsNoLateDay files r status.Memory = ⊤
+IsNoLateDay files r status.Done = ⊥
+IsNoLateDay files r status.Usage = ⊥
+IsNoLateDay files r status.WriteFault = ⊥
+IsNoLateDay files r (status.ScriptRefused f) = ⊥
+IsNoLateDay files r (status.JourneyRefused f) = ⊥

@@ -1,0 +1,220 @@
+//! What the program does about a day amended by late trips.
+ghost use Rattle.std.specs.Prelude.{◌≡◌, ◌⊎◌, ◌<◌, ◌-◌, ◌^◌, Err, IfErr, IfOk, MatchResult, Ok};
+ghost use Rattle.edition_store.specs.Editions.{EditionData};
+ghost use Rattle.late_times.specs.Amended.{amended};
+ghost use Rattle.late_times.specs.Lates.{IsRefused};
+ghost use Rattle.touched_trips.specs.Touched.{touched_count};
+ghost use Rattle.late_edit.specs.Amending.{network_of};
+ghost use Rattle.command_line.specs.Settings.{AreWorkers};
+ghost use Rattle.router_cli.specs.Answers.{IsInquiryText, ShowsKept};
+ghost use Rattle.router_cli.specs.LateTrips.{IsAmendedText, IsLateDay, IsLateOutcome, IsLateText, IsNoLateDay, IsNoLates, IsNotAmended, LatesGive, amended_text};
+
+use crate::day::table_of;
+use crate::over_edition::{ask_question, reply_text};
+use crate::status::{Status, at_number};
+use command_line::{Inquiry, LateRequest};
+use edition_build::build_edition;
+use edition_store::{Edition, Naming, Opened, Shared, Store};
+use late_edit::{Amended, Late, LateFault, amend, read_late};
+use query_gate::Caller;
+use std::alloc::Global;
+use std::marker::Brand;
+use std::sync::Wait;
+use std::thread::Threads;
+use tb_base::{Gate, Memory, Timetable};
+use tb_io::{Folder, Sink, Taken, put_all, take_file};
+
+// No file of late trips has more bytes.
+const MOST_BYTES: u64 = 33_554_432;
+
+// What a file of the folder says of late trips.
+fn lates_from<F: Folder>(alloc: Global, folder: &mut F, path: &str) -> Result<Vec<Late>, Status>
+    requires { F.faults folder.old < 2 ^ 64 - 1 }
+    ensures lates { IfOk result (λ lates.
+        LatesGive (F.files folder.old) path.now (Ok lates.items)) }
+    ensures kept { IfOk result (λ _. F.faults folder.new ≡ F.faults folder.old) }
+    ensures refused { IfErr result (IsNoLates (F.files folder.old) path.now
+        (F.faults folder.old) (F.faults folder.new)) }
+    ensures files { F.files folder.new ≡ F.files folder.old }
+{
+    match take_file(alloc, folder, path, MOST_BYTES) {
+        Ok(Some(bytes)) => match read_late(alloc, bytes.as_slice()) {
+            Ok(lates) => Ok(lates),
+            Err(LateFault::Memory) => Err(Status::Memory),
+            Err(fault) => Err(Status::LateRefused(fault)),
+        },
+        Ok(None) => Err(Status::LateRefused(LateFault::MissingFile)),
+        Err(Taken::TooLarge) => Err(Status::LateRefused(LateFault::TooLarge)),
+        Err(Taken::ReadFault) => Err(Status::ReadFault),
+        Err(Taken::Memory) => Err(Status::Memory),
+    }
+}
+
+// `edition 2 redone N kept N`.
+fn amended_text(alloc: Global, redone: u32, kept: u64) -> Result<Vec<u8>, Memory>
+    ensures { IfOk result (λ text. text.items ≡ amended_text redone kept) }
+{
+    let mut line = at_number(alloc, b"edition 2 redone ", redone)?;
+    let Ok(rest) = format!(in alloc; " kept {kept}\n") else {
+        return Err(Memory);
+    };
+    line.extend_from_slice(rest.as_bytes())?;
+    Ok(line)
+}
+
+// The best values by the last of two editions that are published one after the other.
+fn ask_last<J: Naming, R: Wait>(
+    rt: &R,
+    alloc: Global,
+    opened: Opened<Edition>,
+    first: Shared,
+    last: Shared,
+    inquiry: &Inquiry,
+) -> Result<Vec<u8>, Memory>
+    requires { opened.seen.book ≡ J.book }
+    ensures { IfOk result (λ text.
+        IsInquiryText (EditionData.table last) ShowsKept inquiry.now text.items) }
+{
+    last.edition().soundness();
+    let question = ask_question(alloc, inquiry)?;
+    let (publisher, mut seats) = Store::new::<J>(alloc, opened, first, 1)?;
+    let (publisher, _receipt) = publisher.publish(rt, last)?;
+    let whole = publisher.finish(rt)?;
+    let Some(seat) = seats.pop() else {
+        unreachable!()
+    };
+    let mut caller = Caller::new(alloc, seat);
+    caller.learn_last(&whole)?;
+    let answer = caller.ask(alloc, &question)?;
+    let asked = answer.pinned.edition();
+    reply_text(alloc, asked.table(), &answer.reply)
+}
+
+// What is written of an edition and what late trips make of it.
+fn editions_text<R: Wait>(
+    rt: &R,
+    alloc: Global,
+    old: Shared,
+    amended: Amended,
+    inquiry: &Inquiry,
+) -> Result<Vec<u8>, Memory>
+    requires { amended.redone ≡ touched_count (network_of old) (network_of amended.edition) }
+    ensures { IfOk result (λ text. IsAmendedText (EditionData.table old)
+        (EditionData.table amended.edition) inquiry.now text.items) }
+{
+    old.edition().soundness();
+    let Amended { edition, redone } = amended;
+    edition.edition().soundness();
+    let mut text = amended_text(alloc, redone, edition.edition().kept())?;
+    let answer = ask_last::<Brand, R>(rt, alloc, Opened::new(), old, edition, inquiry)?;
+    text.extend_from_slice(answer.as_slice())?;
+    Ok(text)
+}
+
+// What is written of a timetable and what late trips make of it, or the first fault of a late.
+fn amended_answer<R: Threads + Wait + Sync, G: Gate>(
+    rt: &R,
+    alloc: Global,
+    table: Timetable,
+    lates: &[Late],
+    inquiry: &Inquiry,
+    workers: u32,
+    gate: &G,
+) -> Result<Vec<u8>, LateFault>
+    requires { AreWorkers workers }
+    ensures { MatchResult result (λ text. IsLateText table lates.now inquiry.now text.items)
+        (λ f. IsRefused f (amended table lates.now)) }
+{
+    let old = build_edition(rt, alloc, table, workers, gate)?;
+    let amended = amend(alloc, old.edition(), lates)?;
+    amended.edition.edition().soundness();
+    Ok(editions_text(rt, alloc, old, amended, inquiry)?)
+}
+
+// The same, or why there is no text.
+fn late_answer<R: Threads + Wait + Sync, G: Gate>(
+    rt: &R,
+    alloc: Global,
+    table: Timetable,
+    lates: &[Late],
+    request: &LateRequest,
+    gate: &G,
+) -> Result<Vec<u8>, Status>
+    ensures text { IfOk result (λ text.
+        IsLateText table lates.now request.now.inquiry text.items) }
+    ensures refused { IfErr result (IsNotAmended table lates.now) }
+{
+    match amended_answer(
+        rt,
+        alloc,
+        table,
+        lates,
+        &request.inquiry,
+        request.workers,
+        gate,
+    ) {
+        Ok(text) => Ok(text),
+        Err(LateFault::Memory) => Err(Status::Memory),
+        Err(fault) => Err(Status::LateRefused(fault)),
+    }
+}
+
+// What is written for a request. The file is read once the timetable of the day is there.
+fn text_of<R: Threads + Wait + Sync, F: Folder, G: Gate>(
+    rt: &R,
+    alloc: Global,
+    folder: &mut F,
+    request: &LateRequest,
+    gate: &G,
+) -> Result<Vec<u8>, Status>
+    requires { F.faults folder.old < 2 ^ 64 - 1 }
+    ensures text { IfOk result (λ text.
+        IsLateDay (F.files folder.old) request.now text.items) }
+    ensures refused { IfErr result (IsNoLateDay (F.files folder.old) request.now) }
+    ensures fault { result ≡ Err Status.ReadFault → F.faults folder.old < F.faults folder.new }
+    ensures kept { (result ≡ Err Status.ReadFault)
+        ⊎ (F.faults folder.new ≡ F.faults folder.old) }
+    ensures files { F.files folder.new ≡ F.files folder.old }
+{
+    let table = match table_of(alloc, folder, request.dir, &request.day, &request.options) {
+        Ok(table) => table,
+        Err(status) => return Err(status),
+    };
+    let lates = match lates_from(alloc, folder, request.file) {
+        Ok(lates) => lates,
+        Err(status) => return Err(status),
+    };
+    late_answer(rt, alloc, table, lates.as_slice(), request, gate)
+}
+
+/// Answers by the timetable of a day that the late trips of a file amend, once both editions are
+/// published. It may wait.
+pub(crate) fn late_outcome<R: Threads + Wait + Sync, F: Folder, K: Sink, G: Gate>(
+    rt: &R,
+    alloc: Global,
+    request: &LateRequest,
+    folder: &mut F,
+    out: &mut K,
+    gate: &G,
+) -> Status
+    requires folder { F.faults folder.old < 2 ^ 64 - 1 }
+    requires out { K.faults out.old < 2 ^ 64 - 1 }
+    ensures promise { IsLateOutcome (F.files folder.old) request.now result
+        (K.written out.old) (K.written out.new) }
+    ensures quiet { (result ≡ Status.Done) ⊎ (result ≡ Status.WriteFault)
+        ⊎ (K.written out.new ≡ K.written out.old) }
+    ensures read { result ≡ Status.ReadFault → F.faults folder.old < F.faults folder.new }
+    ensures write { result ≡ Status.WriteFault → K.faults out.old < K.faults out.new }
+    ensures folder_kept { (result ≡ Status.ReadFault)
+        ⊎ (F.faults folder.new ≡ F.faults folder.old) }
+    ensures out_kept { (result ≡ Status.WriteFault) ⊎ (K.faults out.new ≡ K.faults out.old) }
+    ensures files { F.files folder.new ≡ F.files folder.old }
+{
+    match text_of(rt, alloc, folder, request, gate) {
+        Ok(text) => match put_all(out, text.as_slice()) {
+            Ok(()) => Status::Done,
+            Err(_) => Status::WriteFault,
+        },
+        Err(status) => status,
+    }
+}
