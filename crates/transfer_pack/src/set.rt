@@ -1,32 +1,63 @@
-ghost use Rattle.std.specs.Prelude.{◌≡◌, ◌+◌, ◌<◌, ◌++◌, ◌∷◌, ◌-◌, ◌≤◌, [], ℕ, List, IfOk, OnOk, length, map, slice_index_or, take, drop};
+ghost use Rattle.std.specs.Prelude.{◌≡◌, ◌+◌, ◌<◌, ◌++◌, ◌∷◌, ◌-◌, ◌≤◌, [], ℕ, List, All, IfOk, OnOk, length, map, slice_index_or, take, drop};
 ghost use Rattle.tb_base.specs.OutSets.{AreRowsOf, hops_at, row_of};
 ghost use Rattle.tb_base.specs.Transfers.{numbers_below};
 ghost use Rattle.transfer_pack.specs.Calls.{call_of};
 ghost use Rattle.transfer_pack.specs.Packed.{AreBounds, packed, runs_in};
-ghost use Rattle.transfer_pack.specs.Spots.{calls_in, ends_in};
+ghost use Rattle.transfer_pack.specs.Spots.{calls_in, ends_in, spot_call};
 
 use super::call::Call;
 use std::alloc::Global;
 use std::marker::Model;
 use std::snapshot::Snapshot;
-use tb_base::{Event, Hop, Memory, OutSet, StopNo, Timetable, Transfer, TripNo};
+use tb_base::{Event, Hop, Memory, OutSet, Sec, StopNo, Timetable, Transfer, TripNo};
 
-// An event as a search reads it, and where its hops end. They begin where those of the spot before end.
+// An event as a search reads it, in twelve bytes: twice the number of its stop, and one more where
+// one may alight there; its arrival; and where its hops end. They begin where those of the spot
+// before end.
 #[derive(Clone, Copy)]
 struct Spot {
-    call: Call,
+    stop_twice: u32,
+    arr: Sec,
     end: u32,
 }
 
 // What stands before the first event.
 const NO_SPOT: Spot = Spot {
-    call: Call {
-        stop: StopNo(0),
-        arr: 0,
-        alight: false,
-    },
+    stop_twice: 0,
+    arr: 0,
     end: 0,
 };
+
+impl Spot {
+    // The spot of an event whose hops end there.
+    fn of(event: &Event, end: u32) -> Spot
+        requires { event.now.stop < 100000 }
+        ensures call { spot_call result ≡ call_of event.now }
+        ensures end { result.end ≡ end }
+    {
+        let stop_twice = 2 * event.stop.0;
+        Spot {
+            stop_twice: if event.alight {
+                stop_twice + 1
+            } else {
+                stop_twice
+            },
+            arr: event.arr,
+            end,
+        }
+    }
+
+    // The event.
+    fn call(&self) -> Call
+        ensures { result ≡ spot_call self.now }
+    {
+        Call {
+            stop: StopNo(self.stop_twice / 2),
+            arr: self.arr,
+            alight: self.stop_twice % 2 == 1,
+        }
+    }
+}
 
 /// A set of transfers, and what a search reads of events: the hops of all events one behind the
 /// other, and for each event where its hops end, beside its stop and its arrival. It remembers for
@@ -34,7 +65,7 @@ const NO_SPOT: Spot = Spot {
 #[derive(Drop)]
 pub struct Set {
     table: Snapshot<Timetable>,
-    starts: Vec<usize>,
+    starts: Vec<u32>,
     spots: Vec<Spot>,
     hops: Vec<Hop>,
 }
@@ -94,7 +125,8 @@ fn add_trip(
     row: &[Transfer],
     events: &[Event],
 ) -> Result<(), Memory>
-    requires { AreBounds (ends_in spots.old.items) (length hops.old.items) }
+    requires bounds { AreBounds (ends_in spots.old.items) (length hops.old.items) }
+    requires stops { All (λ e. e.stop < 100000) events.now }
     ensures bounds { OnOk result (AreBounds (ends_in spots.new.items) (length hops.new.items)) }
     ensures runs { OnOk result (runs_in hops.new.items (ends_in spots.new.items)
         ≡ runs_in hops.old.items (ends_in spots.old.items)
@@ -104,10 +136,8 @@ fn add_trip(
 {
     for at in 0..events.len() {
         add_event(hops, row, at)?;
-        spots.push(Spot {
-            call: Call::of(&events[at]),
-            end: number(hops.len())?,
-        })?;
+        let end = number(hops.len())?;
+        spots.push(Spot::of(&events[at], end))?;
     }
     Ok(())
 }
@@ -123,12 +153,13 @@ impl Set {
             (λ set. (t i : ℕ) → packed set t i
             ≡ hops_at (row_of (map (λ row. row.items) rows.now) t) i) }
     {
+        table.soundness();
         let mut starts = Vec::new(alloc);
         let mut spots = Vec::new(alloc);
         let mut hops = Vec::new(alloc);
         spots.push(NO_SPOT)?;
         for t in 0..table.trip_count() {
-            starts.push(spots.len() - 1)?;
+            starts.push(number(spots.len() - 1)?)?;
             let events = table.events(TripNo(t));
             add_trip(&mut hops, &mut spots, rows[t as usize].as_slice(), events)?;
         }
@@ -169,7 +200,7 @@ impl Set {
         ensures number { result ≡ slice_index_or self.now.starts trip 0 + at }
         ensures inside { result < length self.now.runs }
     {
-        self.starts[trip.index()] + at as usize
+        self.starts[trip.index()] as usize + at as usize
     }
 
     // The hops from an event.
@@ -189,7 +220,7 @@ impl Set {
         ensures { result ≡ call_of (event_at self.now.table trip at) }
     {
         let event = self.event(trip, at);
-        self.spots[event + 1].call
+        self.spots[event + 1].call()
     }
 }
 

@@ -4,9 +4,8 @@ use Rattle.std.proofs.lemmas.List.{length-map}
 use Rattle.tb_base.specs.OutSets.{hops_at}
 use Rattle.tb_base.specs.Transfers.{numbers_below}
 use Rattle.tb_base.proofs.Listing.{row_is}
-use Rattle.transfer_pack.specs.declared.set.Spot.{Spot}
 use Rattle.transfer_pack.specs.Packed.{runs_in}
-use Rattle.transfer_pack.specs.Spots.{calls_in, ends_in}
+use Rattle.transfer_pack.specs.Spots.{calls_in, ends_in, spot_call}
 use Rattle.transfer_pack.proofs.Packing.{ArePacked, packed_all, spots_counted, trip_packed}
 use Rattle.transfer_pack.proofs.set.Set.build.Goals as goal
 
@@ -19,11 +18,11 @@ loop-t-preserved c =
     let long : c.len.result ≡ length c.loop-t.spots.items = grind (arith, common_steps) in
     let start : c.len.result - 1 ≡ length runs = omega (arith, counted, long) in
     let next = trip_packed c.args.table.now (map (λ row. row.items) c.args.rows.now) c.loop-t.t c.loop-t.starts.items runs (calls_in c.loop-t.spots.items) c.as_slice.result.now c.events-events.result.now
-    c.loop-t.invariant.packed (length-map c.loop-t.spots.items (λ (s : Spot). s.call) ∙ counted) row c.events-events.ensures in
+    c.loop-t.invariant.packed (length-map c.loop-t.spots.items spot_call ∙ counted) row c.events-events.ensures in
     record {
       bounds = c.in_ok-add_trip.ensures.bounds;
       packed = subst (λ ss. ArePacked c.args.table.now (map (λ row. row.items) c.args.rows.now) (c.loop-t.t + 1) ss (runs_in c.add_trip.new.hops.items (ends_in c.add_trip.new.spots.items)) (calls_in c.add_trip.new.spots.items))
-          (sym (c.in_ok-push-2.ensures.items ∙ ap (λ n. c.loop-t.starts.items ++ n ∷ []) start))
+          (sym (c.in_ok-push-2.ensures.items ∙ ap (λ n. c.loop-t.starts.items ++ n ∷ []) (c.in_ok-number.ensures ∙ start)))
           (subst (λ rs. ArePacked c.args.table.now (map (λ row. row.items) c.args.rows.now) (c.loop-t.t + 1) (c.loop-t.starts.items ++ length runs ∷ []) rs (calls_in c.add_trip.new.spots.items)) (sym c.in_ok-add_trip.ensures.runs)
           (subst (λ cs. ArePacked c.args.table.now (map (λ row. row.items) c.args.rows.now) (c.loop-t.t + 1) (c.loop-t.starts.items ++ length runs ∷ []) (runs ++ map (hops_at c.as_slice.result.now) (numbers_below (length c.events-events.result.now))) cs) (sym c.in_ok-add_trip.ensures.calls) next));
     }
