@@ -120,6 +120,13 @@ def trips_that_overtake(folder, n):
     write_feed(folder, trips=(f"S,t{i}\n" for i in range(count)), times=rows)
 
 
+def trips_that_overtake_between(folder, n):
+    """The same, but that they end in order."""
+    count = n // 50
+    rows = (f"t{i},{clock(28_800 + i)},,A,0\nt{i},{clock(72_000 - i)},,B,1\nt{i},{clock(73_000 + i)},,A,2\n" for i in range(count))
+    write_feed(folder, trips=(f"S,t{i}\n" for i in range(count)), times=rows)
+
+
 SHAPES = {
     shape.__name__: shape
     for shape in (
@@ -141,6 +148,7 @@ SHAPES = {
         calendar_for_each_trip,
         exceptions_of_one_service,
         trips_that_overtake,
+        trips_that_overtake_between,
     )
 }
 
@@ -152,7 +160,7 @@ def main(names):
         for size in (MILLION // 2, MILLION):
             with tempfile.TemporaryDirectory() as folder:
                 SHAPES[name](folder, size)
-                run = Run(["build", folder, DAY] if name == "trips_that_overtake" else ["direct", folder, DAY, "A", "B", "08:00:00"])
+                run = Run(["build", folder, DAY] if name.startswith("trips_that_overtake") else ["direct", folder, DAY, "A", "B", "08:00:00"])
                 said = f" {run.status} | {run.first_line()} |" if not cells else ""
                 cells += f" {megabytes_of(folder):.0f} |{said} {run.seconds:.2f} | {run.megabytes:.0f} |"
         print(f"| {name.replace('_', ' ')} |{cells}", flush=True)
