@@ -16,15 +16,59 @@ use crate::trips::TripTable;
 use footpaths::{Found, StopTable};
 use gtfs_rows::{FeedFault, FeedFile, RowCursor, RowReader, RowsFault, TimeFields, time_fields};
 use std::alloc::Global;
+use std::cell::Cell;
 use tb_base::{Memory, StopNo};
 use tb_io::Folder;
 use trip_rides::StopTime;
 
+// What the next row may name: the trip of the row before, and the stop that followed the stop of
+// that row the last time. It decides only where one looks first.
+#[derive(Drop)]
+struct Guesses {
+    trip: Cell<u32>,
+    stop: Cell<u32>,
+    // For each stop the one that followed it.
+    next: Vec<Cell<u32>>,
+}
+
+impl Guesses {
+    // Before the first row, with so many stops.
+    fn new(alloc: Global, stops: u32) -> Result<Guesses, Memory> {
+        let mut next = Vec::with_capacity(alloc, stops as usize)?;
+        for _stop in 0..stops {
+            next.push(Cell::new(0))?;
+        }
+        Ok(Guesses {
+            trip: Cell::new(0),
+            stop: Cell::new(0),
+            next,
+        })
+    }
+
+    // The stop that followed the stop of the row before.
+    fn next_stop(&self) -> u32 {
+        match self.next.get(self.stop.get() as usize) {
+            Some(stop) => stop.get(),
+            None => 0,
+        }
+    }
+
+    // Notes what a row names.
+    fn learn(&self, trip: u32, stop: u32) {
+        if let Some(next) = self.next.get(self.stop.get() as usize) {
+            next.set(stop);
+        }
+        self.trip.set(trip);
+        self.stop.set(stop);
+    }
+}
+
 // Reads the rows of stop_times.txt, and numbers what their ids name.
-#[derive(Clone, Copy)]
+#[derive(Drop)]
 struct TimeReader<'a> {
     stops: &'a StopTable,
     trips: &'a TripTable,
+    guesses: Guesses,
 }
 
 impl TimeReader<'_> {
@@ -33,11 +77,17 @@ impl TimeReader<'_> {
         ensures { result ≡ numbered self.now.stops.now self.now.trips.now (time_data fields.now) }
     {
         self.stops.soundness();
-        let found = self.stops.find(fields.stop);
+        let guesses = &self.guesses;
+        let trip = self.trips.number_near(guesses.trip.get(), fields.trip);
+        let found = self
+            .stops
+            .find_near(StopNo(guesses.next_stop()), fields.stop);
+        let stop = platform_number(self.stops.platforms(), &found);
+        guesses.learn(trip, stop);
         StopTime {
             row: fields.row,
-            trip_row: self.trips.number(fields.trip),
-            stop: StopNo(platform_number(self.stops.platforms(), &found)),
+            trip_row: trip,
+            stop: StopNo(stop),
             arr: fields.arr,
             dep: fields.dep,
             sequence: fields.sequence,
@@ -185,7 +235,14 @@ pub fn read_times<F: Folder>(
     ensures leaves { Leaves (F.files folder.old) (F.files folder.new) (F.faults folder.old)
         (F.faults folder.new) result }
 {
-    let reader = TimeReader { stops, trips };
+    let Ok(guesses) = Guesses::new(alloc, stops.platforms()) else {
+        return Err(DayFault::Memory);
+    };
+    let reader = TimeReader {
+        stops,
+        trips,
+        guesses,
+    };
     let times = match file_rows(alloc, folder, dir, &reader) {
         Ok(Some(times)) => times,
         Ok(None) => return Err(DayFault::Feed(FeedFault::MissingFile(FeedFile::StopTimes))),

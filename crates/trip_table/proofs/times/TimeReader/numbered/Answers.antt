@@ -3,8 +3,8 @@ use Rattle.tb_base.proofs.Lists.{length-filter_le}
 use Rattle.gtfs_rows.specs.StopsFile.{StopData, is_platform}
 use Rattle.trip_table.proofs.times.TimeReader.numbered.Goals as goal
 
-pub platform_number-requires : goal.platform_number-requires
-platform_number-requires c =
+pub platform_number-stop-requires : goal.platform_number-stop-requires
+platform_number-stop-requires c =
     let few = c.soundness.ensures.few in
     let kept = length-filter_le (λ (s : StopData). is_platform s.kind) c.args.self.now.stops.now in
     omega (arith, few, kept, c.platforms.ensures)

@@ -5,7 +5,7 @@ use Rattle.std.specs.Prelude.{bytes_eq, position, Option, unwrap_or}
 use Rattle.tb_base.proofs.Lists.{position-map}
 use Rattle.gtfs_rows.specs.TripsFile.{TripData}
 use Rattle.trip_table.specs.References.{trip_id, trip_number}
-use Rattle.trip_table.proofs.trips.TripTable.number.Goals as goal
+use Rattle.trip_table.proofs.trips.TripTable.number_near.Goals as goal
 
 number_is : (o : Option ℕ) (id : List ℕ) (ids : List (List ℕ)) (rows : List TripData) → o ≡ position (bytes_eq id) ids → ids ≡ map trip_id rows → unwrap_or o (length rows) ≡ trip_number rows id
 number_is o id ids rows e n = ap (λ (p : Option ℕ). unwrap_or p (length rows)) (e ∙ ap (position (bytes_eq id)) n ∙ position-map (bytes_eq id) trip_id rows)
