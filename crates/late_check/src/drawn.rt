@@ -1,0 +1,125 @@
+//! Late trips and questions that are drawn by numbers that look random.
+use late_times::Late;
+use made_feeds::Draw;
+use std::alloc::Global;
+use tb_base::{Memory, Name, Sec, StopNo, Timetable, Trip, TripNo};
+
+// A name that no trip has.
+const NOBODY: &[u8] = b"nobody";
+
+/// From where to where, and not before when, in seconds from noon minus twelve hours.
+#[derive(Clone, Copy)]
+pub struct Question {
+    pub from: StopNo,
+    pub to: StopNo,
+    pub leave: Sec,
+}
+
+// By how many seconds: up to ten minutes, early or late, at times a day or a second more.
+fn some_seconds(draw: &mut Draw) -> Sec {
+    let second = draw.below(2) as i32;
+    let minutes = draw.below(11) as i32 * 60;
+    let secs = if draw.one_in(20) { 86_400 } else { minutes };
+    let late = secs.saturating_add(second);
+    if draw.one_in(3) {
+        0i32.saturating_sub(late)
+    } else {
+        late
+    }
+}
+
+// One of the events of a trip, or at times one that isn't there.
+fn some_event(draw: &mut Draw, trip: &Trip) -> u32 {
+    let events = u32::try_from(trip.events.len()).unwrap_or(0);
+    if events == 0 || draw.one_in(20) {
+        events.saturating_add(draw.below(2))
+    } else {
+        draw.below(events)
+    }
+}
+
+// A late of a trip, at times with a name that no trip has, or with the other day.
+fn some_late(alloc: Global, draw: &mut Draw, trip: &Trip, line: u32) -> Result<Late, Memory> {
+    let name = if draw.one_in(25) {
+        NOBODY
+    } else {
+        trip.name.bytes()
+    };
+    Ok(Late {
+        line,
+        trip: Name::new(alloc, name)?,
+        before: trip.before != draw.one_in(25),
+        from: some_event(draw, trip),
+        secs: some_seconds(draw),
+    })
+}
+
+// The late that takes another one back.
+fn taken_back(alloc: Global, late: &Late, line: u32) -> Result<Late, Memory> {
+    Ok(Late {
+        line,
+        trip: Name::new(alloc, late.trip.bytes())?,
+        before: late.before,
+        from: late.from,
+        secs: 0i32.saturating_sub(late.secs),
+    })
+}
+
+// Adds a late of a trip, and at times one that takes it back.
+fn add_lates(
+    alloc: Global,
+    draw: &mut Draw,
+    trip: &Trip,
+    turn: u32,
+    lates: &mut Vec<Late>,
+) -> Result<(), Memory> {
+    let line = turn.saturating_mul(2);
+    let late = some_late(alloc, draw, trip, line.saturating_add(1))?;
+    if draw.one_in(5) {
+        let back = taken_back(alloc, &late, line.saturating_add(2))?;
+        lates.push(late)?;
+        lates.push(back)?;
+    } else {
+        lates.push(late)?;
+    }
+    Ok(())
+}
+
+/// None to four lates of trips of a timetable, some of which are taken back by another one. A trip
+/// may be named more than once.
+pub fn some_lates(alloc: Global, draw: &mut Draw, table: &Timetable) -> Result<Vec<Late>, Memory> {
+    let mut lates = Vec::new(alloc);
+    for turn in 0..draw.below(5) {
+        if table.trip_count() == 0 {
+            return Ok(lates);
+        }
+        let trip = TripNo(draw.below(table.trip_count()));
+        add_lates(alloc, draw, table.trip(trip), turn, &mut lates)?;
+    }
+    Ok(lates)
+}
+
+// A time up to ten minutes before the first departure of some trip.
+fn some_time(draw: &mut Draw, table: &Timetable) -> Sec {
+    let early = draw.below(10) as i32 * 60;
+    if table.trip_count() == 0 {
+        return 0;
+    }
+    let trip = TripNo(draw.below(table.trip_count()));
+    match table.events(trip).first() {
+        Some(event) => event.dep.saturating_sub(early),
+        None => 0,
+    }
+}
+
+/// A question between two stops of a timetable, none where it has no stop.
+pub fn some_question(draw: &mut Draw, table: &Timetable) -> Option<Question> {
+    if table.stop_count() == 0 {
+        return None;
+    }
+    Some(Question {
+        from: StopNo(draw.below(table.stop_count())),
+        to: StopNo(draw.below(table.stop_count())),
+        leave: some_time(draw, table),
+    })
+}
