@@ -1,47 +1,37 @@
 //! Feeds that look random.
-ghost use Rattle.std.specs.Prelude.{◌<◌, ◌≤◌, ◌+◌};
+ghost use Rattle.std.specs.Prelude.{◌<◌};
 
+use super::calls::{Trips, drawn_calls, timed_calls};
 use super::draw::Draw;
 use super::texts::{Feed, Files, files};
 use std::alloc::{AllocError, Global};
 use tb_base::Memory;
 
-// Seconds from noon minus twelve hours: 07:50:00, and ten minutes before midnight.
+// Seconds from noon minus twelve hours: 07:50:00.
 const MORNING: u32 = 28_200;
 
-const MIDNIGHT: u32 = 85_800;
+/// Ten minutes before midnight, in seconds from noon minus twelve hours.
+pub const MIDNIGHT: u32 = 85_800;
 
-// How many stops and lines of trips a feed has, and when its first trips leave.
-#[derive(Clone, Copy)]
-struct Size {
-    stops: u32,
-    patterns: u32,
-    start: u32,
-}
-
-// A time as a feed writes it.
-fn clock(alloc: Global, secs: u32) -> Result<String, AllocError> {
-    format!(in alloc; "{}:{:02}:{:02}", secs / 3600, secs / 60 % 60, secs % 60)
-}
-
-// Platforms, some of them of a station.
-fn stops(alloc: Global, draw: &mut Draw, size: Size) -> Result<String, AllocError> {
+/// Platforms, some of them of a station, as stops.txt.
+pub fn stops(alloc: Global, draw: &mut Draw, count: u32) -> Result<String, AllocError> {
     let mut text = String::from_str(alloc, "stop_id,location_type,parent_station\nC,1,\n")?;
-    for p in 0..size.stops {
+    for p in 0..count {
         let parent = if draw.one_in(3) { "C" } else { "" };
         text.push_str(format!(in alloc; "P{p},,{parent}\n")?.as_str())?;
     }
     Ok(text)
 }
 
-// Ways between some of the platforms, a few of them forbidden, and change times of some.
-fn transfers(alloc: Global, draw: &mut Draw, size: Size) -> Result<String, AllocError> {
+/// Ways between some of so many platforms, a few of them forbidden, and change times of some, as
+/// transfers.txt.
+pub fn transfers(alloc: Global, draw: &mut Draw, count: u32) -> Result<String, AllocError> {
     let mut text = String::from_str(
         alloc,
         "from_stop_id,to_stop_id,transfer_type,min_transfer_time\n",
     )?;
-    for p in 0..size.stops {
-        for q in 0..size.stops {
+    for p in 0..count {
+        for q in 0..count {
             if draw.one_in(6) {
                 let kind = if draw.one_in(8) { 3 } else { 2 };
                 let secs = draw.below(6) * 60;
@@ -52,121 +42,40 @@ fn transfers(alloc: Global, draw: &mut Draw, size: Size) -> Result<String, Alloc
     Ok(text)
 }
 
-// A call of a pattern: where, whether one may not board or not alight there, and the seconds of the
-// way there.
+// How many stops and lines of trips a feed has, and when its first trips leave.
 #[derive(Clone, Copy)]
-struct Call {
-    stop: u32,
-    closed_to_board: bool,
-    closed_to_alight: bool,
-    secs: u32,
+struct Size {
+    stops: u32,
+    patterns: u32,
+    start: u32,
 }
 
-fn drawn_call(draw: &mut Draw, size: Size) -> Call
-    requires { 0 < size.stops }
-    ensures { result.secs ≤ 600 }
-{
-    Call {
-        stop: draw.below(size.stops),
-        closed_to_board: draw.one_in(9),
-        closed_to_alight: draw.one_in(9),
-        secs: (draw.below(10) + 1) * 60,
-    }
-}
-
-// The calls of a pattern, two to six.
-fn drawn_calls(alloc: Global, draw: &mut Draw, size: Size) -> Result<Vec<Call>, AllocError>
-    requires { 0 < size.stops }
-{
-    let mut calls = Vec::new(alloc);
-    for _call in 0..draw.below(5) + 2 {
-        calls.push(drawn_call(draw, size))?;
-    }
-    Ok(calls)
-}
-
-// The row of a call of a trip that arrives at a time, and waits there for so many seconds.
-fn time_row(
-    alloc: Global,
-    trip: &str,
-    row: usize,
-    call: Call,
-    time: u32,
-    wait: u32,
-) -> Result<String, AllocError> {
-    let arrival = clock(alloc, time)?;
-    let departure = clock(alloc, time.saturating_add(wait))?;
-    let pickup = u32::from(call.closed_to_board);
-    let drop_off = u32::from(call.closed_to_alight);
-    let stop = call.stop;
-    format!(in alloc; "{trip},{row},P{stop},{arrival},{departure},{pickup},{drop_off}\n")
-}
-
-// The rows of a trip over these calls that leaves at a time. It stops for a minute at some of them,
-// and at times is slow.
-fn trip_rows(
+// Adds one to four trips of a pattern.
+fn add_pattern(
     alloc: Global,
     draw: &mut Draw,
-    trip: &str,
-    calls: &[Call],
-    start: u32,
-) -> Result<String, AllocError> {
-    let mut text = String::new(alloc);
-    let mut time = start;
-    let slow = if draw.one_in(4) { 60 } else { 0 };
-    for (row, call) in calls.iter().enumerate() {
-        let wait = if draw.one_in(4) { 60 } else { 0 };
-        text.push_str(time_row(alloc, trip, row, *call, time, wait)?.as_str())?;
-        time = time
-            .saturating_add(wait)
-            .saturating_add(call.secs)
-            .saturating_add(slow);
+    trips: &mut Trips,
+    pattern: u32,
+    size: Size,
+) -> Result<(), AllocError>
+    requires { 0 < size.stops }
+{
+    let calls = drawn_calls(alloc, draw, size.stops)?;
+    for turn in 0..draw.below(4) + 1 {
+        let trip = format!(in alloc; "L{pattern}T{turn}")?;
+        let first = size.start.saturating_add(draw.below(20) * 60);
+        let timed = timed_calls(alloc, draw, calls.as_slice())?;
+        trips.add(alloc, "S", trip.as_str(), timed.as_slice(), first)?;
     }
-    Ok(text)
-}
-
-// The trips and their times.
-#[derive(Drop)]
-struct Trips {
-    trips: String,
-    times: String,
-}
-
-impl Trips {
-    // One to four trips of a pattern.
-    fn add(
-        &mut self,
-        alloc: Global,
-        draw: &mut Draw,
-        pattern: u32,
-        size: Size,
-    ) -> Result<(), AllocError>
-        requires { 0 < size.stops }
-    {
-        let calls = drawn_calls(alloc, draw, size)?;
-        for turn in 0..draw.below(4) + 1 {
-            let trip = format!(in alloc; "L{pattern}T{turn}")?;
-            let start = size.start.saturating_add(draw.below(20) * 60);
-            let rows = trip_rows(alloc, draw, trip.as_str(), calls.as_slice(), start)?;
-            self.times.push_str(rows.as_str())?;
-            self.trips
-                .push_str(format!(in alloc; "S,{trip}\n")?.as_str())?;
-        }
-        Ok(())
-    }
+    Ok(())
 }
 
 fn drawn_trips(alloc: Global, draw: &mut Draw, size: Size) -> Result<Trips, AllocError>
     requires { 0 < size.stops }
 {
-    let header =
-        "trip_id,stop_sequence,stop_id,arrival_time,departure_time,pickup_type,drop_off_type\n";
-    let mut trips = Trips {
-        trips: String::from_str(alloc, "service_id,trip_id\n")?,
-        times: String::from_str(alloc, header)?,
-    };
+    let mut trips = Trips::new(alloc)?;
     for pattern in 0..size.patterns {
-        trips.add(alloc, draw, pattern, size)?;
+        add_pattern(alloc, draw, &mut trips, pattern, size)?;
     }
     Ok(trips)
 }
@@ -181,8 +90,8 @@ pub fn small_feed(alloc: Global, draw: &mut Draw) -> Result<Files, Memory> {
         start: if draw.one_in(4) { MIDNIGHT } else { MORNING },
     };
     let trips = drawn_trips(alloc, draw, size)?;
-    let stops = stops(alloc, draw, size)?;
-    let transfers = transfers(alloc, draw, size)?;
+    let stops = stops(alloc, draw, size.stops)?;
+    let transfers = transfers(alloc, draw, size.stops)?;
     files(
         alloc,
         Feed {

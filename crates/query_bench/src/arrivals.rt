@@ -14,8 +14,12 @@ use std::alloc::Global;
 use std::thread::Threads;
 use tb_base::{IdleGate, Memory, StopNo, Timetable};
 
-// The edition of a timetable's mirror, by one worker.
-fn mirrored<R: Threads + Sync>(rt: &R, alloc: Global, table: &Timetable) -> Result<Edition, Memory>
+/// The edition of a timetable's mirror, by one worker.
+pub fn mirrored<R: Threads + Sync>(
+    rt: &R,
+    alloc: Global,
+    table: &Timetable,
+) -> Result<Edition, Memory>
     ensures { IfOk result (λ e. IsMirror table.now (EditionData.table e)) }
 {
     let mirrored = mirror(alloc, table)?;
@@ -42,7 +46,7 @@ fn arrival(alloc: Global, table: &Timetable, draw: &mut Draw) -> Result<Arrival,
     })
 }
 
-// What so many times find over the edition of the mirror.
+// What so many times find.
 fn found_by(
     alloc: Global,
     mirrored: &Edition,
@@ -64,17 +68,18 @@ fn found_by(
     Ok(found)
 }
 
-/// The latest departures of so many random times to arrive by: how many there are, and the sum of
-/// their times.
-pub fn by_arrivals<R: Threads + Sync>(
-    rt: &R,
+/// The latest departures of so many random times to arrive by, over the edition of the mirror: how
+/// many there are, and the sum of their times.
+pub fn by_arrivals(
     alloc: Global,
+    mirrored: &Edition,
     table: &Timetable,
     count: u32,
-) -> Result<Found, Memory> {
-    let mirrored = mirrored(rt, alloc, table)?;
+) -> Result<Found, Memory>
+    requires { IsMirror table.now mirrored.now.table }
+{
     if table.stop_count() == 0 {
         return Ok(Found::NOTHING);
     }
-    found_by(alloc, &mirrored, table, count)
+    found_by(alloc, mirrored, table, count)
 }

@@ -4,16 +4,29 @@ use service_day::{Day, day_of};
 use std::env;
 use std::rt::Env;
 
-/// What is done so often.
+/// What is asked of an edition.
 #[derive(Clone, Copy, PartialEq, Eq, Debug)]
-pub enum Method {
+pub enum Asking {
     Search,
-    Plain,
     Profile,
     Reach,
-    Latest,
+}
+
+/// What is done with a store of editions.
+#[derive(Clone, Copy, PartialEq, Eq, Debug)]
+pub enum Storing {
     Pin,
     Publish,
+}
+
+/// What is done so often: over a timetable alone, over the edition of its mirror, over its edition,
+/// or over a store of that.
+#[derive(Clone, Copy, PartialEq, Eq, Debug)]
+pub enum Method {
+    Plain,
+    Latest,
+    OverEdition(Asking),
+    OverStore(Storing),
 }
 
 /// What is to be measured.
@@ -27,13 +40,13 @@ pub struct Words {
 
 fn method_named(name: &str) -> Option<Method> {
     match name {
-        "search" => Some(Method::Search),
         "plain" => Some(Method::Plain),
-        "profile" => Some(Method::Profile),
-        "reach" => Some(Method::Reach),
         "latest" => Some(Method::Latest),
-        "pin" => Some(Method::Pin),
-        "publish" => Some(Method::Publish),
+        "search" => Some(Method::OverEdition(Asking::Search)),
+        "profile" => Some(Method::OverEdition(Asking::Profile)),
+        "reach" => Some(Method::OverEdition(Asking::Reach)),
+        "pin" => Some(Method::OverStore(Storing::Pin)),
+        "publish" => Some(Method::OverStore(Storing::Publish)),
         _ => None,
     }
 }

@@ -1,100 +1,26 @@
 //! The feeds made by hand, asked between all of their stops.
-ghost use Rattle.std.specs.Prelude.{◌<◌, ◌≤ℤ◌, pos, All, IfOk, length};
-ghost use Rattle.mirror_table.specs.Departures.{ArrivalData};
+ghost use Rattle.std.specs.Prelude.{◌<◌, length};
 ghost use Rattle.mirror_table.specs.Mirror.{IsMirror};
-ghost use Rattle.tb_base.specs.BestValues.{QueryData};
-ghost use Rattle.tb_base.specs.Profiles.{WindowData};
 
 use super::arriving::{compare_departures, mirrored};
 use super::hops::compare_hops;
 use super::profiles::compare_slots;
 use super::queries::compare_values;
+use super::questions::{SECONDS, arrival, one_stop, query, window};
 use super::reaching::compare_reach;
 use super::tally::{Refused, Tally};
-use arrive_by::Arrival;
 use edition_build::build;
 use edition_store::Edition;
 use segment_queue::Desk;
 use std::alloc::Global;
 use std::thread::Threads;
-use tb_base::{IdleGate, Memory, Place, Query, Sec, StopNo, Timetable, Window};
-
-// A window is a quarter of an hour.
-const SECONDS: u32 = 900;
+use tb_base::{IdleGate, Sec, Timetable};
 
 // Times at which one leaves.
 const LEAVING: [Sec; 5] = [28_800, 28_801, 29_400, 30_060, 31_200];
 
 // Times by which one arrives.
 const ARRIVING: [Sec; 5] = [29_399, 30_599, 30_600, 31_500, 33_300];
-
-// A stop alone.
-fn one_stop(alloc: Global, table: &Timetable, stop: u32) -> Result<Vec<StopNo>, Memory>
-    requires { stop < length table.now.stops }
-    ensures { IfOk result (λ stops. All (λ p. p < length table.now.stops) stops.items) }
-{
-    table.place_stops(alloc, Place::Stop(StopNo(stop)))
-}
-
-// A query between two stops.
-fn query(alloc: Global, table: &Timetable, from: u32, to: u32, leave: Sec) -> Result<Query, Memory>
-    requires from { from < length table.now.stops }
-    requires to { to < length table.now.stops }
-    ensures origins { IfOk result
-        (λ query. All (λ p. p < length table.now.stops) (QueryData.from query)) }
-    ensures targets { IfOk result
-        (λ query. All (λ p. p < length table.now.stops) (QueryData.to query)) }
-    ensures time { IfOk result (λ query. QueryData.leave query ≤ℤ pos 359999) }
-{
-    Ok(Query {
-        from: one_stop(alloc, table, from)?,
-        to: one_stop(alloc, table, to)?,
-        leave: leave.min(359_999),
-    })
-}
-
-// The window between two stops that begins at a time.
-fn window(
-    alloc: Global,
-    table: &Timetable,
-    from: u32,
-    to: u32,
-    first: Sec,
-) -> Result<Window, Memory>
-    requires from { from < length table.now.stops }
-    requires to { to < length table.now.stops }
-    ensures origins { IfOk result
-        (λ window. All (λ p. p < length table.now.stops) (WindowData.from window)) }
-    ensures targets { IfOk result
-        (λ window. All (λ p. p < length table.now.stops) (WindowData.to window)) }
-    ensures last { IfOk result (λ window. WindowData.last window ≤ℤ pos 359998) }
-{
-    let first = first.min(86_400);
-    Ok(Window {
-        from: one_stop(alloc, table, from)?,
-        to: one_stop(alloc, table, to)?,
-        first,
-        last: first + (SECONDS as i32 - 1),
-    })
-}
-
-// A time to arrive by between two stops.
-fn arrival(alloc: Global, table: &Timetable, from: u32, to: u32, by: Sec) -> Result<Arrival, Memory>
-    requires from { from < length table.now.stops }
-    requires to { to < length table.now.stops }
-    ensures origins { IfOk result
-        (λ by. All (λ p. p < length table.now.stops) (ArrivalData.from by)) }
-    ensures targets { IfOk result
-        (λ by. All (λ p. p < length table.now.stops) (ArrivalData.to by)) }
-    ensures earliest { IfOk result (λ by. pos 0 ≤ℤ ArrivalData.by by) }
-    ensures latest { IfOk result (λ by. ArrivalData.by by ≤ℤ pos 273599) }
-{
-    Ok(Arrival {
-        from: one_stop(alloc, table, from)?,
-        to: one_stop(alloc, table, to)?,
-        by: by.max(0).min(273_599),
-    })
-}
 
 // Compares for queries between two stops.
 fn try_queries(

@@ -6,9 +6,12 @@
 //! of hops is held against the plain one; the search over kept transfers against the plain rounds;
 //! the profile of a window against asking at each of its seconds; the latest departures by a time
 //! against the profile of all times before; the best values to every stop against asking for each
-//! alone. The legs of each choice are judged as a claim, and so are claims that differ from one in
-//! a single field. One desk serves all feeds. It writes what was compared, or where the first
-//! difference is, with status 1. Nothing is promised of it but that it is safe and ends.
+//! alone. Beside each feed that looks random it takes another with trips by frequency and trips of
+//! the day before, compares the same over it, and holds best values and profiles between all of its
+//! stops against those over the same trips written out a day later. The legs of each choice are
+//! judged as a claim, and so are claims that differ from one in a single field. One desk serves all
+//! feeds. It writes what was compared, or where the first difference is, with status 1. Nothing is
+//! promised of it but that it is safe and ends.
 #![tactic(auto)]
 
 mod arriving;
@@ -18,9 +21,11 @@ mod drawn;
 mod hops;
 mod profiles;
 mod queries;
+mod questions;
 mod reaching;
 mod tally;
 mod trial;
+mod twins;
 
 use between_all::try_between_all;
 use made_feeds::{ring, town};
@@ -30,8 +35,9 @@ use std::env;
 use std::process::ExitCode;
 use std::rt::Env;
 use std::thread::Threads;
-use tally::{Refused, Tally, read};
+use tally::{Refused, Tally, TwinTally, read};
 use trial::try_seed;
+use twins::try_twins;
 
 /// How many feeds, and which.
 #[derive(Clone, Copy)]
@@ -63,11 +69,12 @@ enum MadeFeed {
     Ring,
 }
 
-/// A feed: one that is made by hand, or the one of a seed.
+/// A feed: one that is made by hand, the one of a seed, or the twins of a seed.
 #[derive(Clone, Copy, Debug)]
 enum FeedName {
     Made(MadeFeed),
     Seed(u32),
+    Twins(u32),
 }
 
 /// How a comparison ended early, and over which feed.
@@ -113,8 +120,27 @@ fn compared<R: Threads + Sync>(rt: &R, alloc: Global, words: Words) -> Result<Ta
         let seed = words.seed.wrapping_add(turn);
         let compared = try_seed(rt, alloc, &mut desk, seed);
         add(&mut tally, FeedName::Seed(seed), compared)?;
+        let compared = try_twins(rt, alloc, &mut desk, seed);
+        add(&mut tally, FeedName::Twins(seed), compared)?;
     }
     Ok(tally)
+}
+
+fn write_twins(rt: &impl Print, tally: TwinTally) {
+    let TwinTally {
+        feeds,
+        by_frequency,
+        day_before,
+        queries,
+        values,
+        windows,
+        slots,
+    } = tally;
+    let _ = println!(rt;
+        "written out {feeds} trips by frequency {by_frequency} of the day before {day_before}"
+    );
+    let _ = println!(rt; "queries a day later {queries} values {values}");
+    let _ = println!(rt; "windows a day later {windows} slots {slots}");
 }
 
 fn write_tally(rt: &impl Print, tally: Tally) {
@@ -128,12 +154,14 @@ fn write_tally(rt: &impl Print, tally: Tally) {
         arrivals,
         departures,
         reached,
+        twins,
     } = tally;
     let _ = println!(rt; "feeds {feeds}");
     let _ = println!(rt; "queries {queries} values {values} other claims {claims}");
     let _ = println!(rt; "windows {windows} slots {slots}");
     let _ = println!(rt; "times to arrive by {arrivals} latest departures {departures}");
     let _ = println!(rt; "stops reached {reached}");
+    write_twins(rt, twins);
     let _ = println!(rt; "no difference");
 }
 

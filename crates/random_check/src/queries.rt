@@ -39,8 +39,8 @@ fn are_right(
     Ok(true)
 }
 
-// The choices of a query by the search over kept transfers.
-fn searched(
+/// The choices of a query by the search over kept transfers.
+pub fn searched(
     alloc: Global,
     edition: &Edition,
     desk: &mut Desk,

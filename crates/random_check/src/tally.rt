@@ -3,6 +3,46 @@ use std::alloc::AllocError;
 use tb_base::{Memory, Timetable};
 use trip_table::DayFault;
 
+/// What was compared of feeds with trips by frequency and trips of the day before, and the same
+/// trips written out, by numbers.
+#[derive(Clone, Copy, Debug)]
+pub struct TwinTally {
+    /// Feeds, and of the trips of all of them those by frequency and those of the day before.
+    pub feeds: u64,
+    pub by_frequency: u64,
+    pub day_before: u64,
+    /// Queries, and the best values of all of them.
+    pub queries: u64,
+    pub values: u64,
+    /// Windows, and the slots of all of them.
+    pub windows: u64,
+    pub slots: u64,
+}
+
+impl TwinTally {
+    /// Nothing yet.
+    pub const NOTHING: TwinTally = TwinTally {
+        feeds: 0,
+        by_frequency: 0,
+        day_before: 0,
+        queries: 0,
+        values: 0,
+        windows: 0,
+        slots: 0,
+    };
+
+    /// Adds what else was compared.
+    pub fn add(&mut self, other: TwinTally) {
+        self.feeds = self.feeds.wrapping_add(other.feeds);
+        self.by_frequency = self.by_frequency.wrapping_add(other.by_frequency);
+        self.day_before = self.day_before.wrapping_add(other.day_before);
+        self.queries = self.queries.wrapping_add(other.queries);
+        self.values = self.values.wrapping_add(other.values);
+        self.windows = self.windows.wrapping_add(other.windows);
+        self.slots = self.slots.wrapping_add(other.slots);
+    }
+}
+
 /// What was compared, by numbers.
 #[derive(Clone, Copy, Debug)]
 pub struct Tally {
@@ -20,6 +60,8 @@ pub struct Tally {
     pub departures: u64,
     /// Stops to which all is asked at once.
     pub reached: u64,
+    /// What is compared over trips that are written out.
+    pub twins: TwinTally,
 }
 
 impl Tally {
@@ -34,6 +76,7 @@ impl Tally {
         arrivals: 0,
         departures: 0,
         reached: 0,
+        twins: TwinTally::NOTHING,
     };
 
     /// One feed.
@@ -53,6 +96,7 @@ impl Tally {
         self.arrivals = self.arrivals.wrapping_add(other.arrivals);
         self.departures = self.departures.wrapping_add(other.departures);
         self.reached = self.reached.wrapping_add(other.reached);
+        self.twins.add(other.twins);
     }
 }
 
@@ -71,6 +115,8 @@ pub enum Difference {
     Departures,
     /// The best values to a stop.
     Reach,
+    /// The best values or slots over trips that are written out.
+    WrittenOut,
 }
 
 /// Why a comparison ends early: something differs, a feed has no timetable, or memory was wanting.

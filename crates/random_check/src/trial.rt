@@ -1,5 +1,5 @@
 //! Feeds that look random, one after another, and what is compared over each.
-ghost use Rattle.std.specs.Prelude.{◌<◌, length};
+ghost use Rattle.std.specs.Prelude.{◌<◌, ◌≤◌, IfSome, length};
 ghost use Rattle.mirror_table.specs.Mirror.{IsMirror};
 
 use super::arriving::{compare_departures, mirrored};
@@ -11,11 +11,11 @@ use super::reaching::compare_reach;
 use super::tally::{Refused, Tally, read};
 use edition_build::build;
 use edition_store::Edition;
-use made_feeds::{Draw, small_feed, timetable_of};
+use made_feeds::{Draw, Files, small_feed, timetable_of};
 use segment_queue::Desk;
 use std::alloc::Global;
 use std::thread::Threads;
-use tb_base::{IdleGate, Timetable};
+use tb_base::IdleGate;
 use trip_table::Options;
 
 // How many workers reduce the transfers of a feed.
@@ -33,15 +33,30 @@ const ORIGINS: u32 = 6;
 // The seconds of a window are at most as many.
 const WINDOW: u32 = 900;
 
-// The timetable of a feed.
-fn timetable(alloc: Global, draw: &mut Draw) -> Result<Timetable, Refused> {
-    let files = small_feed(alloc, draw)?;
-    let options = Options {
+/// Options by which a feed that looks random is read: its footpaths are closed.
+pub fn some_options(draw: &mut Draw) -> Options
+    ensures change { result.change ≤ 86400 }
+    ensures station { IfSome result.station (λ secs. secs ≤ 86400) }
+{
+    Options {
         change: draw.below(2) * 60,
         station: if draw.one_in(2) { Some(120) } else { None },
         close: true,
-    };
-    read(timetable_of(alloc, files, &options))
+    }
+}
+
+/// The edition of a feed's files.
+pub fn edition_of<R: Threads + Sync>(
+    rt: &R,
+    alloc: Global,
+    files: Files,
+    options: &Options,
+) -> Result<Edition, Refused>
+    requires change { options.now.change ≤ 86400 }
+    requires station { IfSome options.now.station (λ secs. secs ≤ 86400) }
+{
+    let table = read(timetable_of(alloc, files, options))?;
+    Ok(build(rt, alloc, table, WORKERS, &IdleGate)?)
 }
 
 // Compares for queries.
@@ -147,6 +162,24 @@ fn try_mirror<R: Threads + Sync>(
     try_arrivals(alloc, edition, &mirrored, desk, draw)
 }
 
+/// Compares all over an edition.
+pub fn try_all<R: Threads + Sync>(
+    rt: &R,
+    alloc: Global,
+    edition: &Edition,
+    desk: &mut Desk,
+    draw: &mut Draw,
+) -> Result<Tally, Refused> {
+    compare_hops(rt, alloc, edition)?;
+    if edition.table().stop_count() == 0 {
+        return Ok(Tally::NOTHING);
+    }
+    let mut tally = try_edition(alloc, edition, desk, draw)?;
+    tally.add(try_mirror(rt, alloc, edition, desk, draw)?);
+    tally.add(Tally::FEED);
+    Ok(tally)
+}
+
 /// Compares all over the feed of a seed.
 pub fn try_seed<R: Threads + Sync>(
     rt: &R,
@@ -155,14 +188,8 @@ pub fn try_seed<R: Threads + Sync>(
     seed: u32,
 ) -> Result<Tally, Refused> {
     let mut draw = Draw::new(seed as u64);
-    let table = timetable(alloc, &mut draw)?;
-    let edition = build(rt, alloc, table, WORKERS, &IdleGate)?;
-    compare_hops(rt, alloc, &edition)?;
-    if edition.table().stop_count() == 0 {
-        return Ok(Tally::NOTHING);
-    }
-    let mut tally = try_edition(alloc, &edition, desk, &mut draw)?;
-    tally.add(try_mirror(rt, alloc, &edition, desk, &mut draw)?);
-    tally.add(Tally::FEED);
-    Ok(tally)
+    let files = small_feed(alloc, &mut draw)?;
+    let options = some_options(&mut draw);
+    let edition = edition_of(rt, alloc, files, &options)?;
+    try_all(rt, alloc, &edition, desk, &mut draw)
 }

@@ -1,0 +1,228 @@
+//! Feeds with trips by frequency and trips of the day before, each held against the same trips
+//! written out a day later.
+ghost use Rattle.std.specs.Prelude.{◌<◌, ◌≤◌, length};
+
+use super::profiles::offers_of;
+use super::queries::searched;
+use super::questions::{query, window};
+use super::tally::{Difference, Refused, Tally, TwinTally, held};
+use super::trial::{edition_of, some_options, try_all};
+use edition_store::Edition;
+use made_feeds::{DAY, Draw, twin_feed, written_out_feed};
+use plain_rounds::plain_ask;
+use segment_queue::Desk;
+use std::alloc::Global;
+use std::thread::Threads;
+use tb_base::{Choice, Offer, Sec, Slot, Timetable, TripNo, Value};
+
+// How many times are asked between each two stops.
+const TIMES: u32 = 3;
+
+// What twins draw comes from other numbers than what the feed of the same seed draws.
+const OTHER: u64 = 1 << 32;
+
+// A time a day later.
+fn day_later(time: Sec) -> Sec {
+    time.saturating_add(DAY as i32)
+}
+
+fn is_value_later(given: Value, written_out: Value) -> bool {
+    written_out.arrive == day_later(given.arrive) && written_out.rides == given.rides
+}
+
+fn is_slot_later(given: Slot, written_out: Slot) -> bool {
+    written_out.leave == day_later(given.leave)
+        && written_out.arrive == day_later(given.arrive)
+        && written_out.rides == given.rides
+}
+
+// Up to an hour from ten minutes before midnight on, or a second before such a time.
+fn some_time(draw: &mut Draw) -> Sec {
+    draw.below(60) as i32 * 60 - draw.below(2) as i32 - 600
+}
+
+// Whether the latter are the values of the former a day later.
+fn are_values_later(given: &[Choice], written_out: &[Choice]) -> bool {
+    given.len() == written_out.len()
+        && given
+            .iter()
+            .zip(written_out.iter())
+            .all(|(one, other)| is_value_later(one.value, other.value))
+}
+
+// Whether the latter are the slots of the former a day later.
+fn are_slots_later(given: &[Offer], written_out: &[Offer]) -> bool {
+    given.len() == written_out.len()
+        && given
+            .iter()
+            .zip(written_out.iter())
+            .all(|(one, other)| is_slot_later(one.slot, other.slot))
+}
+
+// The editions of a feed and of its trips written out.
+#[derive(Clone, Copy)]
+struct Editions<'a> {
+    given: &'a Edition,
+    written_out: &'a Edition,
+}
+
+// Compares the best values between two stops: the search over the given feed, and plain rounds over
+// the trips that are written out.
+fn compare_query(
+    alloc: Global,
+    editions: &Editions<'_>,
+    desk: &mut Desk,
+    from: u32,
+    to: u32,
+    leave: Sec,
+) -> Result<TwinTally, Refused>
+    requires from { from < length editions.now.given.now.table.stops }
+    requires to { to < length editions.now.given.now.table.stops }
+    requires from_later { from < length editions.now.written_out.now.table.stops }
+    requires to_later { to < length editions.now.written_out.now.table.stops }
+{
+    let table = editions.written_out.table();
+    let asked = query(alloc, editions.given.table(), from, to, leave)?;
+    let later = query(alloc, table, from, to, day_later(leave))?;
+    let choices = searched(alloc, editions.given, desk, &asked)?;
+    let plain = plain_ask(alloc, table, &later)?;
+    let same = are_values_later(choices.as_slice(), plain.as_slice());
+    held(same, Difference::WrittenOut)?;
+    Ok(TwinTally {
+        queries: 1,
+        values: plain.len() as u64,
+        ..TwinTally::NOTHING
+    })
+}
+
+// Compares the profiles of a window between two stops that begins at a time.
+fn compare_window(
+    alloc: Global,
+    editions: &Editions<'_>,
+    desk: &mut Desk,
+    from: u32,
+    to: u32,
+    first: Sec,
+) -> Result<TwinTally, Refused>
+    requires from { from < length editions.now.given.now.table.stops }
+    requires to { to < length editions.now.given.now.table.stops }
+    requires from_later { from < length editions.now.written_out.now.table.stops }
+    requires to_later { to < length editions.now.written_out.now.table.stops }
+{
+    let (given, written_out) = (editions.given, editions.written_out);
+    let asked = window(alloc, given.table(), from, to, first)?;
+    let later = window(alloc, written_out.table(), from, to, day_later(first))?;
+    let offers = offers_of(alloc, given, desk, &asked)?;
+    let written = offers_of(alloc, written_out, desk, &later)?;
+    let same = are_slots_later(offers.as_slice(), written.as_slice());
+    held(same, Difference::WrittenOut)?;
+    Ok(TwinTally {
+        windows: 1,
+        slots: written.len() as u64,
+        ..TwinTally::NOTHING
+    })
+}
+
+// Compares between two stops.
+fn compare_pair(
+    alloc: Global,
+    editions: &Editions<'_>,
+    desk: &mut Desk,
+    draw: &mut Draw,
+    from: u32,
+    to: u32,
+) -> Result<TwinTally, Refused>
+    requires from { from < length editions.now.given.now.table.stops }
+    requires to { to < length editions.now.given.now.table.stops }
+    requires from_later { from < length editions.now.written_out.now.table.stops }
+    requires to_later { to < length editions.now.written_out.now.table.stops }
+{
+    let first = some_time(draw);
+    let mut tally = compare_window(alloc, editions, desk, from, to, first)?;
+    for _turn in 0..TIMES {
+        let leave = some_time(draw);
+        tally.add(compare_query(alloc, editions, desk, from, to, leave)?);
+    }
+    Ok(tally)
+}
+
+// Compares from one stop to each.
+fn compare_from(
+    alloc: Global,
+    editions: &Editions<'_>,
+    desk: &mut Desk,
+    draw: &mut Draw,
+    from: u32,
+    stops: u32,
+) -> Result<TwinTally, Refused>
+    requires from { from < stops }
+    requires stops { stops ≤ length editions.now.given.now.table.stops }
+    requires stops_later { stops ≤ length editions.now.written_out.now.table.stops }
+{
+    let mut tally = TwinTally::NOTHING;
+    for to in 0..stops {
+        tally.add(compare_pair(alloc, editions, desk, draw, from, to)?);
+    }
+    Ok(tally)
+}
+
+// Compares between all stops.
+fn compare_editions(
+    alloc: Global,
+    editions: &Editions<'_>,
+    desk: &mut Desk,
+    draw: &mut Draw,
+) -> Result<TwinTally, Refused> {
+    let stops = editions.given.table().stop_count();
+    if editions.written_out.table().stop_count() != stops {
+        return Err(Refused::Differs(Difference::WrittenOut));
+    }
+    let mut tally = TwinTally::NOTHING;
+    for from in 0..stops {
+        tally.add(compare_from(alloc, editions, desk, draw, from, stops)?);
+    }
+    Ok(tally)
+}
+
+// How many trips run by frequency, and how many began on the day before.
+fn counted_trips(table: &Timetable) -> TwinTally {
+    let mut tally = TwinTally {
+        feeds: 1,
+        ..TwinTally::NOTHING
+    };
+    for t in 0..table.trip_count() {
+        let trip = table.trip(TripNo(t));
+        tally.add(TwinTally {
+            by_frequency: u64::from(trip.name.bytes().contains(&b'#')),
+            day_before: u64::from(trip.before),
+            ..TwinTally::NOTHING
+        });
+    }
+    tally
+}
+
+/// Compares all over the twins of a seed.
+pub fn try_twins<R: Threads + Sync>(
+    rt: &R,
+    alloc: Global,
+    desk: &mut Desk,
+    seed: u32,
+) -> Result<Tally, Refused> {
+    let seed = seed as u64 + OTHER;
+    let mut draw = Draw::new(seed);
+    let files = twin_feed(alloc, &mut draw)?;
+    let options = some_options(&mut draw);
+    let given = edition_of(rt, alloc, files, &options)?;
+    let files = written_out_feed(alloc, &mut Draw::new(seed))?;
+    let written_out = edition_of(rt, alloc, files, &options)?;
+    let editions = Editions {
+        given: &given,
+        written_out: &written_out,
+    };
+    let mut tally = try_all(rt, alloc, &given, desk, &mut draw)?;
+    tally.twins.add(counted_trips(given.table()));
+    tally
+        .twins
+        .add(compare_editions(alloc, &editions, desk, &mut draw)?);
+    Ok(tally)
+}
