@@ -1,6 +1,6 @@
 //! Feeds with trips by frequency and trips of the day before, each held against the same trips
 //! written out a day later.
-ghost use Rattle.std.specs.Prelude.{◌<◌, ◌≤◌, length};
+ghost use Rattle.std.specs.Prelude.{◌<◌, ◌≤◌, IfSome, length};
 
 use super::profiles::offers_of;
 use super::queries::searched;
@@ -14,6 +14,7 @@ use segment_queue::Desk;
 use std::alloc::Global;
 use std::thread::Threads;
 use tb_base::{Choice, Offer, Sec, Slot, Timetable, TripNo, Value};
+use trip_table::Options;
 
 // How many times are asked between each two stops.
 const TIMES: u32 = 3;
@@ -201,6 +202,43 @@ fn counted_trips(table: &Timetable) -> TwinTally {
     tally
 }
 
+// Compares all over the given feed, and it against the trips that are written out.
+fn compare_twins<R: Threads + Sync>(
+    rt: &R,
+    alloc: Global,
+    editions: &Editions<'_>,
+    desk: &mut Desk,
+    draw: &mut Draw,
+) -> Result<Tally, Refused> {
+    let mut tally = try_all(rt, alloc, editions.given, desk, draw)?;
+    let mut twins = counted_trips(editions.given.table());
+    twins.add(compare_editions(alloc, editions, desk, draw)?);
+    tally.twins = twins;
+    Ok(tally)
+}
+
+// Compares all over the given feed of a seed, read by these options.
+fn try_given<R: Threads + Sync>(
+    rt: &R,
+    alloc: Global,
+    given: &Edition,
+    options: &Options,
+    desk: &mut Desk,
+    draw: &mut Draw,
+    seed: u64,
+) -> Result<Tally, Refused>
+    requires change { options.now.change ≤ 86400 }
+    requires station { IfSome options.now.station (λ secs. secs ≤ 86400) }
+{
+    let files = written_out_feed(alloc, &mut Draw::new(seed))?;
+    let written_out = edition_of(rt, alloc, files, options)?;
+    let editions = Editions {
+        given,
+        written_out: &written_out,
+    };
+    compare_twins(rt, alloc, &editions, desk, draw)
+}
+
 /// Compares all over the twins of a seed.
 pub fn try_twins<R: Threads + Sync>(
     rt: &R,
@@ -213,16 +251,5 @@ pub fn try_twins<R: Threads + Sync>(
     let files = twin_feed(alloc, &mut draw)?;
     let options = some_options(&mut draw);
     let given = edition_of(rt, alloc, files, &options)?;
-    let files = written_out_feed(alloc, &mut Draw::new(seed))?;
-    let written_out = edition_of(rt, alloc, files, &options)?;
-    let editions = Editions {
-        given: &given,
-        written_out: &written_out,
-    };
-    let mut tally = try_all(rt, alloc, &given, desk, &mut draw)?;
-    tally.twins.add(counted_trips(given.table()));
-    tally
-        .twins
-        .add(compare_editions(alloc, &editions, desk, &mut draw)?);
-    Ok(tally)
+    try_given(rt, alloc, &given, &options, desk, &mut draw, seed)
 }
