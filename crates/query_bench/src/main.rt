@@ -64,7 +64,11 @@ struct Measured {
 }
 
 // What was found since a moment.
-fn measured(rt: &impl CpuClock, since: Watch, found: Result<Found, Memory>) -> Option<Measured> {
+fn measured_since(
+    rt: &impl CpuClock,
+    since: Watch,
+    found: Result<Found, Memory>,
+) -> Option<Measured> {
     let micros = since.micros(rt);
     Some(Measured {
         found: found.ok()?,
@@ -102,12 +106,12 @@ fn found<R: Threads + Wait + Sync + CpuClock>(
     match words.method {
         Method::Plain => {
             let since = Watch::start(rt);
-            measured(rt, since, by_rounds(alloc, &table, words.count))
+            measured_since(rt, since, by_rounds(alloc, &table, words.count))
         }
         Method::Latest => {
             let mirrored = mirrored(rt, alloc, &table).ok()?;
             let since = Watch::start(rt);
-            measured(
+            measured_since(
                 rt,
                 since,
                 by_arrivals(alloc, &mirrored, &table, words.count),
@@ -116,12 +120,12 @@ fn found<R: Threads + Wait + Sync + CpuClock>(
         Method::OverEdition(asking) => {
             let edition = edition(rt, alloc, table)?;
             let since = Watch::start(rt);
-            measured(rt, since, asked(alloc, &edition, asking, words.count))
+            measured_since(rt, since, asked(alloc, &edition, asking, words.count))
         }
         Method::OverStore(storing) => {
             let edition = edition(rt, alloc, table)?;
             let since = Watch::start(rt);
-            measured(rt, since, stored(rt, alloc, edition, storing, words.count))
+            measured_since(rt, since, stored(rt, alloc, edition, storing, words.count))
         }
     }
 }
