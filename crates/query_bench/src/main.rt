@@ -109,7 +109,9 @@ fn found<R: Threads + Wait + Sync + CpuClock>(
             measured_since(rt, since, by_rounds(alloc, &table, words.count))
         }
         Method::Latest => {
-            let mirrored = mirrored(rt, alloc, &table).ok()?;
+            let Ok(mirrored) = mirrored(rt, alloc, &table) else {
+                return None;
+            };
             let since = Watch::start(rt);
             measured_since(
                 rt,
