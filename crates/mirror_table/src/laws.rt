@@ -1,5 +1,5 @@
 //! Laws of the mirror.
-ghost use Rattle.std.specs.Prelude.{◌≡◌, ℕ, List, map};
+ghost use Rattle.std.specs.Prelude.{◌≡◌, List, map};
 ghost use Rattle.tb_base.specs.declared.query.Leg.{Leg};
 ghost use Rattle.tb_base.specs.declared.query.Value.{Value};
 ghost use Rattle.tb_base.specs.BestValues.{AreBestValues};

@@ -8,7 +8,6 @@
 //! mirrored times. Timetables are those of the GTFS Schedule Reference.
 #![tactic(auto)]
 
-mod copies;
 pub mod laws;
 mod mirrored;
 mod turned_paths;

@@ -1,10 +1,10 @@
 ghost use Rattle.std.specs.Prelude.{IfOk};
 ghost use Rattle.mirror_table.specs.Mirror.{IsMirror};
 
-use crate::copies::{change_times, stations, stops};
 use crate::turned_paths::PathRows;
 use crate::turned_trips::mirrored_trips;
 use std::alloc::Global;
+use table_copies::{change_times, stations, stops};
 use tb_base::{Memory, Parts, Timetable};
 
 /// The mirror of a timetable: with the same stops, stations, change times, and names and numbers of

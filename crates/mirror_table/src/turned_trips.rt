@@ -1,5 +1,5 @@
 //! Trips that run backwards.
-ghost use Rattle.std.specs.Prelude.{◌≡◌, ◌<◌, ◌≤ℤ◌, All, IfOk, length, map, negsuc, pos, slice_get, Some};
+ghost use Rattle.std.specs.Prelude.{◌≡◌, ◌<◌, ◌≤ℤ◌, IfOk, length, map, negsuc, pos};
 ghost use Rattle.tb_base.specs.TimetableData.{events_of};
 ghost use Rattle.mirror_table.specs.Mirror.{mirror_event, mirror_events, mirror_trip};
 
