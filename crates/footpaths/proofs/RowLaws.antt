@@ -1,6 +1,6 @@
 -- The rows that lead to a platform, and what they say of the ways to it.
 use Rattle.std.proofs.Common.{◌≡◌, ◌≢◌, ◌∙◌, sym, ap, refl, ℕ, ◌+◌, ◌<◌, List, [], ◌∷◌, length, map, fold, get_or, set, cond, Bool, true, false, ◌&&◌, ◌||◌, Option, Some, None, arith, inl, inr}
-use Rattle.std.specs.Prelude.{◌==◌, filter, is_some, unwrap_or}
+use Rattle.std.specs.Prelude.{◌==◌, filter, is_some}
 use Rattle.std.proofs.lemmas.Bool.{cases_Bool, ne_eqb}
 use Rattle.std.proofs.lemmas.Bool.Decides.{nat_tests}
 use Rattle.std.proofs.lemmas.List.{length-map, get_or-map, get_or-set_same, get_or-set_other}

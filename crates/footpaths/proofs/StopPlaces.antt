@@ -1,5 +1,5 @@
 -- The rows of one kind, one row more.
-use Rattle.std.proofs.Common.{◌≡◌, ◌∙◌, sym, ap, refl, ℕ, ◌+◌, ◌<◌, ◌≤◌, suc, Option, Some, None, List, [], ◌∷◌, ◌++◌, length, map, take, get_or, Bool, true, false, not, ◌||◌, cond, arith}
+use Rattle.std.proofs.Common.{◌≡◌, ◌∙◌, sym, ap, refl, ℕ, ◌+◌, ◌<◌, ◌≤◌, Option, Some, None, List, [], ◌∷◌, ◌++◌, length, map, take, get_or, Bool, true, false, not, cond, arith}
 use Rattle.std.specs.Prelude.{bytes_eq, filter, MatchBool, Ok, position, option_map, IfSome}
 use Rattle.std.specs.Option.{option_or}
 use Rattle.std.specs.List.{list_any}

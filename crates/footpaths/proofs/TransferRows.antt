@@ -1,5 +1,5 @@
 -- One row of transfers.txt more.
-use Rattle.std.proofs.Common.{◌≡◌, ◌∙◌, sym, ap, refl, ℕ, ◌+◌, ◌*◌, ◌<◌, ◌≤◌, List, [], ◌∷◌, ◌++◌, length, map, take, drop, get_or, Bool, true, false, not, ◌&&◌, Option, Some, None, arith, inl, inr}
+use Rattle.std.proofs.Common.{◌≡◌, ◌∙◌, sym, ap, refl, ℕ, ◌+◌, ◌*◌, ◌<◌, ◌≤◌, List, [], ◌∷◌, ◌++◌, length, map, take, drop, get_or, Bool, true, false, not, ◌&&◌, Option, Some, None, arith}
 use Rattle.std.specs.Prelude.{bytes_eq, nat_eq, Err, All, position, unwrap_or, is_some}
 use Rattle.std.specs.List.{list_any}
 use Rattle.std.proofs.lemmas.Bool.Decides.{nat_tests}
@@ -16,9 +16,8 @@ use Rattle.gtfs_rows.specs.declared.fault.FeedFile.TheVariants as file
 use Rattle.gtfs_rows.specs.declared.fault.FeedFault.TheVariants as fault
 use Rattle.gtfs_rows.specs.Faults.{unless_wrong, wrong_after, spot}
 use Rattle.gtfs_rows.proofs.NextRow.{next_row}
-use Rattle.footpaths.specs.declared.paths.PathsFault.{PathsFault}
 use Rattle.footpaths.specs.Stops.{has_stop_id}
-use Rattle.footpaths.specs.Links.{wrong_transfer, HasEnds, LacksEnd, IsPathsRefused, pair_number, place_of}
+use Rattle.footpaths.specs.Links.{wrong_transfer, HasEnds, pair_number, place_of}
 
 -- the row at the place of an id has the id
 at_place : (stops : List StopData) (id : List ℕ) (k : ℕ) (d : StopData) → position (has_stop_id id) stops ≡ Some k → (k < length stops) × (id ≡ StopData.id (get_or stops k d))

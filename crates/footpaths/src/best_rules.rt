@@ -1,5 +1,5 @@
 //! The best verdict so far at each stop from which one stop can be reached.
-ghost use Rattle.std.specs.Prelude.{◌≡◌, ◌≢◌, ◌==◌, ◌<◌, ℕ, IfOk, OnOk, IfSome, IfNone, MatchOption, length, replicate, set, None, Some, All, AllPairs};
+ghost use Rattle.std.specs.Prelude.{◌≡◌, ◌≢◌, ◌==◌, ◌<◌, ℕ, IfOk, OnOk, IfSome, IfNone, length, replicate, set, None, Some, All, AllPairs};
 ghost use Rattle.std.specs.List.{list_any};
 ghost use Rattle.footpaths.specs.BestRules.{better, more_secs, slot, marked};
 

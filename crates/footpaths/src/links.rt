@@ -1,8 +1,7 @@
 //! The rows of transfers.txt by the numbers of their ends.
-ghost use Rattle.std.specs.Prelude.{◌≡◌, ◌<◌, ◌≤◌, ◌⊎◌, ◌++◌, ◌∷◌, [], ℕ, not, true, false, Ok, IfOk, OnErr, MatchResult, MatchBool, length, nat_eq};
+ghost use Rattle.std.specs.Prelude.{◌≡◌, ◌<◌, ◌≤◌, ◌++◌, ◌∷◌, [], ℕ, not, true, false, Ok, IfOk, OnErr, MatchResult, MatchBool, length, nat_eq};
 ghost use Rattle.std.specs.List.{list_any};
 ghost use Rattle.gtfs_rows.specs.Refused.{Yields};
-ghost use Rattle.footpaths.specs.Stops.{has_stop_id};
 ghost use Rattle.footpaths.specs.Links.{secs_by, end_of, link_of, links_of, check_transfers, HasEnds, LacksEnd, pair_number, IsPathsRefused};
 
 use crate::found::{Found, Link};

@@ -1,8 +1,6 @@
 //! Which rows of transfers.txt lead to a platform, and what they say of the ways to it.
-ghost use Rattle.std.specs.Prelude.{◌≡◌, ◌<◌, ◌≤◌, ◌^◌, ◌+◌, ◌-◌, ℕ, IfOk, OnOk, length, map, fold, unwrap_or, All, None, is_some, ◌&&◌};
-ghost use Rattle.gtfs_rows.specs.StopsFile.{StopData};
+ghost use Rattle.std.specs.Prelude.{◌≡◌, ◌<◌, ◌≤◌, ◌+◌, ◌-◌, ℕ, IfOk, OnOk, length, map, fold, unwrap_or, All, None, is_some, ◌&&◌};
 ghost use Rattle.footpaths.specs.Stops.{platforms, station_of};
-ghost use Rattle.footpaths.specs.Links.{links_of};
 ghost use Rattle.footpaths.specs.Footpaths.{takes_in, rank, stations_in, said, have_one_station, secs_between};
 ghost use Rattle.footpaths.specs.BestRules.{slot, marked, marked_by, ruled, verdict_secs};
 ghost use Rattle.footpaths.specs.Network.{link_at, IsEnd, HasLinkEnds, HasPlaces, platform_key, station_key, platform_keys, station_keys, parent_keys};

@@ -1,5 +1,5 @@
 //! Footpaths by the stop that they leave.
-ghost use Rattle.std.specs.Prelude.{◌≡◌, ◌<◌, ◌++◌, ◌∷◌, [], ℕ, List, IfOk, OnOk, OnErr, length, map, replicate, set, min, sum_by, get_or};
+ghost use Rattle.std.specs.Prelude.{◌≡◌, ◌<◌, ◌++◌, ◌∷◌, [], List, IfOk, OnOk, OnErr, length, map, replicate, set, min, sum_by, get_or};
 ghost use Rattle.tb_base.specs.declared.table.Path.{Path};
 
 use std::alloc::Global;

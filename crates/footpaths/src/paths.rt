@@ -1,7 +1,6 @@
 ghost use Rattle.std.specs.Prelude.{◌≡◌};
 ghost use Rattle.footpaths.specs.declared.paths.PathsFault.TheVariants as why;
 
-use std::alloc::{AllocError, AllocFailed};
 use std::marker::Model;
 use tb_base::{Memory, Path, StopNo, secs_between};
 
