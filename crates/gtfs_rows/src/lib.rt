@@ -20,6 +20,8 @@ mod fields;
 mod file_names;
 mod frequencies;
 mod numbers;
+mod plain_records;
+mod quoted_records;
 mod records;
 mod stops;
 mod times;

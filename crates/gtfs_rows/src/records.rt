@@ -1,43 +1,59 @@
-//! The records of a file, one at a time: one record is filled again and again.
-ghost use Rattle.std.specs.Prelude.{◌≡◌, ◌∷◌, [], ℕ, List, IfOk, OnErr, MatchBool, ◌≤◌, ◌+◌, length, get_or, false, if◌then◌else◌};
-ghost use Rattle.csv.specs.Records.{fields_of};
-ghost use Rattle.gtfs_rows.specs.Records.{file_records, records_left, RecordPosition, ReadsOn};
+//! The records of a file, one at a time.
+ghost use Rattle.std.specs.Prelude.{◌≡◌, ◌∷◌, [], IfOk, OnErr, MatchBool, ◌≤◌, length, get_or, IsTrue};
+ghost use Rattle.csv.specs.Reading.{is_bom, strip_bom};
+ghost use Rattle.gtfs_rows.specs.Records.{file_records, RecordPosition};
+ghost use Rattle.gtfs_rows.specs.PlainText.{IsUnquoted};
+ghost use Rattle.gtfs_rows.specs.Positions.{position_of};
 
-use csv::{ByteRecord, Reader, ReaderBuilder};
+use crate::plain_records::PlainRecords;
+use crate::quoted_records::QuotedRecords;
+use memchr::memchr;
 use std::alloc::Global;
 use std::marker::Model;
 use tb_base::Memory;
 
+// Where records come from: a file without quotes is cut where it stands.
+#[derive(Drop)]
+enum Source<'a> {
+    Plain(PlainRecords<'a>),
+    Quoted(QuotedRecords<'a>),
+}
+
 /// A position among the records of a file: the record that was read last, and those that follow it.
 #[derive(Drop)]
 pub struct Records<'a> {
-    reader: Reader<&'a [u8]>,
-    record: ByteRecord,
-    stopped: bool,
+    source: Source<'a>,
 }
 
 impl<'a> Model for Records<'a> {
     ghost Value = { RecordPosition };
 
-    ghost view = { λ r. record {
-      current = fields_of r.record;
-      left = if r.stopped then [] else records_left r.reader;
-    } };
-
-    ghost invariant = { λ r. r.stopped ≡ false → ReadsOn r.reader };
+    ghost view = { λ r. position_of r.source };
 }
 
-// Reads the next record, where there is one.
-fn take_record(reader: &mut Reader<&[u8]>, row: &mut ByteRecord) -> Result<bool, Memory>
-    ensures { ReadsOn reader.old →
-        IfOk result
-        (λ more. MatchBool more (ReadsOn reader.new
-        × (records_left reader.old ≡ fields_of row.new ∷ records_left reader.new))
-        (records_left reader.old ≡ [])) }
+fn is_unquoted(bytes: &[u8]) -> bool
+    ensures { IsTrue result → IsUnquoted bytes.now }
 {
-    match reader.read_byte_record(row) {
-        Ok(more) => Ok(more),
-        Err(_) => Err(Memory),
+    memchr(b'"', bytes).is_none()
+}
+
+fn is_mark(a: u8, b: u8, c: u8) -> bool
+    ensures { result ≡ is_bom a b c }
+{
+    a == 0xEF && b == 0xBB && c == 0xBF
+}
+
+// A text without a byte order mark at its start.
+fn without_mark(bytes: &[u8]) -> &[u8]
+    ensures { result.now ≡ strip_bom bytes.now }
+{
+    if bytes.len() < 3 {
+        return bytes;
+    }
+    if is_mark(bytes[0], bytes[1], bytes[2]) {
+        &bytes[3..]
+    } else {
+        bytes
     }
 }
 
@@ -46,14 +62,15 @@ impl<'a> Records<'a> {
     pub fn new(alloc: Global, bytes: &'a [u8]) -> Records<'a>
         ensures { result.left ≡ file_records bytes.now }
     {
-        let reader = ReaderBuilder::new()
-            .has_headers(false)
-            .flexible(true)
-            .from_reader(alloc, bytes);
+        if is_unquoted(bytes) {
+            let records = PlainRecords::new(alloc, without_mark(bytes));
+            return Records {
+                source: Source::Plain(records),
+            };
+        }
+        let records = QuotedRecords::new(alloc, bytes);
         Records {
-            reader,
-            record: ByteRecord::new(alloc),
-            stopped: false,
+            source: Source::Quoted(records),
         }
     }
 
@@ -66,21 +83,9 @@ impl<'a> Records<'a> {
             ((self.old.left ≡ []) × (self.new.current ≡ []) × (self.new.left ≡ []))) }
         ensures memory { OnErr result (self.new.left ≡ []) }
     {
-        if self.stopped {
-            self.record.clear();
-            return Ok(false);
-        }
-        match take_record(&mut self.reader, &mut self.record) {
-            Ok(true) => Ok(true),
-            Ok(false) => {
-                self.stopped = true;
-                self.record.clear();
-                Ok(false)
-            }
-            Err(Memory) => {
-                self.stopped = true;
-                Err(Memory)
-            }
+        match &mut self.source {
+            Source::Plain(records) => records.advance(),
+            Source::Quoted(records) => records.advance(),
         }
     }
 
@@ -88,16 +93,19 @@ impl<'a> Records<'a> {
     pub fn len(&self) -> usize
         ensures { result ≡ length self.now.current }
     {
-        self.record.len()
+        match &self.source {
+            Source::Plain(records) => records.len(),
+            Source::Quoted(records) => records.len(),
+        }
     }
 
     /// A field of the record, empty where it has none there.
     pub fn field(&self, column: usize) -> &[u8]
         ensures { result.now ≡ get_or self.now.current column [] }
     {
-        match self.record.get(column) {
-            Some(field) => field,
-            None => &[],
+        match &self.source {
+            Source::Plain(records) => records.field(column),
+            Source::Quoted(records) => records.field(column),
         }
     }
 }

@@ -1,0 +1,128 @@
+//! The records of a text without quotes, cut where its commas and line ends stand.
+ghost use Rattle.std.specs.Prelude.{◌≡◌, ◌≤◌, ◌∷◌, ◌++◌, [], true, IfOk, OnOk, OnErr, MatchBool, length, get_or};
+ghost use Rattle.gtfs_rows.specs.Records.{RecordPosition};
+ghost use Rattle.gtfs_rows.specs.PlainText.{IsUnquoted, is_line_end, skip_line_ends, starts_record, records_of, record_of};
+
+use std::alloc::Global;
+use std::marker::Model;
+use tb_base::Memory;
+
+/// A position among the records of a text without quotes: the fields of the record that was read
+/// last, as they stand in the text, and the text behind it.
+#[derive(Drop)]
+pub(crate) struct PlainRecords<'a> {
+    fields: Vec<&'a [u8]>,
+    rest: &'a [u8],
+}
+
+impl<'a> Model for PlainRecords<'a> {
+    ghost Value = { RecordPosition };
+
+    ghost view = { λ r. record {
+      current = record_of r.fields.items;
+      left = records_of r.rest.now;
+    } };
+
+    ghost invariant = { λ r. IsUnquoted r.rest.now };
+}
+
+fn is_line_end(b: u8) -> bool
+    ensures { result ≡ is_line_end b }
+{
+    b == b'\r' || b == b'\n'
+}
+
+// A text without the line ends at its start.
+fn skip_line_ends(text: &[u8]) -> &[u8]
+    ensures { result.now ≡ skip_line_ends text.now }
+{
+    let mut rest = text;
+    while let [first, tail @ ..] = rest {
+        if !is_line_end(*first) {
+            break;
+        }
+        rest = tail;
+    }
+    rest
+}
+
+fn add_field<'a>(fields: &mut Vec<&'a [u8]>, field: &'a [u8]) -> Result<(), Memory>
+    ensures { OnOk result (record_of fields.new.items ≡ record_of fields.old.items ++ field.now ∷ []) }
+{
+    if fields.push(field).is_err() {
+        return Err(Memory);
+    }
+    Ok(())
+}
+
+// Cuts the record at the start of a text into its fields, and gives the text behind it.
+fn cut_record<'a>(text: &'a [u8], fields: &mut Vec<&'a [u8]>) -> Result<&'a [u8], Memory>
+    requires unquoted { IsUnquoted text.now }
+    requires starts { starts_record text.now ≡ true }
+    requires empty { record_of fields.old.items ≡ [] }
+    ensures cut { IfOk result
+        (λ rest. records_of text.now ≡ record_of fields.new.items ∷ records_of rest.now) }
+    ensures unquoted { IfOk result (λ rest. IsUnquoted rest.now) }
+{
+    let mut start = 0;
+    for at in 0..text.len() {
+        let byte = text[at];
+        if byte == b',' {
+            add_field(fields, &text[start..at])?;
+            start = at + 1;
+        } else if is_line_end(byte) {
+            add_field(fields, &text[start..at])?;
+            return Ok(&text[at + 1..]);
+        }
+    }
+    add_field(fields, &text[start..])?;
+    Ok(&text[text.len()..])
+}
+
+impl<'a> PlainRecords<'a> {
+    /// The position before the first record of a text without quotes.
+    pub(crate) fn new(alloc: Global, text: &'a [u8]) -> PlainRecords<'a>
+        requires { IsUnquoted text.now }
+        ensures { result.left ≡ records_of text.now }
+    {
+        PlainRecords {
+            fields: Vec::new(alloc),
+            rest: text,
+        }
+    }
+
+    /// As [`crate::Records::advance`].
+    pub(crate) fn advance(&mut self) -> Result<bool, Memory>
+        ensures fewer { length self.new.left ≤ length self.old.left }
+        ensures next { IfOk result
+            (λ more. MatchBool more (self.old.left ≡ self.new.current ∷ self.new.left)
+            ((self.old.left ≡ []) × (self.new.current ≡ []) × (self.new.left ≡ []))) }
+        ensures memory { OnErr result (self.new.left ≡ []) }
+    {
+        self.fields.clear();
+        let text = skip_line_ends(self.rest);
+        self.rest = &[];
+        if text.is_empty() {
+            return Ok(false);
+        }
+        self.rest = cut_record(text, &mut self.fields)?;
+        Ok(true)
+    }
+
+    /// How many fields the record has.
+    pub(crate) fn len(&self) -> usize
+        ensures { result ≡ length self.now.current }
+    {
+        self.fields.len()
+    }
+
+    /// A field of the record, empty where it has none there.
+    pub(crate) fn field(&self, column: usize) -> &[u8]
+        ensures { result.now ≡ get_or self.now.current column [] }
+    {
+        match self.fields.get(column) {
+            Some(field) => *field,
+            None => &[],
+        }
+    }
+}
