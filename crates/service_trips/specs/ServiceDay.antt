@@ -8,8 +8,8 @@ use Rattle.answer_text.specs.Times.{time_text}
 use Rattle.service_trips.specs.declared.frequency.TripFrequency.{TripFrequency}
 use Rattle.service_trips.specs.Starts.{is_of_trip, starts}
 
--- what a feed says of its trips: the rows of trips.txt, the events of each, none for a trip of fewer
--- than two stop times, and the rows of frequencies.txt
+-- what a feed says of its trips: the rows of trips.txt, the events of each, none for a trip of
+-- fewer than two stop times, and the rows of frequencies.txt
 pub record FeedTrips : Type 0 where
   pub rows : List row.TripData
   pub rides : List (List Event)

@@ -1,5 +1,5 @@
 //! The trips that the rows of frequencies.txt give a trip.
-ghost use Rattle.std.specs.Prelude.{◌≡◌, ◌<◌, ◌≤◌, ◌++◌, ◌∷◌, [], IfOk, OnOk, length, map, filter, pos, codes};
+ghost use Rattle.std.specs.Prelude.{◌≡◌, ◌<◌, ◌≤◌, ◌++◌, IfOk, OnOk, map, filter, pos, codes};
 ghost use Rattle.std.specs.List.{flat_map};
 ghost use Rattle.answer_text.specs.Times.{time_text};
 ghost use Rattle.service_trips.specs.Rides.{IsRide, as_shown};
@@ -36,7 +36,8 @@ fn trip_starting_at(
 ) -> Result<Trip, Memory>
     requires ride { IsRide ride.now }
     requires start { start ≤ 359999 }
-    ensures { IfOk result (λ trip. trip ≡ as_shown before (trip_starting_at id.now ride.now start)) }
+    ensures { IfOk result (λ trip.
+        trip ≡ as_shown before (trip_starting_at id.now ride.now start)) }
 {
     let name = start_name(alloc, id, start)?;
     let events = moved_ride(alloc, ride, shift(ride, start, before))?;
@@ -59,7 +60,8 @@ fn add_starts(
     requires ride { IsRide ride.now }
     requires good { IsGoodFrequency frequency.now }
     ensures { OnOk result (trips.new.items
-        ≡ trips.old.items ++ shown before (map (trip_starting_at id.now ride.now) (starts frequency.now))) }
+        ≡ trips.old.items
+        ++ shown before (map (trip_starting_at id.now ride.now) (starts frequency.now))) }
 {
     let starts = starts_from(frequency, least_start(ride, before));
     for k in 0..starts.count {

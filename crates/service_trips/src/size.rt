@@ -1,5 +1,5 @@
 //! How many trips and events a timetable has, counted by division before one is made.
-ghost use Rattle.std.specs.Prelude.{◌≡◌, ◌<◌, ◌≤◌, ◌++◌, ◌-◌, ◌^◌, ℕ, List, All, MatchOption, Ok, Err, filter, length, map, min, sum_by};
+ghost use Rattle.std.specs.Prelude.{◌≡◌, ◌<◌, ◌++◌, ◌-◌, ◌^◌, ℕ, List, All, MatchOption, Ok, Err, filter, length, map, min, sum_by};
 ghost use Rattle.tb_base.specs.TimetableData.{TripData};
 ghost use Rattle.gtfs_rows.specs.TripsFile as row;
 ghost use Rattle.service_trips.specs.Starts.{is_of_trip, starts_from};
@@ -82,9 +82,8 @@ fn count_trips(table: &FrequencyTable, trip: usize, ride: &[Event], before: bool
     requires ride { IsRide ride.now }
     requires trip { trip < table.now.trips }
     ensures { (id : List ℕ) →
-        result
-        ≡ min (length (shown before (trips_of id (filter (is_of_trip trip) table.now.rows) ride.now)))
-        (2 ^ 64 - 1) }
+        result ≡ min (length (shown before
+        (trips_of id (filter (is_of_trip trip) table.now.rows) ride.now))) (2 ^ 64 - 1) }
 {
     if table.places(trip).is_empty() {
         return is_shown(ride, before) as u64;

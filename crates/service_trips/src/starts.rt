@@ -1,5 +1,5 @@
 //! How many starts a row of frequencies.txt gives, and which is the first.
-ghost use Rattle.std.specs.Prelude.{◌≡◌, ◌≤◌, ◌<◌, ◌+◌, ◌*◌, length, filter, map, nat_le};
+ghost use Rattle.std.specs.Prelude.{◌≡◌, ◌≤◌, ◌<◌, ◌+◌, ◌*◌, map};
 ghost use Rattle.std.specs.List.{range_with_len};
 ghost use Rattle.service_trips.specs.Starts.{IsGoodFrequency, first_from, starts_from};
 

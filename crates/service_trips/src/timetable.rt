@@ -1,5 +1,5 @@
 //! The trips of a timetable, or the first thing that is wrong with them.
-ghost use Rattle.std.specs.Prelude.{◌≡◌, ◌≤◌, ◌++◌, ℕ, All, IfOk, length, map, sum_by};
+ghost use Rattle.std.specs.Prelude.{◌≡◌, ◌≤◌, ℕ, All, IfOk, length, map, sum_by};
 ghost use Rattle.tb_base.specs.TimetableData.{TripData};
 ghost use Rattle.tb_base.specs.Soundness.{IsSoundTrip};
 ghost use Rattle.gtfs_rows.specs.Refused.{IsRefused, Yields};
@@ -10,7 +10,7 @@ ghost use Rattle.service_trips.specs.Limits.{checked_trips};
 
 use crate::FrequencyTable;
 use crate::beyond::first_beyond;
-use crate::size::{Size, service_size};
+use crate::size::service_size;
 use crate::trips::{earlier_trips, own_trips};
 use gtfs_rows::{RowsFault, TripRow};
 use std::alloc::Global;

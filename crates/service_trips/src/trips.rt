@@ -1,7 +1,7 @@
 //! The trips of a timetable.
-ghost use Rattle.std.specs.Prelude.{◌≡◌, ◌<◌, ◌≤◌, ◌++◌, All, IfOk, OnOk, true, filter, length, map};
+ghost use Rattle.std.specs.Prelude.{◌≡◌, ◌<◌, ◌++◌, All, IfOk, OnOk, true, filter, length, map};
 ghost use Rattle.service_trips.specs.Starts.{is_of_trip};
-ghost use Rattle.service_trips.specs.Rides.{IsRide, IsRideOrNone};
+ghost use Rattle.service_trips.specs.Rides.{IsRideOrNone};
 ghost use Rattle.service_trips.specs.ServiceDay.{trips_where, service_trips};
 ghost use Rattle.service_trips.specs.DayBefore.{shown};
 
@@ -59,7 +59,8 @@ fn add_earlier(
     requires trip { trip < table.now.trips }
     ensures { OnOk result (trips.new.items
         ≡ trips.old.items
-        ++ shown true (trips_where runs id.now (filter (is_of_trip trip) table.now.rows) ride.now)) }
+        ++ shown true
+        (trips_where runs id.now (filter (is_of_trip trip) table.now.rows) ride.now)) }
 {
     if !runs || ride.is_empty() {
         return Ok(());
