@@ -1,11 +1,10 @@
 -- What the loops of the workers keep.
 use Rattle.std.proofs.Common.{◌≡◌, ◌∙◌, ℕ, ◌+◌, ◌<◌, ◌≤◌, Ok, Result, Vec, Global, IfOk, List, [], ◌∷◌, ◌++◌, All, length, map, subst, ap, sym, arith, length-append}
-use Rattle.std.proofs.lemmas.List.{map-append, append-nil}
+use Rattle.std.proofs.lemmas.List.{append-nil}
 use Rattle.std.proofs.lemmas.List.Elements.{All-push}
 use Rattle.std.proofs.lemmas.List.Concat.{flat_map-append}
 use Rattle.tb_base.specs.declared.memory.Memory.{Memory}
 use Rattle.reduce_workers.specs.Reductions.{ReducedData}
-use Rattle.reduce_workers.specs.Claim.{hand}
 use Rattle.reduce_workers.specs.Seats.{ClaimData, SeatData, IsDone, IsOpen, drawn_of}
 use Rattle.reduce_workers.specs.Work.{Worked, piece_of, pieces_of}
 use Rattle.reduce_workers.proofs.Loops.{all_front, all_last}

@@ -5,3 +5,4 @@ pub mod Keeps
 pub mod Loops
 pub mod Drawing
 pub mod Placing
+pub mod EventSteps

@@ -1,14 +1,13 @@
 -- What the loops keep.
 use Rattle.std.proofs.Common.{◌-◌, ◌≡◌, ℕ, zero, suc, ◌+◌, ◌<◌, ◌≤◌, List, [], ◌∷◌, ◌++◌, All, length, sum_by, map, ap, ◌∙◌, subst, arith, length-append, get_or}
 use Rattle.std.proofs.lemmas.List.Sums.{sum_by-append, sum_by-cons}
-use Rattle.std.proofs.lemmas.List.Elements.{All-from_get_or, All-append}
 use Rattle.std.proofs.lemmas.List.{map-append}
 use mathlib.Core.Option.{some}
 use lib.ListN.{get_elem?}
 use Rattle.atomic_table.specs.Table.{Me, State}
 use Rattle.atomic_table.specs.Seated.{TableId}
 use Rattle.reduce_workers.specs.declared.rule.Hand.{Hand}
-use Rattle.reduce_workers.specs.Claim.{hand, times, same, once_below, Ruled, fewer, newcomer, together}
+use Rattle.reduce_workers.specs.Claim.{hand, times, same, once_below, Ruled, together}
 use Rattle.reduce_workers.specs.Seats.{ClaimData, SeatData, IsOpen, IsDone, drawn_of, EachOnce}
 use Rattle.reduce_workers.proofs.Keeps.{gathers}
 

@@ -4,6 +4,7 @@ ghost use Rattle.reduce_workers.specs.Reductions.{piece_count, piece_reduced};
 
 use super::reduced::Reduced;
 use super::trips::reduce_from;
+use flat_calls::Calls;
 use line_split::Lines;
 use std::alloc::Global;
 use tb_base::{Memory, Timetable};
@@ -23,7 +24,7 @@ pub fn piece_count(table: &Timetable) -> u32
 /// Reduces the transfers of the trips of a piece, from trip `64 piece` to trip `64 piece + 63`, or
 /// to the last one. The lines are those of the timetable; the labels are for its stops, and may
 /// have served any piece before. Takes memory for the kept transfers, and for the candidates of one
-/// trip besides. Refused only for want of memory.
+/// event besides. Refused only for want of memory.
 pub fn reduce_piece(
     alloc: Global,
     table: &Timetable,
@@ -37,8 +38,27 @@ pub fn reduce_piece(
     ensures labels { length labels.new ≡ length labels.old }
     ensures reduced { IfOk result (λ r. r ≡ piece_reduced table.now lines.now.lines piece) }
 {
+    reduce_piece_by(alloc, table, lines, table, labels, piece)
+}
+
+/// The same, where events are read from calls, which are those of the timetable.
+pub(crate) fn reduce_piece_by<C: Calls>(
+    alloc: Global,
+    table: &Timetable,
+    lines: &Lines,
+    calls: &C,
+    labels: &mut Labels,
+    piece: u32,
+) -> Result<Reduced, Memory>
+    requires lines { lines.now.table ≡ table.now }
+    requires calls { C.table calls.now ≡ table.now }
+    requires labels { length labels.old ≡ length table.now.stops }
+    requires piece { piece < piece_count (length table.now.trips) }
+    ensures labels { length labels.new ≡ length labels.old }
+    ensures reduced { IfOk result (λ r. r ≡ piece_reduced table.now lines.now.lines piece) }
+{
     table.soundness();
     let first = PIECE * piece;
     let count = PIECE.min(table.trip_count() - first);
-    reduce_from(alloc, table, lines, labels, first, count)
+    reduce_from(alloc, table, lines, calls, labels, first, count)
 }

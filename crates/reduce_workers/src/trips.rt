@@ -1,18 +1,22 @@
 //! The reduction, trip by trip.
-ghost use Rattle.std.specs.Prelude.{◌≡◌, ◌+◌, ◌-◌, ◌<◌, ◌≤◌, IfOk, OnOk, length};
+ghost use Rattle.std.specs.Prelude.{◌≡◌, ◌+◌, ◌-◌, ◌<◌, ◌≤◌, [], IfOk, OnOk, length};
+ghost use Rattle.tb_base.specs.TimetableData.{events_of};
 ghost use Rattle.tb_base.specs.Transfers.{candidates, candidates_without_u_turns, kept_hops, transfers_of};
+ghost use Rattle.transfer_reduce.specs.Tried.{AreTried};
+ghost use Rattle.transfer_reduce.specs.Walked.{AreWalked};
 ghost use Rattle.reduce_workers.specs.Reductions.{reduced, reduced_from};
+ghost use Rattle.reduce_workers.specs.Events.{IsDoneTo};
 
-use super::laws;
 use super::reduced::Reduced;
+use flat_calls::Calls;
 use line_split::Lines;
 use std::alloc::Global;
 use tb_base::{Memory, Timetable, Transfer, TripNo};
-use transfer_make::make;
-use transfer_reduce::{Labels, reduce};
-use uturn_cut::cut;
+use transfer_make::add_event;
+use transfer_reduce::{Labels, Tried, begin_trip, reduce_event};
+use uturn_cut::cut_by;
 
-// What the reduction makes of one trip.
+// What the reduction makes of one trip, or of its events from the last one down.
 #[derive(Drop)]
 struct TripReduced {
     rows: Vec<Transfer>,
@@ -20,15 +24,61 @@ struct TripReduced {
     after_uturn: usize,
 }
 
+impl TripReduced {
+    // Adds what the reduction makes of the event before. The candidates of an event are looked at
+    // while they are fresh: they stand in `found`, which is empty before and behind.
+    fn add<C: Calls>(
+        &mut self,
+        table: &Timetable,
+        lines: &Lines,
+        calls: &C,
+        labels: &mut Labels,
+        tried: &mut [Tried],
+        trip: TripNo,
+        at: usize,
+        found: &mut Vec<Transfer>,
+    ) -> Result<(), Memory>
+        requires lines { lines.now.table ≡ table.now }
+        requires calls { C.table calls.now ≡ table.now }
+        requires labels { length labels.old ≡ length table.now.stops }
+        requires walked { AreWalked table.now labels.old }
+        requires room { 0 < length tried.old }
+        requires tried { AreTried table.now labels.old tried.old }
+        requires trip { trip < length table.now.trips }
+        requires at { at < length (events_of table.now trip) }
+        requires found { found.old.items ≡ [] }
+        requires done { IsDoneTo table.now lines.now.lines trip (at + 1) self.old.rows.items
+            self.old.generated self.old.after_uturn labels.old }
+        ensures labels { length labels.new ≡ length labels.old }
+        ensures walked { OnOk result (AreWalked table.now labels.new) }
+        ensures tried { OnOk result (AreTried table.now labels.new tried.new) }
+        ensures found { OnOk result (found.new.items ≡ []) }
+        ensures done { OnOk result (IsDoneTo table.now lines.now.lines trip at self.new.rows.items
+            self.new.generated self.new.after_uturn labels.new) }
+    {
+        table.soundness();
+        lines.soundness();
+        add_event(found, table, lines, trip, at)?;
+        self.generated += found.len();
+        cut_by(table, calls, found);
+        self.after_uturn += found.len();
+        reduce_event(table, calls, labels, tried, trip, at, found);
+        self.rows.append(found)?;
+        Ok(())
+    }
+}
+
 // Reduces the transfers of one trip.
-fn reduce_trip(
+fn reduce_trip<C: Calls>(
     alloc: Global,
     table: &Timetable,
     lines: &Lines,
+    calls: &C,
     labels: &mut Labels,
     trip: TripNo,
 ) -> Result<TripReduced, Memory>
     requires lines { lines.now.table ≡ table.now }
+    requires calls { C.table calls.now ≡ table.now }
     requires labels { length labels.old ≡ length table.now.stops }
     requires trip { trip < length table.now.trips }
     ensures labels { length labels.new ≡ length labels.old }
@@ -39,31 +89,37 @@ fn reduce_trip(
     ensures after_uturn { IfOk result (λ r. r.after_uturn ≡ length
         (transfers_of table.now (candidates_without_u_turns table.now lines.now.lines trip) trip)) }
 {
-    uturn_cut::laws::candidates_cut();
-    let mut rows = make(alloc, table, lines, trip)?;
-    let generated = rows.len();
-    cut(table, &mut rows);
-    let after_uturn = rows.len();
-    reduce(table, labels, trip, &mut rows);
-    rows.shrink_to_fit();
-    Ok(TripReduced {
-        rows,
-        generated,
-        after_uturn,
-    })
+    let mut tried = begin_trip(table, labels);
+    let mut done = TripReduced {
+        rows: Vec::new(alloc),
+        generated: 0,
+        after_uturn: 0,
+    };
+    let mut found = Vec::new(alloc);
+    let mut at = calls.count(trip);
+    while at > 0 {
+        at -= 1;
+        done.add(
+            table, lines, calls, labels, &mut tried, trip, at, &mut found,
+        )?;
+    }
+    done.rows.shrink_to_fit();
+    Ok(done)
 }
 
 impl Reduced {
     // Adds what the reduction makes of the trip that comes next.
-    fn add(
+    fn add<C: Calls>(
         &mut self,
         alloc: Global,
         table: &Timetable,
         lines: &Lines,
+        calls: &C,
         labels: &mut Labels,
         trip: TripNo,
     ) -> Result<(), Memory>
         requires lines { lines.now.table ≡ table.now }
+        requires calls { C.table calls.now ≡ table.now }
         requires labels { length labels.old ≡ length table.now.stops }
         requires trip { trip < length table.now.trips }
         requires trips { self.old.trips ≤ trip }
@@ -77,7 +133,7 @@ impl Reduced {
     {
         table.soundness();
         lines.soundness();
-        let more = reduce_trip(alloc, table, lines, labels, trip)?;
+        let more = reduce_trip(alloc, table, lines, calls, labels, trip)?;
         self.generated += more.generated as u64;
         self.after_uturn += more.after_uturn as u64;
         self.kept += more.rows.len() as u64;
@@ -87,18 +143,20 @@ impl Reduced {
     }
 }
 
-/// Reduces the transfers of `count` trips from trip `first` on. The lines are those of the
-/// timetable; the labels are for its stops, and serve all trips. Takes memory for the kept
-/// transfers, and for the candidates of one trip besides. Refused only for want of memory.
-pub(crate) fn reduce_from(
+/// Reduces the transfers of `count` trips from trip `first` on. The lines and the calls are those
+/// of the timetable; the labels are for its stops, and serve all trips. Takes memory for the kept
+/// transfers, and for the candidates of one event besides. Refused only for want of memory.
+pub(crate) fn reduce_from<C: Calls>(
     alloc: Global,
     table: &Timetable,
     lines: &Lines,
+    calls: &C,
     labels: &mut Labels,
     first: u32,
     count: u32,
 ) -> Result<Reduced, Memory>
     requires lines { lines.now.table ≡ table.now }
+    requires calls { C.table calls.now ≡ table.now }
     requires labels { length labels.old ≡ length table.now.stops }
     requires within { first + count ≤ length table.now.trips }
     ensures labels { length labels.new ≡ length labels.old }
@@ -107,7 +165,7 @@ pub(crate) fn reduce_from(
     table.soundness();
     let mut reduced = Reduced::new(alloc);
     for t in first..first + count {
-        reduced.add(alloc, table, lines, labels, TripNo(t))?;
+        reduced.add(alloc, table, lines, calls, labels, TripNo(t))?;
     }
     Ok(reduced)
 }

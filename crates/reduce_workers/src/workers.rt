@@ -6,10 +6,11 @@ ghost use Rattle.reduce_workers.specs.Seats.{IsOpen};
 ghost use Rattle.reduce_workers.specs.Work.{Worked};
 
 use crate::claim::Claim;
-use crate::pieces::{piece_count, reduce_piece};
+use crate::pieces::{piece_count, reduce_piece_by};
 use crate::places::{Brought, collect, join_pieces, place};
 use crate::reduced::Reduced;
 use crate::seat::ClaimSeat;
+use flat_calls::FlatCalls;
 use line_split::Lines;
 use std::alloc::Global;
 use std::thread;
@@ -23,11 +24,13 @@ fn reduce_drawn<G: Gate>(
     alloc: Global,
     table: &Timetable,
     lines: &Lines,
+    calls: &FlatCalls,
     gate: &G,
     claim: &Claim,
     mut seat: ClaimSeat,
 ) -> Result<Brought, Memory>
     requires lines { lines.now.table ≡ table.now }
+    requires calls { calls.now ≡ table.now }
     requires pieces { claim.now.pieces ≡ piece_count (length table.now.trips) }
     requires seat { IsOpen claim.now [] seat }
     ensures { IfOk result (Worked claim.now (piece_reduced table.now lines.now.lines)) }
@@ -36,7 +39,7 @@ fn reduce_drawn<G: Gate>(
     let mut done = Vec::new(alloc);
     while let Some(n) = claim.draw(&mut seat) {
         gate.begin(Work::Piece(n));
-        let reduced = reduce_piece(alloc, table, lines, &mut labels, n);
+        let reduced = reduce_piece_by(alloc, table, lines, calls, &mut labels, n);
         gate.done(Work::Piece(n));
         done.push((n, reduced?))?;
     }
@@ -47,8 +50,9 @@ fn reduce_drawn<G: Gate>(
 /// most 64. The workers draw pieces of 64 trips; the gate is told when one begins a piece and when
 /// it is done with it. The kept transfers and the counts are the same for every number of workers,
 /// whoever draws which piece. Where no thread can be started the caller does that worker's part
-/// itself. The lines are those of the timetable. Takes memory for the kept transfers, and for each
-/// worker one label a stop and the candidates of one trip besides. Refused only for want of memory.
+/// itself. The lines are those of the timetable. Takes memory for the kept transfers, eight bytes an
+/// event, and for each worker one label a stop and the candidates of one event besides. Refused
+/// only for want of memory.
 pub fn reduce_all<G: Gate, R: Threads + Sync>(
     rt: &R,
     alloc: Global,
@@ -67,14 +71,17 @@ pub fn reduce_all<G: Gate, R: Threads + Sync>(
     table.soundness();
     lines.soundness();
     let (claim, seats) = Claim::new(alloc, piece_count(table), workers)?;
+    let flat = FlatCalls::of(alloc, table)?;
+    let calls = &flat;
     let shared = &claim;
     let worker = |seat: ClaimSeat| -> Result<Brought, Memory>
         requires lines { lines.now.table ≡ table.now }
+        requires calls { calls.now ≡ table.now }
         requires pieces { shared.now.pieces ≡ piece_count (length table.now.trips) }
         requires seat { IsOpen shared.now [] seat }
         ensures { IfOk result
             (Worked shared.entry.now (piece_reduced table.entry.now lines.entry.now.lines)) }
-    { reduce_drawn(alloc, table, lines, gate, shared, seat) };
+    { reduce_drawn(alloc, table, lines, calls, gate, shared, seat) };
     let brought = thread::map_vec(rt, seats, &worker)?;
     let (seats, done) = collect(alloc, table, lines, &claim, brought)?;
     let _drawn = claim.gather(seats);

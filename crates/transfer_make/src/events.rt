@@ -85,7 +85,7 @@ fn add_alighting(
 }
 
 /// Adds the candidates of an event of a trip.
-pub(crate) fn add_event(
+pub fn add_event(
     rows: &mut Vec<Transfer>,
     table: &Timetable,
     lines: &Lines,

@@ -15,7 +15,7 @@ mod events;
 mod hops;
 pub mod laws;
 
-use events::add_event;
+pub use events::add_event;
 use line_split::Lines;
 use std::alloc::Global;
 use tb_base::{Memory, Timetable, Transfer, TripNo};

@@ -1,17 +1,17 @@
 -- What an event lowers, by walking from it.
-use Rattle.std.proofs.Common.{◌≡◌, ◌≢◌, ◌∙◌, sym, ap, subst, refl, ℕ, zero, suc, ◌+◌, ◌<◌, ◌≤◌, ◌⊎◌, inl, inr, Bool, true, false, cond, ◌==◌, ◌&&◌, ◌||◌, List, [], ◌∷◌, ◌++◌, length, map, replicate, get_or, set, take, find, ℤ, pos, ◌+ℤ◌, ◌≤ℤ◌, Option, Some, None, arith, get_or-set_same, get_or-set_other}
+use Rattle.std.proofs.Common.{◌≡◌, ◌≢◌, ◌∙◌, sym, ap, subst, refl, ℕ, zero, suc, ◌+◌, ◌-◌, ◌<◌, ◌≤◌, ◌⊎◌, inl, inr, Bool, true, false, cond, ◌==◌, ◌&&◌, ◌||◌, List, [], ◌∷◌, ◌++◌, length, map, replicate, get_or, set, take, drop, find, ℤ, pos, ◌+ℤ◌, ◌≤ℤ◌, Option, Some, None, arith, get_or-set_same, get_or-set_other}
 use Rattle.std.specs.Prelude.{All, AllPairs, filter, int_lt, IsSomeAnd, slice_get}
 use Rattle.std.specs.List.{cons_option, list_any}
 use Rattle.std.specs.Option.{option_map}
 use Rattle.std.proofs.lemmas.Bool.{cases_eq, ne_eqb, eq-eqb, or_parts}
 use Rattle.std.proofs.lemmas.Int.{ints}
-use Rattle.std.proofs.lemmas.List.{append-nil, get_or_default, get_or-take, length-take, map-set, take_more}
+use Rattle.std.proofs.lemmas.List.{append-nil, get_or_default, get_or-drop, get_or-take, length-drop, length-take, map-set, take_more}
 use Rattle.std.proofs.lemmas.List.Elements.{All-head, All-tail, filter_more}
 use Rattle.std.proofs.lemmas.Option.{get_or_from_slice_get}
 use Rattle.tb_base.specs.declared.table.Event.{Event}
 use Rattle.tb_base.specs.declared.table.Path.{Path}
 use Rattle.tb_base.specs.Soundness.{IsSound, IsSoundPath}
-use Rattle.tb_base.specs.TimetableData.{TimetableData}
+use Rattle.tb_base.specs.TimetableData.{TimetableData, no_event}
 use Rattle.tb_base.specs.Transfers.{earliest_offer, is_sooner, least}
 use Rattle.tb_base.specs.Walking.{walk}
 use Rattle.tb_laws.proofs.KeptLaws.{walk_inside}
@@ -23,6 +23,8 @@ use Rattle.transfer_reduce.specs.Walked.{AreWalked, offer_at, offer_if, path_off
 use Rattle.transfer_reduce.proofs.Lesser.{lesser-assoc, lesser-below_left, lesser-below_right, lesser-comm, lesser-is, lesser-left, not_sooner-lesser, not_sooner-some, some_not_sooner, offer_by, earliest_offer-cons, earliest_offer-snoc}
 use Rattle.tb_base.proofs.NumberFacts.{lt-eqb, ≤ℤ-plus, ≤ℤ-trans}
 use Rattle.tb_base.proofs.Lists.{option_map-back}
+use Rattle.flat_calls.specs.declared.calls.Call.{Call}
+use Rattle.flat_calls.specs.CallsOf.{call_of}
 
 -- ---- labels
 
@@ -56,7 +58,7 @@ find-snoc_other test [] y h = ap (λ b. cond b (Some y) None) h
 find-snoc_other test (x ∷ xs) y h = ap (λ o. cond (test x) (Some x) o) (find-snoc_other test xs y h)
 
 -- one footpath more
-pub path_more : (e : Event) (paths : List Path) (k : ℕ) (f : Path) (old before new : List (Option ℤ)) (p : ℕ) → k < length paths → f ≡ get_or paths k f → AllPairs (λ (f g : Path). f.to < g.to) paths
+pub path_more : (e : Call) (paths : List Path) (k : ℕ) (f : Path) (old before new : List (Option ℤ)) (p : ℕ) → k < length paths → f ≡ get_or paths k f → AllPairs (λ (f g : Path). f.to < g.to) paths
     → new ≡ set before f.to (lesser (Some (e.arr +ℤ pos f.secs)) (get_or before f.to None)) → length before ≡ length old → p < length old
     → get_or before p None ≡ lesser (path_offer e (take k paths) p) (get_or old p None) → get_or new p None ≡ lesser (path_offer e (take (k + 1) paths) p) (get_or old p None)
 path_more e paths k f old before new p below is up h long inside inv = by_case (cases_eq p f.to)
@@ -98,7 +100,7 @@ pub plus_zero : (x : ℤ) → (x +ℤ pos 0) ≡ x
 plus_zero x = omega (arith, ints)
 
 -- the own stop is lowered, and then those that footpaths lead to
-pub offered : (T : TimetableData) (e : Event) (paths : List Path) (old lowered : List (Option ℤ)) (p : ℕ) (new : Option ℤ) → slice_get T.footpaths.paths e.stop ≡ Some paths → All (IsSoundPath (length T.stops) e.stop) paths → e.stop < length old
+pub offered : (T : TimetableData) (e : Call) (paths : List Path) (old lowered : List (Option ℤ)) (p : ℕ) (new : Option ℤ) → slice_get T.footpaths.paths e.stop ≡ Some paths → All (IsSoundPath (length T.stops) e.stop) paths → e.stop < length old
     → lowered ≡ set old e.stop (lesser (Some e.arr) (get_or old e.stop None)) → new ≡ lesser (path_offer e paths p) (get_or lowered p None) → new ≡ lesser (offer_at T e p) (get_or old p None)
 offered T e paths old lowered p new row sound inside low h = by_case (cases_eq p e.stop)
   where
@@ -117,7 +119,7 @@ offered T e paths old lowered p new row sound inside low h = by_case (cases_eq p
         ∙ ap (lesser (path_offer e paths p)) (get_or-set_other old e.stop p (lesser (Some e.arr) (get_or old e.stop None)) None s) ∙ ap (λ o. lesser o (get_or old p None)) (sym own)
 
 -- an event that is not sooner at its stop lowers nothing
-pub absorbed : (T : TimetableData) (labels : List (Option ℤ)) → AreWalked T labels → (e : Event) → is_sooner (Some e.arr) (get_or labels e.stop None) ≡ false → (p : ℕ) → lesser (offer_at T e p) (get_or labels p None) ≡ get_or labels p None
+pub absorbed : (T : TimetableData) (labels : List (Option ℤ)) → AreWalked T labels → (e : Call) → is_sooner (Some e.arr) (get_or labels e.stop None) ≡ false → (p : ℕ) → lesser (offer_at T e p) (get_or labels p None) ≡ get_or labels p None
 absorbed T labels walked e h p = by_walk (walk T e.stop p) refl (get_or labels e.stop None) refl (not_sooner-some e.arr (get_or labels e.stop None) h)
   where
     by_walk : (o : Option ℕ) → o ≡ walk T e.stop p → (b : Option ℤ) → b ≡ get_or labels e.stop None → IsSomeAnd b (λ y. y ≤ℤ e.arr) → lesser (option_map (λ secs. e.arr +ℤ pos secs) o) (get_or labels p None) ≡ get_or labels p None
@@ -132,7 +134,7 @@ absorbed T labels walked e h p = by_walk (walk T e.stop p) refl (get_or labels e
         later (Some z) x y h k = ≤ℤ-trans z x y k h
 
 -- labels stay walked
-pub walked_more : (T : TimetableData) → IsSound T → (e : Event) (old new : List (Option ℤ)) → length old ≡ length T.stops → length new ≡ length old → AreWalked T old
+pub walked_more : (T : TimetableData) → IsSound T → (e : Call) (old new : List (Option ℤ)) → length old ≡ length T.stops → length new ≡ length old → AreWalked T old
     → ((p : ℕ) → p < length old → get_or new p None ≡ lesser (offer_at T e p) (get_or old p None)) → AreWalked T new
 walked_more T sound e old new long same walked h = record { on_foot = on_foot }
   where
@@ -177,7 +179,7 @@ none_in (suc n) (suc p) = none_in n p
 abbrev pub sooner_at : List (Option ℤ) → Event → Bool
 sooner_at labels e = is_sooner (Some e.arr) (get_or labels e.stop None)
 
-pub offer_by-walk : (T : TimetableData) (e : Event) (p : ℕ) → offer_by (walk T) e p ≡ offer_at T e p
+pub offer_by-walk : (T : TimetableData) (e : Event) (p : ℕ) → offer_by (walk T) e p ≡ offer_at T (call_of e) p
 offer_by-walk T e p = by_option (walk T e.stop p)
   where
     by_option : (o : Option ℕ) → least (cons_option (option_map (λ secs. e.arr +ℤ pos secs) o) []) ≡ option_map (λ secs. e.arr +ℤ pos secs) o
@@ -190,7 +192,7 @@ all_absorbed T labels walked [] h p = refl
 all_absorbed T labels walked (e ∷ es) h p =
     let parts = or_parts (sooner_at labels e) (list_any (sooner_at labels) es) h in
     ap (λ o. lesser o (get_or labels p None)) (earliest_offer-cons (walk T) e es p) ∙ lesser-assoc (offer_by (walk T) e p) (earliest_offer (walk T) es p) (get_or labels p None)
-    ∙ ap (lesser (offer_by (walk T) e p)) (all_absorbed T labels walked es parts.1 p) ∙ ap (λ o. lesser o (get_or labels p None)) (offer_by-walk T e p) ∙ absorbed T labels walked e parts.0 p
+    ∙ ap (lesser (offer_by (walk T) e p)) (all_absorbed T labels walked es parts.1 p) ∙ ap (λ o. lesser o (get_or labels p None)) (offer_by-walk T e p) ∙ absorbed T labels walked (call_of e) parts.0 p
 
 list_any-snoc : {X : Type 0} (test : X → Bool) (xs : List X) (y : X) → list_any test (xs ++ y ∷ []) ≡ (list_any test xs || test y)
 list_any-snoc test [] y = or_false (test y)
@@ -212,17 +214,17 @@ module _ (T : TimetableData) (old labels : List (Option ℤ)) (walked : AreWalke
   more_looked : (b : Bool) → b ≡ e.alight → filter (λ e. e.alight) (take (k + 1) events) ≡ looked ++ cond b (e ∷ []) []
   more_looked b h = filter_more (λ (e : Event). e.alight) events k e below ∙ ap (λ (g : Event). looked ++ cond g.alight (g ∷ []) []) (sym is) ∙ ap (λ c. looked ++ cond c (e ∷ []) []) (sym h)
 
-  pub labels_more : (p : ℕ) (now new : Option ℤ) → now ≡ lesser (earliest_offer (walk T) looked p) (get_or old p None) → new ≡ lesser (offer_if T e p) now →
+  pub labels_more : (p : ℕ) (now new : Option ℤ) → now ≡ lesser (earliest_offer (walk T) looked p) (get_or old p None) → new ≡ lesser (offer_if T (call_of e) p) now →
       new ≡ lesser (earliest_offer (walk T) (filter (λ e. e.alight) (take (k + 1) events)) p) (get_or old p None)
   labels_more p now new g h = by_mark e.alight refl
     where
       by_mark : (b : Bool) → b ≡ e.alight → new ≡ lesser (earliest_offer (walk T) (filter (λ e. e.alight) (take (k + 1) events)) p) (get_or old p None)
       by_mark true m =
-          h ∙ ap (λ b. lesser (cond b (offer_at T e p) None) now) (sym m) ∙ ap (lesser (offer_at T e p)) g ∙ sym (lesser-assoc (offer_at T e p) (earliest_offer (walk T) looked p) (get_or old p None))
-          ∙ ap (λ o. lesser o (get_or old p None)) (lesser-comm (offer_at T e p) (earliest_offer (walk T) looked p) ∙ ap (lesser (earliest_offer (walk T) looked p)) (sym (offer_by-walk T e p)) ∙ sym (earliest_offer-snoc (walk T) looked e p))
+          h ∙ ap (λ b. lesser (cond b (offer_at T (call_of e) p) None) now) (sym m) ∙ ap (lesser (offer_at T (call_of e) p)) g ∙ sym (lesser-assoc (offer_at T (call_of e) p) (earliest_offer (walk T) looked p) (get_or old p None))
+          ∙ ap (λ o. lesser o (get_or old p None)) (lesser-comm (offer_at T (call_of e) p) (earliest_offer (walk T) looked p) ∙ ap (lesser (earliest_offer (walk T) looked p)) (sym (offer_by-walk T e p)) ∙ sym (earliest_offer-snoc (walk T) looked e p))
           ∙ ap (λ es. lesser (earliest_offer (walk T) es p) (get_or old p None)) (sym (more_looked true m))
       by_mark false m =
-          h ∙ ap (λ b. lesser (cond b (offer_at T e p) None) now) (sym m) ∙ g
+          h ∙ ap (λ b. lesser (cond b (offer_at T (call_of e) p) None) now) (sym m) ∙ g
           ∙ ap (λ es. lesser (earliest_offer (walk T) es p) (get_or old p None)) (sym (append-nil looked) ∙ sym (more_looked false m))
 
   pub sooner_more : (before : Bool) → before ≡ list_any (sooner_at old) looked → get_or labels e.stop None ≡ lesser (earliest_offer (walk T) looked e.stop) (get_or old e.stop None) →
@@ -245,3 +247,38 @@ lowered_is stamp items now i stop time given view at same h =
   where
     own : (n : ℕ) → (n == n) ≡ true
     own n = grind arith
+
+-- one event more of those behind an index
+module _ (T : TimetableData) (old labels : List (Option ℤ)) (walked : AreWalked T old) (all : List Event) (from at : ℕ) (order : from ≤ at) (inside : at < length all) (c : Call) (is : c ≡ call_of (get_or all at no_event)) where
+  abbrev event : Event
+  event = get_or all at no_event
+
+  abbrev behind : List Event
+  behind = drop from all
+
+  place : from + (at - from) ≡ at
+  place = omega (arith, order)
+
+  next : (at + 1) - from ≡ (at - from) + 1
+  next = omega (arith, order)
+
+  below : at - from < length (drop from all)
+  below = omega (arith, order, inside, length-drop from all)
+
+  there : get_or all at no_event ≡ get_or (drop from all) (at - from) (get_or all at no_event)
+  there = sym (get_or-drop from all (at - from) (get_or all at no_event) ∙ ap (λ n. get_or all n (get_or all at no_event)) place ∙ get_or_default all at (get_or all at no_event) no_event inside)
+
+  pub at_labels : (p : ℕ) (now new : Option ℤ) → now ≡ lesser (earliest_offer (walk T) (filter (λ e. e.alight) (take (at - from) (drop from all))) p) (get_or old p None) → new ≡ lesser (offer_if T c p) now →
+      new ≡ lesser (earliest_offer (walk T) (filter (λ e. e.alight) (take (at + 1 - from) (drop from all))) p) (get_or old p None)
+  at_labels p now new g h =
+      labels_more T old labels walked behind (at - from) event below there p now new g (h ∙ ap (λ x. lesser (offer_if T x p) now) is)
+      ∙ ap (λ n. lesser (earliest_offer (walk T) (filter (λ e. e.alight) (take n behind)) p) (get_or old p None)) (sym next)
+
+  pub at_sooner : (before : Bool) → before ≡ list_any (sooner_at old) (filter (λ e. e.alight) (take (at - from) (drop from all))) →
+      get_or labels c.stop None ≡ lesser (earliest_offer (walk T) (filter (λ e. e.alight) (take (at - from) (drop from all))) c.stop) (get_or old c.stop None) →
+      (before || (c.alight && is_sooner (Some c.arr) (get_or labels c.stop None))) ≡ list_any (sooner_at old) (filter (λ e. e.alight) (take (at + 1 - from) (drop from all)))
+  at_sooner before h now =
+      ap (λ (x : Call). before || (x.alight && is_sooner (Some x.arr) (get_or labels x.stop None))) is
+      ∙ sooner_more T old labels walked behind (at - from) event below there before h
+      (subst (λ (x : Call). get_or labels x.stop None ≡ lesser (earliest_offer (walk T) (filter (λ e. e.alight) (take (at - from) behind)) x.stop) (get_or old x.stop None)) is now)
+      ∙ ap (λ n. list_any (sooner_at old) (filter (λ e. e.alight) (take n behind))) (sym next)

@@ -1,5 +1,5 @@
 -- How far a reduction has come.
-use Rattle.std.specs.Prelude.{◌≡◌, ◌⊎◌, ℕ, ◌<◌, List, [], ◌++◌, length, map, take, drop, filter_map, flat_map, ℤ, Option, None, Some, slice_index_or}
+use Rattle.std.specs.Prelude.{◌≡◌, ◌⊎◌, ℕ, ◌<◌, ◌≤◌, List, [], ◌++◌, length, map, take, drop, filter_map, flat_map, ℤ, Option, None, Some, slice_index_or}
 use Rattle.std.specs.Option.{option_map}
 use Rattle.tb_base.specs.declared.table.Event.{Event}
 use Rattle.tb_base.specs.declared.transfer.Hop.{Hop}
@@ -29,21 +29,35 @@ alternative_row t a = option_map (row_of t a.at) a.hop
 abbrev pub hop_from : ℕ → Hop → Alternative
 hop_from i h = record { at = i; hop = Some h }
 
--- Of the rows the first ones are kept; from a place on they are those of some hops of event i, and
--- of the events before it. The alternatives until then have been looked at, and the labels are what
--- they offer.
-pub record Reduces (T : TimetableData) (lines : List (List ℕ)) (t : ℕ) (rows : List Transfer)
-    (labels : List (Option ℤ)) (i taken kept : ℕ) : Type 0 where
+-- the transfers by the candidates of the events of trip t below n that are no U-turns
+abbrev pub rows_below : TimetableData → List (List ℕ) → ℕ → ℕ → List Transfer
+rows_below T lines t n =
+    flat_map (λ j. map (row_of t j) (candidates_without_u_turns T lines t j)) (numbers_down n)
+
+-- From the last event of trip t down to event i these are kept. The alternatives there have been
+-- looked at, and the labels are what they offer.
+pub record IsReducedTo (T : TimetableData) (lines : List (List ℕ)) (t i : ℕ)
+    (kept : List Transfer) (labels : List (Option ℤ)) : Type 0 where
+  pub earlier : List (List Event)
+  pub done : filter_map (alternative_row t) (kept_alternatives T lines t)
+      ≡ kept ++ filter_map (alternative_row t)
+      (improving_alternatives T t earlier (flat_map (alternatives_at T lines t) (numbers_down i)))
+  pub shown : (p : ℕ) → p < length T.stops →
+      slice_index_or labels p None ≡ label (walk T) earlier p
+
+-- Before these rows some are kept. Of the rows the first ones are kept; from a place on they are
+-- those of some hops of event i, and of the events below n. The alternatives until then have been
+-- looked at, and the labels are what they offer.
+pub record Reduces (T : TimetableData) (lines : List (List ℕ)) (t : ℕ)
+    (before rows : List Transfer) (labels : List (Option ℤ)) (n i taken kept : ℕ) : Type 0 where
   pub hops : List Hop
   pub earlier : List (List Event)
-  pub left : drop taken rows
-      ≡ map (row_of t i) hops
-      ++ flat_map (λ j. map (row_of t j) (candidates_without_u_turns T lines t j)) (numbers_down i)
+  pub few : n ≤ i
+  pub left : drop taken rows ≡ map (row_of t i) hops ++ rows_below T lines t n
   pub done : filter_map (alternative_row t) (kept_alternatives T lines t)
-      ≡ take kept rows ++ filter_map (alternative_row t)
+      ≡ (before ++ take kept rows) ++ filter_map (alternative_row t)
       (improving_alternatives T t earlier
       (map (hop_from i) hops ++ flat_map (alternatives_at T lines t) (numbers_down i)))
   pub shown : (p : ℕ) → p < length T.stops →
       slice_index_or labels p None ≡ label (walk T) earlier p
   pub begun : (hops ≡ []) ⊎ (0 < length earlier)
-  pub first : i ≡ 0 → hops ≡ []

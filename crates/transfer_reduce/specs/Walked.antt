@@ -6,22 +6,24 @@ use Rattle.tb_base.specs.declared.table.Path.{Path}
 use Rattle.tb_base.specs.declared.transfer.Transfer.{Transfer}
 use Rattle.tb_base.specs.TimetableData.{TimetableData, event_at, events_of}
 use Rattle.tb_base.specs.Walking.{walk}
+use Rattle.flat_calls.specs.declared.calls.Call.{Call}
+use Rattle.flat_calls.specs.CallsOf.{call_of}
 
--- when one is at stop p by walking from the event
-abbrev pub offer_at : TimetableData → Event → ℕ → Option ℤ
-offer_at T e p = option_map (λ secs. e.arr +ℤ pos secs) (walk T e.stop p)
+-- when one is at stop p by walking from the call
+abbrev pub offer_at : TimetableData → Call → ℕ → Option ℤ
+offer_at T c p = option_map (λ secs. c.arr +ℤ pos secs) (walk T c.stop p)
 
 -- the same, if one may alight there
-abbrev pub offer_if : TimetableData → Event → ℕ → Option ℤ
-offer_if T e p = if e.alight then offer_at T e p else None
+abbrev pub offer_if : TimetableData → Call → ℕ → Option ℤ
+offer_if T c p = if c.alight then offer_at T c p else None
 
 -- the same by one of these footpaths
-abbrev pub path_offer : Event → List Path → ℕ → Option ℤ
-path_offer e paths p = option_map (λ f. e.arr +ℤ pos f.secs) (find (λ f. f.to == p) paths)
+abbrev pub path_offer : Call → List Path → ℕ → Option ℤ
+path_offer c paths p = option_map (λ f. c.arr +ℤ pos f.secs) (find (λ f. f.to == p) paths)
 
 -- what alighting at event i of trip t and staying offers: nothing at the first event
 abbrev pub stay_offer : TimetableData → ℕ → ℕ → ℕ → Option ℤ
-stay_offer T t i p = if nat_lt 0 i then offer_if T (event_at T t i) p else None
+stay_offer T t i p = if nat_lt 0 i then offer_if T (call_of (event_at T t i)) p else None
 
 -- the events where one may alight from the trip that a transfer leads to
 abbrev pub hop_alightings : TimetableData → Transfer → List Event

@@ -1,10 +1,12 @@
 //! Laws over what is kept.
-ghost use Rattle.std.specs.Prelude.{ℕ, List};
+ghost use Rattle.std.specs.Prelude.{◌≡◌, ℕ, ℤ, List, Option};
 ghost use Rattle.tb_base.specs.Lines.{AreDividedInto};
 ghost use Rattle.tb_base.specs.Soundness.{IsSound};
 ghost use Rattle.tb_base.specs.Sufficiency.{AreSufficient};
 ghost use Rattle.tb_base.specs.TimetableData.{TimetableData};
-ghost use Rattle.tb_base.specs.Transfers.{candidates_without_u_turns, kept_hops};
+ghost use Rattle.tb_base.specs.Transfers.{candidates_without_u_turns, kept_hops, transfers_of};
+ghost use Rattle.tb_base.specs.declared.transfer.Transfer.{Transfer};
+ghost use Rattle.transfer_reduce.specs.Reduced.{IsReducedTo};
 
 /// The candidates that are no U-turns are sufficient, under the law on footpaths that sound parts
 /// keep.
@@ -23,3 +25,10 @@ pub fn kept_hops_sufficient()
 {
     tb_laws::sufficiency::kept_hops_sufficient();
 }
+
+/// What is kept of a trip that is reduced down to its first event are its kept transfers.
+pub fn reduced_kept()
+    ensures { (T : TimetableData) (lines : List (List ℕ)) (t : ℕ) (kept : List Transfer)
+        (labels : List (Option ℤ)) → IsReducedTo T lines t 0 kept labels →
+        kept ≡ transfers_of T (kept_hops T lines t) t }
+{}

@@ -11,9 +11,12 @@
 //! where it ends is sooner nowhere, on foot or by a change. So footpaths are walked only from where
 //! a label falls. A hop onto a trip that was hopped onto just before is looked at only up to where
 //! that one began.
+//!
+//! `begin_trip` and `reduce_event` are the same, event by event, for a caller that makes the
+//! candidates of an event just before they are reduced. What is read of events comes from any
+//! `Calls`: the timetable, or a copy that stands in one run.
 #![tactic(auto)]
 
-mod events;
 mod labels;
 pub mod laws;
 mod offers;
@@ -21,4 +24,5 @@ mod reduction;
 mod tried;
 
 pub use labels::Labels;
-pub use reduction::reduce;
+pub use reduction::{begin_trip, reduce, reduce_event};
+pub use tried::Tried;

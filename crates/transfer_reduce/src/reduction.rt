@@ -1,23 +1,22 @@
 //! The reduction of the transfers of one trip.
-ghost use Rattle.std.specs.Prelude.{◌≡◌, ◌<◌, ◌≤◌, ◌+◌, ◌-◌, ◌↔◌, ℕ, IsTrue, List, length, slice_index_or, slice_set};
+ghost use Rattle.std.specs.Prelude.{◌≡◌, ◌<◌, ◌≤◌, ◌+◌, ◌++◌, ◌↔◌, [], ℕ, IsTrue, List, drop, length, map, slice_index_or, slice_set, take};
+ghost use Rattle.tb_base.specs.TimetableData.{events_of};
 ghost use Rattle.tb_base.specs.Transfers.{candidates_without_u_turns, kept_hops, transfers_of};
 ghost use Rattle.transfer_reduce.specs.Tried.{AreTried};
 ghost use Rattle.transfer_reduce.specs.Walked.{AreWalked};
-ghost use Rattle.transfer_reduce.specs.Reduced.{HasRowAt, Reduces};
+ghost use Rattle.transfer_reduce.specs.Reduced.{HasRowAt, IsReducedTo, Reduces, row_of, rows_below};
 ghost use Rattle.tb_base.specs.declared.transfer.Transfer.{Transfer};
-ghost use Rattle.transfer_reduce.specs.declared.tried.Tried.{Tried};
 
-use super::events::events_from;
 use super::labels::Labels;
 use super::offers::{offer_hop, offer_stay};
 use super::tried::Tried;
+use flat_calls::Calls;
 use tb_base::{Timetable, Transfer, TripNo};
 
 /// How many tried trips are remembered, each in the place of the one before with the same remainder.
 const TRIED: usize = 1024;
 
-/// How far a reduction has come: the events from `at` on, `taken` rows of theirs, of which `kept`
-/// are kept.
+/// How far a reduction has come: it is at event `at`, with `taken` rows, of which `kept` are kept.
 #[derive(Clone, Copy, Debug, PartialEq, Eq)]
 struct Progress {
     at: usize,
@@ -36,13 +35,15 @@ fn put_row(rows: &mut [Transfer], from: usize, to: usize)
 
 // Takes the next row, which is one of the event that is taken up: it stays where it is sooner
 // somewhere.
-fn take_row(
+fn take_row<C: Calls>(
     table: &Timetable,
+    calls: &C,
     labels: &mut Labels,
     tried: &mut [Tried],
     rows: &mut [Transfer],
     done: Progress,
 ) -> Progress
+    requires table { C.table calls.now ≡ table.now }
     requires labels { length labels.old ≡ length table.now.stops }
     requires walked { AreWalked table.now labels.old }
     requires room { 0 < length tried.old }
@@ -56,13 +57,14 @@ fn take_row(
     ensures at { result.at ≡ done.at }
     ensures taken { result.taken ≡ done.taken + 1 }
     ensures kept { result.kept ≤ result.taken }
-    ensures reduces { (lines : List (List ℕ)) (t : ℕ) →
-        Reduces table.now lines t rows.old labels.old done.at done.taken done.kept →
-        Reduces table.now lines t rows.new labels.new result.at result.taken result.kept }
+    ensures reduces { (lines : List (List ℕ)) (t n : ℕ) (before : List Transfer) →
+        Reduces table.now lines t before rows.old labels.old n done.at done.taken done.kept →
+        Reduces table.now lines t before rows.new labels.new n result.at result.taken
+        result.kept }
 {
     table.soundness();
     let taken = done.taken + 1;
-    if !offer_hop(table, labels, tried, &rows[done.taken]) {
+    if !offer_hop(table, calls, labels, tried, &rows[done.taken]) {
         return Progress {
             at: done.at,
             taken,
@@ -77,33 +79,6 @@ fn take_row(
     }
 }
 
-// Takes up the event before, where one may stay.
-fn next_event(table: &Timetable, labels: &mut Labels, trip: TripNo, done: Progress) -> Progress
-    requires labels { length labels.old ≡ length table.now.stops }
-    requires walked { AreWalked table.now labels.old }
-    requires at { 0 < done.at }
-    ensures labels { length labels.new ≡ length labels.old }
-    ensures walked { AreWalked table.now labels.new }
-    ensures tried { (xs : List Tried) → AreTried table.now labels.old xs →
-        AreTried table.now labels.new xs }
-    ensures at { result.at + 1 ≡ done.at }
-    ensures taken { result.taken ≡ done.taken }
-    ensures kept { result.kept ≡ done.kept }
-    ensures reduces { (lines : List (List ℕ)) (rows : List Transfer) →
-        ¬ (HasRowAt rows done.at done.taken) →
-        Reduces table.now lines trip rows labels.old done.at done.taken done.kept →
-        Reduces table.now lines trip rows labels.new result.at result.taken result.kept }
-{
-    table.soundness();
-    let at = done.at - 1;
-    offer_stay(table, labels, trip, at);
-    Progress {
-        at,
-        taken: done.taken,
-        kept: done.kept,
-    }
-}
-
 // Whether the next row is one of the event that is taken up.
 fn has_row(rows: &[Transfer], done: Progress) -> bool
     ensures { IsTrue result ↔ HasRowAt rows.now done.at done.taken }
@@ -111,37 +86,128 @@ fn has_row(rows: &[Transfer], done: Progress) -> bool
     done.taken < rows.len() && rows[done.taken].at as usize == done.at
 }
 
-// One step: the next row of the event, or the event before.
-fn step(
+// Takes all rows of the event that is taken up.
+fn take_rows<C: Calls>(
     table: &Timetable,
+    calls: &C,
+    labels: &mut Labels,
+    tried: &mut [Tried],
+    rows: &mut [Transfer],
+    done: Progress,
+) -> Progress
+    requires table { C.table calls.now ≡ table.now }
+    requires labels { length labels.old ≡ length table.now.stops }
+    requires walked { AreWalked table.now labels.old }
+    requires room { 0 < length tried.old }
+    requires tried { AreTried table.now labels.old tried.old }
+    requires taken { done.taken ≤ length rows.old }
+    requires kept { done.kept ≤ done.taken }
+    ensures labels { length labels.new ≡ length labels.old }
+    ensures walked { AreWalked table.now labels.new }
+    ensures tried { AreTried table.now labels.new tried.new }
+    ensures at { result.at ≡ done.at }
+    ensures taken { result.taken ≤ length rows.old }
+    ensures kept { result.kept ≤ result.taken }
+    ensures reduces { (lines : List (List ℕ)) (t n : ℕ) (before : List Transfer) →
+        Reduces table.now lines t before rows.old labels.old n done.at done.taken done.kept →
+        IsReducedTo table.now lines t done.at (before ++ take result.kept rows.new) labels.new
+        × (drop result.taken rows.new ≡ rows_below table.now lines t n) }
+{
+    table.soundness();
+    let mut next = done;
+    while has_row(rows, next) {
+        next = take_row(table, calls, labels, tried, rows, next);
+    }
+    next
+}
+
+// Takes up an event, where one may stay, and takes its rows.
+fn take_event<C: Calls>(
+    table: &Timetable,
+    calls: &C,
     labels: &mut Labels,
     tried: &mut [Tried],
     trip: TripNo,
     rows: &mut [Transfer],
     done: Progress,
 ) -> Progress
+    requires table { C.table calls.now ≡ table.now }
     requires labels { length labels.old ≡ length table.now.stops }
     requires walked { AreWalked table.now labels.old }
     requires room { 0 < length tried.old }
     requires tried { AreTried table.now labels.old tried.old }
-    requires at { 0 < done.at }
+    requires inside { done.at < length (events_of table.now trip) }
     requires taken { done.taken ≤ length rows.old }
     requires kept { done.kept ≤ done.taken }
     ensures labels { length labels.new ≡ length labels.old }
     ensures walked { AreWalked table.now labels.new }
     ensures tried { AreTried table.now labels.new tried.new }
+    ensures at { result.at ≡ done.at }
     ensures taken { result.taken ≤ length rows.old }
     ensures kept { result.kept ≤ result.taken }
-    ensures smaller { result.at + (length rows.old - result.taken)
-        < done.at + (length rows.old - done.taken) }
-    ensures reduces { (lines : List (List ℕ)) →
-        Reduces table.now lines trip rows.old labels.old done.at done.taken done.kept →
-        Reduces table.now lines trip rows.new labels.new result.at result.taken result.kept }
+    ensures reduced { (lines : List (List ℕ)) (n : ℕ) (before : List Transfer) → n ≤ done.at →
+        drop done.taken rows.old ≡ map (row_of trip done.at)
+        (candidates_without_u_turns table.now lines trip done.at)
+        ++ rows_below table.now lines trip n →
+        IsReducedTo table.now lines trip (done.at + 1) (before ++ take done.kept rows.old)
+        labels.old →
+        IsReducedTo table.now lines trip done.at (before ++ take result.kept rows.new) labels.new
+        × (drop result.taken rows.new ≡ rows_below table.now lines trip n) }
 {
-    if has_row(rows, done) {
-        return take_row(table, labels, tried, rows, done);
-    }
-    next_event(table, labels, trip, done)
+    table.soundness();
+    offer_stay(table, calls, labels, trip, done.at);
+    take_rows(table, calls, labels, tried, rows, done)
+}
+
+/// Begins the reduction of a trip: the labels forget all times, whatever they served before, and no
+/// trip is tried.
+pub fn begin_trip(table: &Timetable, labels: &mut Labels) -> [Tried; TRIED]
+    requires { length labels.old ≡ length table.now.stops }
+    ensures labels { length labels.new ≡ length labels.old }
+    ensures walked { AreWalked table.now labels.new }
+    ensures room { 0 < length result }
+    ensures tried { AreTried table.now labels.new result }
+    ensures reduced { (lines : List (List ℕ)) (t : ℕ) →
+        IsReducedTo table.now lines t (length (events_of table.now t)) [] labels.new }
+{
+    table.soundness();
+    labels.clear();
+    [Tried::NO_TRIP; TRIED]
+}
+
+/// Reduces the transfers of one event of a trip that is reduced down to the event behind: of its
+/// candidates that are no U-turns exactly the kept ones stay, in their order. The calls are those
+/// of the timetable. Takes no memory.
+pub fn reduce_event<C: Calls>(
+    table: &Timetable,
+    calls: &C,
+    labels: &mut Labels,
+    tried: &mut [Tried],
+    trip: TripNo,
+    at: usize,
+    rows: &mut Vec<Transfer>,
+)
+    requires table { C.table calls.now ≡ table.now }
+    requires labels { length labels.old ≡ length table.now.stops }
+    requires walked { AreWalked table.now labels.old }
+    requires room { 0 < length tried.old }
+    requires tried { AreTried table.now labels.old tried.old }
+    requires inside { at < length (events_of table.now trip) }
+    ensures labels { length labels.new ≡ length labels.old }
+    ensures walked { AreWalked table.now labels.new }
+    ensures tried { AreTried table.now labels.new tried.new }
+    ensures reduced { (lines : List (List ℕ)) (before : List Transfer) → rows.old.items
+        ≡ map (row_of trip at) (candidates_without_u_turns table.now lines trip at) →
+        IsReducedTo table.now lines trip (at + 1) before labels.old →
+        IsReducedTo table.now lines trip at (before ++ rows.new.items) labels.new }
+{
+    let none = Progress {
+        at,
+        taken: 0,
+        kept: 0,
+    };
+    let done = take_event(table, calls, labels, tried, trip, rows.as_mut_slice(), none);
+    rows.truncate(done.kept);
 }
 
 /// Reduces the transfers of a trip: of its candidates that are no U-turns, from the last event
@@ -155,16 +221,23 @@ pub fn reduce(table: &Timetable, labels: &mut Labels, trip: TripNo, rows: &mut V
         ≡ transfers_of table.now (candidates_without_u_turns table.now lines trip) trip →
         rows.new.items ≡ transfers_of table.now (kept_hops table.now lines trip) trip }
 {
-    table.soundness();
-    labels.clear();
-    let mut tried = [Tried::NO_TRIP; TRIED];
+    let mut tried = begin_trip(table, labels);
     let mut done = Progress {
-        at: events_from(table, trip, 0).len(),
+        at: table.count(trip),
         taken: 0,
         kept: 0,
     };
     while done.at > 0 {
-        done = step(table, labels, &mut tried, trip, rows.as_mut_slice(), done);
+        done.at -= 1;
+        done = take_event(
+            table,
+            table,
+            labels,
+            &mut tried,
+            trip,
+            rows.as_mut_slice(),
+            done,
+        );
     }
     rows.truncate(done.kept);
 }

@@ -7,7 +7,7 @@ use Rattle.tb_base.specs.TimetableData.{TimetableData, events_of}
 use Rattle.tb_base.specs.Transfers.{candidates, candidates_without_u_turns, numbers_down, transfers_of}
 use Rattle.uturn_cut.specs.UTurns.{is_u_turn_row}
 
-filter-map : {X Y : Type 0} (p : Y → Bool) (f : X → Y) (xs : List X) → filter p (map f xs) ≡ map f (filter (λ x. p (f x)) xs)
+pub filter-map : {X Y : Type 0} (p : Y → Bool) (f : X → Y) (xs : List X) → filter p (map f xs) ≡ map f (filter (λ x. p (f x)) xs)
 filter-map p f [] = refl
 filter-map p f (x ∷ xs) = by_test (filter-map p f xs) (p (f x))
   where

@@ -1,10 +1,11 @@
 //! Whether a transfer is a U-turn.
 ghost use Rattle.std.specs.Prelude.{◌≡◌, ◌≤◌, ◌≤ℤ◌, pos, negsuc, IfSome, if◌then◌else◌, Some, None, int_le, is_some};
 ghost use Rattle.std.specs.Option.{option_and_then};
-ghost use Rattle.tb_base.specs.TimetableData.{event_at};
+ghost use Rattle.tb_base.specs.TimetableData.{event_at, stop_at};
 ghost use Rattle.tb_base.specs.Walking.{change_time};
 ghost use Rattle.uturn_cut.specs.UTurns.{is_u_turn_row, can_change_within};
 
+use flat_calls::Calls;
 use tb_base::{Event, StopNo, Timetable, Transfer, TripNo};
 
 // An event of a trip. What stands for one that doesn't exist allows neither boarding nor alighting.
@@ -53,17 +54,29 @@ fn can_change(table: &Timetable, before: &Event, after: &Event) -> bool
     }
 }
 
-/// Whether a transfer is a U-turn.
-pub(crate) fn is_u_turn(table: &Timetable, row: &Transfer) -> bool
-    ensures { result ≡ is_u_turn_row table.now row.now }
+// The stop of an event of a trip. What stands for one that doesn't exist has number 0.
+fn stop_at<C: Calls>(calls: &C, trip: TripNo, at: usize) -> StopNo
+    ensures { result ≡ stop_at (C.table calls.now) trip at }
+{
+    if at < calls.count(trip) {
+        calls.call(trip, at).stop
+    } else {
+        StopNo(0)
+    }
+}
+
+/// Whether a transfer is a U-turn, if the calls are those of the timetable. Only where the trip
+/// stops at the stop of the other trip's next event is more than that stop looked at.
+pub(crate) fn is_u_turn<C: Calls>(table: &Timetable, calls: &C, row: &Transfer) -> bool
+    ensures { C.table calls.now ≡ table.now → result ≡ is_u_turn_row table.now row.now }
 {
     if row.at == 0 {
         return false;
     }
     let before = event_at(table, row.trip, row.at as usize - 1);
+    if before.stop.index() != stop_at(calls, row.to_trip, row.to_at as usize + 1).index() {
+        return false;
+    }
     let after = event_at(table, row.to_trip, row.to_at as usize + 1);
-    before.stop.index() == after.stop.index()
-        && before.alight
-        && after.board
-        && can_change(table, &before, &after)
+    before.alight && after.board && can_change(table, &before, &after)
 }

@@ -7,6 +7,6 @@ loop-path-preserved c =
     let inv = c.loop-path.invariant in
     record {
       long = ap length c.lower_path.ensures ∙ length-set c.loop-path.labels c.path-item.result.to _ ∙ inv.long;
-      labels = λ p h. path_more c.args.event.now c.args.paths.now c.loop-path.path-index c.path-item.result c.args.labels.now c.loop-path.labels c.lower_path.new.labels p
+      labels = λ p h. path_more c.args.call.now c.args.paths.now c.loop-path.path-index c.path-item.result c.args.labels.now c.loop-path.labels c.lower_path.new.labels p
           c.loop-path-test.true c.path-item.is c.requires.ascending c.lower_path.ensures inv.long h (inv.labels p h);
     }

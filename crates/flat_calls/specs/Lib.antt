@@ -1,0 +1,2 @@
+pub mod CallsOf
+pub mod Flat

@@ -1,0 +1,130 @@
+//! The calls of all trips, one behind the other.
+ghost use Rattle.std.specs.Prelude.{◌≡◌, ◌<◌, ◌++◌, All, IfOk, OnOk, length, map};
+ghost use Rattle.flat_calls.specs.CallsOf.{call_of};
+ghost use Rattle.flat_calls.specs.Flat.{calls_in, spot_call};
+
+use super::calls::{Call, Calls};
+use std::alloc::Global;
+use std::marker::Model;
+use std::snapshot::Snapshot;
+use tb_base::{Event, Memory, Sec, StopNo, Timetable, TripNo};
+
+// A call in eight bytes: twice the number of its stop, and one more where one may alight there; and
+// its arrival.
+#[derive(Clone, Copy)]
+struct Spot {
+    stop_twice: u32,
+    arr: Sec,
+}
+
+impl Spot {
+    // The spot of an event.
+    fn of(event: &Event) -> Spot
+        requires { event.now.stop < 100000 }
+        ensures { spot_call result ≡ call_of event.now }
+    {
+        let stop_twice = 2 * event.stop.0;
+        Spot {
+            stop_twice: if event.alight {
+                stop_twice + 1
+            } else {
+                stop_twice
+            },
+            arr: event.arr,
+        }
+    }
+
+    // The call.
+    fn call(&self) -> Call
+        ensures { result ≡ spot_call self.now }
+    {
+        Call {
+            stop: StopNo(self.stop_twice / 2),
+            arr: self.arr,
+            alight: self.stop_twice % 2 == 1,
+        }
+    }
+}
+
+/// The calls of all events, trip after trip, and where those of each trip begin and end: those of
+/// trip t stand from place t of `bounds` up to the next. It remembers for contracts of which
+/// timetable it is; that takes no room.
+#[derive(Drop)]
+pub struct FlatCalls {
+    table: Snapshot<Timetable>,
+    bounds: Vec<u32>,
+    spots: Vec<Spot>,
+}
+
+impl Model for FlatCalls {
+    ghost use Rattle.std.specs.Prelude.{length};
+    ghost use Rattle.tb_base.specs.TimetableData.{TimetableData};
+    ghost use Rattle.flat_calls.specs.Flat.{AreFlat, calls_in};
+
+    ghost Value = { TimetableData };
+
+    ghost view = { λ s. s.table.value };
+
+    ghost invariant = { λ s. AreFlat s.table.value (length s.table.value.trips) s.bounds.items
+        (calls_in s.spots.items) };
+}
+
+// A number that fits: more memory than there is would be needed else.
+fn number(count: usize) -> Result<u32, Memory>
+    ensures { IfOk result (λ n. n ≡ count) }
+{
+    if count > u32::MAX as usize {
+        return Err(Memory);
+    }
+    Ok(count as u32)
+}
+
+// Adds the calls of a trip.
+fn add_trip(spots: &mut Vec<Spot>, events: &[Event]) -> Result<(), Memory>
+    requires { All (λ e. e.stop < 100000) events.now }
+    ensures { OnOk result (calls_in spots.new.items
+        ≡ calls_in spots.old.items ++ map call_of events.now) }
+{
+    for event in events {
+        spots.push(Spot::of(event))?;
+    }
+    Ok(())
+}
+
+impl FlatCalls {
+    /// The calls of all events of a timetable. Takes eight bytes an event and four a trip. Refused
+    /// only for want of memory.
+    pub fn of(alloc: Global, table: &Timetable) -> Result<FlatCalls, Memory>
+        ensures { IfOk result (λ calls. calls ≡ table.now) }
+    {
+        table.soundness();
+        let mut bounds = Vec::new(alloc);
+        let mut spots = Vec::new(alloc);
+        bounds.push(0)?;
+        for t in 0..table.trip_count() {
+            add_trip(&mut spots, table.events(TripNo(t)))?;
+            bounds.push(number(spots.len())?)?;
+        }
+        Ok(FlatCalls {
+            table: Snapshot::of(table),
+            bounds,
+            spots,
+        })
+    }
+}
+
+impl Calls for FlatCalls {
+    ghost table = { λ T. T };
+
+    fn count(&self, trip: TripNo) -> usize {
+        if trip.index() + 1 < self.bounds.len() {
+            (self.bounds[trip.index() + 1] - self.bounds[trip.index()]) as usize
+        } else {
+            0
+        }
+    }
+
+    fn call(&self, trip: TripNo, at: usize) -> Call {
+        self.spots[self.bounds[trip.index()] as usize + at].call()
+    }
+}
