@@ -1,10 +1,11 @@
 #!/usr/bin/env python3
-"""Measures a served script: lanes.py [TRIPS ..]
+"""Measures a served script: lanes.py [city:TRIPS ..] [network:PATTERNS ..]
 
-Writes two days of a made city of each size to a temporary folder, and a script of 10,000 requests for best values between random
-platforms, dealt out to 1, 4 and 8 lanes. Runs the proved program (crates/router/out/router, which `rt run` in crates/router builds)
-on it with one edition and with two, so that the second is read, built and published beside the lanes, and prints seconds by the
-clock and of processor time, without those of the same run with one request a lane. Requests a second are by the clock.
+Writes each feed, a made city or a network with the density of a real one, to a temporary folder, and a script of 10,000 requests
+for best values between random stations, dealt out to 1, 4 and 8 lanes. Runs the proved program (crates/router/out/router, which
+`rt run` in crates/router builds, or the one that the variable ROUTER names) on it over one day and over two, so that the second is
+read, built and published beside the lanes, and prints seconds by the clock and of processor time, without those of the same run
+with one request a lane, and the most memory. Requests a second are by the clock. Words may also be folders that hold such feeds.
 """
 import os
 import random
@@ -14,11 +15,17 @@ import tempfile
 import time
 
 HERE = os.path.dirname(os.path.abspath(__file__))
-PROGRAM = os.path.join(HERE, "..", "crates", "router", "out", "router")
+PROGRAM = os.environ.get("ROUTER", os.path.join(HERE, "..", "crates", "router", "out", "router"))
 OPTIONS = ["--change", "60", "--workers", "1"]
 DAYS = ["20260302", "20260303"]
 REQUESTS = 10_000
 LANES = (1, 4, 8)
+
+
+def stations_of(feed):
+    """The ids of the feed's stations."""
+    with open(os.path.join(feed, "stops.txt"), encoding="ascii") as file:
+        return [line.split(",")[0] for line in file if line.split(",")[2] == "1"]
 
 
 def write_script(path, stations, lanes, requests):
@@ -27,19 +34,19 @@ def write_script(path, stations, lanes, requests):
         for lane in range(lanes):
             file.write(f"lane lane{lane}\n")
             for _ in range(max(1, requests // lanes)):
-                one, other = random.randrange(stations), random.randrange(stations)
+                one, other = random.choice(stations), random.choice(stations)
                 hour, minute = random.randrange(24), random.randrange(60)
-                file.write(f"ask S{one}:{random.randrange(1, 3)} S{other}:{random.randrange(1, 3)} {hour:02}:{minute:02}:00\n")
+                file.write(f"ask {one} {other} {hour:02}:{minute:02}:00\n")
 
 
 def run(script, items):
-    """The seconds by the clock and of processor time of a run."""
+    """The seconds by the clock and of processor time of a run, and the megabytes that it held."""
     with open(script, "rb") as given, open(os.devnull, "wb") as out:
         start = time.perf_counter()
         child = subprocess.Popen([PROGRAM, *OPTIONS, "serve", *items], stdin=given, stdout=out)
         _, status, used = os.wait4(child.pid, 0)
         assert status == 0, status
-        return time.perf_counter() - start, used.ru_utime + used.ru_stime
+        return time.perf_counter() - start, used.ru_utime + used.ru_stime, used.ru_maxrss / 1024
 
 
 def measure(folder, stations, lanes, items):
@@ -47,24 +54,33 @@ def measure(folder, stations, lanes, items):
     write_script(script, stations, lanes, REQUESTS)
     write_script(short, stations, lanes, lanes)
     whole, rest = run(script, items), run(short, items)
-    return whole[0] - rest[0], whole[1] - rest[1]
+    return whole[0] - rest[0], whole[1] - rest[1], whole[2]
+
+
+def measure_feed(name, feed, folder):
+    stations = stations_of(feed)
+    for lanes in LANES:
+        for count in (1, 2):
+            items = [f"{feed}@{day}" for day in DAYS[:count]]
+            clock, used, memory = measure(folder, stations, lanes, items)
+            each = used * 1000 / REQUESTS
+            print(
+                f"| {name} | {lanes} | {count} | {clock:.1f} | {REQUESTS / clock:,.0f} | {each:.2f} | {memory:,.0f} |",
+                flush=True,
+            )
 
 
 def main(words):
-    print("| trips | lanes | editions | seconds by the clock | requests a second | processor ms a request |\n|---|---|---|---|---|---|")
-    for trips in [int(word) for word in words] or [20_000]:
+    print("| feed | lanes | editions | s by the clock | requests a second | processor ms a request | memory MB |\n" + "|---" * 7 + "|")
+    for feed in words or ["city:20000"]:
         with tempfile.TemporaryDirectory() as folder:
-            feed = os.path.join(folder, "city")
-            subprocess.run([sys.executable, os.path.join(HERE, "make_city.py"), feed, str(trips)], check=True)
-            stations = max(round((trips / 20) ** 0.5), 3) ** 2
-            for lanes in LANES:
-                for count in (1, 2):
-                    items = [f"{feed}@{day}" for day in DAYS[:count]]
-                    clock, used = measure(folder, stations, lanes, items)
-                    print(
-                        f"| {trips:,} | {lanes} | {count} | {clock:.1f} | {REQUESTS / clock:,.0f} | {used * 1000 / REQUESTS:.2f} |",
-                        flush=True,
-                    )
+            if os.path.isdir(feed):
+                measure_feed(os.path.basename(feed), feed, folder)
+                continue
+            kind, size = feed.split(":")
+            made = os.path.join(folder, "feed")
+            subprocess.run([sys.executable, os.path.join(HERE, f"make_{kind}.py"), made, size], check=True)
+            measure_feed(feed, made, folder)
 
 
 if __name__ == "__main__":
