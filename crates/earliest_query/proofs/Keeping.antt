@@ -29,7 +29,7 @@ use Rattle.tb_base.proofs.NumberFacts.{lt-eqb}
 -- hits do not matter to the queue
 pub in_step-hits : (N : NetData) (D : DeskData) (hs : List Hit) → IsInStep N D → IsInStep N (record D { hits = hs })
 in_step-hits N D hs s = record {
-  fits = record { trips = s.fits.trips; segments = s.fits.segments; hits = s.fits.hits };
+  fits = record { trips = s.fits.trips; segments = s.fits.segments; hits = s.fits.hits; notes = s.fits.notes };
   marks = s.marks;
   segments = s.segments;
   above = s.above;

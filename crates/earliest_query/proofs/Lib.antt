@@ -12,6 +12,7 @@ pub mod Answering
 pub mod Lateness
 pub mod LookingAt
 pub mod SegmentBySegment
+pub mod Noting
 pub mod SweptRounds
 pub mod SweptSearch
 pub mod SweptOnto

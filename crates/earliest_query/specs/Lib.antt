@@ -3,3 +3,4 @@ pub mod UnderWay
 pub mod Ridden
 pub mod Sweeping
 pub mod Bounding
+pub mod Noted

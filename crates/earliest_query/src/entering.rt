@@ -29,6 +29,7 @@ impl<S: Scan> Search<'_, S> {
             hop.trip hop.at }
         ensures extends { Extends desk.old desk.new
             (round_after (round_segments desk.old.segments) parent) }
+        ensures notes { desk.new.notes ≡ desk.old.notes }
     {
         let scan = self.scan;
         scan.soundness();
@@ -49,6 +50,7 @@ impl<S: Scan> Search<'_, S> {
             (suc (round_of desk.old.segments segment)) }
         ensures extends { Extends desk.old desk.new (suc (round_of desk.old.segments segment)) }
         ensures followed { IsFollowed (S.net self.now.scan.now) desk.new segment at }
+        ensures notes { desk.new.notes ≡ desk.old.notes }
     {
         for hop in hops {
             self.enter(desk, *hop, Some((segment, at)));

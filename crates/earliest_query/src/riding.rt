@@ -1,13 +1,16 @@
-ghost use Rattle.std.specs.Prelude.{◌≡◌, ◌+◌, ◌-◌, ◌<◌, ◌≤◌, ◌++◌, ◌∷◌, ℕ, suc, Option, Some, All, IsTrue, ◌↔◌, IfSome, MatchBool, length, slice_get, pos, ◌≤ℤ◌};
+ghost use Rattle.std.specs.Prelude.{◌≡◌, ◌+◌, ◌<◌, ◌≤◌, ℕ, suc, Option, Some, All, Contains, IsTrue, ◌↔◌, MatchBool, length, pos, ◌≤ℤ◌};
 ghost use Rattle.tb_base.specs.Sufficiency.{AreSufficient};
-ghost use Rattle.segment_queue.specs.Queue.{covered_indices};
+ghost use Rattle.segment_queue.specs.Queue.{IsInStep, covered_indices};
+ghost use Rattle.segment_queue.specs.Scans.{seen_at};
 ghost use Rattle.segment_queue.specs.Traced.{round_of, segment_of};
+ghost use Rattle.segment_queue.specs.declared.notes.Note.{Note};
 ghost use Rattle.earliest_query.specs.Choices.{ArrivesBy, IsWeighed, alighting_hit, earlier_hit};
+ghost use Rattle.earliest_query.specs.Noted.{IsLeft, IsNotedDown, IsSoundNote};
 ghost use Rattle.earliest_query.specs.UnderWay.{Covers, Extends, IsBounded, IsDone, IsImproved, IsQueue, covered_before};
 
 use super::search::Search;
 use super::walks::{nearest, targets};
-use segment_queue::{Desk, Hit, LastLeg, Look, Scan, Steps, Visit};
+use segment_queue::{Desk, Hit, LastLeg, Look, Note, Scan, Steps, Visit};
 use std::sync::ledger::Ledger;
 use tb_base::{Path, Value};
 
@@ -29,6 +32,33 @@ pub(crate) fn is_late(best: &Option<Hit>, visit: &Visit<'_>) -> bool
     match best {
         Some(hit) => hit.value.arrive <= visit.arr,
         None => false,
+    }
+}
+
+// Whether the best hit arrives no later than an event that was noted is reached.
+fn is_noted_late(best: &Option<Hit>, note: &Note) -> bool
+    ensures { IsTrue result ↔ ArrivesBy best.now note.now.arr }
+{
+    match best {
+        Some(hit) => hit.value.arrive <= note.arr,
+        None => false,
+    }
+}
+
+// Notes an event of a segment, to go on from, where there are hops from it.
+fn note_down(desk: &mut Desk, segment: u32, visit: &Visit<'_>)
+    requires { length desk.old.notes < desk.old.note_room }
+    ensures rest { desk.new ≡ record desk.old { notes = desk.new.notes } }
+    ensures noted { IsNotedDown (length visit.now.out.now)
+        (record { segment = segment; arr = visit.now.arr; seen = visit.now.seen })
+        desk.old.notes desk.new.notes }
+{
+    if visit.out.len() > 0 {
+        desk.add_note(Note {
+            segment,
+            arr: visit.arr,
+            seen: visit.seen,
+        });
     }
 }
 
@@ -91,10 +121,9 @@ impl<S: Scan> Search<'_, S> {
         }
     }
 
-    // Rides a segment: looks at the indices that it covers one by one, weighs to alight there, and
-    // follows the hops from there. It ends where one gets no earlier than the best hit so far
-    // arrives.
-    fn ride<L: Ledger>(
+    // Looks at the indices that a segment covers one by one, weighs to alight there, and notes them to
+    // go on from. It ends where one gets no earlier than the best hit so far arrives.
+    fn weigh_segment<L: Ledger>(
         &self,
         desk: &mut Desk,
         n: u32,
@@ -104,19 +133,25 @@ impl<S: Scan> Search<'_, S> {
     ) -> Option<Hit>
     where
         S: Look<L>,
-        requires queue { IsQueue (S.net self.now.scan.now) self.now.query.now desk.old (suc round) }
+        requires step { IsInStep (S.net self.now.scan.now) desk.old }
         requires segment { n < length desk.old.segments }
         requires round { round_of desk.old.segments n ≡ round }
-        requires sufficient { AreSufficient (S.net self.now.scan.now).table
-            (S.net self.now.scan.now).hops }
-        ensures queue { IsQueue (S.net self.now.scan.now) self.now.query.now desk.new (suc round) }
-        ensures extends { Extends desk.old desk.new (suc round) }
-        ensures followed { (i : ℕ) → Covers desk.old n i →
-            IsDone (S.net self.now.scan.now) desk.new result n i }
+        requires room { length desk.old.notes + covered_indices (segment_of desk.old.segments n)
+            ≤ desk.old.note_room }
+        requires notes { All (IsSoundNote (S.net self.now.scan.now).table desk.old.segments round)
+            desk.old.notes }
+        ensures rest { desk.new ≡ record desk.old { notes = desk.new.notes } }
+        ensures notes { All (IsSoundNote (S.net self.now.scan.now).table desk.old.segments round)
+            desk.new.notes }
+        ensures kept { (note : Note) → Contains desk.old.notes note → Contains desk.new.notes note }
+        ensures left { (i : ℕ) → Covers desk.old n i →
+            IsLeft (S.net self.now.scan.now) desk.old result desk.new.notes n i }
         ensures bounded { (i : ℕ) → Covers desk.old n i →
             IsBounded (S.net self.now.scan.now).table self.now.query.now desk.old result n i }
-        ensures improved { IsImproved (S.net self.now.scan.now).table self.now.query.now desk.new
+        ensures improved { IsImproved (S.net self.now.scan.now).table self.now.query.now desk.old
             round so_far result }
+        ensures few { length desk.new.notes
+            ≤ length desk.old.notes + covered_indices (segment_of desk.old.segments n) }
         ensures steps { steps.new ≤ steps.old + covered_indices (segment_of desk.old.segments n) }
     {
         let scan = self.scan;
@@ -132,12 +167,89 @@ impl<S: Scan> Search<'_, S> {
             if is_late(&best, &visit) {
                 return best;
             }
-            self.follow(desk, visit.out, n, at);
+            note_down(desk, n, &visit);
         }
         best
     }
 
-    // Rides the segments of a round, from one number up to another.
+    // Weighs the segments of a round, from one number up to another.
+    fn weigh_round<L: Ledger>(
+        &self,
+        desk: &mut Desk,
+        from: u32,
+        to: u32,
+        round: u32,
+        so_far: Option<Hit>,
+        steps: &mut Steps<L>,
+    ) -> Option<Hit>
+    where
+        S: Look<L>,
+        requires step { IsInStep (S.net self.now.scan.now) desk.old }
+        requires from { from ≤ to }
+        requires to { to ≤ length desk.old.segments }
+        requires rounds { (n : ℕ) → from ≤ n → n < to → round_of desk.old.segments n ≡ round }
+        ensures rest { desk.new ≡ record desk.old { notes = desk.new.notes } }
+        ensures notes { All (IsSoundNote (S.net self.now.scan.now).table desk.old.segments round)
+            desk.new.notes }
+        ensures left { (n i : ℕ) → from ≤ n → n < to → Covers desk.old n i →
+            IsLeft (S.net self.now.scan.now) desk.old result desk.new.notes n i }
+        ensures bounded { (n i : ℕ) → from ≤ n → n < to → Covers desk.old n i →
+            IsBounded (S.net self.now.scan.now).table self.now.query.now desk.old result n i }
+        ensures improved { IsImproved (S.net self.now.scan.now).table self.now.query.now desk.old
+            round so_far result }
+        ensures steps { steps.new + covered_before desk.old.segments from
+            ≤ steps.old + covered_before desk.old.segments to }
+    {
+        desk.clear_notes();
+        let mut best = so_far;
+        for n in from..to {
+            best = self.weigh_segment(desk, n, round, best, steps);
+        }
+        best
+    }
+
+    // Follows the hops from an event that was noted, unless one gets there no earlier than the best
+    // hit arrives.
+    fn follow_note(&self, desk: &mut Desk, best: &Option<Hit>, note: &Note, round: u32)
+        requires queue { IsQueue (S.net self.now.scan.now) self.now.query.now desk.old (suc round) }
+        requires note { IsSoundNote (S.net self.now.scan.now).table desk.old.segments round
+            note.now }
+        requires sufficient { AreSufficient (S.net self.now.scan.now).table
+            (S.net self.now.scan.now).hops }
+        ensures queue { IsQueue (S.net self.now.scan.now) self.now.query.now desk.new (suc round) }
+        ensures extends { Extends desk.old desk.new (suc round) }
+        ensures notes { desk.new.notes ≡ desk.old.notes }
+        ensures done { IsDone (S.net self.now.scan.now) desk.new best.now note.now.segment
+            (seen_at note.now.seen) }
+    {
+        if is_noted_late(best, note) {
+            return;
+        }
+        let scan = self.scan;
+        let hops = scan.hops_from(note.seen);
+        self.follow(desk, hops, note.segment, note.seen.at());
+    }
+
+    // Follows the hops from all events that were noted.
+    fn follow_notes(&self, desk: &mut Desk, best: &Option<Hit>, round: u32)
+        requires queue { IsQueue (S.net self.now.scan.now) self.now.query.now desk.old (suc round) }
+        requires notes { All (IsSoundNote (S.net self.now.scan.now).table desk.old.segments round)
+            desk.old.notes }
+        requires sufficient { AreSufficient (S.net self.now.scan.now).table
+            (S.net self.now.scan.now).hops }
+        ensures queue { IsQueue (S.net self.now.scan.now) self.now.query.now desk.new (suc round) }
+        ensures extends { Extends desk.old desk.new (suc round) }
+        ensures done { (note : Note) → Contains desk.old.notes note →
+            IsDone (S.net self.now.scan.now) desk.new best.now note.segment (seen_at note.seen) }
+    {
+        for k in 0..desk.note_count() {
+            let note = desk.note(k);
+            self.follow_note(desk, best, &note, round);
+        }
+    }
+
+    // Rides the segments of a round, from one number up to another: weighs all of them, and then goes
+    // on from where one gets before the best hit.
     pub(crate) fn ride_round<L: Ledger>(
         &self,
         desk: &mut Desk,
@@ -166,10 +278,8 @@ impl<S: Scan> Search<'_, S> {
         ensures steps { steps.new + covered_before desk.old.segments from
             ≤ steps.old + covered_before desk.old.segments to }
     {
-        let mut best = so_far;
-        for n in from..to {
-            best = self.ride(desk, n, round, best, steps);
-        }
+        let best = self.weigh_round(desk, from, to, round, so_far, steps);
+        self.follow_notes(desk, &best, round);
         best
     }
 }

@@ -5,7 +5,7 @@ ghost use Rattle.transfer_pack.specs.Packed.{packed};
 ghost use Rattle.edition_store.specs.Editions.{EditionData, IsEdition, kept_count, net_of};
 
 use line_split::Lines;
-use segment_queue::{Look, Scan, Shape, Steps, View, Visit, WalkGroups};
+use segment_queue::{Look, Scan, Seen, Shape, Steps, View, Visit, WalkGroups};
 use std::marker::Model;
 use std::sync::ledger::Ledger;
 use tb_base::{Hop, Path, Sec, StopNo, Timetable, TripNo};
@@ -148,6 +148,10 @@ impl Scan for Edition {
 
     fn onward(&self, trip: TripNo) -> &[TripNo] {
         self.view().trips_onward(trip)
+    }
+
+    fn hops_from(&self, seen: Seen) -> &[Hop] {
+        self.view().hops_seen(seen)
     }
 }
 

@@ -39,12 +39,13 @@ long_trip T t sound inside = (All-get_or (IsSoundTrip (length T.stops)) T.trips 
 
 -- a desk that fits is in step when it has been emptied
 pub in_step-emptied : (N : NetData) (D D' : DeskData) (n : ℕ) → IsSound N.table → AreDividedInto N.table N.lines → Fits N.table D →
-    D'.marks ≡ replicate n None → n ≡ length D.marks → D'.segments ≡ [] → D'.segment_room ≡ D.segment_room → D'.hit_room ≡ D.hit_room → IsInStep N D'
-in_step-emptied N D D' n sound divided fits marks many segments segment_room hit_room = record {
+    D'.marks ≡ replicate n None → n ≡ length D.marks → D'.segments ≡ [] → D'.segment_room ≡ D.segment_room → D'.hit_room ≡ D.hit_room → D'.note_room ≡ D.note_room → IsInStep N D'
+in_step-emptied N D D' n sound divided fits marks many segments segment_room hit_room note_room = record {
   fits = record {
     trips = omega (arith, fits.trips, ap length marks, (let none : Option ℕ = None in length-replicate n none), many);
     segments = omega (arith, fits.segments, segment_room);
     hits = omega (arith, fits.hits, hit_room);
+    notes = omega (arith, fits.notes, note_room);
   };
   marks = λ t inside. omega (arith, mark t, long_trip N.table t sound inside);
   segments = subst (All (IsSoundSegment N.table)) (sym segments) (All-nil (IsSoundSegment N.table));
@@ -73,6 +74,7 @@ in_step-entered N D D' t at parent divided step inside below enters = record {
     trips = omega (arith, step.fits.trips, enters.trips);
     segments = omega (arith, step.fits.segments, enters.segment_room);
     hits = omega (arith, step.fits.hits, enters.hit_room);
+    notes = omega (arith, step.fits.notes, enters.note_room);
   };
   marks = λ u h. omega (arith, falls u h, step.marks u h);
   segments = subst (All (IsSoundSegment N.table)) (sym enters.segments) (All-push (IsSoundSegment N.table) D.segments entered step.segments (record { trip = inside; onward = below; within = step.marks t inside }));
@@ -133,12 +135,13 @@ grown-same (x ∷ xs) k zero = refl
 grown-same (x ∷ xs) k (suc t) = grown-same xs k t
 
 -- a desk in step stays so when it is given room
-pub in_step-grown : (N : NetData) (D D' : DeskData) (k : ℕ) → IsInStep N D → D'.marks ≡ D.marks ++ replicate k None → D'.segments ≡ D.segments → D.segment_room ≤ D'.segment_room → D.hit_room ≤ D'.hit_room → IsInStep N D'
-in_step-grown N D D' k step marks segments segment_room hit_room = record {
+pub in_step-grown : (N : NetData) (D D' : DeskData) (k : ℕ) → IsInStep N D → D'.marks ≡ D.marks ++ replicate k None → D'.segments ≡ D.segments → D.segment_room ≤ D'.segment_room → D.hit_room ≤ D'.hit_room → D.note_room ≤ D'.note_room → IsInStep N D'
+in_step-grown N D D' k step marks segments segment_room hit_room note_room = record {
   fits = record {
     trips = omega (arith, step.fits.trips, ap length marks, length-append D.marks (replicate k None));
     segments = omega (arith, step.fits.segments, segment_room);
     hits = omega (arith, step.fits.hits, hit_room);
+    notes = omega (arith, step.fits.notes, note_room);
   };
   marks = λ t inside. omega (arith, same t, step.marks t inside);
   segments = subst (All (IsSoundSegment N.table)) (sym segments) step.segments;

@@ -6,16 +6,19 @@ use Rattle.tb_base.specs.TimetableData.{TimetableData, events_of, event_total}
 use Rattle.tb_base.specs.Transfers.{numbers_below}
 use Rattle.segment_queue.specs.declared.desk.Segment.{Segment}
 use Rattle.segment_queue.specs.declared.desk.Hit.{Hit}
+use Rattle.segment_queue.specs.declared.notes.Note.{Note}
 use Rattle.segment_queue.specs.Scans.{trips_from}
 
--- a desk: an index for each trip that has been reached, the segments and the hits in order, and
--- room for how many of them
+-- a desk: an index for each trip that has been reached, the segments, the hits and the notes in
+-- order, and room for how many of them
 pub record DeskData : Type 0 where
   pub marks : List (Option ℕ)
   pub segments : List Segment
   pub hits : List Hit
+  pub notes : List Note
   pub segment_room : ℕ
   pub hit_room : ℕ
+  pub note_room : ℕ
 
 -- the last index of trip t
 abbrev pub last_index : TimetableData → ℕ → ℕ
@@ -25,11 +28,12 @@ last_index T t = length (events_of T t) - 1
 abbrev pub mark_of : TimetableData → List (Option ℕ) → ℕ → ℕ
 mark_of T marks t = unwrap_or (slice_index_or marks t None) (last_index T t)
 
--- room for a mark for each trip, a segment for each event, and one hit more
+-- room for a mark for each trip, a segment and a note for each event, and one hit more
 pub record Fits (T : TimetableData) (D : DeskData) : Type 0 where
   pub trips : length T.trips ≤ length D.marks
   pub segments : event_total T ≤ D.segment_room
   pub hits : event_total T < D.hit_room
+  pub notes : event_total T ≤ D.note_room
 
 -- a part of a trip, with at least one index behind its boarding
 pub record IsSoundSegment (T : TimetableData) (s : Segment) : Type 0 where
@@ -86,5 +90,7 @@ pub record EntersSegment (N : NetData) (trip at : ℕ) (parent : Option (ℕ × 
       ≡ lowered (trips_from N.lines trip) at u (mark_of N.table D.marks u)
   pub trips : length D'.marks ≡ length D.marks
   pub hits : D'.hits ≡ D.hits
+  pub notes : D'.notes ≡ D.notes
   pub segment_room : D'.segment_room ≡ D.segment_room
   pub hit_room : D'.hit_room ≡ D.hit_room
+  pub note_room : D'.note_room ≡ D.note_room

@@ -6,6 +6,7 @@ use Rattle.std.specs.Option.{option_map}
 use Rattle.tb_base.specs.declared.transfer.Hop.{Hop}
 use Rattle.tb_base.specs.TimetableData.{TimetableData, events_of, stop_at}
 use Rattle.tb_base.specs.Transfers.{line_from, earliest_trip, may_be_boarded, numbers_below}
+use Rattle.segment_queue.specs.declared.seen.Seen.{Seen}
 
 -- the part of its line from trip t on
 abbrev pub trips_from : List (List ℕ) → ℕ → List ℕ
@@ -35,6 +36,17 @@ indices_at T p line =
 -- all line indices at the stop, by line, then index
 abbrev pub line_indices_at : TimetableData → List (List ℕ) → ℕ → List LineIndex
 line_indices_at T lines p = flat_map (indices_at T p) lines
+
+-- event i of trip t, once it has been looked at
+abbrev pub seen_event : ℕ → ℕ → Seen
+seen_event t i = record { trip = t; at = i }
+
+-- the trip of an event that has been looked at, and its index there
+abbrev pub seen_trip : Seen → ℕ
+seen_trip s = s.trip
+
+abbrev pub seen_at : Seen → ℕ
+seen_at s = s.at
 
 -- who boards there no earlier than the time: the line's first trip in time, where boarding is
 -- allowed and it isn't the last index

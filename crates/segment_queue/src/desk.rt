@@ -6,6 +6,7 @@ ghost use Rattle.segment_queue.specs.Scans.{trips_from};
 ghost use Rattle.segment_queue.specs.Queue.{EntersSegment, Fits, IsFalling, IsInStep, lowered, mark_of};
 
 use super::marks::Marks;
+use super::notes::Note;
 use super::scan::Scan;
 use std::alloc::Global;
 use std::marker::Model;
@@ -35,12 +36,14 @@ pub struct Hit {
     pub last: LastLeg,
 }
 
-/// What a search writes: the queue of segments, the marks and the hits. It is made once, and used for any number of queries.
+/// What a search writes: the queue of segments, the marks, the hits, and notes of where to go on from. It is made once, and
+/// used for any number of queries.
 #[derive(Drop)]
 pub struct Desk {
     marks: Marks,
     segments: Vec<Segment>,
     hits: Vec<Hit>,
+    pub(crate) notes: Vec<Note>,
 }
 
 impl Model for Desk {
@@ -53,13 +56,15 @@ impl Model for Desk {
       marks = d.marks;
       segments = d.segments.items;
       hits = d.hits.items;
+      notes = d.notes.items;
       segment_room = vec_capacity d.segments;
       hit_room = vec_capacity d.hits;
+      note_room = vec_capacity d.notes;
     } };
 }
 
 // Appends to a vector that has room, so that no memory is needed.
-fn push_within<T: Copy>(items: &mut Vec<T>, item: T)
+pub(crate) fn push_within<T: Copy>(items: &mut Vec<T>, item: T)
     requires { vec_len items.old < vec_capacity items.old }
     ensures items { items.new.items ≡ items.old.items ++ item ∷ [] }
     ensures room { vec_capacity items.new ≡ vec_capacity items.old }
@@ -118,13 +123,21 @@ pub(crate) fn lower_marks<S: Scan>(marks: &mut Marks, scan: &S, trip: TripNo, at
 impl Desk {
     /// A desk without room.
     pub fn new(alloc: Global) -> Desk
-        ensures { result
-            ≡ record { marks = []; segments = []; hits = []; segment_room = 0; hit_room = 0 } }
+        ensures { result ≡ record {
+          marks = [];
+          segments = [];
+          hits = [];
+          notes = [];
+          segment_room = 0;
+          hit_room = 0;
+          note_room = 0;
+        } }
     {
         Desk {
             marks: Marks::new(alloc),
             segments: Vec::new(alloc),
             hits: Vec::new(alloc),
+            notes: Vec::new(alloc),
         }
     }
 
@@ -141,10 +154,11 @@ impl Desk {
         self.marks.make_room(shape.trips)?;
         make_room_for(&mut self.segments, shape.events as usize)?;
         make_room_for(&mut self.hits, shape.events as usize + 1)?;
+        make_room_for(&mut self.notes, shape.events as usize)?;
         Ok(())
     }
 
-    /// Whether there is room for the scan: a mark for each trip, a segment for each event, and one hit more.
+    /// Whether there is room for the scan: a mark for each trip, a segment and a note for each event, and one hit more.
     pub fn fits<S: Scan>(&self, scan: &S) -> bool
         ensures { IsTrue result ↔ Fits (S.net scan.now).table self.now }
     {
@@ -152,9 +166,10 @@ impl Desk {
         shape.trips as usize <= self.marks.trips()
             && shape.events <= self.segments.capacity() as u64
             && shape.events < self.hits.capacity() as u64
+            && shape.events <= self.notes.capacity() as u64
     }
 
-    /// Empties the queue, the marks and the hits.
+    /// Empties the queue, the marks, the hits and the notes.
     pub fn begin<S: Scan>(&mut self, scan: &S, _query: &Query)
         requires { Fits (S.net scan.now).table self.old }
         ensures step { IsInStep (S.net scan.now) self.new }
@@ -162,12 +177,14 @@ impl Desk {
           marks = replicate (length self.old.marks) None;
           segments = [];
           hits = [];
+          notes = [];
         } }
     {
         scan.soundness();
         self.marks.begin();
         self.segments.clear();
         self.hits.clear();
+        self.notes.clear();
     }
 
     /// Enters a trip at an index. Where the index is below the trip's mark, the segment from there up to the mark joins the

@@ -3,8 +3,9 @@ ghost use Rattle.tb_base.specs.Lines.{AreDividedInto};
 ghost use Rattle.tb_base.specs.Soundness.{IsSound, IsSoundPath};
 ghost use Rattle.tb_base.specs.Walking.{walk};
 ghost use Rattle.tb_base.specs.TimetableData.{arrival_at, event_at, event_total, events_of, stop_at};
-ghost use Rattle.segment_queue.specs.Scans.{boarding_hop, line_indices_at, no_line_index, trips_from};
+ghost use Rattle.segment_queue.specs.Scans.{boarding_hop, line_indices_at, no_line_index, seen_at, seen_event, seen_trip, trips_from};
 
+use super::seen::Seen;
 use super::steps::Steps;
 use std::sync::ledger::Ledger;
 use tb_base::{Hop, Path, Sec, StopNo, TripNo};
@@ -18,13 +19,15 @@ pub struct Shape {
     pub lines: u32,
 }
 
-/// An event as a search sees it: its stop, its arrival, whether one may alight there, and the hops from it.
+/// An event as a search sees it: its stop, its arrival, whether one may alight there, and the hops from it; and by what they
+/// can be read again.
 #[derive(Clone, Copy)]
 pub struct Visit<'a> {
     pub stop: StopNo,
     pub arr: Sec,
     pub alight: bool,
     pub out: &'a [Hop],
+    pub seen: Seen,
 }
 
 /// What a search looks at: the network of a day. No call takes memory.
@@ -74,10 +77,16 @@ pub trait Scan {
         requires { trip < length (net self.now).table.trips }
         ensures trips { result.now ≡ trips_from (net self.now).lines trip }
         ensures there { All (λ u. u < length (net self.now).table.trips) result.now };
+
+    /// The hops from an event that has been looked at. It is no further step.
+    fn hops_from(&self, seen: Seen) -> &[Hop]
+        requires trip { seen_trip seen < length (net self.now).table.trips }
+        requires at { seen_at seen < length (events_of (net self.now).table (seen_trip seen)) }
+        ensures { result.now ≡ (net self.now).hops (seen_trip seen) (seen_at seen) };
 }
 
 /// The looks of a search at a network: who boards a line, and an event of a trip. Each is a step on
-/// a counter of the ledger `L`, and there is no other way to look. So a search over any `L` counts
+/// a counter of the ledger `L`, and there is no other way to look: what was seen can only be read again. So a search over any `L` counts
 /// all its looks where its caller counts, since no counter that it makes is of this ledger.
 pub trait Look<L: Ledger>: Scan {
     /// Who boards the line at the line index with this number at the stop, no earlier than the time. It is a step.
@@ -98,5 +107,6 @@ pub trait Look<L: Ledger>: Scan {
         ensures arr { result.arr ≡ arrival_at (Self.net self.now).table trip at }
         ensures alight { result.alight ≡ (event_at (Self.net self.now).table trip at).alight }
         ensures out { result.out.now ≡ (Self.net self.now).hops trip at }
+        ensures seen { result.seen ≡ seen_event trip at }
         ensures step { steps.new ≡ steps.old + 1 };
 }

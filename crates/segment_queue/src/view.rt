@@ -1,10 +1,11 @@
 ghost use Rattle.std.specs.Prelude.{◌≡◌, ◌<◌, ◌+◌, ◌≤◌, ℕ, Some, All, AllPairs, IfSome, IsTrue, ◌↔◌, length, slice_get, slice_index_or};
 ghost use Rattle.tb_base.specs.Soundness.{IsSoundPath};
 ghost use Rattle.tb_base.specs.TimetableData.{arrival_at, event_at, events_of, stop_at};
-ghost use Rattle.segment_queue.specs.Scans.{trips_from};
+ghost use Rattle.segment_queue.specs.Scans.{seen_at, seen_event, seen_trip, trips_from};
 ghost use Rattle.transfer_pack.specs.Packed.{packed};
 
 use super::scan::{Look, Scan, Shape, Visit};
+use super::seen::Seen;
 use super::steps::Steps;
 use super::walk_groups::WalkGroups;
 use line_split::Lines;
@@ -90,6 +91,7 @@ impl<'a> View<'a> {
         ensures arr { result.arr ≡ arrival_at self.now.0 trip at }
         ensures alight { result.alight ≡ (event_at self.now.0 trip at).alight }
         ensures out { result.out.now ≡ packed self.now.2 trip at }
+        ensures seen { result.seen ≡ seen_event trip at }
         ensures step { steps.new ≡ steps.old + 1 }
     {
         steps.tick();
@@ -100,7 +102,18 @@ impl<'a> View<'a> {
             arr: call.arr,
             alight: call.alight,
             out: set.out(trip, at),
+            seen: Seen { trip, at },
         }
+    }
+
+    /// The hops from an event that has been looked at, for as long as the set is lent.
+    pub fn hops_seen(&self, seen: Seen) -> &'a [Hop]
+        requires trip { seen_trip seen < length self.now.0.trips }
+        requires at { seen_at seen < length (events_of self.now.0 (seen_trip seen)) }
+        ensures { result.now ≡ packed self.now.2 (seen_trip seen) (seen_at seen) }
+    {
+        let set = self.set;
+        set.out(seen.trip, seen.at)
     }
 }
 
@@ -152,6 +165,10 @@ impl<'a> Scan for View<'a> {
 
     fn onward(&self, trip: TripNo) -> &[TripNo] {
         self.trips_onward(trip)
+    }
+
+    fn hops_from(&self, seen: Seen) -> &[Hop] {
+        self.hops_seen(seen)
     }
 }
 

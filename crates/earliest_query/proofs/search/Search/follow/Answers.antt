@@ -56,6 +56,7 @@ loop-hop-preserved g c =
     record {
       queue = subst (λ r. IsQueue N c.args.self.now.query.now c.enter.new.desk r) same c.enter.ensures.queue;
       extends = extends-trans c.args.desk.now c.loop-hop.desk c.enter.new.desk top c.loop-hop.invariant.extends joined;
+      notes = c.enter.ensures.notes ∙ c.loop-hop.invariant.notes;
       reached = λ k d below. elim (below_or_at k c.loop-hop.hop-index below) [
         | inl before ↦ extends-reached N.table c.loop-hop.desk c.enter.new.desk top (length c.loop-hop.desk.segments) (length c.enter.new.desk.segments) top top (get_or c.args.hops.now k d).trip (get_or c.args.hops.now k d).at joined
             (c.loop-hop.invariant.reached k d before) (omega arith) (extends-long c.loop-hop.desk c.enter.new.desk top joined) (omega arith)

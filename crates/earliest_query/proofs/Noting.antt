@@ -1,0 +1,199 @@
+-- Events are weighed, and noted to go on from.
+use Rattle.std.proofs.Common.{◌≡◌, ◌∙◌, ℕ, suc, ◌+◌, ◌<◌, ◌≤◌, ◌⊎◌, inl, inr, List, [], ◌∷◌, ◌++◌, length, Bool, refl, sym, ap, subst, arith, Option, ℤ}
+use Rattle.std.specs.Prelude.{All, Contains}
+use Rattle.std.proofs.lemmas.List.{append-nil}
+use Rattle.std.proofs.lemmas.List.Elements.{All-push, Contains-push, Contains-append_left}
+use Rattle.tb_base.specs.Network.{NetData}
+use Rattle.tb_base.specs.TimetableData.{TimetableData, arrival_at, event_at, stop_at}
+use Rattle.tb_base.specs.BestValues.{QueryData}
+use Rattle.tb_base.specs.Soundness.{IsSound}
+use Rattle.segment_queue.specs.declared.desk.Segment.{Segment}
+use Rattle.segment_queue.specs.declared.desk.Hit.{Hit}
+use Rattle.segment_queue.specs.declared.notes.Note.{Note}
+use Rattle.segment_queue.specs.Queue.{DeskData, IsInStep, IsSoundSegment}
+use Rattle.segment_queue.specs.Scans.{seen_at}
+use Rattle.segment_queue.specs.Traced.{round_of, segment_of}
+use Rattle.earliest_query.specs.Choices.{ArrivesBy, IsWeighed}
+use Rattle.earliest_query.specs.Noted.{IsLeft, IsNotedDown, IsSoundNote, note_of}
+use Rattle.earliest_query.specs.UnderWay.{Covers, Extends, IsBounded, IsDone, IsImproved, IsQueue}
+use Rattle.earliest_query.proofs.Growing.{extends-long, extends-refl, extends-round, extends-segment}
+use Rattle.earliest_query.proofs.BestSoFar.{bounded-improved, bounded-same, covers-kept, improved-trans, new_hit-kept, weighed_as, weighed_bounded, weighed_improved}
+use Rattle.earliest_query.proofs.Lateness.{arrives_by-later, arrives_on, done-kept, late-bounded}
+
+-- notes do not matter to the queue
+pub in_step-notes : (N : NetData) (D : DeskData) (notes : List Note) → IsInStep N D → IsInStep N (record D { notes = notes })
+in_step-notes N D notes s = record {
+  fits = record { trips = s.fits.trips; segments = s.fits.segments; hits = s.fits.hits; notes = s.fits.notes };
+  marks = s.marks;
+  segments = s.segments;
+  above = s.above;
+  apart = s.apart;
+  falling = s.falling;
+  counted = s.counted;
+}
+
+pub queue-notes : (N : NetData) (Q : QueryData) (D : DeskData) (notes : List Note) (round : ℕ) → IsQueue N Q D round → IsQueue N Q (record D { notes = notes }) round
+queue-notes N Q D notes round q = record {
+  step = in_step-notes N D notes q.step;
+  entered = q.entered;
+  by_hops = q.by_hops;
+  rounds = q.rounds;
+  marked = q.marked;
+  ends = q.ends;
+}
+
+pub extends-notes : (D : DeskData) (notes : List Note) (round : ℕ) → Extends D (record D { notes = notes }) round
+extends-notes D notes round = record { more = []; segments = sym (append-nil D.segments); rounds = λ n h k. absurd (omega (arith, h, k)); hits = refl }
+
+pub notes-extends : (D : DeskData) (notes : List Note) (round : ℕ) → Extends (record D { notes = notes }) D round
+notes-extends D notes round = record { more = []; segments = sym (append-nil D.segments); rounds = λ n h k. absurd (omega (arith, h, k)); hits = refl }
+
+-- a note stays sound while the queue grows
+pub sound_note-kept : (T : TimetableData) (D E : DeskData) (joined round : ℕ) (note : Note) → Extends D E joined → IsSoundNote T D.segments round note → IsSoundNote T E.segments round note
+sound_note-kept T D E joined round note e s =
+    let same : segment_of E.segments note.segment ≡ segment_of D.segments note.segment = extends-segment D E joined e note.segment s.inside in
+    record {
+      inside = omega (arith, s.inside, extends-long D E joined e);
+      this_round = extends-round D E joined e note.segment s.inside ∙ s.this_round;
+      onward = omega (arith, s.onward, ap (λ (r : Segment). r.board) same);
+      within = omega (arith, s.within, ap (λ (r : Segment). r.end) same);
+      is = s.is ∙ ap (λ (r : Segment). record { segment = note.segment; arr = arrival_at T r.trip (seen_at note.seen); seen = record { trip = r.trip; at = seen_at note.seen } }) (sym same);
+    }
+
+-- what is left stays left, with a better hit and more notes too
+pub left-kept : (N : NetData) (Q : QueryData) (D : DeskData) (round n i : ℕ) (a b : Option Hit) (before after : List Note) → n < length D.segments → ((note : Note) → Contains before note → Contains after note) → IsImproved N.table Q D round a b
+    → IsLeft N D a before n i → IsLeft N D b after n i
+left-kept N Q D round n i a b before after inside more improved (inl done) = inl (done-kept N Q D D (suc round) round n i a b (extends-refl D (suc round)) inside improved done)
+left-kept N Q D round n i a b before after inside more improved (inr noted) = inr (more (note_of N.table D.segments n i) noted)
+
+-- an event of segment n of a desk D is weighed, by which the best so far became the result
+pub record IsWeighedAt (N : NetData) (Q : QueryData) (D : DeskData) (n at round : ℕ) (best result : Option Hit) : Type 0 where
+  pub segment : Segment
+  pub is : segment_of D.segments n ≡ segment
+  pub inside : n < length D.segments
+  pub is_round : round_of D.segments n ≡ round
+  pub onward : segment.board < at
+  pub within : at ≤ segment.end
+  pub stop : ℕ
+  pub arr : ℤ
+  pub alight : Bool
+  pub stop_is : stop ≡ stop_at N.table segment.trip at
+  pub arr_is : arr ≡ arrival_at N.table segment.trip at
+  pub alight_is : alight ≡ (event_at N.table segment.trip at).alight
+  pub weighed : IsWeighed N.table Q stop arr alight n at round best result
+
+-- what has been noted of segment n, up to this index, since these notes
+pub record IsNotedTo (N : NetData) (Q : QueryData) (D : DeskData) (n round : ℕ) (so_far : Option Hit) (before notes : List Note) (best : Option Hit) (at : ℕ) : Type 0 where
+  pub sound : All (IsSoundNote N.table D.segments round) notes
+  pub kept : (note : Note) → Contains before note → Contains notes note
+  pub left : (i : ℕ) → (segment_of D.segments n).board < i → i ≤ at → IsLeft N D best notes n i
+  pub bounded : (i : ℕ) → (segment_of D.segments n).board < i → i ≤ at → IsBounded N.table Q D best n i
+  pub improved : IsImproved N.table Q D round so_far best
+
+module _ (N : NetData) (Q : QueryData) (D : DeskData) (n done round : ℕ) (so_far best result : Option Hit) (before notes : List Note) (to : IsNotedTo N Q D n round so_far before notes best done) (w : IsWeighedAt N Q D n (done + 1) round best result) where
+  covers : Covers D n (done + 1)
+  covers = record { onward = omega (arith, w.onward, ap (λ (s : Segment). s.board) w.is); within = omega (arith, w.within, ap (λ (s : Segment). s.end) w.is) }
+
+  here : IsWeighed N.table Q (stop_at N.table (segment_of D.segments n).trip (done + 1)) (arrival_at N.table (segment_of D.segments n).trip (done + 1)) (event_at N.table (segment_of D.segments n).trip (done + 1)).alight n (done + 1) round best result
+  here =
+      weighed_as N.table Q w.stop (stop_at N.table (segment_of D.segments n).trip (done + 1)) w.arr (arrival_at N.table (segment_of D.segments n).trip (done + 1)) w.alight (event_at N.table (segment_of D.segments n).trip (done + 1)).alight n (done + 1) round best result
+      (w.stop_is ∙ ap (λ (s : Segment). stop_at N.table s.trip (done + 1)) (sym w.is))
+      (w.arr_is ∙ ap (λ (s : Segment). arrival_at N.table s.trip (done + 1)) (sym w.is))
+      (w.alight_is ∙ ap (λ (s : Segment). (event_at N.table s.trip (done + 1)).alight) (sym w.is)) w.weighed
+
+  better : IsImproved N.table Q D round best result
+  better = weighed_improved N.table Q D D (suc round) n (done + 1) round best result (extends-refl D (suc round)) w.inside covers w.is_round here
+
+  improved_now : IsImproved N.table Q D round so_far result
+  improved_now = improved-trans N.table Q D D (suc round) round so_far best result (extends-refl D (suc round)) to.improved better
+
+  before_or_here : (i : ℕ) → i ≤ (done + 1) → (i ≤ done) ⊎ ((done + 1) ≡ i)
+  before_or_here i h = grind arith
+
+  -- it is noted, where there are hops from it
+  module _ (hops : ℕ) (after : List Note) (hops_are : hops ≡ length (N.hops (segment_of D.segments n).trip (done + 1))) (noted : IsNotedDown hops (note_of N.table D.segments n (done + 1)) notes after) where
+    more : (note : Note) → Contains notes note → Contains after note
+    more note h = elim noted [
+      | inl e ↦ subst (λ xs. Contains xs note) (sym e.1) h
+      | inr e ↦ subst (λ xs. Contains xs note) (sym e) (Contains-append_left notes (note_of N.table D.segments n (done + 1) ∷ []) note h)
+    ]
+
+    left_here : IsLeft N D result after n (done + 1)
+    left_here = elim noted [
+      | inl e ↦ inl (inl (λ h in_set. absurd (omega (arith, in_set.1, hops_are, e.0))))
+      | inr e ↦ inr (subst (λ xs. Contains xs (note_of N.table D.segments n (done + 1))) (sym e) (Contains-push notes (note_of N.table D.segments n (done + 1))))
+    ]
+
+    sound_here : IsSoundNote N.table D.segments round (note_of N.table D.segments n (done + 1))
+    sound_here = record { inside = w.inside; this_round = w.is_round; onward = covers.onward; within = covers.within; is = refl }
+
+    pub noted_on : IsNotedTo N Q D n round so_far before after result (done + 1)
+    noted_on = record {
+      sound = elim noted [
+        | inl e ↦ subst (All (IsSoundNote N.table D.segments round)) (sym e.1) to.sound
+        | inr e ↦ subst (All (IsSoundNote N.table D.segments round)) (sym e) (All-push (IsSoundNote N.table D.segments round) notes (note_of N.table D.segments n (done + 1)) to.sound sound_here)
+      ];
+      kept = λ note h. more note (to.kept note h);
+      left = λ i above below. elim (before_or_here i below) [
+        | inl earlier ↦ left-kept N Q D round n i best result notes after w.inside more better (to.left i above earlier)
+        | inr e ↦ subst (λ m. IsLeft N D result after n m) e left_here
+      ];
+      bounded = λ i above below. elim (before_or_here i below) [
+        | inl earlier ↦ bounded-improved N.table Q D D round best result n i better (to.bounded i above earlier)
+        | inr e ↦ subst (λ m. IsBounded N.table Q D result n m) e (weighed_bounded N.table Q D D (suc round) n (done + 1) round best result (extends-refl D (suc round)) w.inside covers w.is_round here)
+      ];
+      improved = improved_now;
+    }
+
+  -- one gets there no earlier than the best so far arrives: so it is with all that follow
+  module _ (sound : IsSound N.table) (whole : IsSoundSegment N.table (segment_of D.segments n)) (late : ArrivesBy result w.arr) where
+    late_here : ArrivesBy result (arrival_at N.table (segment_of D.segments n).trip (done + 1))
+    late_here = subst (ArrivesBy result) (w.arr_is ∙ ap (λ (s : Segment). arrival_at N.table s.trip (done + 1)) (sym w.is)) late
+
+    before_or_from : (i : ℕ) → (i ≤ done) ⊎ ((done + 1) ≤ i)
+    before_or_from i = grind arith
+
+    late_from : (i : ℕ) → Covers D n i → (done + 1) ≤ i → ArrivesBy result (arrival_at N.table (segment_of D.segments n).trip i)
+    late_from i c from = arrives_by-later result _ _ (arrives_on N.table (segment_of D.segments n).trip (done + 1) i sound whole.trip from (omega (arith, c.within, whole.within))) late_here
+
+    pub left_late : (i : ℕ) → Covers D n i → IsLeft N D result notes n i
+    left_late i c = elim (before_or_from i) [
+      | inl earlier ↦ left-kept N Q D round n i best result notes notes w.inside (λ note h. h) better (to.left i c.onward earlier)
+      | inr from ↦ inl (inr (late_from i c from))
+    ]
+
+    pub bounded_late : (i : ℕ) → Covers D n i → IsBounded N.table Q D result n i
+    bounded_late i c = elim (before_or_from i) [
+      | inl earlier ↦ bounded-improved N.table Q D D round best result n i better (to.bounded i c.onward earlier)
+      | inr from ↦ late-bounded N.table Q D result n i (late_from i c from)
+    ]
+
+    pub improved_late : IsImproved N.table Q D round so_far result
+    improved_late = improved_now
+
+-- segment k of a desk D is weighed, once it has these notes
+module _ (N : NetData) (Q : QueryData) (D : DeskData) (notes after : List Note) (from k round : ℕ) (so_far best result : Option Hit) (inside : k < length D.segments) (kept : (note : Note) → Contains notes note → Contains after note)
+    (improved : IsImproved N.table Q (record D { notes = notes }) round best result) where
+  better_now : IsImproved N.table Q D round best result
+  better_now = new_hit-kept N.table Q (record D { notes = notes }) D (suc round) round best result (notes-extends D notes (suc round)) improved
+
+  before_or_this : (n : ℕ) → n < k + 1 → (n < k) ⊎ (k ≡ n)
+  before_or_this n h = grind arith
+
+  covers_this : (n i : ℕ) → k ≡ n → Covers D n i → Covers (record D { notes = notes }) k i
+  covers_this n i e c = covers-kept D (record D { notes = notes }) k i refl (subst (λ m. Covers D m i) (sym e) c)
+
+  pub left_one_more : ((n i : ℕ) → from ≤ n → n < k → Covers D n i → IsLeft N D best notes n i) → ((i : ℕ) → Covers (record D { notes = notes }) k i → IsLeft N (record D { notes = notes }) result after k i) → (n i : ℕ) → from ≤ n → n < k + 1 → Covers D n i → IsLeft N D result after n i
+  left_one_more before this n i above below c = elim (before_or_this n below) [
+    | inl earlier ↦ left-kept N Q D round n i best result notes after (omega (arith, earlier, inside)) kept better_now (before n i above earlier c)
+    | inr e ↦ subst (λ m. IsLeft N D result after m i) e (this i (covers_this n i e c))
+  ]
+
+  pub bounded_one_weighed : ((n i : ℕ) → from ≤ n → n < k → Covers D n i → IsBounded N.table Q D best n i) → ((i : ℕ) → Covers (record D { notes = notes }) k i → IsBounded N.table Q (record D { notes = notes }) result k i) → (n i : ℕ) → from ≤ n → n < k + 1 → Covers D n i → IsBounded N.table Q D result n i
+  bounded_one_weighed before this n i above below c = elim (before_or_this n below) [
+    | inl earlier ↦ bounded-improved N.table Q D D round best result n i better_now (before n i above earlier c)
+    | inr e ↦ subst (λ m. IsBounded N.table Q D result m i) e (bounded-same N.table Q (record D { notes = notes }) D result k i refl (this i (covers_this n i e c)))
+  ]
+
+  pub improved_one_weighed : IsImproved N.table Q D round so_far best → IsImproved N.table Q D round so_far result
+  improved_one_weighed first = improved-trans N.table Q D D (suc round) round so_far best result (extends-refl D (suc round)) first better_now

@@ -1,0 +1,63 @@
+use Rattle.std.proofs.Common.{◌≡◌, ◌∙◌, ℕ, suc, ◌+◌, ◌<◌, ◌⊎◌, inl, inr, length, get_or, refl, sym, ap, subst, arith}
+use Rattle.std.proofs.lemmas.Option.{get_or_from_slice_get, slice_get_within}
+use Rattle.tb_base.specs.Network.{NetData}
+use Rattle.tb_base.specs.BestValues.{QueryData}
+use Rattle.segment_queue.specs.declared.notes.Note.{Note}
+use Rattle.segment_queue.specs.Queue.{DeskData}
+use Rattle.segment_queue.specs.Scans.{seen_at}
+use Rattle.earliest_query.specs.Noted.{IsSoundNote}
+use Rattle.earliest_query.specs.UnderWay.{IsDone}
+use Rattle.earliest_query.proofs.Growing.{extends-long, extends-refl, extends-trans}
+use Rattle.earliest_query.proofs.Lateness.{done-kept}
+use Rattle.earliest_query.proofs.Noting.{sound_note-kept}
+use Rattle.earliest_query.proofs.search.Search.follow_notes.Goals as goal
+
+pub loop-k-init : goal.loop-k-init
+loop-k-init g c = record {
+  queue = c.requires.queue;
+  extends = extends-refl c.args.desk.now (suc c.args.round);
+  notes = refl;
+  done = λ j d below. absurd (omega (arith, below));
+}
+
+pub follow_note-requires-clause-note : goal.follow_note-requires-clause-note
+follow_note-requires-clause-note g c =
+    let T = (g.S.Scan.net c.args.self.now.scan.now).table in
+    let D : DeskData = c.args.desk.now in
+    let note : Note = c.note-note.result in
+    let is : get_or D.notes c.loop-k.k note ≡ note = ap (λ ns. get_or ns c.loop-k.k note) (sym c.loop-k.invariant.notes) ∙ get_or_from_slice_get c.loop-k.desk.notes c.loop-k.k note note c.note-note.ensures in
+    let inside : c.loop-k.k < length D.notes = omega (arith, slice_get_within c.loop-k.desk.notes c.loop-k.k note c.note-note.ensures, ap length c.loop-k.invariant.notes) in
+    sound_note-kept T D c.loop-k.desk (suc c.args.round) c.args.round note c.loop-k.invariant.extends (subst (IsSoundNote T D.segments c.args.round) is (c.requires.notes c.loop-k.k note inside))
+
+below_or_at : (k i : ℕ) → k < i + 1 → (k < i) ⊎ (i ≡ k)
+below_or_at k i h = grind arith
+
+pub loop-k-preserved : goal.loop-k-preserved
+loop-k-preserved g c =
+    let N : NetData = g.S.Scan.net c.args.self.now.scan.now in
+    let Q : QueryData = c.args.self.now.query.now in
+    let D : DeskData = c.args.desk.now in
+    let E : DeskData = c.loop-k.desk in
+    let F : DeskData = c.follow_note.new.desk in
+    let best = c.args.best.now in
+    let k : ℕ = c.loop-k.k in
+    let top : ℕ = suc c.args.round in
+    let note : Note = c.note-note.result in
+    let before = c.loop-k.invariant in
+    let inside : k < length D.notes = omega (arith, slice_get_within E.notes k note c.note-note.ensures, ap length before.notes) in
+    record {
+      queue = c.follow_note.ensures.queue;
+      extends = extends-trans D E F top before.extends c.follow_note.ensures.extends;
+      notes = c.follow_note.ensures.notes ∙ before.notes;
+      done = λ j d below. elim (below_or_at j k below) [
+        | inl earlier ↦ done-kept N Q E F top c.args.round (get_or D.notes j d).segment (seen_at (get_or D.notes j d).seen) best best c.follow_note.ensures.extends
+            (let sound = c.requires.notes j d (omega (arith, earlier, inside)) in omega (arith, sound.inside, extends-long D E top before.extends)) (inl refl) (before.done j d earlier)
+        | inr e ↦ (let is : note ≡ get_or D.notes j d = sym (get_or_from_slice_get E.notes k note d c.note-note.ensures) ∙ ap (λ ns. get_or ns k d) before.notes ∙ ap (λ m. get_or D.notes m d) e in
+            subst (λ (x : Note). IsDone N F best x.segment (seen_at x.seen)) is c.follow_note.ensures.done)
+      ];
+    }
+
+pub returns-clause-done : goal.returns-clause-done
+returns-clause-done g c = λ note h.
+    let D : DeskData = c.args.desk.now in
+    subst (λ (x : Note). IsDone (g.S.Scan.net c.args.self.now.scan.now) c.loop-k.desk c.args.best.now x.segment (seen_at x.seen)) h.2 (c.loop-k.invariant.done h.0 note (omega (arith, h.1, c.loop-k-test.false, c.note_count-k-end.ensures)))

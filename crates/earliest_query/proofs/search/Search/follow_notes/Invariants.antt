@@ -1,0 +1,13 @@
+use Rattle.std.proofs.Common.{◌≡◌, ℕ, suc, ◌<◌, get_or}
+use Rattle.segment_queue.specs.declared.notes.Note.{Note}
+use Rattle.segment_queue.specs.Scans.{seen_at}
+use Rattle.earliest_query.specs.UnderWay.{Extends, IsDone, IsQueue}
+use Rattle.earliest_query.proofs.search.Search.follow_notes.Given as goal
+
+abbrev pub invariant-loop-k : goal.invariant-loop-k
+invariant-loop-k g l = record {
+  queue : IsQueue (g.S.Scan.net l.self.scan.now) l.self.query.now l.desk (suc l.round);
+  extends : Extends l.initial.desk l.desk (suc l.round);
+  notes : l.desk.notes ≡ l.initial.desk.notes;
+  done : (j : ℕ) (d : Note) → j < l.k → IsDone (g.S.Scan.net l.self.scan.now) l.desk l.best (get_or l.initial.desk.notes j d).segment (seen_at (get_or l.initial.desk.notes j d).seen);
+}
