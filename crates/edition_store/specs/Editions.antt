@@ -23,7 +23,8 @@ net_of e = record { table = e.table; lines = e.lines; hops = packed e.set }
 -- how many transfers are kept, those of all trips
 abbrev pub kept_count : TimetableData → List (List ℕ) → ℕ
 kept_count T lines =
-    sum_by (λ t. length (transfers_of T (kept_hops T lines t) t)) (range_with_len 0 (length T.trips))
+    sum_by (λ t. length (transfers_of T (kept_hops T lines t) t))
+    (range_with_len 0 (length T.trips))
 
 -- The timetable is sound, the lines are its lines, and the hops are its kept transfers, which are
 -- enough to find all best values.
