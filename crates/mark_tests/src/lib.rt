@@ -1,4 +1,4 @@
-//! Tests of the marks of a search: what is kept of them where their stamp comes to its end.
+//! Tests of the marks of a search: what is kept of them where their floors come to their end.
 #![tactic(auto)]
 
 #[cfg(test)]

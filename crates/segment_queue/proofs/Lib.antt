@@ -1,4 +1,4 @@
-pub mod StampedMarks
+pub mod MarkWords
 pub mod Distinct
 pub mod LineParts
 pub mod Totals

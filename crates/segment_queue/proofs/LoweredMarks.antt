@@ -1,8 +1,8 @@
 -- Marks that fall along a line.
-use Rattle.std.proofs.Common.{◌≡◌, ◌≢◌, ◌∙◌, ℕ, ◌+◌, ◌<◌, ◌≤◌, inl, inr, List, ◌∷◌, drop, get_or, ◌||◌, true, false, cond, length, set, sym, ap, subst, arith, Option, Some, None}
+use Rattle.std.proofs.Common.{◌≡◌, ◌≢◌, ◌∙◌, ℕ, ◌+◌, ◌<◌, ◌≤◌, inl, inr, List, ◌∷◌, ◌↔◌, drop, get_or, ◌||◌, true, false, cond, length, set, sym, ap, subst, arith, Option, Some, None}
 use Rattle.std.specs.Prelude.{AllPairs, min, unwrap_or}
 use Rattle.std.proofs.lemmas.List.{drop_more, get_or-set_same, get_or-set_other}
-use Rattle.tb_base.specs.TimetableData.{TimetableData, events_of}
+use Rattle.tb_base.specs.TimetableData.{TimetableData}
 use Rattle.tb_base.specs.Lines.{AreDividedInto}
 use Rattle.tb_base.proofs.Ordered.{Member, AllPairs-tail}
 use Rattle.segment_queue.specs.Scans.{trips_from}
@@ -104,11 +104,18 @@ pub no_more_to_lower : (T : TimetableData) (whole trips : List ℕ) (k t at : �
 no_more_to_lower T whole trips k t at old marks still there is low =
     stops T whole (drop (k + 1) trips) t at old marks (subst (λ (xs : List ℕ). StillToLower T whole xs at old marks) (drop_item trips k t there is) still) low
 
--- the mark of a trip of the line, where one that has none is given the last index of the first
-pub mark_by_last : (T : TimetableData) (lines : List (List ℕ)) (t : ℕ) (trips : List ℕ) (k u last at : ℕ) (marks : List (Option ℕ)) → AreDividedInto T lines → trips ≡ trips_from lines t → k < length trips → u ≡ get_or trips k u
-    → last + 1 ≡ length (events_of T t) → at ≡ unwrap_or (get_or marks u None) last → at ≡ mark_of T marks u
-mark_by_last T lines t trips k u last at marks divided same there is counted read =
-    read ∙ ap (unwrap_or (get_or marks u None)) (omega (arith, counted, (trips_no_later T lines t u divided here).long))
+-- what is read of a trip of the line is above the index just where its mark is, if one without a
+-- mark is given what is above it just where the first trip's last index is
+pub read_above : (T : TimetableData) (lines : List (List ℕ)) (t : ℕ) (trips : List ℕ) (k u last at m : ℕ) (marks : List (Option ℕ)) → AreDividedInto T lines → trips ≡ trips_from lines t → k < length trips → u ≡ get_or trips k u
+    → (at < last) ↔ (at < last_index T t) → m ≡ unwrap_or (get_or marks u None) last → (at < m) ↔ (at < mark_of T marks u)
+read_above T lines t trips k u last at m marks divided same there is stands read = by_mark (get_or marks u None) read
   where
     here : Member u (trips_from lines t)
     here = subst (λ xs. Member u xs) same (subst (λ v. Member v trips) (sym is) (member_at trips k u there))
+
+    long : last_index T t ≡ last_index T u
+    long = omega (arith, (trips_no_later T lines t u divided here).long)
+
+    by_mark : (o : Option ℕ) → m ≡ unwrap_or o last → (at < m) ↔ (at < unwrap_or o (last_index T u))
+    by_mark None e = (λ h. omega (arith, long, stands.0 (omega (arith, h, e))), λ h. omega (arith, e, stands.1 (omega (arith, h, long))))
+    by_mark (Some x) e = (λ h. omega (arith, h, e), λ h. omega (arith, h, e))

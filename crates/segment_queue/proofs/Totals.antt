@@ -4,6 +4,7 @@ use Rattle.std.specs.Prelude.{All, AllPairs, sum_by}
 use Rattle.std.proofs.lemmas.List.{take_all}
 use Rattle.std.proofs.lemmas.List.Sums.{sum_by-append, sum_by-cons, sum_by_push, sum_by_more, sum_by-le-sum_by}
 use Rattle.std.proofs.lemmas.List.Elements.{All-head, All-tail}
+use Rattle.tb_base.specs.Soundness.{IsSound}
 use Rattle.tb_base.specs.TimetableData.{TimetableData, TripData, events_of, event_total, no_trip}
 use Rattle.tb_base.specs.Transfers.{numbers_below}
 use Rattle.tb_base.proofs.Ordered.{Member, AllPairs-tail}
@@ -86,3 +87,10 @@ distinct_sum f (x ∷ xs) ys distinct inside =
           | inl k ↦ Member-left z before after k
           | inr k ↦ Member-right z before after (elim k [ inl e ↦ absurd (other (sym e)) | inr m ↦ m ])
         ]
+
+-- no trip has more events than a timetable may have
+pub long_few : (T : TimetableData) (t : ℕ) → IsSound T → t < length T.trips → length (events_of T t) ≤ 10000000
+long_few T t sound inside = omega (arith, one_le_total (λ u. length (events_of T u)) (length T.trips) t inside, all_events T, sound.events)
+
+pub index_few : (T : TimetableData) (t at : ℕ) → IsSound T → t < length T.trips → at < last_index T t → at < 10000000
+index_few T t at sound inside below = omega (arith, below, long_few T t sound inside)

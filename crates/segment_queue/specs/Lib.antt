@@ -1,4 +1,4 @@
-pub mod Stamped
+pub mod Words
 pub mod Scans
 pub mod Queue
 pub mod Traced

@@ -3,7 +3,7 @@ ghost use Rattle.tb_base.specs.Lines.{AreDividedInto};
 ghost use Rattle.tb_base.specs.Network.{NetData};
 ghost use Rattle.tb_base.specs.TimetableData.{TimetableData, event_total, events_of};
 ghost use Rattle.segment_queue.specs.Scans.{trips_from};
-ghost use Rattle.segment_queue.specs.Queue.{EntersSegment, Fits, IsFalling, IsInStep, lowered, mark_of};
+ghost use Rattle.segment_queue.specs.Queue.{EntersSegment, Fits, IsFalling, IsInStep, last_index, lowered, mark_of};
 
 use super::marks::Marks;
 use super::notes::Note;
@@ -69,8 +69,7 @@ pub(crate) fn push_within<T: Copy>(items: &mut Vec<T>, item: T)
     ensures items { items.new.items ≡ items.old.items ++ item ∷ [] }
     ensures room { vec_capacity items.new ≡ vec_capacity items.old }
 {
-    let end = items.len();
-    let _ = items.insert(end, item);
+    items.push_reserved(item);
 }
 
 // Room for so many items in all.
@@ -98,20 +97,22 @@ pub(crate) fn mark_on<S: Scan>(marks: &Marks, scan: &S, trip: TripNo) -> u32
 }
 
 // Lowers the marks of a trip and of the later trips of its line to the index, where they are greater. Along a line marks
-// never rise, so it stops at the first that isn't greater. All trips of a line have the same last index.
-pub(crate) fn lower_marks<S: Scan>(marks: &mut Marks, scan: &S, trip: TripNo, at: u32)
+// never rise, so it stops at the first that isn't greater. All trips of a line have the same last index: what stands for it
+// where a trip has no mark is greater than the index just where the last index is.
+pub(crate) fn lower_marks<S: Scan>(marks: &mut Marks, scan: &S, trip: TripNo, at: u32, last: u32)
     requires trip { trip < length (S.net scan.now).table.trips }
     requires room { length (S.net scan.now).table.trips ≤ length marks.old }
     requires divided { AreDividedInto (S.net scan.now).table (S.net scan.now).lines }
     requires falling { IsFalling (S.net scan.now).table marks.old
         (trips_from (S.net scan.now).lines trip) }
+    requires last { (at < last) ↔ (at < last_index (S.net scan.now).table trip) }
     ensures trips { length marks.new ≡ length marks.old }
     ensures marks { (u : ℕ) → u < length (S.net scan.now).table.trips →
         mark_of (S.net scan.now).table marks.new u
         ≡ lowered (trips_from (S.net scan.now).lines trip) at u
         (mark_of (S.net scan.now).table marks.old u) }
 {
-    let last = scan.last_at(trip);
+    scan.soundness();
     for later in scan.onward(trip) {
         if marks.get_or(*later, last) <= at {
             return;
@@ -189,6 +190,7 @@ impl Desk {
 
     /// Enters a trip at an index. Where the index is below the trip's mark, the segment from there up to the mark joins the
     /// queue, and the marks of the trip and of the later trips of its line fall to the index where they are greater.
+    #[inline(always)]
     pub fn reach<S: Scan>(
         &mut self,
         scan: &S,
@@ -204,14 +206,35 @@ impl Desk {
             (EntersSegment (S.net scan.now) trip at parent self.old self.new)
             (self.new ≡ self.old) }
     {
-        if self.marks.is_reached(trip, at) {
+        scan.soundness();
+        if self.marks.is_passed(trip, at) {
             return false;
         }
+        self.enter(scan, trip, at, parent)
+    }
+
+    // Enters a trip at an index, as `reach` does: most hops lead to a trip that was passed, and don't come here.
+    #[inline(never)]
+    fn enter<S: Scan>(
+        &mut self,
+        scan: &S,
+        trip: TripNo,
+        at: u32,
+        parent: Option<(u32, u32)>,
+    ) -> bool
+        requires step { IsInStep (S.net scan.now) self.old }
+        requires trip { trip < length (S.net scan.now).table.trips }
+        ensures step { IsInStep (S.net scan.now) self.new }
+        ensures told { IsTrue result ↔ (at < mark_of (S.net scan.now).table self.old.marks trip) }
+        ensures entered { MatchBool result
+            (EntersSegment (S.net scan.now) trip at parent self.old self.new)
+            (self.new ≡ self.old) }
+    {
+        scan.soundness();
         let end = mark_on(&self.marks, scan, trip);
         if end <= at {
             return false;
         }
-        scan.soundness();
         push_within(
             &mut self.segments,
             Segment {
@@ -221,7 +244,7 @@ impl Desk {
                 parent,
             },
         );
-        lower_marks(&mut self.marks, scan, trip, at);
+        lower_marks(&mut self.marks, scan, trip, at, end);
         true
     }
 

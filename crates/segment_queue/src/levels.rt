@@ -47,7 +47,7 @@ impl Levels {
         ensures refused { OnErr result (self.new ≡ []) }
     {
         self.levels.clear();
-        self.levels.push(Marks::at_stamp(alloc, trips, 1)?)?;
+        self.levels.push(Marks::with_floors(alloc, trips, 0)?)?;
         Ok(())
     }
 
@@ -86,8 +86,9 @@ impl Levels {
         ensures falling { All (λ marks. All (IsFalling (S.net scan.now).table marks)
             (S.net scan.now).lines) self.new }
     {
+        let last = scan.last_at(trip);
         for k in level..self.levels.len() {
-            lower_marks(&mut self.levels[k], scan, trip, at);
+            lower_marks(&mut self.levels[k], scan, trip, at, last);
         }
     }
 }

@@ -1,46 +1,49 @@
-ghost use Rattle.std.specs.Prelude.{◌≡◌, ◌-◌, ◌<◌, ◌≤◌, ◌++◌, ◌↔◌, [], IsSomeAnd, IsTrue, None, Some, OnErr, OnOk, length, replicate, slice_index_or, slice_set, unwrap_or};
+ghost use Rattle.std.specs.Prelude.{◌≡◌, ◌-◌, ◌<◌, ◌≤◌, ◌++◌, ◌⊎◌, [], IsSomeAnd, MatchBool, None, Some, OnErr, OnOk, length, replicate, slice_index_or, slice_set, unwrap_or};
+ghost use Rattle.segment_queue.specs.Words.{IsAbove};
 
 use std::alloc::Global;
 use std::marker::Model;
 use tb_base::{Memory, TripNo};
 
-// An index, and the stamp of the search that wrote it.
-#[derive(Clone, Copy)]
-struct Entry {
-    stamp: u32,
-    at: u32,
-}
+// How many indices there are: no timetable has more events.
+const INDICES: u32 = 10_000_000;
 
-// An entry that no search has written.
-const UNWRITTEN: Entry = Entry { stamp: 0, at: 0 };
+// The word of a trip that no search has marked.
+const UNMARKED: u32 = 4_294_967_295;
 
-// As many entries that no search has written.
-fn unwrite(entries: &mut Vec<Entry>)
-    ensures { entries.new.items
-        ≡ replicate (length entries.old.items) (record { stamp = 0; at = 0 }) }
+// How many times a floor can be lowered.
+const FLOORS: u32 = 428;
+
+// As many words of trips that no search has marked.
+fn unmark(words: &mut Vec<u32>)
+    ensures { words.new.items ≡ replicate (length words.old.items) 4294967295 }
 {
-    let count = entries.len();
-    entries.clear();
-    let _ = entries.resize(count, UNWRITTEN);
+    let count = words.len();
+    words.clear();
+    let _ = words.resize(count, UNMARKED);
 }
 
 /// An index for some of the trips, emptied in no time. It is seen as a list: for each trip its index, where it has one.
+///
+/// A trip's word is the floor of the search that wrote it and the index. Each search's floor lies by as much below the one
+/// before as there are indices, so the words of earlier searches lie above all of its own.
 #[derive(Drop)]
 pub struct Marks {
-    entries: Vec<Entry>,
-    stamp: u32,
+    words: Vec<u32>,
+    floor: u32,
 }
 
 impl Model for Marks {
-    ghost use Rattle.std.specs.Prelude.{◌≤◌, ℕ, List, Option, map, All};
+    ghost use Rattle.std.specs.Prelude.{◌+◌, ◌≤◌, ℕ, List, Option, map, All};
 
     ghost Value = { List (Option ℕ) };
 
-    ghost use Rattle.segment_queue.specs.Stamped.{mark_in};
+    ghost use Rattle.segment_queue.specs.Words.{mark_in};
 
-    ghost view = { λ m. map (mark_in m.stamp) m.entries.items };
+    ghost view = { λ m. map (mark_in m.floor) m.words.items };
 
-    ghost invariant = { λ m. (1 ≤ m.stamp) × All (λ e. e.stamp ≤ m.stamp) m.entries.items };
+    ghost invariant = { λ m. (m.floor + 10000000 ≤ 4294967295)
+        × All (λ word. m.floor ≤ word) m.words.items };
 }
 
 impl Marks {
@@ -49,19 +52,19 @@ impl Marks {
         ensures { result ≡ [] }
     {
         Marks {
-            entries: Vec::new(alloc),
-            stamp: 1,
+            words: Vec::new(alloc),
+            floor: FLOORS * INDICES,
         }
     }
 
-    /// So many trips without an index. The next `begin` starts from this stamp.
-    pub fn at_stamp(alloc: Global, trips: u32, stamp: u32) -> Result<Marks, Memory>
-        requires { 1 ≤ stamp }
+    /// So many trips without an index. So many times, and at most 428 times, `begin` writes no word; the next time it writes
+    /// all of them.
+    pub fn with_floors(alloc: Global, trips: u32, floors: u32) -> Result<Marks, Memory>
         ensures { OnOk result (result ≡ Ok (replicate trips None)) }
     {
         let mut marks = Marks {
-            entries: Vec::new(alloc),
-            stamp,
+            words: Vec::new(alloc),
+            floor: floors.min(FLOORS) * INDICES,
         };
         marks.make_room(trips)?;
         Ok(marks)
@@ -71,7 +74,7 @@ impl Marks {
     pub fn trips(&self) -> usize
         ensures { result ≡ length self.now }
     {
-        self.entries.len()
+        self.words.len()
     }
 
     /// At least so many trips. The further ones have no index.
@@ -80,10 +83,10 @@ impl Marks {
             (self.new ≡ self.old ++ replicate (trips - length self.old) None) }
         ensures memory { OnErr result (self.new ≡ self.old) }
     {
-        if trips as usize <= self.entries.len() {
+        if trips as usize <= self.words.len() {
             return Ok(());
         }
-        self.entries.resize(trips as usize, UNWRITTEN)?;
+        self.words.resize(trips as usize, UNMARKED)?;
         Ok(())
     }
 
@@ -91,12 +94,21 @@ impl Marks {
     pub fn begin(&mut self)
         ensures { self.new ≡ replicate (length self.old) None }
     {
-        if self.stamp < u32::MAX {
-            self.stamp += 1;
+        if INDICES <= self.floor {
+            self.floor -= INDICES;
             return;
         }
-        unwrite(&mut self.entries);
-        self.stamp = 1;
+        unmark(&mut self.words);
+        self.floor = FLOORS * INDICES;
+    }
+
+    // How far the word of a trip lies above the floor.
+    #[inline(always)]
+    fn above(&self, trip: TripNo) -> u32
+        requires { trip < length self.now }
+        ensures { IsAbove result (slice_index_or self.now trip None) }
+    {
+        self.words[trip.index()] - self.floor
     }
 
     /// The index of a trip, where it has one.
@@ -104,43 +116,38 @@ impl Marks {
         requires { trip < length self.now }
         ensures { result ≡ slice_index_or self.now trip None }
     {
-        let entry = self.entries[trip.index()];
-        if entry.stamp == self.stamp {
-            Some(entry.at)
-        } else {
-            None
-        }
+        let above = self.above(trip);
+        if above < INDICES { Some(above) } else { None }
     }
 
     /// The index of a trip, and this one where it has none.
-    pub fn get_or(&self, trip: TripNo, otherwise: u32) -> u32
+    pub(crate) fn get_or(&self, trip: TripNo, otherwise: u32) -> u32
         requires { trip < length self.now }
-        ensures { result ≡ unwrap_or (slice_index_or self.now trip None) otherwise }
+        ensures mark { result ≡ unwrap_or (slice_index_or self.now trip None) otherwise }
+        ensures few { result ≡ otherwise ⊎ result < 10000000 }
     {
-        let entry = self.entries[trip.index()];
-        if entry.stamp == self.stamp {
-            entry.at
-        } else {
-            otherwise
-        }
+        let above = self.above(trip);
+        if above < INDICES { above } else { otherwise }
     }
 
-    /// Whether a trip has an index that is at most this one.
-    pub fn is_reached(&self, trip: TripNo, at: u32) -> bool
+    /// Whether a trip has an index that is at most this one. Of a number that is no index it may say so too.
+    #[inline(always)]
+    pub(crate) fn is_passed(&self, trip: TripNo, at: u32) -> bool
         requires { trip < length self.now }
-        ensures { IsTrue result ↔ IsSomeAnd (slice_index_or self.now trip None) (λ m. m ≤ at) }
+        ensures { MatchBool result
+            (IsSomeAnd (slice_index_or self.now trip None) (λ m. m ≤ at) ⊎ (10000000 ≤ at))
+            (IsSomeAnd (slice_index_or self.now trip None) (λ m. m ≤ at) → ⊥) }
     {
-        let entry = self.entries[trip.index()];
-        entry.stamp == self.stamp && entry.at <= at
+        self.above(trip) <= at
     }
 
     /// Gives a trip this index.
     pub fn set(&mut self, trip: TripNo, at: u32)
-        requires { trip < length self.old }
+        requires trip { trip < length self.old }
+        requires at { at < 10000000 }
         ensures { self.new ≡ slice_set self.old trip (Some at) }
     {
-        let stamp = self.stamp;
-        self.entries[trip.index()] = Entry { stamp, at };
+        self.words[trip.index()] = self.floor + at;
     }
 
     /// The same marks once more.
@@ -148,8 +155,8 @@ impl Marks {
         ensures { OnOk result (result ≡ Ok self.now) }
     {
         Ok(Marks {
-            entries: Vec::from_slice(alloc, self.entries.as_slice())?,
-            stamp: self.stamp,
+            words: Vec::from_slice(alloc, self.words.as_slice())?,
+            floor: self.floor,
         })
     }
 }

@@ -159,8 +159,8 @@ impl<'a> Scan for View<'a> {
     fn last_at(&self, trip: TripNo) -> u32 {
         let table = self.table;
         table.soundness();
-        let events = table.trip(trip).events.as_slice();
-        (events.len() - 1) as u32
+        let set = self.set;
+        set.event_count(trip) - 1
     }
 
     fn onward(&self, trip: TripNo) -> &[TripNo] {

@@ -55,27 +55,34 @@ number_at (suc n) t d h = by_case (λ k. number_at n t d k) (below_or_last t n h
 
 -- the first n trips are packed: their runs begin where their starts say, and their calls one place on
 pub record ArePacked (T : TimetableData) (rows : List (List Transfer)) (n : ℕ) (starts : List ℕ) (runs : List (List Hop)) (called : List Call) : Type 0 where
-  pub long : length starts ≡ n
-  pub events : (t : ℕ) → t < n → get_or starts t 0 + length (events_of T t) ≤ length runs
+  pub long : length starts ≡ suc n
+  pub last : get_or starts n 0 ≡ length runs
+  pub events : (t : ℕ) → t < n → get_or starts t 0 + length (events_of T t) ≡ get_or starts (suc t) 0
+  pub within : (t : ℕ) → t ≤ n → get_or starts t 0 ≤ length runs
   pub hops : (t i : ℕ) → t < n → i < length (events_of T t) → get_or runs (get_or starts t 0 + i) [] ≡ hops_at (row_of rows t) i
   pub calls : (t i : ℕ) → t < n → i < length (events_of T t) → get_or called (suc (get_or starts t 0 + i)) no_call ≡ call_of (event_at T t i)
 
 -- one trip more
-pub trip_packed : (T : TimetableData) (rows : List (List Transfer)) (n : ℕ) (starts : List ℕ) (runs : List (List Hop)) (calls : List Call) (row : List Transfer) (events : List Event) → ArePacked T rows n starts runs calls → length calls ≡ suc (length runs) → row ≡ row_of rows n → events ≡ events_of T n
-    → ArePacked T rows (n + 1) (starts ++ length runs ∷ []) (runs ++ map (hops_at row) (numbers_below (length events))) (calls ++ map call_of events)
-trip_packed T rows n starts runs calls row events are counted row_is events_are = record {
-  long = omega (arith, length-append starts (length runs ∷ []), are.long);
+pub trip_packed : (T : TimetableData) (rows : List (List Transfer)) (n : ℕ) (starts : List ℕ) (runs : List (List Hop)) (calls : List Call) (row : List Transfer) (events : List Event) (end : ℕ) → ArePacked T rows n starts runs calls → length calls ≡ suc (length runs) → row ≡ row_of rows n → events ≡ events_of T n
+    → end ≡ length (runs ++ map (hops_at row) (numbers_below (length events))) → ArePacked T rows (n + 1) (starts ++ end ∷ []) (runs ++ map (hops_at row) (numbers_below (length events))) (calls ++ map call_of events)
+trip_packed T rows n starts runs calls row events end are counted row_is events_are ends = record {
+  long = omega (arith, length-append starts (end ∷ []), are.long);
+  last = right (n + 1) (omega arith) ∙ ends;
   events = λ t below. elim (below_or_last t n (omega (arith, below))) [
-    | inl h ↦ omega (arith, left t h, are.events t h, length-append runs block)
-    | inr e ↦ omega (arith, right t e, length-append runs block, block_long, many t e)
+    | inl h ↦ omega (arith, left t (omega (arith, h)), left (suc t) (omega (arith, h)), are.events t h)
+    | inr e ↦ omega (arith, here t e, right (suc t) (omega (arith, e)), ends, length-append runs block, block_long, many t e)
+  ];
+  within = λ t below. elim (below_or_last t (suc n) (omega (arith, below))) [
+    | inl h ↦ omega (arith, left t (omega (arith, h)), are.within t (omega (arith, h)), length-append runs block)
+    | inr e ↦ omega (arith, right t e, ends)
   ];
   hops = λ t i below inside. elim (below_or_last t n (omega (arith, below))) [
-    | inl h ↦ ap (λ k. get_or (runs ++ block) (k + i) []) (left t h) ∙ get_or_append_left runs block [] (get_or starts t 0 + i) (omega (arith, are.events t h, inside)) ∙ are.hops t i h inside
-    | inr e ↦ ap (λ k. get_or (runs ++ block) (k + i) []) (right t e) ∙ in_block i (omega (arith, inside, many t e)) ∙ ap (λ xs. hops_at xs i) (row_is ∙ ap (row_of rows) (sym e))
+    | inl h ↦ ap (λ k. get_or (runs ++ block) (k + i) []) (left t (omega (arith, h))) ∙ get_or_append_left runs block [] (get_or starts t 0 + i) (before t i h inside) ∙ are.hops t i h inside
+    | inr e ↦ ap (λ k. get_or (runs ++ block) (k + i) []) (here t e) ∙ in_block i (omega (arith, inside, many t e)) ∙ ap (λ xs. hops_at xs i) (row_is ∙ ap (row_of rows) (sym e))
   ];
   calls = λ t i below inside. elim (below_or_last t n (omega (arith, below))) [
-    | inl h ↦ ap (λ k. get_or (calls ++ map call_of events) (suc (k + i)) no_call) (left t h) ∙ get_or_append_left calls (map call_of events) no_call (suc (get_or starts t 0 + i)) (omega (arith, are.events t h, inside, counted)) ∙ are.calls t i h inside
-    | inr e ↦ ap (λ k. get_or (calls ++ map call_of events) (suc (k + i)) no_call) (right t e) ∙ in_calls i (omega (arith, inside, many t e)) ∙ ap (λ es. call_of (get_or es i no_event)) (events_are ∙ ap (events_of T) (sym e))
+    | inl h ↦ ap (λ k. get_or (calls ++ map call_of events) (suc (k + i)) no_call) (left t (omega (arith, h))) ∙ get_or_append_left calls (map call_of events) no_call (suc (get_or starts t 0 + i)) (omega (arith, before t i h inside, counted)) ∙ are.calls t i h inside
+    | inr e ↦ ap (λ k. get_or (calls ++ map call_of events) (suc (k + i)) no_call) (here t e) ∙ in_calls i (omega (arith, inside, many t e)) ∙ ap (λ es. call_of (get_or es i no_event)) (events_are ∙ ap (events_of T) (sym e))
   ];
 }
   where
@@ -88,11 +95,17 @@ trip_packed T rows n starts runs calls row events are counted row_is events_are 
     many : (t : ℕ) → t ≡ n → length (events_of T t) ≡ length events
     many t e = ap (λ k. length (events_of T k)) e ∙ ap length (sym events_are)
 
-    left : (t : ℕ) → t < n → get_or (starts ++ length runs ∷ []) t 0 ≡ get_or starts t 0
-    left t h = get_or_append_left starts (length runs ∷ []) 0 t (omega (arith, h, are.long))
+    left : (t : ℕ) → t ≤ n → get_or (starts ++ end ∷ []) t 0 ≡ get_or starts t 0
+    left t h = get_or_append_left starts (end ∷ []) 0 t (omega (arith, h, are.long))
 
-    right : (t : ℕ) → t ≡ n → get_or (starts ++ length runs ∷ []) t 0 ≡ length runs
-    right t e = last_one starts (length runs) 0 t (omega (arith, e, are.long))
+    right : (t : ℕ) → t ≡ suc n → get_or (starts ++ end ∷ []) t 0 ≡ end
+    right t e = last_one starts end 0 t (omega (arith, e, are.long))
+
+    here : (t : ℕ) → t ≡ n → get_or (starts ++ end ∷ []) t 0 ≡ length runs
+    here t e = left t (omega (arith, e)) ∙ ap (λ k. get_or starts k 0) e ∙ are.last
+
+    before : (t i : ℕ) → t < n → i < length (events_of T t) → get_or starts t 0 + i < length runs
+    before t i h inside = omega (arith, are.events t h, are.within (suc t) (omega (arith, h)), inside)
 
     behind : (a b i : ℕ) → a ≡ suc b → suc (b + i) - a ≡ i
     behind a b i e = omega (arith, e)
@@ -219,4 +232,4 @@ call_found S S' spots t i n s same are trip at is inside s_is =
 pub run_inside : (S : PackedHops) (t i start : ℕ) → FitsRuns S → t < length S.table.trips → i < length (events_of S.table t) → start ≡ get_or S.starts t start → start + i < length S.runs
 run_inside S t i start fits trip at is =
     let there : t < length S.starts = omega (arith, trip, fits.trips) in
-    omega (arith, is, get_or_default_zero S.starts t start there, fits.events t trip, at)
+    omega (arith, is, get_or_default_zero S.starts t start there, fits.events t trip, fits.within (suc t) (omega (arith, trip)), at)

@@ -1,5 +1,5 @@
 -- Lists of hops one behind the other in one list.
-use Rattle.std.specs.Prelude.{◌≡◌, ℕ, ◌+◌, ◌-◌, ◌<◌, ◌≤◌, List, [], ◌∷◌, length, take, drop, slice_index_or, nat_lt, if◌then◌else◌}
+use Rattle.std.specs.Prelude.{◌≡◌, ℕ, suc, ◌+◌, ◌-◌, ◌<◌, ◌≤◌, List, [], ◌∷◌, length, take, drop, slice_index_or, nat_lt, if◌then◌else◌}
 use Rattle.tb_base.specs.declared.transfer.Hop.{Hop}
 use Rattle.tb_base.specs.TimetableData.{TimetableData, events_of}
 
@@ -16,17 +16,18 @@ AreBounds (a ∷ []) end = a ≡ end
 AreBounds (a ∷ b ∷ bounds) end = (a ≤ b) × AreBounds (b ∷ bounds) end
 
 -- the hops of all events of a timetable, one list an event, trip after trip, and the number of each
--- trip's first list
+-- trip's first list, and of the list behind the last
 pub record PackedHops : Type 0 where
   pub table : TimetableData
   pub starts : List ℕ
   pub runs : List (List Hop)
 
--- each event of the timetable has a list
+-- each event of the timetable has a list: those of a trip stand before those of the next
 pub record FitsRuns (S : PackedHops) : Type 0 where
-  pub trips : length S.starts ≡ length S.table.trips
+  pub trips : length S.starts ≡ suc (length S.table.trips)
   pub events : (t : ℕ) → t < length S.table.trips →
-      slice_index_or S.starts t 0 + length (events_of S.table t) ≤ length S.runs
+      slice_index_or S.starts t 0 + length (events_of S.table t) ≡ slice_index_or S.starts (suc t) 0
+  pub within : (t : ℕ) → t ≤ length S.table.trips → slice_index_or S.starts t 0 ≤ length S.runs
 
 -- the hops from event i of trip t
 abbrev pub packed : PackedHops → ℕ → ℕ → List Hop

@@ -158,10 +158,11 @@ impl Set {
         let mut spots = Vec::new(alloc);
         let mut hops = Vec::new(alloc);
         spots.push(NO_SPOT)?;
+        starts.push(0)?;
         for t in 0..table.trip_count() {
-            starts.push(number(spots.len() - 1)?)?;
             let events = table.events(TripNo(t));
             add_trip(&mut hops, &mut spots, rows[t as usize].as_slice(), events)?;
+            starts.push(number(spots.len() - 1)?)?;
         }
         Ok(Set {
             table: Snapshot::of(table),
@@ -211,6 +212,14 @@ impl Set {
     {
         let event = self.event(trip, at);
         run_behind(self.hops.as_slice(), self.spots.as_slice(), event)
+    }
+
+    /// How many events a trip has.
+    pub fn event_count(&self, trip: TripNo) -> u32
+        requires { trip < length self.now.table.trips }
+        ensures { result ≡ length (events_of self.now.table trip) }
+    {
+        self.starts[trip.index() + 1] - self.starts[trip.index()]
     }
 
     /// Event `at` of a trip.

@@ -1,9 +1,10 @@
-use Rattle.std.proofs.Common.{◌≡◌, ◌<◌, ◌≤◌, arith, refl}
+use Rattle.std.proofs.Common.{◌↔◌, ◌<◌, ◌≤◌, inl, inr, arith, refl}
 use Rattle.std.proofs.lemmas.Grind.{common_steps}
 use Rattle.tb_base.specs.Network.{NetData}
 use Rattle.segment_queue.specs.Queue.{mark_of}
 use Rattle.segment_queue.specs.Scans.{trips_from}
-use Rattle.segment_queue.proofs.LoweredMarks.{all_to_lower, mark_by_last, no_more_to_lower, one_more_lowered}
+use Rattle.segment_queue.proofs.LoweredMarks.{all_to_lower, no_more_to_lower, one_more_lowered, read_above}
+use Rattle.segment_queue.proofs.Totals.{index_few}
 use Rattle.segment_queue.proofs.desk.lower_marks.Goals as goal
 
 pub loop-later-init : goal.loop-later-init
@@ -14,20 +15,28 @@ loop-later-init g c =
 pub returns-then-get_or-at-clause-marks : goal.returns-then-get_or-at-clause-marks
 returns-then-get_or-at-clause-marks g c =
     let N : NetData = g.S.Scan.net c.args.scan.now in
-    let mark : c.get_or.result ≡ mark_of N.table c.loop-later.marks c.later-item.result
-    = mark_by_last N.table N.lines c.args.trip c.onward-later-items.result.now c.loop-later.later-index c.later-item.result c.last_at-last.result c.get_or.result c.loop-later.marks
-    c.requires.divided c.onward-later-items.ensures.trips (grind (arith, common_steps)) c.later-item.is c.last_at-last.ensures c.get_or.ensures in
-    let low : mark_of N.table c.loop-later.marks c.later-item.result ≤ c.args.at = omega (arith, c.if-get_or-at.true, mark) in
+    let read : (c.args.at < c.get_or.result) ↔ (c.args.at < mark_of N.table c.loop-later.marks c.later-item.result)
+    = read_above N.table N.lines c.args.trip c.onward-later-items.result.now c.loop-later.later-index c.later-item.result c.args.last c.args.at c.get_or.result c.loop-later.marks
+    c.requires.divided c.onward-later-items.ensures.trips (grind (arith, common_steps)) c.later-item.is c.requires.last c.get_or.ensures.mark in
+    let low : mark_of N.table c.loop-later.marks c.later-item.result ≤ c.args.at = grind (arith, c.if-get_or-at.true, read) in
     no_more_to_lower N.table (trips_from N.lines c.args.trip) c.onward-later-items.result.now c.loop-later.later-index c.later-item.result c.args.at c.args.marks.now c.loop-later.marks
     c.loop-later.invariant.still (grind (arith, common_steps)) c.later-item.is low
+
+pub set-requires-clause-at : goal.set-requires-clause-at
+set-requires-clause-at g c =
+    let N : NetData = g.S.Scan.net c.args.scan.now in
+    elim c.get_or.ensures.few [
+      | inl e ↦ index_few N.table c.args.trip c.args.at c.soundness.ensures.sound c.requires.trip (c.requires.last.0 (omega (arith, e, c.if-get_or-at.false)))
+      | inr h ↦ omega (arith, h, c.if-get_or-at.false)
+    ]
 
 pub loop-later-preserved : goal.loop-later-preserved
 loop-later-preserved g c =
     let N : NetData = g.S.Scan.net c.args.scan.now in
-    let mark : c.get_or.result ≡ mark_of N.table c.loop-later.marks c.later-item.result
-    = mark_by_last N.table N.lines c.args.trip c.onward-later-items.result.now c.loop-later.later-index c.later-item.result c.last_at-last.result c.get_or.result c.loop-later.marks
-    c.requires.divided c.onward-later-items.ensures.trips (grind (arith, common_steps)) c.later-item.is c.last_at-last.ensures c.get_or.ensures in
-    let above : c.args.at < mark_of N.table c.loop-later.marks c.later-item.result = omega (arith, c.if-get_or-at.false, mark) in
+    let read : (c.args.at < c.get_or.result) ↔ (c.args.at < mark_of N.table c.loop-later.marks c.later-item.result)
+    = read_above N.table N.lines c.args.trip c.onward-later-items.result.now c.loop-later.later-index c.later-item.result c.args.last c.args.at c.get_or.result c.loop-later.marks
+    c.requires.divided c.onward-later-items.ensures.trips (grind (arith, common_steps)) c.later-item.is c.requires.last c.get_or.ensures.mark in
+    let above : c.args.at < mark_of N.table c.loop-later.marks c.later-item.result = read.0 (omega (arith, c.if-get_or-at.false)) in
     record {
       trips = grind (arith, common_steps);
       still = one_more_lowered N.table (trips_from N.lines c.args.trip) c.onward-later-items.result.now c.loop-later.later-index c.later-item.result c.args.at c.args.marks.now c.loop-later.marks c.set.new.self

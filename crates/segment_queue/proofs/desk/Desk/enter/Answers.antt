@@ -4,7 +4,7 @@ use Rattle.segment_queue.specs.contracts.desk.Desk.{the_view}
 use Rattle.segment_queue.specs.Queue.{IsInStep, mark_of}
 use Rattle.segment_queue.proofs.LineParts.{pairs_of}
 use Rattle.segment_queue.proofs.InStep.{in_step-entered, segments_and_mark}
-use Rattle.segment_queue.proofs.desk.Desk.reach.Goals as goal
+use Rattle.segment_queue.proofs.desk.Desk.enter.Goals as goal
 
 pub push_within-requires : goal.push_within-requires
 push_within-requires g c =
