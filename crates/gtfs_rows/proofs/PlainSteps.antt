@@ -1,11 +1,11 @@
 -- The steps of the machine that reads records, over text without quotes.
-use Rattle.std.proofs.Common.{◌≡◌, ◌≢◌, ◌∙◌, sym, ap, refl, ℕ, suc, ◌+◌, ◌-◌, ◌<◌, ◌≤◌, List, [], ◌∷◌, ◌++◌, length, take, drop, get_or, Option, Some, None, Bool, true, false, arith, inl, inr, length-drop, get_or-drop}
-use Rattle.std.specs.Prelude.{◌==◌, ◌||◌, not, if◌then◌else◌}
+use Rattle.std.proofs.Common.{◌≡◌, ◌≢◌, ◌∙◌, sym, ap, subst, refl, ℕ, zero, suc, ◌+◌, ◌-◌, ◌<◌, ◌≤◌, List, [], ◌∷◌, ◌++◌, length, take, drop, get_or, Option, Some, None, Bool, true, false, arith, inl, inr, length-drop, get_or-drop}
+use Rattle.std.specs.Prelude.{◌==◌, ◌||◌, if◌then◌else◌}
 use Rattle.std.proofs.lemmas.Bool.{cases_Bool, false≢true}
 use Rattle.std.proofs.lemmas.Bool.Decides.{eqb_tells}
 use Rattle.std.proofs.lemmas.List.{take_more, drop_more, take_rest, drop_all}
 use Rattle.std.proofs.lemmas.List.Elements.{All-head, All-drop}
-use Rattle.csv.specs.Machine.{Read, next_record, step, ends_at_end}
+use Rattle.csv.specs.Machine.{Read, next_record, ends_at_end}
 use Rattle.csv.specs.Reading.{default_config, records_from}
 use Rattle.csv.specs.declared.parser.State.{State}
 use Rattle.csv.specs.declared.parser.State.TheVariants as st
@@ -166,3 +166,28 @@ module _ (text : List ℕ) (fields : Record) (start at : ℕ) (same : next_recor
       (remaining_some default_config st.StartRecord text (fields ++ take (at - start) (drop start text) ∷ [], st.StartRecord, []) refl next).0
       ∙ ap (λ n. (fields ++ take (n - start) (drop start text) ∷ []) ∷ records_of []) end
       ∙ ap (λ n. (fields ++ take (length text - start) (drop start text) ∷ []) ∷ records_of (take n (drop (length text) text))) (sym none)
+
+-- of bytes past the comma none is a line end
+high_no_end : (b : ℕ) → 44 < b → is_line_end b ≡ false
+high_no_end b high = rw (other_byte b 13 (λ e. absurd (omega (arith, e, high))), other_byte b 10 (λ e. absurd (omega (arith, e, high)))) refl
+
+-- the same of a run of bytes of which none is a comma or a line end
+module _ (text : List ℕ) (fields : Record) (start : ℕ) where
+  abbrev Stands : ℕ → Type 0
+  Stands at = next_record default_config st.StartRecord [] [] text ≡ next_record default_config st.InField fields (take (at - start) (drop start text)) (drop at text)
+
+  run : (n at : ℕ) → start ≤ at → at + n ≤ length text → ((k : ℕ) → at ≤ k → k < at + n → 44 < get_or text k 0) → Stands at → Stands (at + n)
+  run zero at within inside high same = let e : at ≡ at + 0 = omega arith in subst Stands e same
+  run (suc n) at within inside high same =
+      let here = high at (omega arith) (omega arith) in
+      let e : at + 1 + n ≡ at + suc n = omega arith in
+      subst Stands e
+      (run n (at + 1) (omega (arith, within)) (omega (arith, inside)) (λ k low below. high k (omega (arith, low)) (omega (arith, below)))
+      (joined text fields start at same within (omega (arith, inside)) (λ c. absurd (omega (arith, c, here))) (high_no_end (get_or text at 0) here)))
+
+  pub run_joined : (at next : ℕ) → start ≤ at → at ≤ next → next ≤ length text → ((k : ℕ) → at ≤ k → k < next → 44 < get_or text k 0)
+      → next_record default_config st.StartRecord [] [] text ≡ next_record default_config st.InField fields (take (at - start) (drop start text)) (drop at text)
+      → next_record default_config st.StartRecord [] [] text ≡ next_record default_config st.InField fields (take (next - start) (drop start text)) (drop next text)
+  run_joined at next within on inside high same =
+      let e : at + (next - at) ≡ next = omega (arith, on) in
+      subst Stands e (run (next - at) at within (omega (arith, on, inside)) (λ k low below. high k low (omega (arith, below, on))) same)

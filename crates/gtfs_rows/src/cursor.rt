@@ -1,5 +1,5 @@
 //! The rows of a file by the names in its first row.
-ghost use Rattle.std.specs.Prelude.{◌≡◌, ◌≤◌, ◌<◌, ◌+◌, ◌^◌, ◌∷◌, [], ℕ, List, IfOk, OnErr, MatchBool, length, map, take, position, bytes_eq, is_none};
+ghost use Rattle.std.specs.Prelude.{◌≡◌, ◌≤◌, ◌<◌, ◌+◌, ◌^◌, ◌∷◌, [], ℕ, List, IfOk, OnErr, MatchBool, length, map, take, position, bytes_eq, is_none, IsTrue};
 ghost use Rattle.std.specs.List.{list_all};
 ghost use Rattle.std.specs.Str.{is_utf8};
 ghost use Rattle.gtfs_rows.specs.Records.{file_records};
@@ -32,10 +32,29 @@ fn cut_start(text: &[u8]) -> &[u8]
     rest
 }
 
+// Whether the first and the last byte are past the space, as they mostly are. Then nothing is cut.
+fn is_cut(text: &[u8]) -> bool
+    ensures { IsTrue result → cut text.now ≡ text.now }
+{
+    if text.is_empty() {
+        return true;
+    }
+    if text[0] <= b' ' {
+        return false;
+    }
+    if text[text.len() - 1] <= b' ' {
+        return false;
+    }
+    true
+}
+
 // A text without the spaces and tabs at both ends.
 fn cut(text: &[u8]) -> &[u8]
     ensures { result.now ≡ cut text.now }
 {
+    if is_cut(text) {
+        return text;
+    }
     let mut rest = cut_start(text);
     while let [front @ .., last] = rest {
         if !is_blank(*last) {

@@ -1,10 +1,11 @@
 //! The records of a text without quotes, cut where its commas and line ends stand.
-ghost use Rattle.std.specs.Prelude.{◌≡◌, ◌≤◌, ◌∷◌, ◌++◌, [], true, IfOk, OnOk, OnErr, MatchBool, length, get_or};
+ghost use Rattle.std.specs.Prelude.{◌≡◌, ◌≤◌, ◌<◌, ◌+◌, ◌∷◌, ◌++◌, [], ℕ, true, IfOk, OnOk, OnErr, MatchBool, length, get_or};
 ghost use Rattle.gtfs_rows.specs.Records.{RecordPosition};
 ghost use Rattle.gtfs_rows.specs.PlainText.{IsUnquoted, is_line_end, skip_line_ends, starts_record, records_of, record_of};
 
 use std::alloc::Global;
 use std::marker::Model;
+use std::simd::prelude::*;
 use tb_base::Memory;
 
 /// A position among the records of a text without quotes: the fields of the record that was read
@@ -55,6 +56,41 @@ fn add_field<'a>(fields: &mut Vec<&'a [u8]>, field: &'a [u8]) -> Result<(), Memo
     Ok(())
 }
 
+// How many of the sixteen bytes from a place on come before the first that is no more than a comma.
+fn high_bytes(text: &[u8], at: usize) -> usize
+    requires { at + 16 ≤ length text.now }
+    ensures most { result ≤ 16 }
+    ensures high { (k : ℕ) → k < result → 44 < get_or text.now (at + k) 0 }
+{
+    let marks = u8x16::from_slice(&text[at..])
+        .simd_le(u8x16::splat(b','))
+        .to_bitmask();
+    if marks == 0 {
+        return 16;
+    }
+    let first = marks.trailing_zeros() as usize;
+    if first < 16 { first } else { 16 }
+}
+
+// A place from one on, up to which no byte is a comma or a line end: the first such byte, another
+// that is as small, or the text's end.
+fn next_end(text: &[u8], from: usize) -> usize
+    requires { from ≤ length text.now }
+    ensures after { from ≤ result }
+    ensures within { result ≤ length text.now }
+    ensures high { (k : ℕ) → from ≤ k → k < result → 44 < get_or text.now k 0 }
+{
+    let mut at = from;
+    while text.len() - at >= 16 {
+        let high = high_bytes(text, at);
+        at += high;
+        if high < 16 {
+            break;
+        }
+    }
+    at
+}
+
 // Cuts the record at the start of a text into its fields, and gives the text behind it.
 fn cut_record<'a>(text: &'a [u8], fields: &mut Vec<&'a [u8]>) -> Result<&'a [u8], Memory>
     requires unquoted { IsUnquoted text.now }
@@ -65,7 +101,8 @@ fn cut_record<'a>(text: &'a [u8], fields: &mut Vec<&'a [u8]>) -> Result<&'a [u8]
     ensures unquoted { IfOk result (λ rest. IsUnquoted rest.now) }
 {
     let mut start = 0;
-    for at in 0..text.len() {
+    let mut at = next_end(text, 0);
+    while at < text.len() {
         let byte = text[at];
         if byte == b',' {
             add_field(fields, &text[start..at])?;
@@ -74,6 +111,7 @@ fn cut_record<'a>(text: &'a [u8], fields: &mut Vec<&'a [u8]>) -> Result<&'a [u8]
             add_field(fields, &text[start..at])?;
             return Ok(&text[at + 1..]);
         }
+        at = next_end(text, at + 1);
     }
     add_field(fields, &text[start..])?;
     Ok(&text[text.len()..])
