@@ -48,7 +48,8 @@ fn skip_line_ends(text: &[u8]) -> &[u8]
 }
 
 fn add_field<'a>(fields: &mut Vec<&'a [u8]>, field: &'a [u8]) -> Result<(), Memory>
-    ensures { OnOk result (record_of fields.new.items ≡ record_of fields.old.items ++ field.now ∷ []) }
+    ensures { OnOk result
+        (record_of fields.new.items ≡ record_of fields.old.items ++ field.now ∷ []) }
 {
     if fields.push(field).is_err() {
         return Err(Memory);
