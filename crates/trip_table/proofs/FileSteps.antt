@@ -1,20 +1,19 @@
--- What the last file refuses is what all files refuse.
-use Rattle.std.proofs.Common.{◌≡◌, ◌∙◌, subst, List, ℕ, Option}
-use Rattle.std.specs.Prelude.{Ok, IsSome}
+-- What a file gives, and then those after it, is what all of them give.
+use Rattle.std.proofs.Common.{◌≡◌, sym, subst, List, ℕ, Option}
+use Rattle.std.specs.Prelude.{Result, Ok, IsSome}
 use Rattle.tb_io.specs.Files.{FileList}
-use Rattle.gtfs_rows.specs.StopsFile.{StopData}
-use Rattle.gtfs_rows.specs.TripsFile.{TripData}
-use Rattle.trip_table.specs.References.{ServiceData, stops_of, services_of, trips_of, times_of, rows_of}
+use Rattle.gtfs_rows.specs.Steps.{and_then}
+use Rattle.gtfs_rows.specs.Refused.{Yields}
+use Rattle.gtfs_rows.specs.declared.fault.FeedFault.{FeedFault}
+use Rattle.trip_table.specs.Feed.{Feed}
+use Rattle.trip_table.specs.References.{Rows}
 use Rattle.trip_table.specs.Answers.{IsRefused, feed_of}
 use Rattle.trip_table.specs.declared.day_fault.DayFault.{DayFault}
-use Rattle.trip_table.proofs.Told.{refused}
 
-pub times_refused : (first second third fourth : Option FileList) (dir : List ℕ) (stops : List StopData) (services : ServiceData) (trips : List TripData) (f : DayFault)
-    → second ≡ first → third ≡ second → fourth ≡ third → IsSome first
-    → (IsSome first → stops_of (feed_of first dir) ≡ Ok stops) → (IsSome second → services_of (feed_of second dir) ≡ Ok services) → (IsSome third → trips_of (feed_of third dir) ≡ Ok trips)
-    → (IsSome fourth → IsRefused (times_of (feed_of fourth dir) stops trips) f) → IsRefused (rows_of (feed_of first dir)) f
-times_refused first second third fourth dir stops services trips f p q r told a b c d =
-    let b1 : services_of (feed_of first dir) ≡ Ok services = subst (λ (o : Option FileList). IsSome o → services_of (feed_of o dir) ≡ Ok services) p b told in
-    let c1 : trips_of (feed_of first dir) ≡ Ok trips = subst (λ (o : Option FileList). IsSome o → trips_of (feed_of o dir) ≡ Ok trips) (q ∙ p) c told in
-    let d1 : IsRefused (times_of (feed_of first dir) stops trips) f = subst (λ (o : Option FileList). IsSome o → IsRefused (times_of (feed_of o dir) stops trips) f) (r ∙ q ∙ p) d told in
-    rw (a told, b1, c1) (refused (times_of (feed_of first dir) stops trips) (λ times. Ok (record { stops = stops; services = services; trips = trips; times = times })) f d1)
+pub then_yields : {A : Type 0} (first second : Option FileList) (dir : List ℕ) (this : Feed → Result A FeedFault) (next : Feed → A → Result Rows FeedFault) (x : A) (result : Result Rows DayFault) → second ≡ first
+    → (IsSome first → this (feed_of first dir) ≡ Ok x) → (IsSome second → Yields IsRefused result (λ rows. rows) (next (feed_of second dir) x)) → IsSome first
+    → Yields IsRefused result (λ rows. rows) (and_then (this (feed_of first dir)) (next (feed_of first dir)))
+then_yields {A} first second dir this next x result same are told there =
+    let feed = feed_of first dir in
+    let h : Yields IsRefused result (λ rows. rows) (next feed x) = subst (λ (o : Option FileList). IsSome o → Yields IsRefused result (λ rows. rows) (next (feed_of o dir) x)) same told there in
+    subst (λ (m : Result A FeedFault). Yields IsRefused result (λ rows. rows) (and_then m (next feed))) (sym (are there)) h

@@ -5,7 +5,7 @@ ghost use Rattle.gtfs_rows.specs.declared.fault.FeedFault.{FeedFault};
 ghost use Rattle.footpaths.specs.Stops.{platforms};
 ghost use Rattle.tb_base.specs.Soundness.{IsSoundFootpaths};
 ghost use Rattle.trip_table.specs.Answers.{Gives, GivesRows, IsCounted, Leaves, feed_of};
-ghost use Rattle.trip_table.specs.Day.{parts_on, IsTimetableOf, IsTimetableOfParts, Then};
+ghost use Rattle.trip_table.specs.Day.{parts_on, parts_after_paths, parts_after_rows, IsTimetableOf, IsTimetableOfParts, Then};
 
 use crate::Options;
 use crate::assemble::assemble;
@@ -60,6 +60,68 @@ fn timetable_of(
     }
 }
 
+// The timetable of a day, where the rows of the feed and its footpaths were read, or the first thing
+// that is wrong with frequencies.txt, or with the day.
+fn timetable_after_paths<F: Folder>(
+    alloc: Global,
+    folder: &mut F,
+    dir: &str,
+    rows: &FeedRows,
+    told: Option<Paths>,
+    day: &Day,
+    close: bool,
+) -> Result<Timetable, DayFault>
+    requires count { F.faults folder.old < 2 ^ 64 - 1 }
+    requires sound { IfSome told IsSoundFootpaths }
+    requires many { IfSome told
+        (λ paths. length (FootpathData.change paths) ≡ length (platforms rows.now.stops)) }
+    ensures told { IsSome (F.files folder.old) →
+        (counted : Result FootpathData FeedFault) → IsCounted counted told →
+        Gives
+        (Then (parts_after_paths (feed_of (F.files folder.old) dir.now) day.now rows.now counted)
+        (IsTimetableOfParts close))
+        result }
+    ensures leaves { Leaves (F.files folder.old) (F.files folder.new) (F.faults folder.old)
+        (F.faults folder.new) result }
+{
+    let frequencies = match read_frequencies(alloc, folder, dir, rows.trips()) {
+        Ok(frequencies) => frequencies,
+        Err(fault) => return Err(fault),
+    };
+    match timetable_of(alloc, rows, &frequencies, told, day, close) {
+        Ok(table) => Ok(table),
+        Err(RowsFault::Feed(fault)) => Err(DayFault::Feed(fault)),
+        Err(RowsFault::Memory) => Err(DayFault::Memory),
+    }
+}
+
+// The same, where the rows of the feed were read and its footpaths are yet to be read.
+fn timetable_after_rows<F: Folder>(
+    alloc: Global,
+    folder: &mut F,
+    dir: &str,
+    rows: &FeedRows,
+    day: &Day,
+    options: &Options,
+) -> Result<Timetable, DayFault>
+    requires change { options.now.change ≤ 86400 }
+    requires station { IfSome options.now.station (λ secs. secs ≤ 86400) }
+    requires count { F.faults folder.old < 2 ^ 64 - 1 }
+    ensures told { IsSome (F.files folder.old) →
+        Gives
+        (Then
+        (parts_after_rows (feed_of (F.files folder.old) dir.now) day.now options.now rows.now)
+        (IsTimetableOfParts options.now.close))
+        result }
+    ensures leaves { Leaves (F.files folder.old) (F.files folder.new) (F.faults folder.old)
+        (F.faults folder.new) result }
+{
+    match read_paths(alloc, folder, dir, rows.stops(), options) {
+        Ok(told) => timetable_after_paths(alloc, folder, dir, rows, told, day, options.close),
+        Err(fault) => Err(fault),
+    }
+}
+
 // The timetable of a day, from the files of a feed in a directory of a folder, or the first thing
 // that is wrong with the feed.
 fn read_timetable<F: Folder>(
@@ -77,22 +139,13 @@ fn read_timetable<F: Folder>(
     ensures leaves { Leaves (F.files folder.old) (F.files folder.new) (F.faults folder.old)
         (F.faults folder.new) result }
 {
-    let rows = match read_rows(alloc, folder, dir) {
-        Ok(rows) => rows,
-        Err(fault) => return Err(fault),
-    };
-    let told = match read_paths(alloc, folder, dir, rows.stops(), options) {
-        Ok(told) => told,
-        Err(fault) => return Err(fault),
-    };
-    let frequencies = match read_frequencies(alloc, folder, dir, rows.trips()) {
-        Ok(frequencies) => frequencies,
-        Err(fault) => return Err(fault),
-    };
-    match timetable_of(alloc, &rows, &frequencies, told, day, options.close) {
-        Ok(table) => Ok(table),
-        Err(RowsFault::Feed(fault)) => Err(DayFault::Feed(fault)),
-        Err(RowsFault::Memory) => Err(DayFault::Memory),
+    match read_rows(alloc, folder, dir) {
+        Ok(rows) => {
+            let told = timetable_after_rows(alloc, folder, dir, &rows, day, options);
+            drop(rows);
+            told
+        }
+        Err(fault) => Err(fault),
     }
 }
 

@@ -3,7 +3,7 @@ ghost use Rattle.std.specs.Prelude.{◌≡◌, ◌≢◌, ◌<◌, ◌-◌, ◌^
 ghost use Rattle.gtfs_rows.specs.Refused.{Yields};
 ghost use Rattle.gtfs_rows.specs.StopsFile.{StopData};
 ghost use Rattle.trip_table.specs.Answers.{IsRefused, Leaves, feed_of};
-ghost use Rattle.trip_table.specs.References.{rows_of};
+ghost use Rattle.trip_table.specs.References.{rows_of, rows_after_stops, rows_after_services, rows_after_trips};
 ghost use Rattle.trip_table.specs.GoodTimes.{AreGoodTimes};
 
 use crate::DayFault;
@@ -74,6 +74,91 @@ impl FeedRows {
     }
 }
 
+// The rows of a feed, where those of stops.txt, those that say which services run and those of
+// trips.txt were read. What isn't handed on is dropped by a call: at the end of a scope each part of
+// it would be dropped by itself, and the proof would go through all of them.
+fn rows_after_trips<F: Folder>(
+    alloc: Global,
+    folder: &mut F,
+    dir: &str,
+    stops: StopTable,
+    services: ServiceRows,
+    trips: TripTable,
+) -> Result<FeedRows, DayFault>
+    requires faults { F.faults folder.old < 2 ^ 64 - 1 }
+    requires named { All (λ s. StopData.id s ≢ []) stops }
+    ensures told { IsSome (F.files folder.old) →
+        Yields IsRefused result (λ x. x)
+        (rows_after_trips (feed_of (F.files folder.old) dir.now) stops services trips) }
+    ensures leaves { Leaves (F.files folder.old) (F.files folder.new) (F.faults folder.old)
+        (F.faults folder.new) result }
+{
+    match read_times(alloc, folder, dir, &stops, &trips) {
+        Ok(times) => Ok(FeedRows {
+            stops,
+            services,
+            trips,
+            times,
+        }),
+        Err(fault) => {
+            drop(stops);
+            drop(services);
+            drop(trips);
+            Err(fault)
+        }
+    }
+}
+
+// The same, where those of trips.txt are yet to be read.
+fn rows_after_services<F: Folder>(
+    alloc: Global,
+    folder: &mut F,
+    dir: &str,
+    stops: StopTable,
+    services: ServiceRows,
+) -> Result<FeedRows, DayFault>
+    requires faults { F.faults folder.old < 2 ^ 64 - 1 }
+    requires named { All (λ s. StopData.id s ≢ []) stops }
+    ensures told { IsSome (F.files folder.old) →
+        Yields IsRefused result (λ x. x)
+        (rows_after_services (feed_of (F.files folder.old) dir.now) stops services) }
+    ensures leaves { Leaves (F.files folder.old) (F.files folder.new) (F.faults folder.old)
+        (F.faults folder.new) result }
+{
+    match read_trips(alloc, folder, dir) {
+        Ok(trips) => rows_after_trips(alloc, folder, dir, stops, services, trips),
+        Err(fault) => {
+            drop(stops);
+            drop(services);
+            Err(fault)
+        }
+    }
+}
+
+// The same, where those of stops.txt alone were read.
+fn rows_after_stops<F: Folder>(
+    alloc: Global,
+    folder: &mut F,
+    dir: &str,
+    stops: StopTable,
+) -> Result<FeedRows, DayFault>
+    requires faults { F.faults folder.old < 2 ^ 64 - 1 }
+    requires named { All (λ s. StopData.id s ≢ []) stops }
+    ensures told { IsSome (F.files folder.old) →
+        Yields IsRefused result (λ x. x)
+        (rows_after_stops (feed_of (F.files folder.old) dir.now) stops) }
+    ensures leaves { Leaves (F.files folder.old) (F.files folder.new) (F.faults folder.old)
+        (F.faults folder.new) result }
+{
+    match read_services(alloc, folder, dir) {
+        Ok(services) => rows_after_services(alloc, folder, dir, stops, services),
+        Err(fault) => {
+            drop(stops);
+            Err(fault)
+        }
+    }
+}
+
 /// The rows of a feed in a directory of a folder, or the first thing that is wrong with a file: in
 /// the order of stops.txt, calendar.txt, calendar_dates.txt, trips.txt and stop_times.txt, and in
 /// each file its presence, its size, its text, its columns, its rows and what they name.
@@ -87,26 +172,8 @@ pub fn read_rows<F: Folder>(alloc: Global, folder: &mut F, dir: &str) -> Result<
     ensures leaves { Leaves (F.files folder.old) (F.files folder.new) (F.faults folder.old)
         (F.faults folder.new) result }
 {
-    let stops = match read_stops(alloc, folder, dir) {
-        Ok(stops) => stops,
-        Err(fault) => return Err(fault),
-    };
-    let services = match read_services(alloc, folder, dir) {
-        Ok(services) => services,
-        Err(fault) => return Err(fault),
-    };
-    let trips = match read_trips(alloc, folder, dir) {
-        Ok(trips) => trips,
-        Err(fault) => return Err(fault),
-    };
-    let times = match read_times(alloc, folder, dir, &stops, &trips) {
-        Ok(times) => times,
-        Err(fault) => return Err(fault),
-    };
-    Ok(FeedRows {
-        stops,
-        services,
-        trips,
-        times,
-    })
+    match read_stops(alloc, folder, dir) {
+        Ok(stops) => rows_after_stops(alloc, folder, dir, stops),
+        Err(fault) => Err(fault),
+    }
 }

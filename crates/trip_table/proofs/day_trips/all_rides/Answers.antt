@@ -1,4 +1,4 @@
-use Rattle.std.proofs.Common.{◌≡◌, ◌∙◌, sym, ap, ◌<◌, length, map, arith, Vec, Global}
+use Rattle.std.proofs.Common.{ap, ◌<◌, length, map, arith, Vec, Global}
 use Rattle.std.specs.Prelude.{All}
 use Rattle.std.proofs.lemmas.List.{length-map}
 use Rattle.tb_base.specs.declared.table.Event.{Event}
