@@ -19,7 +19,8 @@ abbrev pub request_named : Settings → Text → List Text → Option Request
 request_named s name words =
     if bytes_eq name (codes "serve") then option_map request.Serve (serve_request s words)
     else if bytes_eq name (codes "city") then option_map request.City (city_request s words)
-    else if bytes_eq name (codes "verify") then option_map request.Verify (verify_request_from s words)
+    else if bytes_eq name (codes "verify")
+    then option_map request.Verify (verify_request_from s words)
     else if bytes_eq name (codes "late") then option_map request.Late (late_request_from s words)
     else option_map request.Day (day_request_from s name words)
 

@@ -1,16 +1,12 @@
 -- What the options of a command line say.
-use Rattle.std.specs.Prelude.{ℕ, ◌<◌, ◌≤◌, ◌&&◌, nat_lt, nat_le, List, codes, bytes_eq, Bool, false, Option, Some, None, IfSome, if◌then◌else◌}
+use Rattle.std.specs.Prelude.{ℕ, ◌<◌, ◌≤◌, ◌&&◌, nat_lt, nat_le, List, codes, bytes_eq, Bool, false, Option, Some, None, if◌then◌else◌}
 use Rattle.std.specs.Option.{option_and_then, option_map}
 use Rattle.clap.specs.Words.{Row, Text, first_of}
 use Rattle.footpaths.specs.declared.paths.Options.{Options}
+use Rattle.footpaths.specs.Limits.{AreWithinADay}
 use Rattle.gtfs_rows.specs.Fields.{secs_of}
 use Rattle.gtfs_rows.specs.Numbers.{number_of}
 use Rattle.command_line.specs.declared.settings.Settings.{Settings}
-
--- no time is longer than a day
-pub record AreWithinADay (o : Options) : Type 0 where
-  pub change : o.change ≤ 86400
-  pub station : IfSome o.station (λ secs. secs ≤ 86400)
 
 -- a number of workers is from 1 to 64
 pub record AreWorkers (n : ℕ) : Type 0 where

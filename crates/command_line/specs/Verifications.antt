@@ -1,5 +1,5 @@
 -- What is asked about a claimed journey.
-use Rattle.std.specs.Prelude.{ℕ, List, [], ◌∷◌, Option, None}
+use Rattle.std.specs.Prelude.{ℕ, List, ◌∷◌, Option, None}
 use Rattle.std.specs.Option.{option_and_then, option_map}
 use Rattle.clap.specs.Words.{Text}
 use Rattle.footpaths.specs.declared.paths.Options.{Options}

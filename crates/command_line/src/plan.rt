@@ -1,6 +1,6 @@
 //! What is planned by the words of a run of several days.
 ghost use Rattle.std.specs.Prelude.{◌≡◌, IfOk, IfSome, length, map, option_map};
-ghost use Rattle.command_line.specs.Plans.{day_between, plan_of, planned_day, planned_days, serve_request};
+ghost use Rattle.command_line.specs.Plans.{planned_day, planned_days, serve_request};
 ghost use Rattle.command_line.specs.Settings.{AreSettings};
 
 use crate::request::{PlannedDay, ServeRequest};

@@ -129,7 +129,8 @@ pub struct DayRequest<'a> {
 
 impl<'a> Model for DayRequest<'a> {
     ghost use Rattle.command_line.specs.DayCommands.{DayRequestData};
-    ghost use Rattle.command_line.specs.Settings.{AreWithinADay, AreWorkers};
+    ghost use Rattle.footpaths.specs.Limits.{AreWithinADay};
+    ghost use Rattle.command_line.specs.Settings.{AreWorkers};
 
     ghost Value = { DayRequestData };
 
@@ -156,7 +157,7 @@ pub struct VerifyRequest<'a> {
 }
 
 impl<'a> Model for VerifyRequest<'a> {
-    ghost use Rattle.command_line.specs.Settings.{AreWithinADay};
+    ghost use Rattle.footpaths.specs.Limits.{AreWithinADay};
     ghost use Rattle.command_line.specs.Verifications.{VerifyRequestData};
 
     ghost Value = { VerifyRequestData };
@@ -187,7 +188,8 @@ pub struct LateRequest<'a> {
 
 impl<'a> Model for LateRequest<'a> {
     ghost use Rattle.command_line.specs.LateTrips.{LateRequestData};
-    ghost use Rattle.command_line.specs.Settings.{AreWithinADay, AreWorkers};
+    ghost use Rattle.footpaths.specs.Limits.{AreWithinADay};
+    ghost use Rattle.command_line.specs.Settings.{AreWorkers};
 
     ghost Value = { LateRequestData };
 
@@ -231,7 +233,8 @@ pub struct ServeRequest<'a> {
 
 impl<'a> Model for ServeRequest<'a> {
     ghost use Rattle.command_line.specs.Plans.{IsPlan, ServeRequestData};
-    ghost use Rattle.command_line.specs.Settings.{AreWithinADay, AreWorkers};
+    ghost use Rattle.footpaths.specs.Limits.{AreWithinADay};
+    ghost use Rattle.command_line.specs.Settings.{AreWorkers};
 
     ghost Value = { ServeRequestData };
 

@@ -3,7 +3,7 @@ ghost use Rattle.std.specs.Prelude.{◌≡◌, ◌⊎◌, ◌<◌, ◌-◌, ◌^
 ghost use Rattle.tb_base.specs.Soundness.{IsSound};
 ghost use Rattle.tb_base.specs.TimetableData.{TimetableData};
 ghost use Rattle.trip_table.specs.Answers.{IsFault, Leaves};
-ghost use Rattle.command_line.specs.Settings.{AreWithinADay};
+ghost use Rattle.footpaths.specs.Limits.{AreWithinADay};
 ghost use Rattle.router_cli.specs.Answers.{IsAnswer};
 ghost use Rattle.router_cli.specs.Outcome.{GivesDay, IsDayOf, IsNoTable, IsOutcome, WritesAnswer};
 
