@@ -65,8 +65,8 @@ journey_fault_text claim.Memory = codes "Memory"
 abbrev pub status_text : Status → List ℕ
 status_text status.Done = []
 status_text status.Usage =
-    -- one line, as it is written
-    codes "usage: router [--change SECS] [--station SECS] [--close] [--workers N] [--plain] COMMAND WORDS\n"
+    codes "usage: router [--change SECS] [--station SECS] [--close] [--workers N] [--plain]"
+    ++ codes " COMMAND WORDS\n"
 status_text (status.FeedRefused f) = codes "router: feed refused: " ++ fault_text f ++ codes "\n"
 status_text status.ReadFault = codes "router: read fault\n"
 status_text status.WriteFault = codes "router: write fault\n"
@@ -78,8 +78,8 @@ status_text (status.LateRefused f) =
 status_text (status.JourneyRefused f) =
     codes "router: journey refused: " ++ journey_fault_text f ++ codes "\n"
 
--- a day of a folder gives this: a sound timetable, that of the day where the folder tells its files;
--- or, where it tells them, the feed's first fault
+-- a day of a folder gives this: a sound timetable, that of the day where the folder tells its
+-- files; or, where it tells them, the feed's first fault
 abbrev pub GivesDay : Option FileList → List ℕ → ℕ → Options → Result TimetableData FeedFault
     → Type 0
 GivesDay files dir date options day =

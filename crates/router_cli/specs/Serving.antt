@@ -36,9 +36,10 @@ pub record IsRunText (files : Option FileList) (r : ServeRequestData) (lanes : L
   pub text : bytes ≡ served_text (plan_of r) served
 
 -- What a status says of a run, of the script and of the bytes that a sink held before and holds
--- now. Done: the text of a run was written whole. WriteFault: some first bytes of it. ScriptRefused:
--- the fault is the script's. FeedRefused: the script is good, and the fault is the first day's.
--- Usage and the other refusals don't come here. Of ReadFault and Memory no clause speaks here.
+-- now. Done: the text of a run was written whole. WriteFault: some first bytes of it.
+-- ScriptRefused: the fault is the script's. FeedRefused: the script is good, and the fault is the
+-- first day's. Usage and the other refusals don't come here. Of ReadFault and Memory no clause
+-- speaks here.
 abbrev pub IsRunOutcome : Option FileList → Option (List ℕ) → ServeRequestData → Status
     → Option (List ℕ) → Option (List ℕ) → Type 0
 IsRunOutcome files told r status.Done before now =

@@ -1,5 +1,5 @@
 //! How the program ends.
-ghost use Rattle.std.specs.Prelude.{◌≡◌, ◌++◌, IfOk};
+ghost use Rattle.std.specs.Prelude.{◌≡◌, ◌++◌, IfOk, codes};
 ghost use Rattle.std.specs.Fmt.{decimal};
 ghost use Rattle.router_cli.specs.Outcome.{journey_fault_text, late_fault_text, script_fault_text, status_code, status_text};
 
@@ -82,14 +82,21 @@ pub(crate) fn copied(alloc: Global, bytes: &[u8]) -> Result<Vec<u8>, Memory>
     Ok(copy)
 }
 
+// What is refused, and the text of its fault, as a line.
+fn refusal_line(alloc: Global, refused: &[u8], fault: &[u8]) -> Result<Vec<u8>, Memory>
+    ensures { IfOk result (λ v. v.items ≡ refused.now ++ fault.now ++ codes "\n") }
+{
+    let mut line = copied(alloc, refused)?;
+    line.extend_from_slice(fault)?;
+    line.push(b'\n')?;
+    Ok(line)
+}
+
 fn refusal_text(alloc: Global, fault: &FeedFault) -> Result<Vec<u8>, Memory>
     ensures { IfOk result (λ v. v.items ≡ status_text (Status.FeedRefused fault.now)) }
 {
-    let mut line = copied(alloc, b"router: feed refused: ")?;
     let text = fault_text(alloc, fault)?;
-    line.extend_from_slice(text.as_slice())?;
-    line.push(b'\n')?;
-    Ok(line)
+    refusal_line(alloc, b"router: feed refused: ", text.as_slice())
 }
 
 /// A name, and a number.
@@ -122,11 +129,8 @@ fn script_fault_text(alloc: Global, fault: ScriptFault) -> Result<Vec<u8>, Memor
 fn script_refusal_text(alloc: Global, fault: ScriptFault) -> Result<Vec<u8>, Memory>
     ensures { IfOk result (λ v. v.items ≡ status_text (Status.ScriptRefused fault)) }
 {
-    let mut line = copied(alloc, b"router: script refused: ")?;
     let text = script_fault_text(alloc, fault)?;
-    line.extend_from_slice(text.as_slice())?;
-    line.push(b'\n')?;
-    Ok(line)
+    refusal_line(alloc, b"router: script refused: ", text.as_slice())
 }
 
 // The number and the name of a fault of late trips, and its line where it has one.
@@ -148,11 +152,8 @@ fn late_fault_text(alloc: Global, fault: LateFault) -> Result<Vec<u8>, Memory>
 fn late_refusal_text(alloc: Global, fault: LateFault) -> Result<Vec<u8>, Memory>
     ensures { IfOk result (λ v. v.items ≡ status_text (Status.LateRefused fault)) }
 {
-    let mut line = copied(alloc, b"router: late refused: ")?;
     let text = late_fault_text(alloc, fault)?;
-    line.extend_from_slice(text.as_slice())?;
-    line.push(b'\n')?;
-    Ok(line)
+    refusal_line(alloc, b"router: late refused: ", text.as_slice())
 }
 
 // The number and the name of a claim's fault, and its line where it has one.
@@ -171,9 +172,6 @@ fn journey_fault_text(alloc: Global, fault: JourneyFault) -> Result<Vec<u8>, Mem
 fn journey_refusal_text(alloc: Global, fault: JourneyFault) -> Result<Vec<u8>, Memory>
     ensures { IfOk result (λ v. v.items ≡ status_text (Status.JourneyRefused fault)) }
 {
-    let mut line = copied(alloc, b"router: journey refused: ")?;
     let text = journey_fault_text(alloc, fault)?;
-    line.extend_from_slice(text.as_slice())?;
-    line.push(b'\n')?;
-    Ok(line)
+    refusal_line(alloc, b"router: journey refused: ", text.as_slice())
 }
