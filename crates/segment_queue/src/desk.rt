@@ -117,7 +117,7 @@ pub(crate) fn lower_marks<S: Scan>(marks: &mut Marks, scan: &S, trip: TripNo, at
         if marks.get_or(*later, last) <= at {
             return;
         }
-        marks.set(*later, at);
+        marks.put(*later, at);
     }
 }
 
@@ -149,6 +149,7 @@ impl Desk {
         ensures step { (N : NetData) → IsInStep N self.old → IsInStep N self.new }
         ensures segments { self.new.segments ≡ self.old.segments }
         ensures hits { self.new.hits ≡ self.old.hits }
+        ensures notes { self.new.notes ≡ self.old.notes }
     {
         scan.soundness();
         let shape = scan.shape();
@@ -254,6 +255,7 @@ impl Desk {
         ensures refused { OnErr result (self.new.segments ≡ self.old.segments) }
         ensures hits { self.new.hits ≡ self.old.hits }
         ensures marks { self.new.marks ≡ self.old.marks }
+        ensures notes { self.new.notes ≡ self.old.notes }
         ensures still { (T : TimetableData) → Fits T self.old → Fits T self.new }
     {
         self.segments.push(segment)?;
@@ -288,6 +290,7 @@ impl Desk {
         ensures refused { OnErr result (self.new.hits ≡ self.old.hits) }
         ensures segments { self.new.segments ≡ self.old.segments }
         ensures marks { self.new.marks ≡ self.old.marks }
+        ensures notes { self.new.notes ≡ self.old.notes }
         ensures still { (T : TimetableData) → Fits T self.old → Fits T self.new }
     {
         let count = self.hits.len() + 1;

@@ -1,4 +1,4 @@
-ghost use Rattle.std.specs.Prelude.{◌≡◌, ◌-◌, ◌<◌, ◌≤◌, ◌++◌, ◌⊎◌, [], IsSomeAnd, MatchBool, None, Some, OnErr, OnOk, length, replicate, slice_index_or, slice_set, unwrap_or};
+ghost use Rattle.std.specs.Prelude.{◌≡◌, ◌-◌, ◌<◌, ◌≤◌, ◌++◌, ◌⊎◌, [], IsSomeAnd, IsTrue, MatchBool, ◌↔◌, None, Some, OnErr, OnOk, length, replicate, slice_index_or, slice_set, unwrap_or};
 ghost use Rattle.segment_queue.specs.Words.{IsAbove};
 
 use std::alloc::Global;
@@ -141,8 +141,24 @@ impl Marks {
         self.above(trip) <= at
     }
 
-    /// Gives a trip this index.
-    pub fn set(&mut self, trip: TripNo, at: u32)
+    /// Gives a trip this index, and answers true. A number from 10,000,000 on is no index of an event: then the answer is false,
+    /// and all is as before.
+    pub fn set(&mut self, trip: TripNo, at: u32) -> bool
+        requires { trip < length self.old }
+        ensures told { IsTrue result ↔ (at < 10000000) }
+        ensures marked { MatchBool result (self.new ≡ slice_set self.old trip (Some at))
+            (self.new ≡ self.old) }
+    {
+        if at >= INDICES {
+            return false;
+        }
+        self.put(trip, at);
+        true
+    }
+
+    // Gives a trip this index.
+    #[inline(always)]
+    pub(crate) fn put(&mut self, trip: TripNo, at: u32)
         requires trip { trip < length self.old }
         requires at { at < 10000000 }
         ensures { self.new ≡ slice_set self.old trip (Some at) }

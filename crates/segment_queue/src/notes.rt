@@ -6,7 +6,7 @@ use tb_base::Sec;
 
 /// An event that a segment covers, to go on from later: the number of the segment, when it arrives, and the event, which has
 /// been looked at.
-#[derive(Clone, Copy, Debug, PartialEq, Eq)]
+#[derive(Clone, Copy)]
 pub struct Note {
     pub segment: u32,
     pub arr: Sec,

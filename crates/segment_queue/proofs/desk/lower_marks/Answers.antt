@@ -22,8 +22,8 @@ returns-then-get_or-at-clause-marks g c =
     no_more_to_lower N.table (trips_from N.lines c.args.trip) c.onward-later-items.result.now c.loop-later.later-index c.later-item.result c.args.at c.args.marks.now c.loop-later.marks
     c.loop-later.invariant.still (grind (arith, common_steps)) c.later-item.is low
 
-pub set-requires-clause-at : goal.set-requires-clause-at
-set-requires-clause-at g c =
+pub put-requires-clause-at : goal.put-requires-clause-at
+put-requires-clause-at g c =
     let N : NetData = g.S.Scan.net c.args.scan.now in
     elim c.get_or.ensures.few [
       | inl e ↦ index_few N.table c.args.trip c.args.at c.soundness.ensures.sound c.requires.trip (c.requires.last.0 (omega (arith, e, c.if-get_or-at.false)))
@@ -39,6 +39,6 @@ loop-later-preserved g c =
     let above : c.args.at < mark_of N.table c.loop-later.marks c.later-item.result = read.0 (omega (arith, c.if-get_or-at.false)) in
     record {
       trips = grind (arith, common_steps);
-      still = one_more_lowered N.table (trips_from N.lines c.args.trip) c.onward-later-items.result.now c.loop-later.later-index c.later-item.result c.args.at c.args.marks.now c.loop-later.marks c.set.new.self
-          c.loop-later.invariant.still (grind (arith, common_steps)) c.later-item.is (grind (arith, common_steps)) above c.set.ensures;
+      still = one_more_lowered N.table (trips_from N.lines c.args.trip) c.onward-later-items.result.now c.loop-later.later-index c.later-item.result c.args.at c.args.marks.now c.loop-later.marks c.put.new.self
+          c.loop-later.invariant.still (grind (arith, common_steps)) c.later-item.is (grind (arith, common_steps)) above c.put.ensures;
     }
