@@ -27,7 +27,8 @@ impl Call {
     }
 }
 
-/// The calls of a timetable's events. A user asks that the timetable is its own.
+/// The calls of a timetable's events. Whoever is lent some asks, by a clause, that their timetable
+/// is the one at hand.
 pub trait Calls {
     ghost use Rattle.tb_base.specs.TimetableData.{TimetableData};
 

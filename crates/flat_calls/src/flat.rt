@@ -46,9 +46,9 @@ impl Spot {
     }
 }
 
-/// The calls of all events, trip after trip, and where those of each trip begin and end: those of
-/// trip t stand from place t of `bounds` up to the next. It remembers for contracts of which
-/// timetable it is; that takes no room.
+/// The calls of all events, trip after trip: those of trip t stand from the place that `bounds` has
+/// at t up to the one that it has at t + 1. It remembers for contracts of which timetable it is;
+/// that takes no room.
 #[derive(Drop)]
 pub struct FlatCalls {
     table: Snapshot<Timetable>,

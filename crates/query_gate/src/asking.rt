@@ -38,7 +38,8 @@ impl Model for AskText {
 /// exactly where it has no stop and no station with a name, the origin's tried first, else
 /// `Values`; and then the desk holds the answer, whose hits have these values. The desk may have
 /// served any network before; it is made to fit. Between two places it looks at most as often as
-/// there are events and, at the stops near an origin, lines. Refused only for want of memory.
+/// there are events and, at the stops with a walk from an origin, line indices. Refused only for
+/// want of memory.
 pub fn ask<L: Ledger>(
     alloc: Global,
     edition: &Edition,

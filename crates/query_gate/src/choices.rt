@@ -16,8 +16,9 @@ use tb_base::{Choice, Memory, Query, Timetable};
 /// The best values in order, each with the legs of a journey that has it: by the shortest walks at
 /// both ends, and with changes by hops of the network alone. Any sufficient hops give the same
 /// values. The search takes no memory, since the desk was made to fit before; the list of choices
-/// does. It looks at most as often as there are events and, at the stops near an origin, lines.
-/// Refused only for want of memory, and then the desk fits and is answered still.
+/// does. It looks at most as often as there are events and, at the stops with a walk from an
+/// origin, line indices. Refused only for want of memory, and then the desk fits and is answered
+/// still.
 pub fn best_choices<L: Ledger, S: Look<L>>(
     alloc: Global,
     scan: &S,

@@ -24,7 +24,7 @@ pub fn piece_count(table: &Timetable) -> u32
 /// Reduces the transfers of the trips of a piece, from trip `64 piece` to trip `64 piece + 63`, or
 /// to the last one. The lines are those of the timetable; the labels are for its stops, and may
 /// have served any piece before. Takes memory for the kept transfers, and for the candidates of one
-/// event besides. Refused only for want of memory.
+/// event besides. Refused only for want of memory; the labels may serve any piece then too.
 pub fn reduce_piece(
     alloc: Global,
     table: &Timetable,

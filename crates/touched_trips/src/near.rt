@@ -19,7 +19,7 @@ fn mark_stops(marks: &mut [bool], events: &[Event])
     }
 }
 
-// For each stop whether one of the marked trips calls there.
+// Marks the stops where one of the marked trips calls.
 fn called_stops(alloc: Global, table: &Timetable, trips: &[bool]) -> Result<Vec<bool>, Memory>
     requires { length trips.now ≡ length table.now.trips }
     ensures { IfOk result (λ marks. MarksCalls table.now trips.now marks.items) }
@@ -56,7 +56,8 @@ fn is_near(table: &Timetable, marks: &[bool], stop: StopNo) -> bool
     marks[stop.index()] || lead_to(table.paths(stop), marks)
 }
 
-/// For each stop whether a change from it leads to a stop where one of the marked trips calls.
+/// For each stop a mark, which it has at least where a change from it leads to a stop where one of
+/// the marked trips calls. A mark too many only costs time.
 pub(crate) fn near_stops(
     alloc: Global,
     table: &Timetable,

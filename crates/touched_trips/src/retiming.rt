@@ -73,8 +73,8 @@ impl<'a> Retiming<'a> {
         rows.iter().any(|row| self.has_other_times(row.to_trip))
     }
 
-    // Whether a trip calls where a change leads to a trip with other times. One that doesn't is not
-    // touched, if its own times are the same.
+    // Whether a trip calls at a marked stop. One that doesn't is not touched, if its own times are
+    // the same.
     fn is_near(&self, trip: TripNo) -> bool
         requires { trip < length self.now.before.table.trips }
         ensures { has_other_times self.now.before.table self.now.after.table trip ≡ false →

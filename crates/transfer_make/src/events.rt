@@ -84,7 +84,8 @@ fn add_alighting(
     add_paths(rows, lines, from, &paths[below..])
 }
 
-/// Adds the candidates of an event of a trip.
+/// Adds the candidates of an event of a trip, behind the rows that are there. At a refusal some of
+/// them may have been added.
 pub fn add_event(
     rows: &mut Vec<Transfer>,
     table: &Timetable,

@@ -65,8 +65,8 @@ fn stop_at<C: Calls>(calls: &C, trip: TripNo, at: usize) -> StopNo
     }
 }
 
-/// Whether a transfer is a U-turn, if the calls are those of the timetable. Only where the trip
-/// stops at the stop of the other trip's next event is more than that stop looked at.
+/// Whether a transfer is a U-turn, if the calls are those of the timetable. Of the other trip more
+/// than its next stop is looked at only where the trip called there before.
 pub(crate) fn is_u_turn<C: Calls>(table: &Timetable, calls: &C, row: &Transfer) -> bool
     ensures { C.table calls.now ≡ table.now → result ≡ is_u_turn_row table.now row.now }
 {
