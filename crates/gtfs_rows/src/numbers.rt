@@ -1,5 +1,5 @@
 //! Numbers and times in text.
-ghost use Rattle.std.specs.Prelude.{◌≡◌, ◌≤◌, ◌<◌, ◌+◌, ◌-◌, ◌*◌, ℕ, ℤ, List, MatchOption, IfSome, length, take, drop, pos, option_map};
+ghost use Rattle.std.specs.Prelude.{◌≡◌, ◌≤◌, ◌<◌, ◌+◌, ◌-◌, ◌*◌, ℕ, ℤ, List, MatchOption, IfSome, Some, length, take, drop, get_or, pos, option_map};
 ghost use Rattle.std.specs.Str.Parse.{AllDigits, digits_value};
 ghost use Rattle.gtfs_rows.specs.Numbers.{IsNumber, number_of, sixtieth, after_hours, clock_of, time_of, time_secs};
 
@@ -38,10 +38,35 @@ fn sixtieth(tens: u8, ones: u8) -> Option<u32>
     ensures small { IfSome result (λ n. n < 60) }
 {
     if tens.is_ascii_digit() && ones.is_ascii_digit() && tens <= b'5' {
-        Some((tens - b'0') as u32 * 10 + (ones - b'0') as u32)
+        Some((tens as u32 - 48) * 10 + (ones as u32 - 48))
     } else {
         None
     }
+}
+
+// The number that two digits write.
+fn two_digits(text: &[u8]) -> u32
+    requires two { length text.now ≡ 2 }
+    requires tens { 48 ≤ get_or text.now 0 0 }
+    requires most_tens { get_or text.now 0 0 ≤ 57 }
+    requires ones { 48 ≤ get_or text.now 1 0 }
+    requires most_ones { get_or text.now 1 0 ≤ 57 }
+    ensures number { Some result ≡ number_of text.now }
+    ensures small { result < 100 }
+{
+    (text[0] as u32 - 48) * 10 + (text[1] as u32 - 48)
+}
+
+// The number that one or two digits write. Two are read at once.
+fn hours_of(text: &[u8]) -> Option<u32>
+    requires { length text.now ≤ 2 }
+    ensures number { result ≡ number_of text.now }
+    ensures small { IfSome result (λ hours. hours < 100) }
+{
+    if text.len() == 2 && text[0] >= b'0' && text[0] <= b'9' && text[1] >= b'0' && text[1] <= b'9' {
+        return Some(two_digits(text));
+    }
+    number_of(text)
 }
 
 // `:MM:SS`, in seconds.
@@ -69,7 +94,7 @@ pub(crate) fn time_secs(text: &[u8]) -> Option<u32>
     if len < 7 || len > 8 {
         return None;
     }
-    let hours = number_of(&text[..len - 6])?;
+    let hours = hours_of(&text[..len - 6])?;
     let seconds = after_hours(&text[len - 6..])?;
     Some(hours * 3600 + seconds)
 }

@@ -1,7 +1,9 @@
 //! The records of a text without quotes, cut where its commas and line ends stand.
-ghost use Rattle.std.specs.Prelude.{◌≡◌, ◌≤◌, ◌<◌, ◌+◌, ◌∷◌, ◌++◌, [], ℕ, true, IfOk, OnOk, OnErr, MatchBool, length, get_or};
+ghost use Rattle.std.specs.Int.{bit_at};
+ghost use Rattle.std.specs.Prelude.{◌≡◌, ◌≢◌, ◌≤◌, ◌<◌, ◌+◌, ◌∷◌, ◌++◌, [], ℕ, true, IfOk, IfSome, IfNone, OnOk, OnErr, MatchBool, length, get_or};
 ghost use Rattle.gtfs_rows.specs.Records.{RecordPosition};
 ghost use Rattle.gtfs_rows.specs.PlainText.{IsUnquoted, is_line_end, skip_line_ends, starts_record, records_of, record_of};
+ghost use Rattle.gtfs_rows.specs.Windows.{AreMarks, StandsAt, records_after};
 
 use std::alloc::Global;
 use std::marker::Model;
@@ -57,39 +59,96 @@ fn add_field<'a>(fields: &mut Vec<&'a [u8]>, field: &'a [u8]) -> Result<(), Memo
     Ok(())
 }
 
-// How many of the sixteen bytes from a place on come before the first that is no more than a comma.
-fn high_bytes(text: &[u8], at: usize) -> usize
+// A mark at each of the sixteen bytes from a place on that is no more than a comma.
+#[inline(always)]
+fn marks_of(text: &[u8], at: usize) -> u64
     requires { at + 16 ≤ length text.now }
-    ensures most { result ≤ 16 }
-    ensures high { (k : ℕ) → k < result → 44 < get_or text.now (at + k) 0 }
+    ensures { AreMarks text.now at at result }
 {
-    let marks = u8x16::from_slice(&text[at..])
+    u8x16::from_slice(&text[at..])
         .simd_le(u8x16::splat(b','))
-        .to_bitmask();
-    if marks == 0 {
-        return 16;
-    }
-    let first = marks.trailing_zeros() as usize;
-    if first < 16 { first } else { 16 }
+        .to_bitmask()
 }
 
-// A place from one on, up to which no byte is a comma or a line end: the first such byte, another
-// that is as small, or the text's end.
-fn next_end(text: &[u8], from: usize) -> usize
-    requires { from ≤ length text.now }
-    ensures after { from ≤ result }
-    ensures within { result ≤ length text.now }
-    ensures high { (k : ℕ) → from ≤ k → k < result → 44 < get_or text.now k 0 }
+// Marks without one of them.
+#[inline(always)]
+fn without(marks: u64, place: u32) -> u64
+    requires { place < 64 }
+    ensures this { bit_at result place ≡ 0 }
+    ensures others { (k : ℕ) → k < 64 → k ≢ place → bit_at result k ≡ bit_at marks k }
+    ensures fewer { bit_at marks place ≡ 1 → result < marks }
 {
-    let mut at = from;
-    while text.len() - at >= 16 {
-        let high = high_bytes(text, at);
-        at += high;
-        if high < 16 {
-            break;
+    marks & !(1u64 << place)
+}
+
+// Cuts the fields of a record that end within sixteen bytes, and gives the place where the record
+// ends, where it does.
+#[inline(always)]
+fn cut_window<'a>(
+    text: &'a [u8],
+    at: usize,
+    start: &mut usize,
+    fields: &mut Vec<&'a [u8]>,
+) -> Result<Option<usize>, Memory>
+    requires full { at + 16 ≤ length text.now }
+    requires unquoted { IsUnquoted text.now }
+    requires within { start.old ≤ at }
+    requires same { StandsAt text.now (record_of fields.old.items) start.old at }
+    ensures within { IfOk result (λ end. IfNone end (start.new ≤ at + 16)) }
+    ensures same { IfOk result
+        (λ end. IfNone end (StandsAt text.now (record_of fields.new.items) start.new (at + 16))) }
+    ensures inside { IfOk result (λ end. IfSome end (λ place. place < length text.now)) }
+    ensures cut { IfOk result
+        (λ end. IfSome end (λ place.
+        records_of text.now ≡ record_of fields.new.items ∷ records_after text.now (place + 1))) }
+{
+    let mut marks = marks_of(text, at);
+    while marks != 0 {
+        let first = marks.trailing_zeros();
+        let place = at + first as usize;
+        let byte = text[place];
+        if byte == b',' {
+            add_field(fields, &text[*start..place])?;
+            *start = place + 1;
+        } else if is_line_end(byte) {
+            add_field(fields, &text[*start..place])?;
+            return Ok(Some(place));
         }
+        marks = without(marks, first);
     }
-    at
+    Ok(None)
+}
+
+// Cuts what is left of a record from a place on, byte by byte, and gives the text behind it.
+fn cut_tail<'a>(
+    text: &'a [u8],
+    from: usize,
+    first: usize,
+    fields: &mut Vec<&'a [u8]>,
+) -> Result<&'a [u8], Memory>
+    requires unquoted { IsUnquoted text.now }
+    requires inside { from ≤ length text.now }
+    requires within { first ≤ from }
+    requires same { StandsAt text.now (record_of fields.old.items) first from }
+    ensures cut { IfOk result
+        (λ rest. records_of text.now ≡ record_of fields.new.items ∷ records_of rest.now) }
+    ensures unquoted { IfOk result (λ rest. IsUnquoted rest.now) }
+{
+    let mut start = first;
+    let mut at = from;
+    while at < text.len() {
+        let byte = text[at];
+        if byte == b',' {
+            add_field(fields, &text[start..at])?;
+            start = at + 1;
+        } else if is_line_end(byte) {
+            add_field(fields, &text[start..at])?;
+            return Ok(&text[at + 1..]);
+        }
+        at += 1;
+    }
+    add_field(fields, &text[start..])?;
+    Ok(&text[text.len()..])
 }
 
 // Cuts the record at the start of a text into its fields, and gives the text behind it.
@@ -102,20 +161,14 @@ fn cut_record<'a>(text: &'a [u8], fields: &mut Vec<&'a [u8]>) -> Result<&'a [u8]
     ensures unquoted { IfOk result (λ rest. IsUnquoted rest.now) }
 {
     let mut start = 0;
-    let mut at = next_end(text, 0);
-    while at < text.len() {
-        let byte = text[at];
-        if byte == b',' {
-            add_field(fields, &text[start..at])?;
-            start = at + 1;
-        } else if is_line_end(byte) {
-            add_field(fields, &text[start..at])?;
-            return Ok(&text[at + 1..]);
+    let mut at = 0;
+    while text.len() - at >= 16 {
+        if let Some(end) = cut_window(text, at, &mut start, fields)? {
+            return Ok(&text[end + 1..]);
         }
-        at = next_end(text, at + 1);
+        at += 16;
     }
-    add_field(fields, &text[start..])?;
-    Ok(&text[text.len()..])
+    cut_tail(text, at, start, fields)
 }
 
 impl<'a> PlainRecords<'a> {
