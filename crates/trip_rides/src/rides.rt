@@ -1,5 +1,5 @@
 //! The events that the stop times of each trip give.
-ghost use Rattle.std.specs.Prelude.{◌≡◌, ◌≤◌, ◌<◌, ◌^◌, ℕ, All, IfOk, length, map};
+ghost use Rattle.std.specs.Prelude.{◌≡◌, ◌≤◌, ◌<◌, ◌^◌, ℕ, All, IfOk, IfSome, length, map};
 ghost use Rattle.tb_base.specs.declared.table.Event.{Event};
 ghost use Rattle.gtfs_rows.specs.Refused.{IsRefused, Yields};
 ghost use Rattle.trip_rides.specs.declared.stop_time.StopTime.{StopTime};
@@ -11,7 +11,9 @@ use crate::StopTime;
 use crate::chains::TripChains;
 use crate::faults::trip_fault;
 use crate::order::stop_times;
-use crate::times::{Timepoint, Times, first_timed, nearest_after, nearest_before, times_at};
+use crate::times::{
+    Timepoint, Times, first_timed, nearest_after, nearest_before, times_at, times_of,
+};
 use gtfs_rows::RowsFault;
 use std::alloc::Global;
 use tb_base::{Event, Memory};
@@ -62,7 +64,24 @@ fn ride_in(alloc: Global, runs: bool, rows: &[StopTime]) -> Result<Vec<Event>, M
     if !runs || rows.len() < 2 {
         return Ok(Vec::new(alloc));
     }
-    events_in(alloc, rows)
+    match timed_events(alloc, rows)? {
+        Some(events) => Ok(events),
+        None => events_in(alloc, rows),
+    }
+}
+
+// The same of rows of which each is timed, as mostly. `None` says nothing.
+fn timed_events(alloc: Global, rows: &[StopTime]) -> Result<Option<Vec<Event>>, Memory>
+    ensures { IfOk result (λ events. IfSome events (λ v. v.items ≡ events_in rows.now)) }
+{
+    let mut events: Vec<Event> = Vec::with_capacity(alloc, rows.len())?;
+    for row in rows {
+        let Some(times) = times_of(row) else {
+            return Ok(None);
+        };
+        events.push(event_of(row, times))?;
+    }
+    Ok(Some(events))
 }
 
 // The events of a trip whose rows stand in order.
