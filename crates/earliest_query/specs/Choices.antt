@@ -1,5 +1,5 @@
 -- Which stops a search boards at, and what it makes of an event where one may alight.
-use Rattle.std.specs.Prelude.{◌≡◌, ℕ, ◌-◌, ◌<◌, ◌≤◌, ◌==◌, ◌⊎◌, List, [], ◌∷◌, Option, None, Some, length, filter, sum_by, slice_index, slice_get, nat_le, if◌then◌else◌, Bool, IsTrue, IfSome, IsSomeAnd, is_some, Contains, ℤ, pos, ◌+ℤ◌, ◌≤ℤ◌, ◌<ℤ◌, int_lt}
+use Rattle.std.specs.Prelude.{◌≡◌, ℕ, ◌-◌, ◌<◌, ◌≤◌, ◌==◌, ◌⊎◌, List, [], ◌∷◌, Option, None, Some, length, filter, sum_by, slice_index, slice_index_or, slice_get, All, nat_le, if◌then◌else◌, Bool, IsTrue, IfSome, IsSomeAnd, is_some, Contains, ℤ, pos, ◌+ℤ◌, ◌≤ℤ◌, ◌<ℤ◌, int_lt}
 use Rattle.std.specs.List.{list_any}
 use Rattle.std.specs.Option.{option_map}
 use Rattle.tb_base.specs.Network.{NetData}
@@ -23,6 +23,15 @@ pub record IsNearestTarget (T : TimetableData) (p : ℕ) (targets : List ℕ)
 abbrev pub IsNearest : TimetableData → ℕ → List ℕ → Option Path → Type 0
 IsNearest T p targets None = (q s : ℕ) → Contains targets q → walk T p q ≡ Some s → ⊥
 IsNearest T p targets (Some f) = IsNearestTarget T p targets f.to f.secs
+
+-- all these stops are of this group
+abbrev pub AreOfGroup : List ℕ → ℕ → List ℕ → Type 0
+AreOfGroup groups group stops = All (λ p. slice_get groups p ≡ Some group) stops
+
+-- where there is such a group, the walks to these targets begin at stops of it alone
+abbrev pub LeadFromGroup : TimetableData → List ℕ → List ℕ → Option ℕ → Type 0
+LeadFromGroup T targets groups group = (g p q secs : ℕ) → group ≡ Some g → p < length T.stops →
+    Contains targets q → walk T p q ≡ Some secs → slice_index_or groups p 0 ≡ g
 
 -- a stop is boarded from the origin at this place, after a walk of so many seconds: no origin is
 -- nearer to it, and none before it as near

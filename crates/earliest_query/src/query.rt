@@ -8,6 +8,7 @@ ghost use Rattle.earliest_query.specs.Choices.{lines_near};
 
 use super::all_rounds::keep;
 use super::search::Search;
+use super::walks::{common_group, targets};
 use segment_queue::{Desk, Look, Steps};
 use std::sync::ledger::Ledger;
 use tb_base::Query;
@@ -35,7 +36,13 @@ pub fn earliest<L: Ledger, S: Look<L>>(
         + (event_total (S.net scan.now).table + lines_near (S.net scan.now) query.now.from) }
 {
     scan.soundness();
-    let search = Search { scan, query };
+    let groups = scan.groups();
+    let search = Search {
+        scan,
+        query,
+        groups,
+        target_group: common_group(groups, targets(query)),
+    };
     desk.begin(scan, query);
     let walk = search.walk_hit();
     keep(desk, walk, 0);

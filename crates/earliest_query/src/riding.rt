@@ -1,5 +1,6 @@
 ghost use Rattle.std.specs.Prelude.{◌≡◌, ◌+◌, ◌<◌, ◌≤◌, ℕ, suc, Option, Some, All, Contains, IsTrue, ◌↔◌, MatchBool, length, pos, ◌≤ℤ◌};
 ghost use Rattle.tb_base.specs.Sufficiency.{AreSufficient};
+ghost use Rattle.tb_base.specs.Walking.{walk};
 ghost use Rattle.segment_queue.specs.Queue.{IsInStep, covered_indices};
 ghost use Rattle.segment_queue.specs.Scans.{seen_at};
 ghost use Rattle.segment_queue.specs.Traced.{round_of, segment_of};
@@ -12,7 +13,7 @@ use super::search::Search;
 use super::walks::{nearest, targets};
 use segment_queue::{Desk, Hit, LastLeg, Look, Note, Scan, Steps, Visit};
 use std::sync::ledger::Ledger;
-use tb_base::{Path, Value};
+use tb_base::{Path, StopNo, Value};
 
 // Whether one may alight at an event, and it is reached before the best hit so far arrives.
 fn may_improve(best: &Option<Hit>, visit: &Visit<'_>) -> bool
@@ -98,6 +99,19 @@ fn alighting(visit: &Visit<'_>, path: Path, entry: u32, at: u32, round: u32) -> 
 }
 
 impl<S: Scan> Search<'_, S> {
+    // Whether there may be a walk from a stop to a target: not where its group is another than that of all targets.
+    #[inline(always)]
+    fn may_be_near(&self, p: StopNo) -> bool
+        requires { p < length (S.net self.now.scan.now).table.stops }
+        ensures { (q secs : ℕ) → Contains self.now.query.now.to q →
+            walk (S.net self.now.scan.now).table p q ≡ Some secs → IsTrue result }
+    {
+        match self.target_group {
+            Some(group) => self.groups[p.index()] == group,
+            None => true,
+        }
+    }
+
     // The best hit so far, or to alight at an event of a segment where that is earlier.
     pub(crate) fn weigh(
         &self,
@@ -112,6 +126,9 @@ impl<S: Scan> Search<'_, S> {
         ensures { IsWeighed (S.net self.now.scan.now).table self.now.query.now visit.now.stop
             visit.now.arr visit.now.alight entry at round best result }
     {
+        if !self.may_be_near(visit.stop) {
+            return best;
+        }
         if !may_improve(&best, visit) {
             return best;
         }

@@ -11,6 +11,7 @@ use super::all_rounds::keep;
 use super::found::{drop_walks, take_hits};
 use super::search::Search;
 use super::swept_riding::segment_total;
+use super::walks::{common_group, targets};
 use segment_queue::{Desk, Levels, Look, Scan, Steps};
 use std::alloc::Global;
 use std::marker::Model;
@@ -104,7 +105,13 @@ impl Sweep {
         ensures fits { Fits (S.net scan.now).table desk.new }
     {
         scan.soundness();
-        let search = Search { scan, query };
+        let groups = scan.groups();
+        let search = Search {
+            scan,
+            query,
+            groups,
+            target_group: common_group(groups, targets(query)),
+        };
         let from = segment_total(desk)?;
         drop_walks(&mut self.values);
         desk.clear_hits();

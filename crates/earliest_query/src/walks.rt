@@ -1,6 +1,6 @@
 ghost use Rattle.std.specs.Prelude.{◌≡◌, ◌+◌, ◌<◌, ◌≤◌, ◌==◌, All, IfSome, IsTrue, ◌↔◌, Some, length, pos, ◌+ℤ◌, ◌≤ℤ◌};
 ghost use Rattle.tb_base.specs.Walking.{walk};
-ghost use Rattle.earliest_query.specs.Choices.{IsFirstChoice, IsNearest, IsPreferred, nearer_of};
+ghost use Rattle.earliest_query.specs.Choices.{AreOfGroup, IsFirstChoice, IsNearest, IsPreferred, nearer_of};
 
 use segment_queue::Scan;
 use tb_base::{Path, Query, Sec, StopNo, path_secs};
@@ -50,6 +50,36 @@ pub(crate) fn nearest<S: Scan>(scan: &S, p: StopNo, targets: &[StopNo]) -> Optio
         best = nearer(best, *target, secs);
     }
     best
+}
+
+// Whether all these stops are of a group.
+fn are_of_group(groups: &[u32], group: u32, stops: &[StopNo]) -> bool
+    ensures { IsTrue result → AreOfGroup groups.now group stops.now }
+{
+    for stop in stops {
+        match groups.get(stop.index()) {
+            Some(other) => {
+                if *other != group {
+                    return false;
+                }
+            }
+            None => return false,
+        }
+    }
+    true
+}
+
+// The group that all these stops are of, where they are of one.
+pub(crate) fn common_group(groups: &[u32], stops: &[StopNo]) -> Option<u32>
+    ensures { IfSome result (λ group. AreOfGroup groups.now group stops.now) }
+{
+    let first = stops.first()?;
+    let group = *groups.get(first.index())?;
+    if are_of_group(groups, group, stops) {
+        Some(group)
+    } else {
+        None
+    }
 }
 
 // Whether a walk is preferred to one of so many seconds, or to one of as many where it comes

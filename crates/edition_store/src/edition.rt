@@ -138,6 +138,10 @@ impl Scan for Edition {
         self.view().may_walk(p, q)
     }
 
+    fn groups(&self) -> &[u32] {
+        self.view().stop_groups()
+    }
+
     fn berths(&self, p: StopNo) -> u32 {
         self.view().berths(p)
     }

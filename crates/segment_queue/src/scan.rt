@@ -4,6 +4,7 @@ ghost use Rattle.tb_base.specs.Soundness.{IsSound, IsSoundPath};
 ghost use Rattle.tb_base.specs.Walking.{walk};
 ghost use Rattle.tb_base.specs.TimetableData.{arrival_at, event_at, event_total, events_of, stop_at};
 ghost use Rattle.segment_queue.specs.Scans.{boarding_hop, line_indices_at, no_line_index, seen_at, seen_event, seen_trip, trips_from};
+ghost use Rattle.segment_queue.specs.WalkGroups.{AreWalkGroups};
 
 use super::seen::Seen;
 use super::steps::Steps;
@@ -61,6 +62,10 @@ pub trait Scan {
     fn may_walk(&self, p: StopNo, q: StopNo) -> bool
         requires { p < length (net self.now).table.stops }
         ensures { (secs : ℕ) → walk (net self.now).table p q ≡ Some secs → IsTrue result };
+
+    /// The group of each stop. No walk leads from one group to another; stops of one group need not have a walk.
+    fn groups(&self) -> &[u32]
+        ensures { AreWalkGroups (net self.now).table result.now };
 
     /// How many line indices are at a stop.
     fn berths(&self, p: StopNo) -> u32

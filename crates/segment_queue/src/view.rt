@@ -2,6 +2,7 @@ ghost use Rattle.std.specs.Prelude.{◌≡◌, ◌<◌, ◌+◌, ◌≤◌, ℕ,
 ghost use Rattle.tb_base.specs.Soundness.{IsSoundPath};
 ghost use Rattle.tb_base.specs.TimetableData.{arrival_at, event_at, events_of, stop_at};
 ghost use Rattle.segment_queue.specs.Scans.{seen_at, seen_event, seen_trip, trips_from};
+ghost use Rattle.segment_queue.specs.WalkGroups.{AreWalkGroups};
 ghost use Rattle.transfer_pack.specs.Packed.{packed};
 
 use super::scan::{Look, Scan, Shape, Visit};
@@ -70,6 +71,14 @@ impl<'a> View<'a> {
     {
         let table = self.table;
         table.paths(p)
+    }
+
+    /// The group of each stop, for as long as the groups are lent.
+    pub fn stop_groups(&self) -> &'a [u32]
+        ensures { AreWalkGroups self.now.0 result.now }
+    {
+        let groups = self.groups;
+        groups.as_slice()
     }
 
     /// The trips of a trip's line from it on, in order, for as long as the lines are lent.
@@ -146,6 +155,10 @@ impl<'a> Scan for View<'a> {
     fn may_walk(&self, p: StopNo, q: StopNo) -> bool {
         let groups = self.groups;
         groups.may_walk(p, q)
+    }
+
+    fn groups(&self) -> &[u32] {
+        self.stop_groups()
     }
 
     fn berths(&self, p: StopNo) -> u32 {

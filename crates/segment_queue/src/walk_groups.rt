@@ -130,6 +130,13 @@ impl WalkGroups {
         })
     }
 
+    /// The group of each stop.
+    pub fn as_slice(&self) -> &[u32]
+        ensures { AreWalkGroups self.now result.now }
+    {
+        self.groups.as_slice()
+    }
+
     /// Whether two stops are of one group. Where it says no, there is no walk from the first to the
     /// other; nothing is promised of how often it says yes, which only costs time.
     pub fn may_walk(&self, p: StopNo, q: StopNo) -> bool
