@@ -10,6 +10,7 @@
 //! such searches find at every stop and for every time.
 #![tactic(auto)]
 
+mod ahead;
 mod all_rounds;
 mod boarding;
 mod entering;

@@ -55,11 +55,12 @@ fn note_down(desk: &mut Desk, segment: u32, visit: &Visit<'_>)
         desk.old.notes desk.new.notes }
 {
     if visit.out.len() > 0 {
-        desk.add_note(Note {
+        let note = Note {
             segment,
             arr: visit.arr,
             seen: visit.seen,
-        });
+        };
+        desk.add_note(note, visit.first);
     }
 }
 
@@ -218,6 +219,7 @@ impl<S: Scan> Search<'_, S> {
             ≤ steps.old + covered_before desk.old.segments to }
     {
         desk.clear_notes();
+        self.read_segments_ahead(desk, from, to);
         let mut best = so_far;
         for n in from..to {
             best = self.weigh_segment(desk, n, round, best, steps);
@@ -259,6 +261,7 @@ impl<S: Scan> Search<'_, S> {
         ensures done { (note : Note) → Contains desk.old.notes note →
             IsDone (S.net self.now.scan.now) desk.new best.now note.segment (seen_at note.seen) }
     {
+        desk.read_notes_ahead(self.scan);
         for k in 0..desk.note_count() {
             let note = desk.note(k);
             self.follow_note(desk, best, &note, round);

@@ -9,7 +9,7 @@ use segment_queue::{Look, Scan, Seen, Shape, Steps, View, Visit, WalkGroups};
 use std::marker::Model;
 use std::sync::ledger::Ledger;
 use tb_base::{Hop, Path, Sec, StopNo, Timetable, TripNo};
-use transfer_pack::Set;
+use transfer_pack::{FirstHop, ReadAhead, Set};
 
 /// The network of a day: a timetable, its lines, and the set of its kept transfers. It holds the
 /// groups of its stops too, which a search looks at.
@@ -156,6 +156,14 @@ impl Scan for Edition {
 
     fn hops_from(&self, seen: Seen) -> &[Hop] {
         self.view().hops_seen(seen)
+    }
+
+    fn read_event_ahead(&self, trip: TripNo, at: u32, ahead: &mut ReadAhead) {
+        self.view().read_event_ahead(trip, at, ahead);
+    }
+
+    fn read_hop_ahead(&self, first: FirstHop, ahead: &mut ReadAhead) {
+        self.view().read_hop_ahead(first, ahead);
     }
 }
 

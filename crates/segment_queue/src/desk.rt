@@ -11,6 +11,7 @@ use super::scan::Scan;
 use std::alloc::Global;
 use std::marker::Model;
 use tb_base::{Memory, Query, StopNo, TripNo, Value};
+use transfer_pack::{FirstHop, ReadAhead};
 
 /// A part of a trip: boarded at `board`, and looked at up to `end`. It was hopped onto from the segment with the first
 /// number of `parent`, at the second number, an index of that segment's trip; without a parent it is a first ride.
@@ -36,14 +37,16 @@ pub struct Hit {
     pub last: LastLeg,
 }
 
-/// What a search writes: the queue of segments, the marks, the hits, and notes of where to go on from. It is made once, and
-/// used for any number of queries.
+/// What a search writes: the queue of segments, the marks, the hits, and notes of where to go on from. It is made once,
+/// and used for any number of queries. Nobody sees what is read ahead, nor where the hops from noted events begin.
 #[derive(Drop)]
 pub struct Desk {
     marks: Marks,
     segments: Vec<Segment>,
     hits: Vec<Hit>,
     pub(crate) notes: Vec<Note>,
+    pub(crate) firsts: Vec<FirstHop>,
+    pub(crate) ahead: ReadAhead,
 }
 
 impl Model for Desk {
@@ -139,6 +142,8 @@ impl Desk {
             segments: Vec::new(alloc),
             hits: Vec::new(alloc),
             notes: Vec::new(alloc),
+            firsts: Vec::new(alloc),
+            ahead: ReadAhead::new(),
         }
     }
 
@@ -157,6 +162,7 @@ impl Desk {
         make_room_for(&mut self.segments, shape.events as usize)?;
         make_room_for(&mut self.hits, shape.events as usize + 1)?;
         make_room_for(&mut self.notes, shape.events as usize)?;
+        make_room_for(&mut self.firsts, shape.events as usize)?;
         Ok(())
     }
 
@@ -187,6 +193,7 @@ impl Desk {
         self.segments.clear();
         self.hits.clear();
         self.notes.clear();
+        self.firsts.clear();
     }
 
     /// Enters a trip at an index. Where the index is below the trip's mark, the segment from there up to the mark joins the

@@ -6,6 +6,7 @@
 //! one trip cover no event twice, that marks along a line never rise, and that a desk that fits needs no more memory.
 #![tactic(auto)]
 
+mod ahead;
 mod desk;
 pub mod laws;
 mod levels;

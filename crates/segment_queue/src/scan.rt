@@ -10,6 +10,7 @@ use super::seen::Seen;
 use super::steps::Steps;
 use std::sync::ledger::Ledger;
 use tb_base::{Hop, Path, Sec, StopNo, TripNo};
+use transfer_pack::{FirstHop, ReadAhead};
 
 /// How large a timetable is.
 #[derive(Clone, Copy, Debug, PartialEq, Eq)]
@@ -20,8 +21,8 @@ pub struct Shape {
     pub lines: u32,
 }
 
-/// An event as a search sees it: its stop, its arrival, whether one may alight there, and the hops from it; and by what they
-/// can be read again.
+/// An event as a search sees it: its stop, its arrival, whether one may alight there, and the hops from it; by what
+/// they can be read again, and ahead.
 #[derive(Clone, Copy)]
 pub struct Visit<'a> {
     pub stop: StopNo,
@@ -29,6 +30,7 @@ pub struct Visit<'a> {
     pub alight: bool,
     pub out: &'a [Hop],
     pub seen: Seen,
+    pub first: FirstHop,
 }
 
 /// What a search looks at: the network of a day. No call takes memory.
@@ -88,6 +90,14 @@ pub trait Scan {
         requires trip { seen_trip seen < length (net self.now).table.trips }
         requires at { seen_at seen < length (events_of (net self.now).table (seen_trip seen)) }
         ensures { result.now ≡ (net self.now).hops (seen_trip seen) (seen_at seen) };
+
+    /// Reads event `at` of a trip ahead. It shows nothing of the event, so it is no look.
+    fn read_event_ahead(&self, trip: TripNo, at: u32, ahead: &mut ReadAhead)
+        requires trip { trip < length (net self.now).table.trips }
+        requires at { at < length (events_of (net self.now).table trip) };
+
+    /// Reads the first of the hops that begin there ahead. It shows nothing of it.
+    fn read_hop_ahead(&self, first: FirstHop, ahead: &mut ReadAhead);
 }
 
 /// The looks of a search at a network: who boards a line, and an event of a trip. Each is a step on

@@ -13,7 +13,7 @@ use line_split::Lines;
 use std::marker::Model;
 use std::sync::ledger::Ledger;
 use tb_base::{Hop, OutSet, Path, Sec, StopNo, Timetable, TripNo};
-use transfer_pack::Set;
+use transfer_pack::{FirstHop, ReadAhead, Set};
 
 /// A timetable, its lines and a set of hops, as a search looks at them.
 #[derive(Drop)]
@@ -112,6 +112,7 @@ impl<'a> View<'a> {
             alight: call.alight,
             out: set.out(trip, at),
             seen: Seen { trip, at },
+            first: set.first_hop(trip, at),
         }
     }
 
@@ -182,6 +183,16 @@ impl<'a> Scan for View<'a> {
 
     fn hops_from(&self, seen: Seen) -> &[Hop] {
         self.hops_seen(seen)
+    }
+
+    fn read_event_ahead(&self, trip: TripNo, at: u32, ahead: &mut ReadAhead) {
+        let set = self.set;
+        set.read_call_ahead(trip, at, ahead);
+    }
+
+    fn read_hop_ahead(&self, first: FirstHop, ahead: &mut ReadAhead) {
+        let set = self.set;
+        set.read_hop_ahead(first, ahead);
     }
 }
 

@@ -7,8 +7,10 @@
 //! `tb_base` has them. `Set::call` gives the event.
 #![tactic(auto)]
 
+mod ahead;
 mod call;
 mod set;
 
+pub use ahead::{FirstHop, ReadAhead};
 pub use call::Call;
 pub use set::Set;

@@ -5,6 +5,7 @@ ghost use Rattle.transfer_pack.specs.Calls.{call_of};
 ghost use Rattle.transfer_pack.specs.Packed.{AreBounds, packed, runs_in};
 ghost use Rattle.transfer_pack.specs.Spots.{calls_in, ends_in, spot_call};
 
+use super::ahead::{FirstHop, ReadAhead};
 use super::call::Call;
 use std::alloc::Global;
 use std::marker::Model;
@@ -230,6 +231,33 @@ impl Set {
     {
         let event = self.event(trip, at);
         self.spots[event + 1].call()
+    }
+
+    /// Where the hops from an event begin.
+    pub fn first_hop(&self, trip: TripNo, at: u32) -> FirstHop
+        requires trip { trip < length self.now.table.trips }
+        requires at { at < length (events_of self.now.table trip) }
+    {
+        let event = self.event(trip, at);
+        FirstHop {
+            place: self.spots[event].end,
+        }
+    }
+
+    /// Reads an event ahead, and where its hops begin and end.
+    pub fn read_call_ahead(&self, trip: TripNo, at: u32, ahead: &mut ReadAhead)
+        requires trip { trip < length self.now.table.trips }
+        requires at { at < length (events_of self.now.table trip) }
+    {
+        ahead.take(self.call(trip, at).stop.index());
+        ahead.take(self.run_of(trip, at).len());
+    }
+
+    /// Reads the first of an event's hops ahead.
+    pub fn read_hop_ahead(&self, first: FirstHop, ahead: &mut ReadAhead) {
+        if let Some(hop) = self.hops.get(first.place as usize) {
+            ahead.take(hop.trip.index());
+        }
     }
 }
 

@@ -6,19 +6,23 @@ use Rattle.segment_queue.specs.declared.notes.Note.{Note}
 use Rattle.segment_queue.specs.Queue.{DeskData}
 use Rattle.segment_queue.specs.Scans.{seen_at}
 use Rattle.earliest_query.specs.Noted.{IsSoundNote}
-use Rattle.earliest_query.specs.UnderWay.{IsDone}
+use Rattle.earliest_query.specs.UnderWay.{Extends, IsDone, IsQueue}
 use Rattle.earliest_query.proofs.Growing.{extends-long, extends-refl, extends-trans}
 use Rattle.earliest_query.proofs.Lateness.{done-kept}
 use Rattle.earliest_query.proofs.Noting.{sound_note-kept}
 use Rattle.earliest_query.proofs.search.Search.follow_notes.Goals as goal
 
 pub loop-k-init : goal.loop-k-init
-loop-k-init g c = record {
-  queue = c.requires.queue;
-  extends = extends-refl c.args.desk.now (suc c.args.round);
-  notes = refl;
-  done = λ j d below. absurd (omega (arith, below));
-}
+loop-k-init g c =
+    let N : NetData = g.S.Scan.net c.args.self.now.scan.now in
+    let top : ℕ = suc c.args.round in
+    let same = c.read_notes_ahead.ensures in
+    record {
+      queue = subst (λ d. IsQueue N c.args.self.now.query.now d top) (sym same) c.requires.queue;
+      extends = subst (λ d. Extends c.args.desk.now d top) (sym same) (extends-refl c.args.desk.now top);
+      notes = ap (λ (d : DeskData). d.notes) same;
+      done = λ j d below. absurd (omega (arith, below));
+    }
 
 pub follow_note-requires-clause-note : goal.follow_note-requires-clause-note
 follow_note-requires-clause-note g c =
@@ -60,4 +64,4 @@ loop-k-preserved g c =
 pub returns-clause-done : goal.returns-clause-done
 returns-clause-done g c = λ note h.
     let D : DeskData = c.args.desk.now in
-    subst (λ (x : Note). IsDone (g.S.Scan.net c.args.self.now.scan.now) c.loop-k.desk c.args.best.now x.segment (seen_at x.seen)) h.2 (c.loop-k.invariant.done h.0 note (omega (arith, h.1, c.loop-k-test.false, c.note_count-k-end.ensures)))
+    subst (λ (x : Note). IsDone (g.S.Scan.net c.args.self.now.scan.now) c.loop-k.desk c.args.best.now x.segment (seen_at x.seen)) h.2 (c.loop-k.invariant.done h.0 note (omega (arith, h.1, c.loop-k-test.false, c.note_count-k-end.ensures, ap (λ (d : DeskData). length d.notes) c.read_notes_ahead.ensures)))

@@ -7,7 +7,7 @@ use Rattle.earliest_query.proofs.search.Search.follow_notes.Given as goal
 abbrev pub invariant-loop-k : goal.invariant-loop-k
 invariant-loop-k g l = record {
   queue : IsQueue (g.S.Scan.net l.self.scan.now) l.self.query.now l.desk (suc l.round);
-  extends : Extends l.initial.desk l.desk (suc l.round);
-  notes : l.desk.notes ≡ l.initial.desk.notes;
-  done : (j : ℕ) (d : Note) → j < l.k → IsDone (g.S.Scan.net l.self.scan.now) l.desk l.best (get_or l.initial.desk.notes j d).segment (seen_at (get_or l.initial.desk.notes j d).seen);
+  extends : Extends l.fn.desk l.desk (suc l.round);
+  notes : l.desk.notes ≡ l.fn.desk.notes;
+  done : (j : ℕ) (d : Note) → j < l.k → IsDone (g.S.Scan.net l.self.scan.now) l.desk l.best (get_or l.fn.desk.notes j d).segment (seen_at (get_or l.fn.desk.notes j d).seen);
 }

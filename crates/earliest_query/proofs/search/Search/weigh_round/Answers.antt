@@ -1,4 +1,4 @@
-use Rattle.std.proofs.Common.{◌≡◌, ◌∙◌, ℕ, suc, ◌+◌, ◌<◌, inl, length, refl, sym, ap, subst, arith}
+use Rattle.std.proofs.Common.{◌≡◌, ◌∙◌, ℕ, suc, ◌+◌, ◌<◌, inl, [], length, refl, sym, ap, subst, arith}
 use Rattle.std.specs.Prelude.{All, sum_by}
 use Rattle.std.proofs.lemmas.List.Elements.{All-nil}
 use Rattle.std.proofs.lemmas.List.Sums.{sum_by_more, sum_by_more_le}
@@ -11,11 +11,17 @@ use Rattle.earliest_query.specs.UnderWay.{Covers, IsBounded, IsImproved}
 use Rattle.earliest_query.proofs.Noting.{bounded_one_weighed, improved_one_weighed, in_step-notes, left_one_more}
 use Rattle.earliest_query.proofs.search.Search.weigh_round.Goals as goal
 
+pub read_segments_ahead-requires : goal.read_segments_ahead-requires
+read_segments_ahead-requires g c =
+    let N : NetData = g.S.Scan.net c.args.self.now.scan.now in
+    subst (IsInStep N) (sym c.clear_notes.ensures) (in_step-notes N c.args.desk.now [] c.requires.step)
+
 pub loop-n-init : goal.loop-n-init
 loop-n-init g c =
-    let none = ap (λ (d : DeskData). d.notes) c.clear_notes.ensures in
+    let emptied = c.read_segments_ahead.ensures ∙ c.clear_notes.ensures in
+    let none = ap (λ (d : DeskData). d.notes) emptied in
     record {
-      rest = c.clear_notes.ensures ∙ ap (λ ns. record c.args.desk.now { notes = ns }) (sym none);
+      rest = emptied ∙ ap (λ ns. record c.args.desk.now { notes = ns }) (sym none);
       sound = subst (All (IsSoundNote (g.S.Scan.net c.args.self.now.scan.now).table c.args.desk.now.segments c.args.round)) (sym none) (All-nil (IsSoundNote (g.S.Scan.net c.args.self.now.scan.now).table c.args.desk.now.segments c.args.round));
       left = λ n i from below covers. absurd (omega (arith, from, below));
       bounded = λ n i from below covers. absurd (omega (arith, from, below));

@@ -1,0 +1,38 @@
+use std::marker::Model;
+
+/// Where the hops from an event begin, for reading ahead alone. No call tells the number, and no
+/// clause says which one it is.
+#[derive(Clone, Copy)]
+pub struct FirstHop {
+    pub(crate) place: u32,
+}
+
+/// What was read ahead, so that it is at hand when it is looked at. No call and no clause tells
+/// anything of it.
+///
+/// What is read ahead decides nothing, so the processor waits for many reads at once. It is summed
+/// up so that no compiler leaves the reads out.
+#[derive(Drop)]
+pub struct ReadAhead {
+    sum: usize,
+}
+
+impl Model for ReadAhead {
+    ghost use Rattle.std.specs.Prelude.{⊤};
+
+    ghost Value = { ⊤ };
+
+    ghost view = { λ _. tt };
+}
+
+impl ReadAhead {
+    /// Nothing yet.
+    pub fn new() -> ReadAhead {
+        ReadAhead { sum: 0 }
+    }
+
+    // One number more.
+    pub(crate) fn take(&mut self, number: usize) {
+        self.sum ^= number;
+    }
+}
