@@ -127,10 +127,7 @@ impl<S: Scan> Search<'_, S> {
         ensures { IsWeighed (S.net self.now.scan.now).table self.now.query.now visit.now.stop
             visit.now.arr visit.now.alight entry at round best result }
     {
-        if !self.may_be_near(visit.stop) {
-            return best;
-        }
-        if !may_improve(&best, visit) {
+        if !may_improve(&best, visit) || !self.may_be_near(visit.stop) {
             return best;
         }
         match nearest(self.scan, visit.stop, targets(self.query)) {
