@@ -1,5 +1,5 @@
 -- The events of timed rows, one row on.
-use Rattle.std.proofs.Common.{◌≡◌, ◌∙◌, sym, ap, ℕ, ◌+◌, ◌<◌, List, [], ◌∷◌, ◌++◌, length, map, drop, get_or, Option, Some, None}
+use Rattle.std.proofs.Common.{◌≡◌, ◌∙◌, sym, ap, ℕ, ◌+◌, ◌<◌, List, [], ◌∷◌, ◌++◌, length, map, drop, get_or, Option, Some}
 use Rattle.std.proofs.lemmas.List.{append_assoc, drop_more}
 use Rattle.tb_base.specs.declared.table.Event.{Event}
 use Rattle.trip_rides.specs.declared.stop_time.StopTime.{StopTime}
