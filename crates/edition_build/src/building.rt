@@ -5,7 +5,6 @@ ghost use Rattle.reduce_workers.specs.Reductions.{reduced};
 use edition_store::{Edition, Shared};
 use line_split::{Lines, split};
 use reduce_workers::{Reduced, reduce_all};
-use segment_queue::WalkGroups;
 use std::alloc::Global;
 use std::thread::Threads;
 use tb_base::{Gate, Memory, Timetable};
@@ -28,9 +27,38 @@ pub fn assemble(
     table.soundness();
     lines.soundness();
     let kept = transfers.kept;
-    let set = transfers.into_set(alloc, &table)?;
-    let groups = WalkGroups::of(alloc, &table)?;
-    Ok(Edition::new(table, lines, set, groups, kept))
+    match transfers.into_set(alloc, &table) {
+        Ok(set) => Edition::with_set(alloc, table, lines, set, kept),
+        Err(Memory) => {
+            drop(table);
+            drop(lines);
+            Err(Memory)
+        }
+    }
+}
+
+// The edition of a timetable with its lines.
+fn build_over<G: Gate, R: Threads + Sync>(
+    rt: &R,
+    alloc: Global,
+    table: Timetable,
+    lines: Lines,
+    workers: u32,
+    gate: &G,
+) -> Result<Edition, Memory>
+    requires some { 0 < workers }
+    requires most { workers ≤ 64 }
+    requires lines { lines.table ≡ table }
+    ensures { IfOk result (λ e. EditionData.table e ≡ table) }
+{
+    match reduce_all(rt, alloc, &table, &lines, workers, gate) {
+        Ok(transfers) => assemble(alloc, table, lines, transfers),
+        Err(Memory) => {
+            drop(table);
+            drop(lines);
+            Err(Memory)
+        }
+    }
 }
 
 /// The edition of a timetable. So many workers reduce its transfers, at least one and at most 64;
@@ -47,9 +75,13 @@ pub fn build<G: Gate, R: Threads + Sync>(
     requires most { workers ≤ 64 }
     ensures { IfOk result (λ e. EditionData.table e ≡ table) }
 {
-    let lines = split(alloc, &table)?;
-    let transfers = reduce_all(rt, alloc, &table, &lines, workers, gate)?;
-    assemble(alloc, table, lines, transfers)
+    match split(alloc, &table) {
+        Ok(lines) => build_over(rt, alloc, table, lines, workers, gate),
+        Err(Memory) => {
+            drop(table);
+            Err(Memory)
+        }
+    }
 }
 
 /// The edition of a timetable, to be shared; see `build`.
@@ -64,5 +96,8 @@ pub fn build_edition<G: Gate, R: Threads + Sync>(
     requires most { workers ≤ 64 }
     ensures { IfOk result (λ e. EditionData.table e ≡ table) }
 {
-    Shared::new(alloc, build(rt, alloc, table, workers, gate)?)
+    match build(rt, alloc, table, workers, gate) {
+        Ok(edition) => Shared::new(alloc, edition),
+        Err(Memory) => Err(Memory),
+    }
 }

@@ -1,4 +1,4 @@
-ghost use Rattle.std.specs.Prelude.{◌≡◌, ℕ};
+ghost use Rattle.std.specs.Prelude.{◌≡◌, ℕ, IfOk};
 ghost use Rattle.tb_base.specs.Sufficiency.{AreSufficient};
 ghost use Rattle.tb_base.specs.Transfers.{kept_hops};
 ghost use Rattle.transfer_pack.specs.Packed.{packed};
@@ -6,9 +6,10 @@ ghost use Rattle.edition_store.specs.Editions.{EditionData, IsEdition, kept_coun
 
 use line_split::Lines;
 use segment_queue::{Look, Scan, Seen, Shape, Steps, View, Visit, WalkGroups};
+use std::alloc::Global;
 use std::marker::Model;
 use std::sync::ledger::Ledger;
-use tb_base::{Hop, Path, Sec, StopNo, Timetable, TripNo};
+use tb_base::{Hop, Memory, Path, Sec, StopNo, Timetable, TripNo};
 use transfer_pack::{FirstHop, ReadAhead, Set};
 
 /// The network of a day: a timetable, its lines, and the set of its kept transfers. It holds the
@@ -46,9 +47,9 @@ impl Model for Edition {
 }
 
 impl Edition {
-    /// The edition of a timetable with its lines, the set of exactly its kept transfers, how many
-    /// these are, and the groups of its stops. Takes no memory.
-    pub fn new(table: Timetable, lines: Lines, set: Set, groups: WalkGroups, kept: u64) -> Edition
+    // The edition of a timetable with its lines, the set of exactly its kept transfers, how many
+    // these are, and the groups of its stops.
+    fn new(table: Timetable, lines: Lines, set: Set, groups: WalkGroups, kept: u64) -> Edition
         requires lines { lines.table ≡ table }
         requires set { set.table ≡ table }
         requires groups { groups ≡ table }
@@ -65,6 +66,34 @@ impl Edition {
             set,
             groups,
             kept,
+        }
+    }
+
+    /// The edition of a timetable with its lines, the set of exactly its kept transfers, and how
+    /// many these are. Takes memory for the groups of its stops. Refused only for want of memory;
+    /// what it would own is dropped then.
+    pub fn with_set(
+        alloc: Global,
+        table: Timetable,
+        lines: Lines,
+        set: Set,
+        kept: u64,
+    ) -> Result<Edition, Memory>
+        requires lines { lines.table ≡ table }
+        requires set { set.table ≡ table }
+        requires hops { (t i : ℕ) → packed set t i ≡ kept_hops table lines.lines t i }
+        requires kept { kept ≡ kept_count table lines.lines }
+        ensures { IfOk result (λ e. e ≡
+            record { table = table; lines = lines.lines; set = set; kept = kept }) }
+    {
+        match WalkGroups::of(alloc, &table) {
+            Ok(groups) => Ok(Edition::new(table, lines, set, groups, kept)),
+            Err(Memory) => {
+                drop(table);
+                drop(lines);
+                drop(set);
+                Err(Memory)
+            }
         }
     }
 

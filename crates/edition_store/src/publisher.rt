@@ -70,29 +70,34 @@ fn with_edition(
     Ok(Arc::new(alloc, list)?)
 }
 
-// Three shares of the list with one more edition, which the history has then too.
+// The list with one more edition, which the history has then too.
 fn grown<J: Naming>(
     alloc: Global,
     history: &mut History<Edition, J>,
     now: &Content<J>,
     edition: Shared,
-) -> Result<(Content<J>, Content<J>, Content<J>), Memory>
+) -> Result<Content<J>, Memory>
     requires same { now.now ≡ history.old }
     requires room { length now.now.list < 100 }
     ensures history { history.new ≡
         record { list = history.old.list ++ edition ∷ []; closed = false } }
-    ensures first { IfOk result (λ t. t.0 ≡ history.new) }
-    ensures second { IfOk result (λ t. t.1 ≡ history.new) }
-    ensures third { IfOk result (λ t. t.2 ≡ history.new) }
+    ensures list { IfOk result (λ c. c ≡ history.new) }
 {
     history.publish(edition.edition());
-    let content = Content {
-        list: with_edition(alloc, &now.list, edition)?,
-        closed: false,
-        front: history.front(),
-    };
-    let (next, told) = content.shares()?;
-    Ok((content, next, told))
+    match with_edition(alloc, &now.list, edition) {
+        Ok(list) => Ok(Content {
+            list,
+            closed: false,
+            front: history.front(),
+        }),
+        Err(Memory) => Err(Memory),
+    }
+}
+
+// Shows the readers none any more. What they were shown is dropped by a call: at the end of a scope
+// each part of it would be dropped by itself, and the proof would go through all of them.
+fn hide<J: Naming, R: Wait>(rt: &R, writer: Writing<Content<J>>) {
+    drop(writer.take(rt));
 }
 
 // Shows the readers the next list. At a refusal they are shown none any more.
@@ -106,15 +111,51 @@ fn show<J: Naming, R: Wait>(
 {
     let mut writer = writer;
     if writer.append(next).is_err() {
-        writer.take(rt);
+        hide(rt, writer);
         return Err(Memory);
     }
     let (writer, done) = writer.publish_as::<Sees, R>(rt);
     if done.is_err() {
-        writer.take(rt);
+        hide(rt, writer);
         return Err(Memory);
     }
     Ok(writer)
+}
+
+// The publisher of a list that its history has, which readers aren't shown yet; and a receipt.
+fn turned<J: Naming, R: Wait>(
+    rt: &R,
+    alloc: Global,
+    history: History<Edition, J>,
+    writer: Writing<Content<J>>,
+    content: Content<J>,
+) -> Result<(Publisher<J>, Receipt<J>), Memory>
+    requires content { content ≡ history }
+    requires open { history.closed ≡ false }
+    requires shown { Extends content writer.desk.shown.value }
+    ensures list { IfOk result (λ t. t.0 ≡ history.list) }
+    ensures receipt { IfOk result (λ t. t.1 ≡ history) }
+{
+    match content.shares() {
+        Ok((next, told)) => match show(rt, writer, next) {
+            Ok(writer) => {
+                let receipt = Receipt { content: told };
+                Ok((Publishing::over(alloc, history, content, writer), receipt))
+            }
+            Err(Memory) => {
+                drop(history);
+                drop(content);
+                drop(told);
+                Err(Memory)
+            }
+        },
+        Err(Memory) => {
+            hide(rt, writer);
+            drop(history);
+            drop(content);
+            Err(Memory)
+        }
+    }
 }
 
 impl<J: Naming> Publishing<J, Writing<Content<J>>> {
@@ -173,15 +214,15 @@ impl<J: Naming> Publishing<J, Writing<Content<J>>> {
             writer,
         } = self;
         let grown = grown(alloc, &mut history, &kept, edition);
-        let Ok((kept, next, content)) = grown else {
-            writer.take(rt);
-            return Err(Memory);
-        };
-        let writer = show(rt, writer, next)?;
-        Ok((
-            Publishing::over(alloc, history, kept, writer),
-            Receipt { content },
-        ))
+        drop(kept);
+        match grown {
+            Ok(content) => turned(rt, alloc, history, writer, content),
+            Err(Memory) => {
+                hide(rt, writer);
+                drop(history);
+                Err(Memory)
+            }
+        }
     }
 
     /// Closes the list, to which nothing is added any more, and gives all of it. From then on no
@@ -198,12 +239,22 @@ impl<J: Naming> Publishing<J, Writing<Content<J>>> {
             writer,
         } = self;
         let content = kept.closed_by(history.finish());
-        let Ok(next) = content.share() else {
-            writer.take(rt);
-            return Err(Memory);
-        };
-        let writer = show(rt, writer, next)?;
-        writer.take(rt);
-        Ok(Last { content })
+        match content.share() {
+            Ok(last) => match show(rt, writer, last) {
+                Ok(writer) => {
+                    hide(rt, writer);
+                    Ok(Last { content })
+                }
+                Err(Memory) => {
+                    drop(content);
+                    Err(Memory)
+                }
+            },
+            Err(Memory) => {
+                hide(rt, writer);
+                drop(content);
+                Err(Memory)
+            }
+        }
     }
 }

@@ -74,6 +74,31 @@ fn pinned<J: Naming>(list: &Content<J>) -> Result<Pinned<J>, Memory>
     })
 }
 
+// Pins a list of which these are two shares, and keeps it, unless the kept one goes on from it; and
+// whether it is kept.
+fn pin_longer<J: Naming>(
+    kept: &mut Content<J>,
+    fresh: bool,
+    one: Content<J>,
+    two: Content<J>,
+) -> (bool, Result<Pinned<J>, Memory>)
+    requires same { two ≡ one }
+    requires fresh { fresh ≡ true → Extends one kept.old }
+    ensures fresh { result.0 ≡ true → kept.new ≡ one }
+    ensures later { IfOk result.1 (λ p. Extends p kept.old) }
+    ensures kept { IfOk result.1 (λ p. kept.new ≡ p) }
+    ensures refused { IfErr result.1 (λ _. kept.new ≡ kept.old) }
+{
+    if goes_on(kept, fresh, &one) {
+        *kept = one;
+        (true, Ok(Pinned { content: two }))
+    } else {
+        drop(one);
+        drop(two);
+        (false, pinned(kept))
+    }
+}
+
 impl<J: Naming> Seat<J> {
     // A seat that keeps the list, and has no reader yet.
     pub(crate) fn keeping(list: Content<J>) -> Seat<J>
@@ -111,19 +136,18 @@ impl<J: Naming> Seat<J> {
         };
         let (reader, seen) = look(reader);
         self.reader = Some(reader);
-        let Some(shares) = seen else {
-            return pinned(&self.kept);
-        };
-        let Ok((one, two)) = shares else {
-            self.fresh = false;
-            return Err(Memory);
-        };
-        self.fresh = goes_on(&self.kept, self.fresh, &one);
-        if !self.fresh {
-            return pinned(&self.kept);
+        match seen {
+            None => pinned(&self.kept),
+            Some(Ok((one, two))) => {
+                let (fresh, list) = pin_longer(&mut self.kept, self.fresh, one, two);
+                self.fresh = fresh;
+                list
+            }
+            Some(Err(Memory)) => {
+                self.fresh = false;
+                Err(Memory)
+            }
         }
-        self.kept = one;
-        Ok(Pinned { content: two })
     }
 
     // Keeps the list where it is longer than the one that is kept.

@@ -1,4 +1,4 @@
-ghost use Rattle.std.specs.Prelude.{◌≡◌, ◌<◌, ◌≤◌, [], ◌∷◌, length, replicate, true, false, IfOk};
+ghost use Rattle.std.specs.Prelude.{◌≡◌, ◌<◌, ◌≤◌, [], ◌∷◌, ◌++◌, length, replicate, true, false, IfOk, OnOk};
 ghost use Rattle.std.specs.Arc.{arc_value};
 ghost use Rattle.history.specs.Lists.{Shown};
 ghost use Rattle.edition_store.specs.Rules.{IsFirst};
@@ -8,7 +8,7 @@ use crate::edition::Edition;
 use crate::publisher::{Publisher, Publishing, Writing};
 use crate::seat::Seat;
 use crate::shared::Shared;
-use history::{Naming, Opened};
+use history::{History, Naming, Opened};
 use left_right::writer::Writer;
 use std::alloc::Global;
 use std::sync::Arc;
@@ -26,13 +26,25 @@ fn alone(alloc: Global, first: Shared) -> Result<Arc<Vec<Shared>>, Memory>
     Ok(Arc::new(alloc, list)?)
 }
 
+// One more seat that keeps the list, and has no reader yet.
+fn add_keeper<J: Naming>(keepers: &mut Vec<Seat<J>>, first: &Content<J>) -> Result<(), Memory>
+    ensures { OnOk result (keepers.new.items ≡ keepers.old.items ++ first.now ∷ []) }
+{
+    let list = first.share()?;
+    keepers.push(Seat::keeping(list))?;
+    Ok(())
+}
+
 // So many seats that keep the list, and have no reader yet.
 fn keepers<J: Naming>(alloc: Global, first: &Content<J>, seats: u32) -> Result<Vec<Seat<J>>, Memory>
     ensures { IfOk result (λ v. v.items ≡ replicate seats first.now) }
 {
     let mut keepers = Vec::new(alloc);
     for _ in 0..seats {
-        keepers.push(Seat::keeping(first.share()?))?;
+        if add_keeper(&mut keepers, first).is_err() {
+            drop(keepers);
+            return Err(Memory);
+        }
     }
     Ok(keepers)
 }
@@ -57,9 +69,64 @@ fn started<J: Naming>(
     requires first { IsFirst first.now }
     ensures { IfOk result (λ w. w.desk.shown.value ≡ first.now) }
 {
-    let one = first.share()?;
-    let two = first.share()?;
+    let (one, two) = first.shares()?;
     Ok(Writer::new(alloc, one, two, seats as usize)?)
+}
+
+// The writer, and so many seats, each of which keeps the list.
+fn places<J: Naming>(
+    first: &Content<J>,
+    alloc: Global,
+    seats: u32,
+) -> Result<(Writing<Content<J>>, Vec<Seat<J>>), Memory>
+    requires some { 0 < seats }
+    requires most { seats ≤ 65 }
+    requires first { IsFirst first.now }
+    ensures shown { IfOk result (λ t. t.0.desk.shown.value ≡ first.now) }
+    ensures seats { IfOk result (λ t. t.1.items ≡ replicate seats first.now) }
+{
+    let mut places = keepers(alloc, first, seats)?;
+    match started(first, alloc, seats) {
+        Ok(writer) => {
+            give_readers(&writer, &mut places);
+            Ok((writer, places))
+        }
+        Err(Memory) => {
+            drop(places);
+            Err(Memory)
+        }
+    }
+}
+
+// The history of one edition, and the list. `opened` has the name of the store.
+fn begun<J: Naming>(
+    alloc: Global,
+    opened: Opened<Edition>,
+    first: Shared,
+) -> Result<(History<Edition, J>, Content<J>), Memory>
+    requires { opened.seen.book ≡ J.book }
+    ensures history { IfOk result (λ t. t.0 ≡ record { list = first ∷ []; closed = false }) }
+    ensures list { IfOk result (λ t. t.1 ≡ record { list = first ∷ []; closed = false }) }
+{
+    let Some(history) = opened.begin::<J>(first.edition()) else {
+        drop(first);
+        return Err(Memory);
+    };
+    match alone(alloc, first) {
+        Ok(list) => {
+            let front = history.front();
+            let content = Content {
+                list,
+                closed: false,
+                front,
+            };
+            Ok((history, content))
+        }
+        Err(Memory) => {
+            drop(history);
+            Err(Memory)
+        }
+    }
 }
 
 impl Store {
@@ -79,19 +146,17 @@ impl Store {
         ensures seats { IfOk result (λ t. t.1.items ≡
             replicate seats (record { list = first ∷ []; closed = false })) }
     {
-        let begun = opened.begin::<J>(first.edition());
-        let Some(history) = begun else {
-            return Err(Memory);
-        };
-        let content = Content {
-            list: alone(alloc, first)?,
-            closed: false,
-            front: history.front(),
-        };
-        let mut places = keepers(alloc, &content, seats)?;
-        let writer = started(&content, alloc, seats)?;
-        give_readers(&writer, &mut places);
-        Ok((Publishing::over(alloc, history, content, writer), places))
+        let (history, content) = begun::<J>(alloc, opened, first)?;
+        match places(&content, alloc, seats) {
+            Ok((writer, places)) => {
+                Ok((Publishing::over(alloc, history, content, writer), places))
+            }
+            Err(Memory) => {
+                drop(history);
+                drop(content);
+                Err(Memory)
+            }
+        }
     }
 
     /// A seat of a list that is this edition alone, and closed from the start: what a store is once
@@ -106,14 +171,7 @@ impl Store {
         requires { opened.seen.book ≡ J.book }
         ensures { IfOk result (λ s. s ≡ record { list = only ∷ []; closed = true }) }
     {
-        let begun = opened.begin::<J>(only.edition());
-        let Some(history) = begun else {
-            return Err(Memory);
-        };
-        Ok(Seat::keeping(Content {
-            list: alone(alloc, only)?,
-            closed: true,
-            front: history.finish(),
-        }))
+        let (history, content) = begun::<J>(alloc, opened, only)?;
+        Ok(Seat::keeping(content.closed_by(history.finish())))
     }
 }

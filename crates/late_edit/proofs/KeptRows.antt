@@ -81,9 +81,7 @@ pub all_rows : (before after : LinesData) (T : TimetableData) (n : ℕ) (r : Row
 all_rows before after T n r own are = are.rows ∙ ap (λ U. rows_from U (kept_hops U after.lines) 0 n) own
 
 -- the touched trips are counted
-pub all_touched : (e f : EditionData) (M : LinesData) (T : TimetableData) (r : RowsData) → M.table ≡ T → IsRetimed e.table T → f.table ≡ T → f.lines ≡ M.lines → AreKeptRows (network_of e) M (length T.trips) r
-    → r.redone ≡ touched_count (network_of e) (network_of f)
-all_touched e f M T r own retimed table lines are =
-    let after : M ≡ network_of f = network_is f M (own ∙ sym table) (sym lines) in
+pub all_touched : (e : EditionData) (M : LinesData) (T : TimetableData) (r : RowsData) → IsRetimed e.table T → AreKeptRows (network_of e) M (length T.trips) r → r.redone ≡ touched_count (network_of e) M
+all_touched e M T r retimed are =
     let many : length T.trips ≡ length e.table.trips = sym (same_length e.table T retimed) in
-    are.redone ∙ (λ i. length (filter (is_touched (network_of e) (after i)) (numbers_below (many i))))
+    are.redone ∙ (λ i. length (filter (is_touched (network_of e) M) (numbers_below (many i))))

@@ -1,17 +1,20 @@
 //! An edition is amended by late trips.
-ghost use Rattle.std.specs.Prelude.{◌≡◌, IfOk, MatchResult, Ok};
-ghost use Rattle.edition_store.specs.Editions.{EditionData};
+ghost use Rattle.std.specs.Prelude.{◌≡◌, ℕ, IfOk, MatchResult, Ok};
+ghost use Rattle.tb_base.specs.Transfers.{kept_hops};
+ghost use Rattle.transfer_pack.specs.Packed.{packed};
+ghost use Rattle.edition_store.specs.Editions.{EditionData, kept_count};
 ghost use Rattle.late_times.specs.Amended.{amended};
 ghost use Rattle.late_times.specs.Lates.{IsRefused};
+ghost use Rattle.touched_trips.specs.Retimed.{IsRetimed};
 ghost use Rattle.touched_trips.specs.Touched.{touched_count};
 ghost use Rattle.late_edit.specs.Amending.{network_of};
 
 use crate::rows::Rows;
 use edition_store::{Edition, Shared};
 use late_times::{Late, LateFault, amended};
-use line_split::split;
-use segment_queue::WalkGroups;
+use line_split::{Lines, split};
 use std::alloc::Global;
+use tb_base::{Memory, Timetable};
 use transfer_pack::Set;
 
 /// An amended edition, and how many trips are touched.
@@ -19,6 +22,66 @@ use transfer_pack::Set;
 pub struct Amended {
     pub edition: Shared,
     pub redone: u32,
+}
+
+// The set of the kept transfers of a timetable, how many they are, and how many trips are touched.
+struct Kept {
+    set: Set,
+    kept: u64,
+    redone: u32,
+}
+
+// The kept transfers of a timetable with its lines, which has other times than that of an edition.
+fn kept_of(alloc: Global, old: &Edition, table: &Timetable, lines: &Lines) -> Result<Kept, Memory>
+    requires lines { lines.now.table ≡ table.now }
+    requires retimed { IsRetimed old.now.table table.now }
+    ensures table { IfOk result (λ k. k.set.table ≡ table.now) }
+    ensures hops { IfOk result (λ k. (t i : ℕ) →
+        packed k.set t i ≡ kept_hops table.now lines.now.lines t i) }
+    ensures kept { IfOk result (λ k. k.kept ≡ kept_count table.now lines.now.lines) }
+    ensures redone { IfOk result (λ k. k.redone ≡ touched_count (network_of old.now) lines.now) }
+{
+    reduce_workers::laws::kept_rows();
+    table.soundness();
+    lines.soundness();
+    let rows = Rows::of(alloc, old, table, lines)?;
+    let set = Set::build(alloc, table, rows.rows.as_slice())?;
+    Ok(Kept {
+        set,
+        kept: rows.kept,
+        redone: rows.redone,
+    })
+}
+
+// The edition of a timetable with its lines, which has other times than that of an edition, and how
+// many trips are touched.
+fn amended_over(
+    alloc: Global,
+    old: &Edition,
+    table: Timetable,
+    lines: Lines,
+) -> Result<Amended, Memory>
+    requires lines { lines.table ≡ table }
+    requires retimed { IsRetimed old.now.table table }
+    ensures table { IfOk result (λ a. EditionData.table a.edition ≡ table) }
+    ensures redone { IfOk result
+        (λ a. a.redone ≡ touched_count (network_of old.now) (network_of a.edition)) }
+{
+    match kept_of(alloc, old, &table, &lines) {
+        Ok(Kept { set, kept, redone }) => {
+            let edition = Edition::with_set(alloc, table, lines, set, kept)?;
+            let shared = Shared::new(alloc, edition)?;
+            Ok(Amended {
+                edition: shared,
+                redone,
+            })
+        }
+        Err(Memory) => {
+            drop(table);
+            drop(lines);
+            Err(Memory)
+        }
+    }
 }
 
 /// The edition of the timetable of an edition, amended by lates, and how many trips are touched by
@@ -30,17 +93,12 @@ pub fn amend(alloc: Global, old: &Edition, lates: &[Late]) -> Result<Amended, La
     ensures redone { IfOk result
         (λ a. a.redone ≡ touched_count (network_of old.now) (network_of a.edition)) }
 {
-    reduce_workers::laws::kept_rows();
     let table = amended(alloc, old.table(), lates)?;
-    let lines = split(alloc, &table)?;
-    table.soundness();
-    lines.soundness();
-    let rows = Rows::of(alloc, old, &table, &lines)?;
-    let set = Set::build(alloc, &table, rows.rows.as_slice())?;
-    let groups = WalkGroups::of(alloc, &table)?;
-    let edition = Edition::new(table, lines, set, groups, rows.kept);
-    Ok(Amended {
-        edition: Shared::new(alloc, edition)?,
-        redone: rows.redone,
-    })
+    match split(alloc, &table) {
+        Ok(lines) => Ok(amended_over(alloc, old, table, lines)?),
+        Err(Memory) => {
+            drop(table);
+            Err(LateFault::Memory)
+        }
+    }
 }

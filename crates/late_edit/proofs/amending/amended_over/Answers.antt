@@ -1,0 +1,14 @@
+use Rattle.std.proofs.Common.{◌∙◌, sym, ap}
+use Rattle.edition_store.specs.Editions.{EditionData}
+use Rattle.touched_trips.specs.Touched.{touched_count}
+use Rattle.late_edit.specs.Amending.{network_of}
+use Rattle.late_edit.proofs.KeptRows.{network_is}
+use Rattle.late_edit.proofs.amending.amended_over.Goals as goal
+
+pub returns-in_ok-shared-in-Ok-clause-redone : goal.returns-in_ok-shared-in-Ok-clause-redone
+returns-in_ok-shared-in-Ok-clause-redone c =
+    let L = c.args.lines in
+    let e = c.in_ok-shared-in-Ok.shared in
+    let is = c.in_ok-shared-in-Ok.ensures ∙ c.in_ok-edition-in-Ok.ensures in
+    c.in-Ok.ensures.redone
+    ∙ ap (touched_count (network_of c.args.old.now)) (network_is e L (c.requires.lines ∙ sym (ap (λ (x : EditionData). x.table) is)) (sym (ap (λ (x : EditionData). x.lines) is)))
