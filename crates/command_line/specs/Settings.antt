@@ -1,17 +1,13 @@
 -- What the options of a command line say.
-use Rattle.std.specs.Prelude.{ℕ, ◌<◌, ◌≤◌, ◌&&◌, nat_lt, nat_le, List, codes, bytes_eq, Bool, false, Option, Some, None, if◌then◌else◌}
+use Rattle.std.specs.Prelude.{ℕ, ◌&&◌, nat_lt, nat_le, List, codes, bytes_eq, Bool, false, Option, Some, None, if◌then◌else◌}
 use Rattle.std.specs.Option.{option_and_then, option_map}
 use Rattle.clap.specs.Words.{Row, Text, first_of}
 use Rattle.footpaths.specs.declared.paths.Options.{Options}
 use Rattle.footpaths.specs.Limits.{AreWithinADay}
 use Rattle.gtfs_rows.specs.Fields.{secs_of}
 use Rattle.gtfs_rows.specs.Numbers.{number_of}
+use Rattle.reduce_workers.specs.Workers.{AreWorkers}
 use Rattle.command_line.specs.declared.settings.Settings.{Settings}
-
--- a number of workers is from 1 to 64
-pub record AreWorkers (n : ℕ) : Type 0 where
-  pub some : 0 < n
-  pub most : n ≤ 64
 
 pub record AreSettings (s : Settings) : Type 0 where
   pub options : AreWithinADay s.options

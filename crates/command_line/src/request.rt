@@ -130,7 +130,7 @@ pub struct DayRequest<'a> {
 impl<'a> Model for DayRequest<'a> {
     ghost use Rattle.command_line.specs.DayCommands.{DayRequestData};
     ghost use Rattle.footpaths.specs.Limits.{AreWithinADay};
-    ghost use Rattle.command_line.specs.Settings.{AreWorkers};
+    ghost use Rattle.reduce_workers.specs.Workers.{AreWorkers};
 
     ghost Value = { DayRequestData };
 
@@ -189,7 +189,7 @@ pub struct LateRequest<'a> {
 impl<'a> Model for LateRequest<'a> {
     ghost use Rattle.command_line.specs.LateTrips.{LateRequestData};
     ghost use Rattle.footpaths.specs.Limits.{AreWithinADay};
-    ghost use Rattle.command_line.specs.Settings.{AreWorkers};
+    ghost use Rattle.reduce_workers.specs.Workers.{AreWorkers};
 
     ghost Value = { LateRequestData };
 
@@ -234,7 +234,7 @@ pub struct ServeRequest<'a> {
 impl<'a> Model for ServeRequest<'a> {
     ghost use Rattle.command_line.specs.Plans.{IsPlan, ServeRequestData};
     ghost use Rattle.footpaths.specs.Limits.{AreWithinADay};
-    ghost use Rattle.command_line.specs.Settings.{AreWorkers};
+    ghost use Rattle.reduce_workers.specs.Workers.{AreWorkers};
 
     ghost Value = { ServeRequestData };
 
@@ -259,7 +259,7 @@ pub struct CityRequest {
 
 impl Model for CityRequest {
     ghost use Rattle.command_line.specs.Cities.{CityRequestData, IsSide};
-    ghost use Rattle.command_line.specs.Settings.{AreWorkers};
+    ghost use Rattle.reduce_workers.specs.Workers.{AreWorkers};
 
     ghost Value = { CityRequestData };
 

@@ -1,5 +1,5 @@
 -- A reply by the last edition of a list, and its text.
-use Rattle.std.proofs.Common.{◌≡◌, ◌∙◌, refl, sym, ap, subst, ℕ, ◌-◌, List, length, Some}
+use Rattle.std.proofs.Common.{◌≡◌, ◌∙◌, sym, ap, subst, ℕ, ◌-◌, List, length, Some}
 use Rattle.std.specs.Prelude.{slice_get}
 use Rattle.edition_store.specs.Editions.{EditionData}
 use Rattle.query_gate.specs.Callers.{IsEditionOf}
@@ -8,7 +8,8 @@ use Rattle.lane_serve.specs.declared.script.Line.{Line}
 use Rattle.lane_serve.specs.declared.lane.ReplyText.{ReplyText}
 use Rattle.lane_serve.specs.Lanes.{IsAnswered, IsReplyOf, reply_text}
 
-same_edition : (o : List EditionData) (n : ℕ) (e f : EditionData) → slice_get o n ≡ Some e → slice_get o n ≡ Some f → f ≡ e
+-- at a place of a list stands one edition
+pub same_edition : (o : List EditionData) (n : ℕ) (e f : EditionData) → slice_get o n ≡ Some e → slice_get o n ≡ Some f → f ≡ e
 same_edition o n e f h k = let s : Some f ≡ Some e = sym k ∙ h in cc
 
 -- the number, the edition and the text are those of the reply

@@ -1,5 +1,5 @@
 -- A plan whose first item is refused has no answer but its fault, where nothing fails outside.
-use Rattle.std.proofs.Common.{◌≡◌, ◌<◌, ℕ, List, [], ◌∷◌, Option, Result, Ok, Err, arith, refl}
+use Rattle.std.proofs.Common.{◌≡◌, ℕ, List, [], ◌∷◌, Option, Result, Ok, Err, arith, refl}
 use Rattle.std.specs.Prelude.{IfErr, IfOk, IsSome}
 use Rattle.tb_base.specs.TimetableData.{TimetableData}
 use Rattle.tb_io.specs.Files.{FileList}

@@ -1,7 +1,7 @@
 mod Scripts
-mod Times
+pub mod Times
 mod Runs
-mod Answering
+pub mod Answering
 mod Plans
 mod Reports
 mod OutcomeLines

@@ -1,5 +1,5 @@
 -- The lines of outcomes, one item after another.
-use Rattle.std.proofs.Common.{◌≡◌, ◌∙◌, refl, sym, ap, subst, ℕ, ◌+◌, ◌<◌, List, [], ◌∷◌, ◌++◌, length, take, get_or, append_assoc, arith}
+use Rattle.std.proofs.Common.{◌≡◌, ◌∙◌, sym, ap, ℕ, ◌+◌, ◌<◌, List, [], ◌∷◌, ◌++◌, length, take, get_or, append_assoc, arith}
 use Rattle.std.proofs.lemmas.List.{append-nil, length-take, take_more}
 use Rattle.lane_serve.specs.declared.plan.Outcome.{Outcome}
 use Rattle.lane_serve.specs.Plans.{ItemData}

@@ -1,14 +1,16 @@
 -- The reports of all lanes.
-use Rattle.std.proofs.Common.{◌≡◌, ℕ, zero, suc, ◌+◌, ◌<◌, ◌≤◌, List, [], ◌∷◌, ◌++◌, take, length, get_or, refl, sym, ap, subst, ◌∙◌, arith, append_assoc, Option, Some, None, Vec, Global}
-use Rattle.std.specs.Prelude.{All, sum_by}
-use Rattle.std.proofs.lemmas.List.{take_more, length-take, length-append}
+use Rattle.std.proofs.Common.{◌≡◌, ℕ, zero, suc, ◌+◌, ◌<◌, ◌≤◌, List, [], ◌∷◌, ◌++◌, take, length, get_or, refl, sym, ap, subst, ◌∙◌, arith, Option, Some, Vec, Global}
+use Rattle.std.specs.Prelude.{All, IfOk, Result}
+use Rattle.std.proofs.lemmas.Result.{IfOk-weaker}
+use Rattle.tb_base.specs.declared.memory.Memory.{Memory}
+use Rattle.std.proofs.lemmas.List.{take_more, length-append}
 use Rattle.std.proofs.lemmas.List.Sums.{sum_by-cons}
-use Rattle.history.specs.Lists.{Shown, StartsWith}
+use Rattle.history.specs.Lists.{Shown}
 use Rattle.edition_store.specs.Editions.{EditionData}
 use Rattle.lane_serve.specs.declared.script.Line.{Line}
 use Rattle.lane_serve.specs.declared.lane.ReplyText.{ReplyText}
 use Rattle.lane_serve.specs.declared.run.Seated.{Seated}
-use Rattle.lane_serve.specs.Lanes.{IsLaneRun, ReportData}
+use Rattle.lane_serve.specs.Lanes.{IsClosing, IsLaneRun, ReportData, to_close}
 use Rattle.lane_serve.specs.Script.{HasTimes, IsScript, LaneData, request_count}
 use Rattle.lane_serve.specs.Served.{AreServed, HasRun, IsServedLane}
 use Rattle.lane_serve.specs.Seats.{HaveRun}
@@ -33,6 +35,12 @@ read_lines qs ls l lanes i d a b lt is = a ∙ b ∙ ap (λ (k : LaneData). k.li
 
 pub run_of_some : (requests : List Line) (kept : Shown EditionData) (o : Option (Vec ReplyText Global)) (v : Vec ReplyText Global) → o ≡ Some v → HasRun requests kept o → IsLaneRun kept.list requests v.items
 run_of_some requests kept o v e h = subst (λ p. HasRun requests kept p) e h
+
+-- a lane's closing report, by its closing replies
+pub served_closing : (es : List EditionData) (lane : LaneData) (replies closing : List ReplyText) (result : Result ReportData Memory) → IsLaneRun es lane.lines replies → IsClosing es (to_close 1 lane.lines replies) closing
+    → IfOk result (λ r. r ≡ record { name = lane.name; replies = closing }) → IfOk result (λ r. IsServedLane es lane (record { name = lane.name; replies = replies }) r)
+served_closing es lane replies closing result run closed =
+    IfOk-weaker result _ _ (λ r same. subst (λ k. IsServedLane es lane (record { name = lane.name; replies = replies }) k) (sym same) (record { name = refl; run = run; same_name = refl; closed = closed }))
 
 served_snoc : (es : List EditionData) (ls : List LaneData) (rs cs : List ReportData) (l : LaneData) (r c : ReportData) → AreServed es ls rs cs → IsServedLane es l r c → AreServed es (ls ++ l ∷ []) (rs ++ r ∷ []) (cs ++ c ∷ [])
 served_snoc es [] [] [] l r c h s = (s, tt)

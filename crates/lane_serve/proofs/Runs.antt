@@ -5,7 +5,6 @@ use Rattle.std.proofs.lemmas.List.{append-nil, take_all, take_more, length-take}
 use Rattle.history.specs.Lists.{Shown, StartsWith}
 use Rattle.history.proofs.Lists.{rest_of}
 use Rattle.edition_store.specs.Editions.{EditionData}
-use Rattle.query_gate.specs.declared.reply.Reply.{Reply}
 use Rattle.lane_serve.specs.declared.script.Line.{Line}
 use Rattle.lane_serve.specs.declared.lane.ReplyText.{ReplyText}
 use Rattle.lane_serve.specs.Lanes.{Due, IsAnswered, RunsFrom, IsLaneRun, IsClosing, is_due, to_close}

@@ -1,12 +1,15 @@
 -- A plan of days of feeds, and what becomes of each item.
-use Rattle.std.specs.Prelude.{◌≡◌, ℕ, ◌+◌, ◌<◌, ◌≤◌, List, [], ◌∷◌, ◌++◌, length, Option, IfSome, IsSome, Result, Ok, Err, ⊤}
+use Rattle.std.specs.Prelude.{◌≡◌, ℕ, ◌+◌, ◌<◌, List, [], ◌∷◌, ◌++◌, length, Option, IsSome, Result, Ok, Err, ⊤}
 use Rattle.tb_base.specs.TimetableData.{TimetableData}
 use Rattle.tb_io.specs.Files.{FileList}
 use Rattle.gtfs_rows.specs.declared.fault.FeedFault.{FeedFault}
+use Rattle.footpaths.specs.Limits.{AreWithinADay}
 use Rattle.footpaths.specs.declared.paths.Options.{Options}
+use Rattle.reduce_workers.specs.Workers.{AreWorkers}
 use Rattle.trip_table.specs.Answers.{feed_of}
 use Rattle.trip_table.specs.Day.{IsTimetableOf}
 use Rattle.edition_store.specs.Editions.{EditionData, IsEdition}
+use Rattle.lane_serve.specs.declared.plan.Building.{Building}
 use Rattle.lane_serve.specs.declared.plan.Built.{Built}
 use Rattle.lane_serve.specs.declared.plan.Built.TheVariants as built
 use Rattle.lane_serve.specs.declared.plan.Outcome.{Outcome}
@@ -74,11 +77,7 @@ abbrev pub HasStopped : ℕ → ℕ → Stop → Type 0
 HasStopped before now stop.ReadFault = before < now
 HasStopped before now stop.Memory = now ≡ before
 
--- options within their limits
-pub record AreOptions (options : Options) : Type 0 where
-  pub change : options.change ≤ 86400
-  pub station : IfSome options.station (λ secs. secs ≤ 86400)
-
--- how many workers reduce the transfers
-abbrev pub AreWorkers : ℕ → Type 0
-AreWorkers workers = (0 < workers) × (workers ≤ 64)
+-- what is said of footpaths and of workers is within its limits
+pub record IsGoodBuilding (building : Building) : Type 0 where
+  pub options : AreWithinADay building.options
+  pub workers : AreWorkers building.workers

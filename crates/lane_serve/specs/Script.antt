@@ -1,11 +1,10 @@
 -- What a script says: lanes of requests, or the first bad line.
-use Rattle.std.specs.Prelude.{◌≡◌, ℕ, ◌+◌, ◌<◌, ◌≤◌, ◌==◌, List, [], ◌∷◌, ◌++◌, length, codes, bytes_eq, nat_lt, sum_by, ℤ, ◌≤ℤ◌, pos, Option, Some, None, Result, Ok, Err, MatchResult, All, ⊤, if◌then◌else◌}
+use Rattle.std.specs.Prelude.{◌≡◌, ℕ, ◌+◌, ◌<◌, ◌≤◌, ◌==◌, List, [], ◌∷◌, ◌++◌, length, codes, bytes_eq, nat_lt, sum_by, ◌≤ℤ◌, pos, Option, Some, None, Result, Ok, Err, MatchResult, All, ⊤, if◌then◌else◌}
 use Rattle.std.specs.Option.{option_and_then, option_map}
 use Rattle.gtfs_rows.specs.Numbers.{number_of, time_of}
 use Rattle.gtfs_rows.specs.Steps.{and_then}
 use Rattle.tb_base.specs.LineWords.{line_words}
 use Rattle.text_lines.specs.Lines.{lines_of}
-use Rattle.query_gate.specs.Questions.{AskData, ProfileData}
 use Rattle.lane_serve.specs.declared.said.Said.{Said}
 use Rattle.lane_serve.specs.declared.said.Said.TheVariants as said
 use Rattle.lane_serve.specs.declared.script.Line.{Line}

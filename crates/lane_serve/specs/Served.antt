@@ -14,7 +14,7 @@ use Rattle.lane_serve.specs.declared.script.Line.{Line}
 use Rattle.lane_serve.specs.declared.run.ServeFault.{ServeFault}
 use Rattle.lane_serve.specs.declared.run.ServeFault.TheVariants as fault
 use Rattle.lane_serve.specs.Lanes.{IsClosing, IsLaneRun, ReportData, to_close}
-use Rattle.lane_serve.specs.Plans.{AreOutcomes, BeginsPublished, HasStopped, ItemData, ItemGives}
+use Rattle.lane_serve.specs.Plans.{AreOutcomes, BeginsPublished, ItemData, ItemGives}
 use Rattle.lane_serve.specs.Script.{LaneData}
 
 -- the outcomes of a plan's items, what each lane was answered, how many editions there were in the

@@ -59,6 +59,29 @@ fn asked<J: Naming>(
     }
 }
 
+// An answer to request k of a lane, as it is told.
+fn told<J: Naming>(
+    alloc: Global,
+    k: u32,
+    request: &Line,
+    answer: &Answer<J>,
+) -> Result<ReplyText, Memory>
+    requires reply { IsReplyOf answer.now.pinned.list (length answer.now.pinned.list) request.now
+        answer.now.reply }
+    requires numbers { HasLegNumbersIn answer.now.pinned.list (length answer.now.pinned.list)
+        answer.now.reply }
+    ensures line { IfOk result (λ r. r.line ≡ k) }
+    ensures edition { IfOk result (λ r. r.edition ≡ length answer.now.pinned.list) }
+    ensures right { IfOk result (IsAnswered answer.now.pinned.list request.now) }
+{
+    let text = reply_text(alloc, answer.pinned.edition(), &answer.reply)?;
+    Ok(ReplyText {
+        line: k,
+        edition: answer.pinned.number(),
+        text: Name::new(alloc, text.as_slice())?,
+    })
+}
+
 // The reply to request k of a lane, by the last edition of the list that the caller then keeps.
 fn answer<J: Naming>(
     alloc: Global,
@@ -73,13 +96,14 @@ fn answer<J: Naming>(
     ensures later { Extends caller.new.kept caller.old.kept }
     ensures last { caller.old.kept.closed ≡ true → caller.new.kept ≡ caller.old.kept }
 {
-    let answer = asked(alloc, caller, request)?;
-    let text = reply_text(alloc, answer.pinned.edition(), &answer.reply)?;
-    Ok(ReplyText {
-        line: k,
-        edition: answer.pinned.number(),
-        text: Name::new(alloc, text.as_slice())?,
-    })
+    match asked(alloc, caller, request) {
+        Ok(answer) => {
+            let reply = told(alloc, k, request, &answer);
+            drop(answer);
+            reply
+        }
+        Err(Memory) => Err(Memory),
+    }
 }
 
 /// Answers the requests of a lane in order. The replies are a lane's run over the list that the

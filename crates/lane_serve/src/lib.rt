@@ -8,7 +8,7 @@
 //! above the crate promises one outcome for each item of the plan, that each reply is exactly that
 //! of the edition that it names (best values as in Witt, Trip-Based Public Transit Routing, ESA
 //! 2015), that a lane's editions never go back, and that each closing reply is the last edition's.
-//! `served_text` shows all of it as lines.
+//! `served_text` shows all of it as lines, each reply as `reply_text` shows it.
 #![tactic(auto)]
 
 mod lane;
@@ -21,6 +21,7 @@ mod texts;
 
 pub use lane::{LaneReport, ReplyText, close_lane, run_lane};
 pub use plan::{Outcome, PlanItem};
+pub use reply::reply_text;
 pub use run::{ServeFault, Served, serve};
 pub use script::{Lane, Line, Script, ScriptFault, read_script};
 pub use texts::served_text;

@@ -1,6 +1,6 @@
 //! A plan of days of feeds, which are read, built and published one after another.
 ghost use Rattle.std.specs.Prelude.{◌≡◌, ◌<◌, ◌≤◌, ◌∷◌, [], ◌++◌, ◌+◌, ◌-◌, ◌^◌, IfErr, IfOk, length, take};
-ghost use Rattle.lane_serve.specs.Plans.{AreOptions, AreOutcomes, AreWorkers, BeginsPublished, HasStopped, IsBuilt, Takes, outcome_of};
+ghost use Rattle.lane_serve.specs.Plans.{AreOutcomes, BeginsPublished, HasStopped, IsBuilt, IsGoodBuilding, Takes, outcome_of};
 ghost use Rattle.lane_serve.specs.declared.plan.Outcome.TheVariants.{Refused};
 ghost use Rattle.lane_serve.specs.declared.plan.Stop.TheVariants as stop;
 
@@ -85,8 +85,7 @@ pub(crate) fn build_item<F: Folder, G: Gate, R: Threads + Sync>(
     folder: &mut F,
     item: &PlanItem,
 ) -> Result<Built, Stop>
-    requires options { AreOptions building.options }
-    requires workers { AreWorkers building.workers }
+    requires building { IsGoodBuilding building }
     requires count { F.faults folder.old < 2 ^ 64 - 1 }
     ensures files { F.files folder.new ≡ F.files folder.old }
     ensures faults { IfOk result (λ _. F.faults folder.new ≡ F.faults folder.old) }
@@ -114,7 +113,7 @@ pub(crate) fn build_item<F: Folder, G: Gate, R: Threads + Sync>(
 }
 
 // The outcome of an item that is published as the edition of this number.
-pub(crate) fn outcome_of(number: u32, edition: &Edition) -> Outcome
+fn outcome_of(number: u32, edition: &Edition) -> Outcome
     ensures { result ≡ outcome_of number edition.now }
 {
     Outcome::Published {
@@ -123,6 +122,15 @@ pub(crate) fn outcome_of(number: u32, edition: &Edition) -> Outcome
         lines: edition.lines().count(),
         kept: edition.kept(),
     }
+}
+
+// The outcomes, where the first item alone was published.
+pub(crate) fn first_outcome(alloc: Global, edition: &Edition) -> Result<Vec<Outcome>, Memory>
+    ensures { IfOk result (λ v. v.items ≡ outcome_of 1 edition.now ∷ []) }
+{
+    let mut outcomes = Vec::new(alloc);
+    outcomes.push(outcome_of(1, edition))?;
+    Ok(outcomes)
 }
 
 // Publishes the edition of item i. The gate is told just before and right after.
@@ -139,8 +147,19 @@ fn publish<J: Naming, G: Gate, R: Wait>(
     gate.begin(Work::Publication(i));
     let published = publisher.publish(rt, edition);
     gate.done(Work::Publication(i));
-    let (publisher, _receipt) = published?;
-    Ok(publisher)
+    match published {
+        Ok((publisher, receipt)) => {
+            drop(receipt);
+            Ok(publisher)
+        }
+        Err(Memory) => Err(Memory),
+    }
+}
+
+// Ends a list of which nothing is asked any more. What it gives is dropped by a call: at the end of
+// a scope each part of it would be dropped by itself, and the proof would go through all of them.
+pub(crate) fn end<J: Naming, R: Wait>(rt: &R, publisher: Publisher<J>) {
+    drop(publisher.finish(rt));
 }
 
 // Publishes item i, with its outcome.
@@ -159,10 +178,11 @@ fn take_edition<J: Naming, G: Gate, R: Wait>(
     ensures stop { IfErr result (λ e. e ≡ stop.Memory) }
 {
     let outcome = outcome_of(publisher.count() + 1, edition.edition());
-    let Ok(()) = outcomes.push(outcome) else {
-        let _last = publisher.finish(rt);
+    if outcomes.push(outcome).is_err() {
+        drop(edition);
+        end(rt, publisher);
         return Err(Stop::Memory);
-    };
+    }
     match publish(rt, gate, i, edition, publisher) {
         Ok(publisher) => Ok(publisher),
         Err(Memory) => Err(Stop::Memory),
@@ -181,10 +201,10 @@ fn take_fault<J: Naming, R: Wait>(
         ≡ outcomes.old.items ++ Refused fault ∷ []) }
     ensures stop { IfErr result (λ e. e ≡ stop.Memory) }
 {
-    let Ok(()) = outcomes.push(Outcome::Refused(fault)) else {
-        let _last = publisher.finish(rt);
+    if outcomes.push(Outcome::Refused(fault)).is_err() {
+        end(rt, publisher);
         return Err(Stop::Memory);
-    };
+    }
     Ok(publisher)
 }
 
@@ -200,8 +220,7 @@ fn take_item<J: Naming, F: Folder, G: Gate, R: Threads + Wait + Sync>(
     outcomes: &mut Vec<Outcome>,
     publisher: Publisher<J>,
 ) -> Result<Publisher<J>, Stop>
-    requires options { AreOptions building.options }
-    requires workers { AreWorkers building.workers }
+    requires building { IsGoodBuilding building }
     requires count { F.faults folder.old < 2 ^ 64 - 1 }
     requires room { length publisher < 100 }
     ensures files { F.files folder.new ≡ F.files folder.old }
@@ -214,7 +233,7 @@ fn take_item<J: Naming, F: Folder, G: Gate, R: Threads + Wait + Sync>(
         Ok(Built::Edition(edition)) => take_edition(rt, gate, i, edition, outcomes, publisher),
         Ok(Built::Refused(fault)) => take_fault(rt, fault, outcomes, publisher),
         Err(stop) => {
-            let _last = publisher.finish(rt);
+            end(rt, publisher);
             Err(stop)
         }
     }
@@ -232,8 +251,7 @@ pub(crate) fn publish_rest<J: Naming, F: Folder, G: Gate, R: Threads + Wait + Sy
     outcomes: &mut Vec<Outcome>,
     publisher: Publisher<J>,
 ) -> Result<Publisher<J>, Stop>
-    requires options { AreOptions building.options }
-    requires workers { AreWorkers building.workers }
+    requires building { IsGoodBuilding building }
     requires count { F.faults folder.old < 2 ^ 64 - 1 }
     requires plan { length plan.now ≤ 100 }
     requires first { AreOutcomes (F.files folder.old) building.options 0 (take 1 plan.now)

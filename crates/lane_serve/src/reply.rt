@@ -19,8 +19,8 @@ fn deferred_text(alloc: Global, number: u32) -> Result<Vec<u8>, Memory>
     }
 }
 
-// The lines of an edition's reply.
-pub(crate) fn reply_text(alloc: Global, edition: &Edition, reply: &Reply) -> Result<Vec<u8>, Memory>
+/// The lines of an edition's reply. Refused only for want of memory.
+pub fn reply_text(alloc: Global, edition: &Edition, reply: &Reply) -> Result<Vec<u8>, Memory>
     requires { HasLegNumbers edition.now reply.now }
     ensures { IfOk result (λ v. v.items ≡ reply_text edition.now.table reply.now) }
 {

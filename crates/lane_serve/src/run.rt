@@ -2,13 +2,18 @@
 ghost use Rattle.std.specs.Prelude.{◌≡◌, ◌<◌, ◌≤◌, ◌-◌, ◌^◌, ◌∷◌, [], All, IfErr, IfOk, IfSome, IsNone, IsSome, length, slice_index_or, take, vec_len};
 ghost use Rattle.std.specs.Thread.{IsSync};
 ghost use Rattle.gtfs_rows.specs.declared.fault.FeedFault.{FeedFault};
-ghost use Rattle.lane_serve.specs.Plans.{AreOptions, AreOutcomes, AreWorkers, BeginsPublished, HasStopped, outcome_of};
+ghost use Rattle.footpaths.specs.Limits.{AreWithinADay};
+ghost use Rattle.reduce_workers.specs.Workers.{AreWorkers};
+ghost use Rattle.lane_serve.specs.Plans.{AreOutcomes, BeginsPublished, HasStopped, IsGoodBuilding, outcome_of};
 ghost use Rattle.lane_serve.specs.Script.{HasTimes, IsScript, LaneData};
 ghost use Rattle.lane_serve.specs.Seats.{HaveRun};
-ghost use Rattle.lane_serve.specs.Served.{AreServed, FirstGives, HasRun, IsServeFault, IsServed, IsServedLane, TellsFault, fault_for};
+ghost use Rattle.lane_serve.specs.Lanes.{IsLaneRun};
+ghost use Rattle.lane_serve.specs.Served.{AreServed, FirstGives, HasRun, IsServeFault, IsServed, IsServedLane, ServedData, TellsFault, fault_for};
 
 use crate::lane::{LaneReport, ReplyText, close_lane, run_lane};
-use crate::plan::{Building, Built, Outcome, PlanItem, Stop, build_item, outcome_of, publish_rest};
+use crate::plan::{
+    Building, Built, Outcome, PlanItem, Stop, build_item, end, first_outcome, publish_rest,
+};
 use crate::script::{Lane, Script};
 use edition_store::{Edition, Last, Naming, Opened, Publisher, Seat, Shared, Store};
 use footpaths::Options;
@@ -120,8 +125,7 @@ fn publish_side<J: Naming, F: Folder, G: Gate, R: Threads + Wait + Sync>(
     outcomes: &mut Vec<Outcome>,
     slot: &mut Option<Publisher<J>>,
 ) -> Result<Publisher<J>, Stop>
-    requires options { AreOptions building.options }
-    requires workers { AreWorkers building.workers }
+    requires building { IsGoodBuilding building }
     requires count { F.faults folder.old < 2 ^ 64 - 1 }
     requires plan { length plan.now ≤ 100 }
     requires slot { IsSome slot.old }
@@ -155,8 +159,7 @@ fn both<J: Naming + Send + Sync, F: Folder, G: Gate, R: Threads + Wait + Sync>(
     lanes: &[Lane],
     seats: &mut [Seated<J>],
 ) -> Result<Publisher<J>, Stop>
-    requires options { AreOptions building.options }
-    requires workers { AreWorkers building.workers }
+    requires building { IsGoodBuilding building }
     requires count { F.faults folder.old < 2 ^ 64 - 1 }
     requires plan { length plan.now ≤ 100 }
     requires slot { IsSome slot.old }
@@ -181,7 +184,7 @@ fn both<J: Naming + Send + Sync, F: Folder, G: Gate, R: Threads + Wait + Sync>(
             ensures { HaveRun lanes.entry.now seats.exit.now }
         { run_lanes(rt, alloc, gate, lanes, seats) },
         &mut || -> Result<Publisher<J>, Stop>
-            requires { AreOptions building.options × AreWorkers building.workers
+            requires { IsGoodBuilding building
                 × (F.faults folder.now < 2 ^ 64 - 1) × (length plan.now ≤ 100) × IsSome slot.now
                 × IfSome slot.now (AreOutcomes (F.files folder.now) building.options 0
                 (take 1 plan.now) outcomes.now.items) × BeginsPublished outcomes.now.items }
@@ -202,7 +205,7 @@ fn let_go<J: Naming, R: Wait>(rt: &R, slot: Option<Publisher<J>>)
     requires { IsNone slot }
 {
     if let Some(publisher) = slot {
-        let _last = publisher.finish(rt);
+        end(rt, publisher);
     }
 }
 
@@ -219,8 +222,7 @@ fn sides<J: Naming + Send + Sync, F: Folder, G: Gate, R: Threads + Wait + Sync>(
     lanes: &[Lane],
     seats: &mut [Seated<J>],
 ) -> Result<Last<J>, Stop>
-    requires options { AreOptions building.options }
-    requires workers { AreWorkers building.workers }
+    requires building { IsGoodBuilding building }
     requires count { F.faults folder.old < 2 ^ 64 - 1 }
     requires plan { length plan.now ≤ 100 }
     requires first { AreOutcomes (F.files folder.old) building.options 0 (take 1 plan.now)
@@ -240,23 +242,78 @@ fn sides<J: Naming + Send + Sync, F: Folder, G: Gate, R: Threads + Wait + Sync>(
     let published = both(
         rt, alloc, gate, building, folder, plan, outcomes, &mut slot, lanes, seats,
     );
+    let_go(rt, slot);
     match published {
-        Ok(publisher) => {
-            let last = publisher.finish(rt);
-            let_go(rt, slot);
-            match last {
-                Ok(last) => Ok(last),
-                Err(Memory) => Err(Stop::Memory),
-            }
-        }
-        Err(stop) => {
-            let_go(rt, slot);
-            Err(stop)
+        Ok(publisher) => match publisher.finish(rt) {
+            Ok(last) => Ok(last),
+            Err(Memory) => Err(Stop::Memory),
+        },
+        Err(stop) => Err(stop),
+    }
+}
+
+// A lane's report of these replies.
+fn report_of(alloc: Global, lane: &Lane, replies: Vec<ReplyText>) -> Result<LaneReport, Memory>
+    ensures { IfOk result (λ r. r ≡ record { name = lane.now.name; replies = replies.items }) }
+{
+    match Name::new(alloc, lane.name.bytes()) {
+        Ok(name) => Ok(LaneReport { name, replies }),
+        Err(Memory) => {
+            drop(replies);
+            Err(Memory)
         }
     }
 }
 
+// A lane's closing report.
+fn closing_of<J: Naming>(
+    alloc: Global,
+    last: &Last<J>,
+    lane: &Lane,
+    caller: &mut Caller<J>,
+    replies: &[ReplyText],
+) -> Result<LaneReport, Memory>
+    requires few { length lane.now.lines ≤ 20000 }
+    requires times { All HasTimes lane.now.lines }
+    requires run { IsLaneRun caller.old.kept.list lane.now.lines replies.now }
+    ensures { IfOk result (λ closing. IsServedLane last.now lane.now
+        (record { name = lane.now.name; replies = replies.now }) closing) }
+{
+    match close_lane(alloc, caller, last, lane.lines.as_slice(), replies) {
+        Ok(closing) => report_of(alloc, lane, closing),
+        Err(Memory) => Err(Memory),
+    }
+}
+
 // A lane's report and its closing report.
+fn reports_of<J: Naming>(
+    alloc: Global,
+    last: &Last<J>,
+    lane: &Lane,
+    caller: &mut Caller<J>,
+    replies: Vec<ReplyText>,
+) -> Result<(LaneReport, LaneReport), Memory>
+    requires few { length lane.now.lines ≤ 20000 }
+    requires times { All HasTimes lane.now.lines }
+    requires run { IsLaneRun caller.old.kept.list lane.now.lines replies.items }
+    ensures { IfOk result (λ t. IsServedLane last.now lane.now t.0 t.1) }
+{
+    match closing_of(alloc, last, lane, caller, replies.as_slice()) {
+        Ok(closing) => match report_of(alloc, lane, replies) {
+            Ok(report) => Ok((report, closing)),
+            Err(Memory) => {
+                drop(closing);
+                Err(Memory)
+            }
+        },
+        Err(Memory) => {
+            drop(replies);
+            Err(Memory)
+        }
+    }
+}
+
+// The same, by a lane's seat.
 fn close_seated<J: Naming>(
     alloc: Global,
     last: &Last<J>,
@@ -272,23 +329,12 @@ fn close_seated<J: Naming>(
         mut caller,
         replies,
     } = seated;
-    let Some(replies) = replies else {
-        return Err(Memory);
+    let reports = match replies {
+        Some(replies) => reports_of(alloc, last, lane, &mut caller, replies),
+        None => Err(Memory),
     };
-    let requests = lane.lines.as_slice();
-    let closing = close_lane(alloc, &mut caller, last, requests, replies.as_slice())?;
-    let report = LaneReport {
-        name: Name::new(alloc, lane.name.bytes())?,
-        replies,
-    };
-    let name = Name::new(alloc, lane.name.bytes())?;
-    Ok((
-        report,
-        LaneReport {
-            name,
-            replies: closing,
-        },
-    ))
+    drop(caller);
+    reports
 }
 
 // The reports of all lanes, and their closing reports, in order.
@@ -334,6 +380,120 @@ fn seat_all<J: Naming>(alloc: Global, seats: Vec<Seat<J>>) -> Result<Vec<Seated<
     Ok(seated)
 }
 
+// A publisher whose list is the first item's edition, and so many callers. `opened` has the name of
+// the store, `J`.
+fn open<J: Naming, R: Wait>(
+    rt: &R,
+    alloc: Global,
+    opened: Opened<Edition>,
+    first: Shared,
+    lanes: usize,
+) -> Result<(Publisher<J>, Vec<Seated<J>>), Memory>
+    requires book { opened.seen.book ≡ J.book }
+    requires some { 0 < lanes }
+    requires most { lanes ≤ 64 }
+    ensures list { IfOk result (λ t. t.0 ≡ first ∷ []) }
+    ensures seats { IfOk result (λ t. vec_len t.1 ≡ lanes) }
+{
+    match Store::new::<J>(alloc, opened, first, lanes as u32) {
+        Ok((publisher, seats)) => match seat_all(alloc, seats) {
+            Ok(seated) => Ok((publisher, seated)),
+            Err(Memory) => {
+                end(rt, publisher);
+                Err(Memory)
+            }
+        },
+        Err(Memory) => Err(Memory),
+    }
+}
+
+// What a run gives, once its sides are at their ends.
+fn served_by<J: Naming>(
+    alloc: Global,
+    last: &Last<J>,
+    lanes: &[Lane],
+    outcomes: Vec<Outcome>,
+    seats: Vec<Seated<J>>,
+) -> Result<Served, Memory>
+    requires lanes { IsScript lanes.now }
+    requires run { HaveRun lanes.now seats.items }
+    ensures outcomes { IfOk result (λ s. ServedData.outcomes s ≡ outcomes.items) }
+    ensures last { IfOk result (λ s. ServedData.last s ≡ length last.now) }
+    ensures lanes { IfOk result (λ s.
+        AreServed last.now lanes.now (ServedData.lanes s) (ServedData.closing s)) }
+{
+    match close_all(alloc, last, lanes, seats) {
+        Ok((lanes, closing)) => Ok(Served {
+            outcomes,
+            lanes,
+            last: last.number(),
+            closing,
+        }),
+        Err(Memory) => {
+            drop(outcomes);
+            Err(Memory)
+        }
+    }
+}
+
+// The run, where the first item is published.
+fn serve_open<J: Naming + Send + Sync, F: Folder, G: Gate, R: Threads + Wait + Sync>(
+    rt: &R,
+    alloc: Global,
+    gate: &G,
+    building: Building,
+    folder: &mut F,
+    plan: &[PlanItem],
+    outcomes: Vec<Outcome>,
+    publisher: Publisher<J>,
+    lanes: &[Lane],
+    seats: Vec<Seated<J>>,
+) -> Result<Served, Stop>
+    requires building { IsGoodBuilding building }
+    requires count { F.faults folder.old < 2 ^ 64 - 1 }
+    requires plan { length plan.now ≤ 100 }
+    requires first { AreOutcomes (F.files folder.old) building.options 0 (take 1 plan.now)
+        outcomes.items publisher }
+    requires begins { BeginsPublished outcomes.items }
+    requires lanes { IsScript lanes.now }
+    requires seats { vec_len seats ≡ length lanes.now }
+    ensures files { F.files folder.new ≡ F.files folder.old }
+    ensures faults { IfOk result (λ _. F.faults folder.new ≡ F.faults folder.old) }
+    ensures stop { IfErr result (HasStopped (F.faults folder.old) (F.faults folder.new)) }
+    ensures served { IfOk result (IsServed (F.files folder.old) building.options plan.now
+        lanes.now) }
+{
+    let mut outcomes = outcomes;
+    let mut seats = seats;
+    let published = sides(
+        rt,
+        alloc,
+        gate,
+        building,
+        folder,
+        plan,
+        &mut outcomes,
+        publisher,
+        lanes,
+        seats.as_mut_slice(),
+    );
+    match published {
+        Ok(last) => {
+            let served = served_by(alloc, &last, lanes, outcomes, seats);
+            drop(last);
+            match served {
+                Ok(served) => Ok(served),
+                Err(Memory) => Err(Stop::Memory),
+            }
+        }
+        Err(stop) => {
+            drop(outcomes);
+            drop(seats);
+            Err(stop)
+        }
+    }
+}
+
 // The run, where the first item's edition is built. `opened` has the name of the store, `J`.
 fn serve_from<J: Naming + Send + Sync, F: Folder, G: Gate, R: Threads + Wait + Sync>(
     rt: &R,
@@ -347,8 +507,7 @@ fn serve_from<J: Naming + Send + Sync, F: Folder, G: Gate, R: Threads + Wait + S
     script: &Script,
 ) -> Result<Served, Stop>
     requires book { opened.seen.book ≡ J.book }
-    requires options { AreOptions building.options }
-    requires workers { AreWorkers building.workers }
+    requires building { IsGoodBuilding building }
     requires count { F.faults folder.old < 2 ^ 64 - 1 }
     requires plan { 0 < length plan.now }
     requires days { length plan.now ≤ 100 }
@@ -362,38 +521,21 @@ fn serve_from<J: Naming + Send + Sync, F: Folder, G: Gate, R: Threads + Wait + S
         script.now) }
 {
     let lanes = script.lanes.as_slice();
-    let mut outcomes = Vec::new(alloc);
-    let Ok(()) = outcomes.push(outcome_of(1, first.edition())) else {
-        return Err(Stop::Memory);
-    };
-    let Ok((publisher, seats)) = Store::new::<J>(alloc, opened, first, lanes.len() as u32) else {
-        return Err(Stop::Memory);
-    };
-    let Ok(mut seated) = seat_all(alloc, seats) else {
-        let _last = publisher.finish(rt);
-        return Err(Stop::Memory);
-    };
-    let last = sides(
-        rt,
-        alloc,
-        gate,
-        building,
-        folder,
-        plan,
-        &mut outcomes,
-        publisher,
-        lanes,
-        seated.as_mut_slice(),
-    )?;
-    let Ok((lanes, closing)) = close_all(alloc, &last, lanes, seated) else {
-        return Err(Stop::Memory);
-    };
-    Ok(Served {
-        outcomes,
-        lanes,
-        last: last.number(),
-        closing,
-    })
+    match first_outcome(alloc, first.edition()) {
+        Ok(outcomes) => match open::<J, R>(rt, alloc, opened, first, lanes.len()) {
+            Ok((publisher, seats)) => serve_open(
+                rt, alloc, gate, building, folder, plan, outcomes, publisher, lanes, seats,
+            ),
+            Err(Memory) => {
+                drop(outcomes);
+                Err(Stop::Memory)
+            }
+        },
+        Err(Memory) => {
+            drop(first);
+            Err(Stop::Memory)
+        }
+    }
 }
 
 fn fault_of(stop: Stop) -> ServeFault
@@ -417,8 +559,7 @@ fn serve_plan<F: Folder, G: Gate, R: Threads + Wait + Sync>(
 ) -> Result<Served, ServeFault>
     requires plan { 0 < length plan.now }
     requires days { length plan.now ≤ 100 }
-    requires options { AreOptions building.options }
-    requires workers { AreWorkers building.workers }
+    requires building { IsGoodBuilding building }
     requires script { IsScript script.now }
     requires count { F.faults folder.old < 2 ^ 64 - 1 }
     ensures served { IfOk result (IsServed (F.files folder.old) building.options plan.now
@@ -471,7 +612,7 @@ pub fn serve<F: Folder + Send, G: Gate, R: Threads + Wait + Sync>(
 ) -> Result<Served, ServeFault>
     requires plan { 0 < length plan.now }
     requires days { length plan.now ≤ 100 }
-    requires options { AreOptions options.now }
+    requires options { AreWithinADay options.now }
     requires workers { AreWorkers workers }
     requires script { IsScript script.now }
     requires count { F.faults folder.old < 2 ^ 64 - 1 }

@@ -1,4 +1,4 @@
-use Rattle.std.proofs.Common.{◌≡◌, ◌<◌, ◌≤◌, ◌+◌, arith, rules}
+use Rattle.std.proofs.Common.{rules}
 use Rattle.history.proofs.Lists.{extends_trans}
 use Rattle.lane_serve.proofs.Runs.{read_as, so_far_longer, so_far_more}
 use Rattle.lane_serve.proofs.lane.run_lane.Goals as goal

@@ -1,4 +1,4 @@
-use Rattle.std.proofs.Common.{◌≡◌, ◌∙◌, subst}
+use Rattle.std.proofs.Common.{◌∙◌, subst}
 use Rattle.lane_serve.specs.Plans.{Takes}
 use Rattle.lane_serve.proofs.Plans.{begins_more, has_room, outcomes_more}
 use Rattle.lane_serve.proofs.plan.publish_rest.Goals as goal

@@ -1,4 +1,4 @@
-use Rattle.std.proofs.Common.{◌≡◌, rules}
+use Rattle.std.proofs.Common.{rules}
 use Rattle.lane_serve.proofs.Plans.{took_fault}
 use Rattle.lane_serve.proofs.plan.take_item.Goals as goal
 

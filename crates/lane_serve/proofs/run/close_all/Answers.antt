@@ -1,4 +1,4 @@
-use Rattle.std.proofs.Common.{◌≡◌, ◌∷◌, [], ◌++◌, ◌+◌, ◌<◌, ◌∙◌, ap, sym, subst, length, get_or, arith, rules, append_assoc}
+use Rattle.std.proofs.Common.{◌≡◌, ◌∷◌, [], ◌++◌, ◌<◌, ◌∙◌, ap, sym, subst, length, get_or, arith, rules, append_assoc}
 use Rattle.std.proofs.lemmas.List.{length-append}
 use Rattle.lane_serve.specs.Served.{HasRun, IsServedLane}
 use Rattle.lane_serve.specs.Script.{LaneData}

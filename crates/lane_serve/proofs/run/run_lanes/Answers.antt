@@ -1,8 +1,7 @@
 use denote.Param.Send.{sendable}
-use Rattle.std.proofs.Common.{◌≡◌, subst, slice_index_or, arith, rules}
+use Rattle.std.proofs.Common.{subst, slice_index_or, arith, rules}
 use Rattle.lane_serve.specs.Script.{LaneData}
 use Rattle.lane_serve.specs.Served.{HasRun}
-use Rattle.lane_serve.specs.Seats.{HaveRun}
 use Rattle.lane_serve.proofs.Sent.{seated_send}
 use Rattle.lane_serve.proofs.run.run_lanes.Goals as goal
 

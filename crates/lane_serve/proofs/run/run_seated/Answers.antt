@@ -1,4 +1,4 @@
-use Rattle.std.proofs.Common.{◌≡◌, ◌∙◌, ◌≤◌, sym, ap, subst, length}
+use Rattle.std.proofs.Common.{◌≤◌, sym, ap, subst, length}
 use Rattle.std.specs.Prelude.{All}
 use Rattle.lane_serve.specs.Lanes.{IsLaneRun}
 use Rattle.lane_serve.specs.Script.{HasTimes, LaneData}

@@ -1,4 +1,4 @@
-use Rattle.std.proofs.Common.{◌≡◌, sym, w32}
+use Rattle.std.proofs.Common.{sym, w32}
 use Rattle.std.proofs.lemmas.Int.{to_z-of_z}
 use Rattle.trip_table.proofs.FileTimes.{file_time}
 use Rattle.lane_serve.proofs.Times.{file_time-fits}

@@ -1,4 +1,4 @@
-use Rattle.std.proofs.Common.{◌≡◌, ◌∙◌, ap, get_or, rules}
+use Rattle.std.proofs.Common.{◌∙◌, ap, get_or, rules}
 use Rattle.lane_serve.specs.Plans.{ItemData}
 use Rattle.lane_serve.specs.Texts.{outcome_text}
 use Rattle.lane_serve.proofs.OutcomeLines.{outcomes_told}

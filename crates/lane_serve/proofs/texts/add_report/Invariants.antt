@@ -1,4 +1,4 @@
-use Rattle.std.proofs.Common.{◌≡◌, ◌++◌, codes, take, flat_map}
+use Rattle.std.proofs.Common.{◌≡◌, ◌++◌, take, flat_map}
 use Rattle.lane_serve.specs.Texts.{answered_text}
 use Rattle.lane_serve.proofs.texts.add_report.Given as goal
 

@@ -1,4 +1,4 @@
-use Rattle.std.proofs.Common.{◌≡◌, rules}
+use Rattle.std.proofs.Common.{rules}
 use Rattle.lane_serve.proofs.Scripts.{one_more}
 use Rattle.lane_serve.proofs.script.ScriptReader.take_request.Goals as goal
 

@@ -1,0 +1,15 @@
+use Rattle.std.proofs.Common.{◌∙◌}
+use Rattle.lane_serve.proofs.Answering.{answered, last_edition_is}
+use Rattle.lane_serve.proofs.lane.told.Goals as goal
+
+pub reply_text-requires : goal.reply_text-requires
+reply_text-requires g c =
+    let a = c.args.answer.now in
+    let e = c.edition.result.now in
+    c.requires.numbers e (last_edition_is a.pinned.list c.args.request.now e a.reply c.requires.reply c.edition.ensures)
+
+pub returns-clause-right : goal.returns-clause-right
+returns-clause-right g c =
+    let a = c.args.answer.now in
+    answered a.pinned.list c.args.request.now c.edition.result.now a.reply _ c.requires.reply c.edition.ensures c.number.ensures
+    (c.in_ok-new.ensures ∙ c.as_slice.ensures.value ∙ c.in_ok-text.ensures)
