@@ -1,4 +1,3 @@
-pub mod Alone
 pub mod Best
 pub mod Departures
 pub mod FromOrigin

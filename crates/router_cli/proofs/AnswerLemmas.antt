@@ -12,7 +12,6 @@ use Rattle.tb_base.specs.declared.query.Leg.{Leg}
 use Rattle.tb_base.specs.declared.query.Value.{Value}
 use Rattle.tb_base.specs.declared.transfer.Hop.{Hop}
 use Rattle.segment_queue.specs.Traced.{LegsFollow, RidesFollow, ride_of}
-use Rattle.trip_rides.specs.Times.{IsFileTime}
 use Rattle.answer_text.specs.Journeys.{unknown_text}
 use Rattle.edition_store.specs.Editions.{EditionData, IsEdition, net_of}
 use Rattle.reach_all.specs.Reach.{IsReach}
@@ -21,7 +20,8 @@ use Rattle.query_gate.specs.Questions.{AskData, Ends, ProfileData, ends_between,
 use Rattle.query_gate.specs.Replies.{IsAskReply, IsProfileReply}
 use Rattle.query_gate.specs.declared.reply.Reply.{Reply}
 use Rattle.query_gate.specs.declared.reply.Reply.TheVariants.{Values, Slots, UnknownStop, Deferred}
-use Rattle.router_cli.specs.Answers.{AreStopsNamed, HasKeptChanges, IsReachText, IsTextBetween, ShowsKept, ShowsProfile, ShowsReach, ask_data, profile_data, reply_text, stops_named}
+use Rattle.lane_serve.specs.Lanes.{reply_text}
+use Rattle.router_cli.specs.Answers.{AreStopsNamed, HasKeptChanges, IsReachText, IsTextBetween, ShowsKept, ShowsProfile, ShowsReach, ask_data, profile_data, stops_named}
 use Rattle.command_line.specs.Inquiries.{InquiryData, OriginInquiryData, WindowInquiryData}
 
 -- the text where both names are those of places
@@ -96,10 +96,6 @@ pub reach_unknown : (T : TimetableData) (i : OriginInquiryData) (bytes : List �
 reach_unknown T i bytes named text =
     subst (λ o. MatchOption o (bytes ≡ unknown_text i.from) (λ s. ShowsReach T s i.time bytes)) named text
 
--- a time of a file fits 32 bits
-pub file_time-fits : (z : ℤ) → IsFileTime z → FitsSigned w32 z
-file_time-fits z h = let least = h.least in let most = h.most in search (rules, least, most)
-
--- so does a time that one can ask to arrive by
+-- a time that one can ask to arrive by fits 32 bits
 pub arrival_time-fits : (z : ℤ) → pos 0 ≤ℤ z → z ≤ℤ pos 273599 → FitsSigned w32 z
 arrival_time-fits z least most = search (rules, least, most)

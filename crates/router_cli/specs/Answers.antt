@@ -20,8 +20,6 @@ use Rattle.arrive_by.specs.Text.{departures_text}
 use Rattle.reach_all.specs.Reach.{IsReach}
 use Rattle.reach_all.specs.Text.{reach_text}
 use Rattle.query_gate.specs.Questions.{AskData, Ends, ProfileData, ends_between, query_at, window_at}
-use Rattle.query_gate.specs.declared.reply.Reply.{Reply}
-use Rattle.query_gate.specs.declared.reply.Reply.TheVariants as reply
 use Rattle.command_line.specs.Inquiries.{ArrivalInquiryData, InquiryData, OriginInquiryData, WindowInquiryData}
 use Rattle.command_line.specs.DayCommands.{DayRequestData}
 use Rattle.router_cli.specs.declared.over_table.Asked.{Asked}
@@ -158,10 +156,3 @@ ask_data i = record { since = 0; from = i.from; to = i.to; leave = i.time }
 
 abbrev pub profile_data : WindowInquiryData → ProfileData
 profile_data i = record { since = 0; from = i.from; to = i.to; first = i.first; last = i.last }
-
--- what is written for an edition's answer
-abbrev pub reply_text : TimetableData → Reply → List ℕ
-reply_text T (reply.Values choices) = choices_text T choices.items
-reply_text T (reply.Slots offers) = offers_text T offers.items
-reply_text T (reply.UnknownStop name) = unknown_text name
-reply_text T (reply.Deferred number) = []

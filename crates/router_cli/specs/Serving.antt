@@ -29,11 +29,11 @@ abbrev pub ScriptGives : Option (List ℕ) → Result (List LaneData) ScriptFaul
 ScriptGives told result = IfSome told (λ bytes. script_of bytes ≡ result)
 
 -- the bytes are the text of a run of these lanes beside the plan
-pub record IsRunText (files : Option FileList) (r : ServeRequestData) (lanes : List LaneData)
-    (bytes : List ℕ) : Type 0 where
+pub record IsRunText (files : Option FileList) (options : Options) (plan : List ItemData)
+    (lanes : List LaneData) (bytes : List ℕ) : Type 0 where
   pub served : ServedData
-  pub run : IsServed files r.options (plan_of r) lanes served
-  pub text : bytes ≡ served_text (plan_of r) served
+  pub run : IsServed files options plan lanes served
+  pub text : bytes ≡ served_text plan served
 
 -- What a status says of a run, of the script and of the bytes that a sink held before and holds
 -- now. Done: the text of a run was written whole. WriteFault: some first bytes of it.
@@ -44,10 +44,11 @@ abbrev pub IsRunOutcome : Option FileList → Option (List ℕ) → ServeRequest
     → Option (List ℕ) → Option (List ℕ) → Type 0
 IsRunOutcome files told r status.Done before now =
     (lanes : List LaneData) × (bytes : List ℕ) × ScriptGives told (Ok lanes)
-    × IsRunText files r lanes bytes × Appends before now bytes
+    × IsRunText files r.options (plan_of r) lanes bytes × Appends before now bytes
 IsRunOutcome files told r status.WriteFault before now =
     (lanes : List LaneData) × (bytes : List ℕ) × (n : ℕ) × ScriptGives told (Ok lanes)
-    × IsRunText files r lanes bytes × (n ≤ length bytes) × Appends before now (take n bytes)
+    × IsRunText files r.options (plan_of r) lanes bytes × (n ≤ length bytes)
+    × Appends before now (take n bytes)
 IsRunOutcome files told r (status.ScriptRefused f) before now = ScriptGives told (Err f)
 IsRunOutcome files told r (status.FeedRefused f) before now =
     ((lanes : List LaneData) × ScriptGives told (Ok lanes))
@@ -89,17 +90,17 @@ IsNoScript told before now (status.LateRefused f) = ⊥
 IsNoScript told before now (status.JourneyRefused f) = ⊥
 
 -- why a run has no text, by the folder's count of faults before and now
-abbrev pub IsNoRun : Option FileList → ServeRequestData → ℕ → ℕ → Status → Type 0
-IsNoRun files r before now (status.FeedRefused f) =
-    FirstGives files r.options (plan_of r) f × (now ≡ before)
-IsNoRun files r before now status.ReadFault = before < now
-IsNoRun files r before now status.Memory = now ≡ before
-IsNoRun files r before now status.Done = ⊥
-IsNoRun files r before now status.Usage = ⊥
-IsNoRun files r before now status.WriteFault = ⊥
-IsNoRun files r before now (status.ScriptRefused f) = ⊥
-IsNoRun files r before now (status.LateRefused f) = ⊥
-IsNoRun files r before now (status.JourneyRefused f) = ⊥
+abbrev pub IsNoRun : Option FileList → Options → List ItemData → ℕ → ℕ → Status → Type 0
+IsNoRun files options plan before now (status.FeedRefused f) =
+    FirstGives files options plan f × (now ≡ before)
+IsNoRun files options plan before now status.ReadFault = before < now
+IsNoRun files options plan before now status.Memory = now ≡ before
+IsNoRun files options plan before now status.Done = ⊥
+IsNoRun files options plan before now status.Usage = ⊥
+IsNoRun files options plan before now status.WriteFault = ⊥
+IsNoRun files options plan before now (status.ScriptRefused f) = ⊥
+IsNoRun files options plan before now (status.LateRefused f) = ⊥
+IsNoRun files options plan before now (status.JourneyRefused f) = ⊥
 
 -- the status that a fault of a run is told as
 abbrev pub status_for : ServeFault → Status

@@ -1,15 +1,16 @@
 //! The text of an answer over a timetable.
-ghost use Rattle.std.specs.Prelude.{◌≡◌, IfOk};
+ghost use Rattle.std.specs.Prelude.{◌≡◌, ◌<◌, ◌≤ℤ◌, All, IfOk, length, pos};
 ghost use Rattle.edition_store.specs.Editions.{EditionData};
 ghost use Rattle.mirror_table.specs.Mirror.{IsMirror};
-ghost use Rattle.command_line.specs.Settings.{AreWorkers};
-ghost use Rattle.router_cli.specs.Answers.{IsAnswer, IsInquiryText, IsLatestText, IsProfileText, IsReachText, ShowsKept};
+ghost use Rattle.reduce_workers.specs.Workers.{AreWorkers};
+ghost use Rattle.router_cli.specs.Answers.{IsAnswer, IsInquiryText, IsLatestText, IsProfileText, IsReachText, ShowsKept, ShowsLatest};
 
 use crate::departing::{Sought, arrival_of, latest_text};
 use crate::over_edition::{ask_text, profile_text};
 use crate::over_table::{direct_text, rounds_text};
 use crate::reaching::reach_text;
 use answer_text::unknown_text;
+use arrive_by::Arrival;
 use build_report::report;
 use command_line::{ArrivalInquiry, Command, DayRequest, Inquiry, OriginInquiry, WindowInquiry};
 use edition_build::build;
@@ -18,20 +19,6 @@ use mirror_table::mirror;
 use std::alloc::Global;
 use std::thread::Threads;
 use tb_base::{Gate, Memory, Timetable};
-
-// The edition of a timetable.
-fn edition_of<G: Gate, R: Threads + Sync>(
-    rt: &R,
-    alloc: Global,
-    table: Timetable,
-    workers: u32,
-    gate: &G,
-) -> Result<Edition, Memory>
-    requires { AreWorkers workers }
-    ensures { IfOk result (λ e. EditionData.table e ≡ table) }
-{
-    build(rt, alloc, table, workers, gate)
-}
 
 // The edition of the mirror of a timetable.
 fn mirrored_edition<G: Gate, R: Threads + Sync>(
@@ -45,7 +32,7 @@ fn mirrored_edition<G: Gate, R: Threads + Sync>(
     ensures { IfOk result (λ e. IsMirror table.now (EditionData.table e)) }
 {
     let mirrored = mirror(alloc, table)?;
-    edition_of(rt, alloc, mirrored, workers, gate)
+    build(rt, alloc, mirrored, workers, gate)
 }
 
 // The best values, over the edition of a timetable.
@@ -60,7 +47,7 @@ fn ask_answer<G: Gate, R: Threads + Sync>(
     requires { AreWorkers workers }
     ensures { IfOk result (λ text. IsInquiryText table ShowsKept inquiry.now text.items) }
 {
-    let edition = edition_of(rt, alloc, table, workers, gate)?;
+    let edition = build(rt, alloc, table, workers, gate)?;
     ask_text(alloc, edition, inquiry)
 }
 
@@ -76,11 +63,33 @@ fn profile_answer<G: Gate, R: Threads + Sync>(
     requires { AreWorkers workers }
     ensures { IfOk result (λ text. IsProfileText table inquiry.now text.items) }
 {
-    let edition = edition_of(rt, alloc, table, workers, gate)?;
+    let edition = build(rt, alloc, table, workers, gate)?;
     profile_text(alloc, edition, inquiry)
 }
 
-// The latest departures, over the edition of the mirror of a timetable.
+// The latest departures of an arrival, over the edition of the mirror of a timetable.
+fn latest_by<G: Gate, R: Threads + Sync>(
+    rt: &R,
+    alloc: Global,
+    table: &Timetable,
+    arrival: &Arrival,
+    workers: u32,
+    gate: &G,
+) -> Result<Vec<u8>, Memory>
+    requires workers { AreWorkers workers }
+    requires origins { All (λ p. p < length table.now.stops) arrival.now.from }
+    requires targets { All (λ p. p < length table.now.stops) arrival.now.to }
+    requires earliest { pos 0 ≤ℤ arrival.now.by }
+    requires latest { arrival.now.by ≤ℤ pos 273599 }
+    ensures { IfOk result (λ text. ShowsLatest table.now arrival.now text.items) }
+{
+    let mirrored = mirrored_edition(rt, alloc, table, workers, gate)?;
+    let text = latest_text(alloc, &mirrored, table, arrival);
+    drop(mirrored);
+    text
+}
+
+// The latest departures, or the name that is no place.
 fn latest_answer<G: Gate, R: Threads + Sync>(
     rt: &R,
     alloc: Global,
@@ -94,10 +103,7 @@ fn latest_answer<G: Gate, R: Threads + Sync>(
 {
     match arrival_of(alloc, table, inquiry)? {
         Sought::Unknown(name) => unknown_text(alloc, name),
-        Sought::Arrival(arrival) => {
-            let mirrored = mirrored_edition(rt, alloc, table, workers, gate)?;
-            latest_text(alloc, &mirrored, table, &arrival)
-        }
+        Sought::Arrival(arrival) => latest_by(rt, alloc, table, &arrival, workers, gate),
     }
 }
 
@@ -113,8 +119,10 @@ fn reach_answer<G: Gate, R: Threads + Sync>(
     requires { AreWorkers workers }
     ensures { IfOk result (λ text. IsReachText table inquiry.now text.items) }
 {
-    let edition = edition_of(rt, alloc, table, workers, gate)?;
-    reach_text(alloc, &edition, inquiry)
+    let edition = build(rt, alloc, table, workers, gate)?;
+    let text = reach_text(alloc, &edition, inquiry);
+    drop(edition);
+    text
 }
 
 /// What is written for a request over the timetable of its day. Where transfers are reduced, the
@@ -130,12 +138,28 @@ pub fn answer<G: Gate, R: Threads + Sync>(
 {
     let workers = request.workers;
     match &request.command {
-        Command::Direct(inquiry) => direct_text(alloc, &table, inquiry),
-        Command::Ask(inquiry) if request.plain => rounds_text(alloc, &table, inquiry),
+        Command::Direct(inquiry) => {
+            let text = direct_text(alloc, &table, inquiry);
+            drop(table);
+            text
+        }
+        Command::Ask(inquiry) if request.plain => {
+            let text = rounds_text(alloc, &table, inquiry);
+            drop(table);
+            text
+        }
         Command::Ask(inquiry) => ask_answer(rt, alloc, table, inquiry, workers, gate),
         Command::Profile(inquiry) => profile_answer(rt, alloc, table, inquiry, workers, gate),
-        Command::Latest(inquiry) => latest_answer(rt, alloc, &table, inquiry, workers, gate),
+        Command::Latest(inquiry) => {
+            let text = latest_answer(rt, alloc, &table, inquiry, workers, gate);
+            drop(table);
+            text
+        }
         Command::Reach(inquiry) => reach_answer(rt, alloc, table, inquiry, workers, gate),
-        Command::Build { list } => report(rt, alloc, &table, *list, workers, gate),
+        Command::Build { list } => {
+            let text = report(rt, alloc, &table, *list, workers, gate);
+            drop(table);
+            text
+        }
     }
 }

@@ -51,6 +51,8 @@ pub(crate) fn latest_text(
     ensures { IfOk result (λ text. ShowsLatest table.now arrival.now text.items) }
 {
     let mut desk = Desk::new(alloc);
-    let list = latest(alloc, mirrored, table, arrival, &mut desk)?;
+    let found = latest(alloc, mirrored, table, arrival, &mut desk);
+    drop(desk);
+    let list = found?;
     departures_text(alloc, table, list.as_slice())
 }

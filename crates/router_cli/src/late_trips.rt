@@ -1,20 +1,21 @@
 //! What the program does about a day amended by late trips.
-ghost use Rattle.std.specs.Prelude.{◌≡◌, ◌⊎◌, ◌<◌, ◌-◌, ◌^◌, Err, IfErr, IfOk, MatchResult, Ok};
+ghost use Rattle.std.specs.Prelude.{◌≡◌, ◌⊎◌, ◌<◌, ◌-◌, ◌^◌, ◌∷◌, [], ◌++◌, Err, IfErr, IfOk, MatchResult, Ok, Some, length, slice_get, true, vec_len};
 ghost use Rattle.edition_store.specs.Editions.{EditionData};
 ghost use Rattle.late_times.specs.Amended.{amended};
 ghost use Rattle.late_times.specs.Lates.{IsRefused};
 ghost use Rattle.touched_trips.specs.Touched.{touched_count};
 ghost use Rattle.late_edit.specs.Amending.{network_of};
-ghost use Rattle.command_line.specs.Settings.{AreWorkers};
+ghost use Rattle.query_gate.specs.Callers.{CallerData};
+ghost use Rattle.reduce_workers.specs.Workers.{AreWorkers};
 ghost use Rattle.router_cli.specs.Answers.{IsInquiryText, ShowsKept};
 ghost use Rattle.router_cli.specs.LateTrips.{IsAmendedText, IsLateDay, IsLateOutcome, IsLateText, IsNoLateDay, IsNoLates, IsNotAmended, LatesGive, amended_text};
 
 use crate::day::table_of;
-use crate::over_edition::{ask_question, reply_text};
+use crate::over_edition::ask_by;
 use crate::status::{Status, at_number};
 use command_line::{Inquiry, LateRequest};
 use edition_build::build_edition;
-use edition_store::{Edition, Naming, Opened, Shared, Store};
+use edition_store::{Edition, Last, Naming, Opened, Publisher, Seat, Shared, Store};
 use late_edit::{Amended, Late, LateFault, amend, read_late};
 use query_gate::Caller;
 use std::alloc::Global;
@@ -62,6 +63,62 @@ fn amended_text(alloc: Global, redone: u32, kept: u64) -> Result<Vec<u8>, Memory
     Ok(line)
 }
 
+// The whole list, which one more edition ends.
+fn whole_with<J: Naming, R: Wait>(
+    rt: &R,
+    publisher: Publisher<J>,
+    last: Shared,
+) -> Result<Last<J>, Memory>
+    requires { length publisher < 100 }
+    ensures { IfOk result (λ l. l ≡ publisher ++ last ∷ []) }
+{
+    let (publisher, receipt) = publisher.publish(rt, last)?;
+    drop(receipt);
+    publisher.finish(rt)
+}
+
+// One who asks from one of these seats, and has learned the whole list.
+fn learned<J: Naming>(
+    alloc: Global,
+    seats: Vec<Seat<J>>,
+    whole: &Last<J>,
+) -> Result<Caller<J>, Memory>
+    requires { 0 < vec_len seats }
+    ensures { IfOk result
+        (λ c. CallerData.kept c ≡ record { list = whole.now; closed = true }) }
+{
+    let mut seats = seats;
+    let Some(seat) = seats.pop() else {
+        unreachable!()
+    };
+    drop(seats);
+    let mut caller = Caller::new(alloc, seat);
+    match caller.learn_last(whole) {
+        Ok(()) => Ok(caller),
+        Err(Memory) => {
+            drop(caller);
+            Err(Memory)
+        }
+    }
+}
+
+// The best values by the last edition of the whole list.
+fn ask_whole<J: Naming>(
+    alloc: Global,
+    seats: Vec<Seat<J>>,
+    whole: &Last<J>,
+    inquiry: &Inquiry,
+) -> Result<Vec<u8>, Memory>
+    requires { 0 < vec_len seats }
+    ensures { (e : EditionData) → slice_get whole.now (length whole.now - 1) ≡ Some e →
+        IfOk result (λ text. IsInquiryText e.table ShowsKept inquiry.now text.items) }
+{
+    let mut caller = learned(alloc, seats, whole)?;
+    let text = ask_by(alloc, &mut caller, inquiry);
+    drop(caller);
+    text
+}
+
 // The best values by the last of two editions that are published one after the other.
 fn ask_last<J: Naming, R: Wait>(
     rt: &R,
@@ -75,19 +132,23 @@ fn ask_last<J: Naming, R: Wait>(
     ensures { IfOk result (λ text.
         IsInquiryText (EditionData.table last) ShowsKept inquiry.now text.items) }
 {
-    last.edition().soundness();
-    let question = ask_question(alloc, inquiry)?;
-    let (publisher, mut seats) = Store::new::<J>(alloc, opened, first, 1)?;
-    let (publisher, _receipt) = publisher.publish(rt, last)?;
-    let whole = publisher.finish(rt)?;
-    let Some(seat) = seats.pop() else {
-        unreachable!()
-    };
-    let mut caller = Caller::new(alloc, seat);
-    caller.learn_last(&whole)?;
-    let answer = caller.ask(alloc, &question)?;
-    let asked = answer.pinned.edition();
-    reply_text(alloc, asked.table(), &answer.reply)
+    match Store::new::<J>(alloc, opened, first, 1) {
+        Ok((publisher, seats)) => match whole_with(rt, publisher, last) {
+            Ok(whole) => {
+                let text = ask_whole(alloc, seats, &whole, inquiry);
+                drop(whole);
+                text
+            }
+            Err(Memory) => {
+                drop(seats);
+                Err(Memory)
+            }
+        },
+        Err(Memory) => {
+            drop(last);
+            Err(Memory)
+        }
+    }
 }
 
 // What is written of an edition and what late trips make of it.
@@ -105,8 +166,9 @@ fn editions_text<R: Wait>(
     old.edition().soundness();
     let Amended { edition, redone } = amended;
     edition.edition().soundness();
-    let mut text = amended_text(alloc, redone, edition.edition().kept())?;
+    let kept = edition.edition().kept();
     let answer = ask_last::<Brand, R>(rt, alloc, Opened::new(), old, edition, inquiry)?;
+    let mut text = amended_text(alloc, redone, kept)?;
     text.extend_from_slice(answer.as_slice())?;
     Ok(text)
 }
@@ -126,9 +188,16 @@ fn amended_answer<R: Threads + Wait + Sync, G: Gate>(
         (λ f. IsRefused f (amended table lates.now)) }
 {
     let old = build_edition(rt, alloc, table, workers, gate)?;
-    let amended = amend(alloc, old.edition(), lates)?;
-    amended.edition.edition().soundness();
-    Ok(editions_text(rt, alloc, old, amended, inquiry)?)
+    match amend(alloc, old.edition(), lates) {
+        Ok(amended) => {
+            amended.edition.edition().soundness();
+            Ok(editions_text(rt, alloc, old, amended, inquiry)?)
+        }
+        Err(fault) => {
+            drop(old);
+            Err(fault)
+        }
+    }
 }
 
 // The same, or why there is no text.
@@ -180,11 +249,13 @@ fn text_of<R: Threads + Wait + Sync, F: Folder, G: Gate>(
         Ok(table) => table,
         Err(status) => return Err(status),
     };
-    let lates = match lates_from(alloc, folder, request.file) {
-        Ok(lates) => lates,
-        Err(status) => return Err(status),
-    };
-    late_answer(rt, alloc, table, lates.as_slice(), request, gate)
+    match lates_from(alloc, folder, request.file) {
+        Ok(lates) => late_answer(rt, alloc, table, lates.as_slice(), request, gate),
+        Err(status) => {
+            drop(table);
+            Err(status)
+        }
+    }
 }
 
 /// Answers by the timetable of a day that the late trips of a file amend, once both editions are

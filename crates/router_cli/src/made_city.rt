@@ -1,10 +1,13 @@
 //! What the program does about a made city.
-ghost use Rattle.std.specs.Prelude.{◌≡◌, ◌⊎◌, ◌<◌, ◌-◌, ◌^◌, IfOk, false};
+ghost use Rattle.std.specs.Prelude.{◌≡◌, ◌⊎◌, ◌<◌, ◌≤ℤ◌, ◌-◌, ◌^◌, All, IfOk, false, length, pos};
+ghost use Rattle.tb_base.specs.Lines.{AreLines};
 ghost use Rattle.feed_maker.specs.City.{city};
-ghost use Rattle.edition_store.specs.Editions.{EditionData};
+ghost use Rattle.edition_store.specs.Editions.{EditionData, net_of};
+ghost use Rattle.query_gate.specs.Replies.{AreBestChoices};
+ghost use Rattle.reduce_workers.specs.Reductions.{reduced};
 ghost use Rattle.build_report.specs.Reports.{IsReport};
 ghost use Rattle.command_line.specs.Cities.{IsSide};
-ghost use Rattle.command_line.specs.Settings.{AreWorkers};
+ghost use Rattle.reduce_workers.specs.Workers.{AreWorkers};
 ghost use Rattle.router_cli.specs.Answers.{ShowsKept};
 ghost use Rattle.router_cli.specs.Cities.{IsCityOutcome, IsCityText, corner_query};
 
@@ -15,19 +18,71 @@ use command_line::CityRequest;
 use edition_build::assemble;
 use edition_store::Edition;
 use feed_maker::city;
-use line_split::split;
+use line_split::{Lines, split};
 use query_gate::uncounted::best_choices;
-use reduce_workers::reduce_all;
+use reduce_workers::{Reduced, reduce_all};
 use segment_queue::Desk;
 use std::alloc::Global;
 use std::thread::Threads;
-use tb_base::{Gate, Memory, Query, StopNo, Timetable};
+use tb_base::{Choice, Gate, Memory, Query, StopNo, Timetable};
 use tb_io::{Sink, put_all};
 
 // The report on a timetable, and its edition.
 struct Built {
     report: Vec<u8>,
     edition: Edition,
+}
+
+// What is built of a timetable with its lines and what the reduction made of its transfers.
+fn built_of(
+    alloc: Global,
+    table: Timetable,
+    lines: Lines,
+    transfers: Reduced,
+) -> Result<Built, Memory>
+    requires lines { lines.table ≡ table }
+    requires are_lines { AreLines table lines.lines }
+    requires transfers { transfers ≡ reduced table lines.lines }
+    ensures report { IfOk result (λ b. IsReport table false b.report.items) }
+    ensures edition { IfOk result (λ b. EditionData.table b.edition ≡ table) }
+{
+    match build_text(alloc, &table, counts_of(&lines, &transfers)) {
+        Ok(report) => match assemble(alloc, table, lines, transfers) {
+            Ok(edition) => Ok(Built { report, edition }),
+            Err(Memory) => Err(Memory),
+        },
+        Err(Memory) => {
+            drop(table);
+            drop(lines);
+            drop(transfers);
+            Err(Memory)
+        }
+    }
+}
+
+// What is built of a timetable with its lines.
+fn build_over<G: Gate, R: Threads + Sync>(
+    rt: &R,
+    alloc: Global,
+    table: Timetable,
+    lines: Lines,
+    workers: u32,
+    gate: &G,
+) -> Result<Built, Memory>
+    requires workers { AreWorkers workers }
+    requires lines { lines.table ≡ table }
+    requires are_lines { AreLines table lines.lines }
+    ensures report { IfOk result (λ b. IsReport table false b.report.items) }
+    ensures edition { IfOk result (λ b. EditionData.table b.edition ≡ table) }
+{
+    match reduce_all(rt, alloc, &table, &lines, workers, gate) {
+        Ok(transfers) => built_of(alloc, table, lines, transfers),
+        Err(Memory) => {
+            drop(table);
+            drop(lines);
+            Err(Memory)
+        }
+    }
 }
 
 // What is built of a timetable.
@@ -42,11 +97,13 @@ fn build<G: Gate, R: Threads + Sync>(
     ensures report { IfOk result (λ b. IsReport table false b.report.items) }
     ensures edition { IfOk result (λ b. EditionData.table b.edition ≡ table) }
 {
-    let lines = split(alloc, &table)?;
-    let transfers = reduce_all(rt, alloc, &table, &lines, workers, gate)?;
-    let report = build_text(alloc, &table, counts_of(&lines, &transfers))?;
-    let edition = assemble(alloc, table, lines, transfers)?;
-    Ok(Built { report, edition })
+    match split(alloc, &table) {
+        Ok(lines) => build_over(rt, alloc, table, lines, workers, gate),
+        Err(Memory) => {
+            drop(table);
+            Err(Memory)
+        }
+    }
 }
 
 // From the first corner to the last, at 07:00:00.
@@ -62,6 +119,22 @@ fn corner_query(alloc: Global, side: u32) -> Result<Query, Memory>
     })
 }
 
+// The best values of a query, each with a journey, in a desk that needn't have room.
+fn choices_in(
+    alloc: Global,
+    edition: &Edition,
+    query: &Query,
+    desk: &mut Desk,
+) -> Result<Vec<Choice>, Memory>
+    requires origins { All (λ p. p < length edition.now.table.stops) query.now.from }
+    requires targets { All (λ p. p < length edition.now.table.stops) query.now.to }
+    requires leave { query.now.leave ≤ℤ pos 359999 }
+    ensures { IfOk result (λ cs. AreBestChoices (net_of edition.now) query.now cs.items) }
+{
+    desk.make_room(edition)?;
+    best_choices(alloc, edition, query, desk)
+}
+
 // The best values from the first corner to the last.
 fn corner_text(alloc: Global, edition: &Edition, side: u32) -> Result<Vec<u8>, Memory>
     requires side { IsSide side }
@@ -71,8 +144,9 @@ fn corner_text(alloc: Global, edition: &Edition, side: u32) -> Result<Vec<u8>, M
     edition.soundness();
     let query = corner_query(alloc, side)?;
     let mut desk = Desk::new(alloc);
-    desk.make_room(edition)?;
-    let choices = best_choices(alloc, edition, &query, &mut desk)?;
+    let found = choices_in(alloc, edition, &query, &mut desk);
+    drop(desk);
+    let choices = found?;
     choices_text(alloc, edition.table(), choices.as_slice())
 }
 
@@ -89,11 +163,11 @@ fn city_text<G: Gate, R: Threads + Sync>(
     ensures { IfOk result (λ text. IsCityText side text.items) }
 {
     let table = city(alloc, side)?;
-    let Built {
-        report: mut text,
-        edition,
-    } = build(rt, alloc, table, workers, gate)?;
-    let choices = corner_text(alloc, &edition, side)?;
+    let Built { report, edition } = build(rt, alloc, table, workers, gate)?;
+    let shown = corner_text(alloc, &edition, side);
+    drop(edition);
+    let choices = shown?;
+    let mut text = report;
     text.extend_from_slice(choices.as_slice())?;
     Ok(text)
 }

@@ -1,33 +1,19 @@
 //! Texts over an edition, the network of the day.
-ghost use Rattle.std.specs.Prelude.{◌≡◌, ◌≤ℤ◌, IfOk, pos};
+ghost use Rattle.std.specs.Prelude.{◌≡◌, ◌-◌, ◌≤ℤ◌, IfOk, Some, length, pos, slice_get, true};
 ghost use Rattle.edition_store.specs.Editions.{EditionData};
 ghost use Rattle.query_gate.specs.Questions.{AskData, ProfileData};
-ghost use Rattle.query_gate.specs.Replies.{HaveNumbers};
-ghost use Rattle.router_cli.specs.Answers.{IsInquiryText, IsProfileText, ShowsKept, ask_data, profile_data, reply_text};
+ghost use Rattle.router_cli.specs.Answers.{IsInquiryText, IsProfileText, ShowsKept, ask_data, profile_data};
 
-use answer_text::{choices_text, offers_text, unknown_text};
 use command_line::{Inquiry, WindowInquiry};
 use edition_store::{Edition, Naming, Opened};
-use query_gate::{AskText, Caller, ProfileText, Reply};
+use lane_serve::reply_text;
+use query_gate::{AskText, Caller, ProfileText};
 use std::alloc::Global;
 use std::marker::Brand;
-use tb_base::{Memory, Name, Timetable};
+use tb_base::{Memory, Name};
 
-/// What is written for an edition's answer.
-pub(crate) fn reply_text(alloc: Global, table: &Timetable, reply: &Reply) -> Result<Vec<u8>, Memory>
-    requires { HaveNumbers table.now reply.now }
-    ensures { IfOk result (λ text. text.items ≡ reply_text table.now reply.now) }
-{
-    match reply {
-        Reply::Values(choices) => choices_text(alloc, table, choices.as_slice()),
-        Reply::Slots(offers) => offers_text(alloc, table, offers.as_slice()),
-        Reply::UnknownStop(name) => unknown_text(alloc, name.bytes()),
-        Reply::Deferred(_) => unreachable!(),
-    }
-}
-
-/// The question that an inquiry asks.
-pub(crate) fn ask_question(alloc: Global, inquiry: &Inquiry) -> Result<AskText, Memory>
+// The question that an inquiry asks.
+fn ask_question(alloc: Global, inquiry: &Inquiry) -> Result<AskText, Memory>
     ensures question { IfOk result (λ q. q ≡ ask_data inquiry.now) }
     ensures time { IfOk result (λ q. AskData.leave q ≤ℤ pos 359999) }
 {
@@ -53,6 +39,46 @@ fn profile_question(alloc: Global, inquiry: &WindowInquiry) -> Result<ProfileTex
     })
 }
 
+/// The best values, asked by a caller who keeps a whole list.
+pub(crate) fn ask_by<J: Naming>(
+    alloc: Global,
+    caller: &mut Caller<J>,
+    inquiry: &Inquiry,
+) -> Result<Vec<u8>, Memory>
+    requires { caller.old.kept.closed ≡ true }
+    ensures { (e : EditionData) →
+        slice_get caller.old.kept.list (length caller.old.kept.list - 1) ≡ Some e →
+        IfOk result (λ text. IsInquiryText e.table ShowsKept inquiry.now text.items) }
+{
+    let question = ask_question(alloc, inquiry)?;
+    let answer = caller.ask(alloc, &question)?;
+    let edition = answer.pinned.edition();
+    edition.soundness();
+    let text = reply_text(alloc, edition, &answer.reply);
+    drop(answer);
+    text
+}
+
+// The profile of a window, asked by a caller who keeps a whole list.
+fn profile_by<J: Naming>(
+    alloc: Global,
+    caller: &mut Caller<J>,
+    inquiry: &WindowInquiry,
+) -> Result<Vec<u8>, Memory>
+    requires { caller.old.kept.closed ≡ true }
+    ensures { (e : EditionData) →
+        slice_get caller.old.kept.list (length caller.old.kept.list - 1) ≡ Some e →
+        IfOk result (λ text. IsProfileText e.table inquiry.now text.items) }
+{
+    let question = profile_question(alloc, inquiry)?;
+    let answer = caller.profile(alloc, &question)?;
+    let edition = answer.pinned.edition();
+    edition.soundness();
+    let text = reply_text(alloc, edition, &answer.reply);
+    drop(answer);
+    text
+}
+
 // The best values, asked by a caller of a store of this edition alone.
 fn ask_alone<J: Naming>(
     alloc: Global,
@@ -64,12 +90,10 @@ fn ask_alone<J: Naming>(
     ensures { IfOk result (λ text.
         IsInquiryText (EditionData.table edition) ShowsKept inquiry.now text.items) }
 {
-    edition.soundness();
-    let question = ask_question(alloc, inquiry)?;
     let mut caller = Caller::<J>::alone(alloc, opened, edition)?;
-    let answer = caller.ask(alloc, &question)?;
-    let asked = answer.pinned.edition();
-    reply_text(alloc, asked.table(), &answer.reply)
+    let text = ask_by(alloc, &mut caller, inquiry);
+    drop(caller);
+    text
 }
 
 /// The best values, each with a journey by kept transfers.
@@ -95,12 +119,10 @@ fn profile_alone<J: Naming>(
     ensures { IfOk result (λ text.
         IsProfileText (EditionData.table edition) inquiry.now text.items) }
 {
-    edition.soundness();
-    let question = profile_question(alloc, inquiry)?;
     let mut caller = Caller::<J>::alone(alloc, opened, edition)?;
-    let answer = caller.profile(alloc, &question)?;
-    let asked = answer.pinned.edition();
-    reply_text(alloc, asked.table(), &answer.reply)
+    let text = profile_by(alloc, &mut caller, inquiry);
+    drop(caller);
+    text
 }
 
 /// The profile of a window, each slot with a journey by kept transfers.

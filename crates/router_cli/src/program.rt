@@ -58,15 +58,25 @@ fn outcome<R: Threads + Wait + Sync, F: Folder + Send, S: Source, K: Sink, G: Ga
         (S.left script.new) }
 {
     match request_of(alloc, words) {
-        Ok(Some(Request::Day(request))) => day_outcome(rt, alloc, &request, folder, out, gate),
+        Ok(Some(Request::Day(request))) => {
+            let status = day_outcome(rt, alloc, &request, folder, out, gate);
+            drop(request);
+            status
+        }
         Ok(Some(Request::Serve(request))) => {
             run_outcome(rt, alloc, request, folder, script, out, gate)
         }
         Ok(Some(Request::City(request))) => city_outcome(rt, alloc, &request, out, gate),
         Ok(Some(Request::Verify(request))) => {
-            verify_outcome(alloc, &request, folder, script, out)
+            let status = verify_outcome(alloc, &request, folder, script, out);
+            drop(request);
+            status
         }
-        Ok(Some(Request::Late(request))) => late_outcome(rt, alloc, &request, folder, out, gate),
+        Ok(Some(Request::Late(request))) => {
+            let status = late_outcome(rt, alloc, &request, folder, out, gate);
+            drop(request);
+            status
+        }
         Ok(None) => Status::Usage,
         Err(Memory) => Status::Memory,
     }

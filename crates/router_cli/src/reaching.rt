@@ -24,7 +24,26 @@ fn stops_named(alloc: Global, table: &Timetable, name: &[u8]) -> Result<Option<V
     }
 }
 
-// The best values to every stop over an edition, on a ledger that nobody else counts in.
+// The best values to every stop over an edition, in a desk that needn't have room.
+fn reach_in<L: Ledger>(
+    alloc: Global,
+    edition: &Edition,
+    from: &[StopNo],
+    leave: Sec,
+    desk: &mut Desk,
+    steps: &mut Steps<L>,
+) -> Result<Vec<Vec<Value>>, Memory>
+    requires origins { All (λ p. p < length edition.now.table.stops) from.now }
+    requires leave { leave ≤ℤ pos 359999 }
+    ensures { IfOk result (λ lists. IsReach edition.now.table from.now leave
+        (map (λ list. list.items) lists.items)) }
+{
+    edition.soundness();
+    desk.make_room(edition)?;
+    reach_all(alloc, edition, from, leave, desk, steps)
+}
+
+// The same, on a ledger that nobody else counts in.
 fn reach_on<L: Ledger>(
     alloc: Global,
     edition: &Edition,
@@ -40,11 +59,11 @@ fn reach_on<L: Ledger>(
     ensures { IfOk result (λ lists. IsReach edition.now.table from.now leave
         (map (λ list. list.items) lists.items)) }
 {
-    edition.soundness();
     let mut desk = Desk::new(alloc);
-    desk.make_room(edition)?;
     let mut steps = Steps::<L>::new(blank);
-    reach_all(alloc, edition, from, leave, &mut desk, &mut steps)
+    let lists = reach_in(alloc, edition, from, leave, &mut desk, &mut steps);
+    drop(desk);
+    lists
 }
 
 // The best values to every stop over an edition.

@@ -1,11 +1,14 @@
 //! What the program does about a run of several days.
-ghost use Rattle.std.specs.Prelude.{◌≡◌, ◌⊎◌, ◌<◌, ◌-◌, ◌^◌, Err, IfErr, IfOk, List, Ok, map, ℕ};
+ghost use Rattle.std.specs.Prelude.{◌≡◌, ◌⊎◌, ◌<◌, ◌≤◌, ◌-◌, ◌^◌, Err, IfErr, IfOk, List, Ok, length, map, ℕ};
 ghost use Rattle.std.specs.Io.KnownBytes.{Consumes};
+ghost use Rattle.footpaths.specs.Limits.{AreWithinADay};
+ghost use Rattle.reduce_workers.specs.Workers.{AreWorkers};
 ghost use Rattle.lane_serve.specs.Script.{IsScript};
-ghost use Rattle.router_cli.specs.Serving.{IsNoRun, IsNoScript, IsRunOutcome, IsRunText, ScriptGives, TellsScript, item_of, status_for};
+ghost use Rattle.router_cli.specs.Serving.{IsNoRun, IsNoScript, IsRunOutcome, IsRunText, ScriptGives, TellsScript, item_of, plan_of, status_for};
 
 use crate::status::Status;
 use command_line::{PlannedDay, ServeRequest};
+use footpaths::Options;
 use lane_serve::{PlanItem, Script, ScriptFault, ServeFault, read_script, serve, served_text};
 use std::alloc::Global;
 use std::sync::Wait;
@@ -71,7 +74,44 @@ fn status_of(fault: ServeFault) -> Status
     }
 }
 
-// The text of a run of the lanes of a script.
+// The text of a run of the lanes of a script beside a plan.
+fn served_run<R: Threads + Wait + Sync, F: Folder + Send, G: Gate>(
+    rt: &R,
+    alloc: Global,
+    plan: &[PlanItem],
+    options: &Options,
+    workers: u32,
+    script: &Script,
+    folder: &mut F,
+    gate: &G,
+) -> Result<Vec<u8>, Status>
+    requires plan { 0 < length plan.now }
+    requires days { length plan.now ≤ 100 }
+    requires options { AreWithinADay options.now }
+    requires workers { AreWorkers workers }
+    requires script { IsScript script.now }
+    requires folder { F.faults folder.old < 2 ^ 64 - 1 }
+    ensures text { IfOk result (λ text.
+        IsRunText (F.files folder.old) options.now plan.now script.now text.items) }
+    ensures kept { IfOk result (λ _. F.faults folder.new ≡ F.faults folder.old) }
+    ensures stop { IfErr result (IsNoRun (F.files folder.old) options.now plan.now
+        (F.faults folder.old) (F.faults folder.new)) }
+    ensures files { F.files folder.new ≡ F.files folder.old }
+{
+    match serve(rt, alloc, plan, options, workers, script, folder, gate) {
+        Ok(served) => {
+            let text = served_text(alloc, plan, &served);
+            drop(served);
+            match text {
+                Ok(text) => Ok(text),
+                Err(Memory) => Err(Status::Memory),
+            }
+        }
+        Err(fault) => Err(status_of(fault)),
+    }
+}
+
+// The same, by the days of a request.
 fn run_text<R: Threads + Wait + Sync, F: Folder + Send, G: Gate>(
     rt: &R,
     alloc: Global,
@@ -82,11 +122,11 @@ fn run_text<R: Threads + Wait + Sync, F: Folder + Send, G: Gate>(
 ) -> Result<Vec<u8>, Status>
     requires script { IsScript script.now }
     requires folder { F.faults folder.old < 2 ^ 64 - 1 }
-    ensures text { IfOk result (λ text.
-        IsRunText (F.files folder.old) request.entry script.now text.items) }
+    ensures text { IfOk result (λ text. IsRunText (F.files folder.old) request.entry.options
+        (plan_of request.entry) script.now text.items) }
     ensures kept { IfOk result (λ _. F.faults folder.new ≡ F.faults folder.old) }
-    ensures stop { IfErr result
-        (IsNoRun (F.files folder.old) request.entry (F.faults folder.old) (F.faults folder.new)) }
+    ensures stop { IfErr result (IsNoRun (F.files folder.old) request.entry.options
+        (plan_of request.entry) (F.faults folder.old) (F.faults folder.new)) }
     ensures files { F.files folder.new ≡ F.files folder.old }
 {
     let ServeRequest {
@@ -98,13 +138,9 @@ fn run_text<R: Threads + Wait + Sync, F: Folder + Send, G: Gate>(
         return Err(Status::Memory);
     };
     let plan = items.as_slice();
-    match serve(rt, alloc, plan, &options, workers, script, folder, gate) {
-        Ok(served) => match served_text(alloc, plan, &served) {
-            Ok(text) => Ok(text),
-            Err(Memory) => Err(Status::Memory),
-        },
-        Err(fault) => Err(status_of(fault)),
-    }
+    let text = served_run(rt, alloc, plan, &options, workers, script, folder, gate);
+    drop(items);
+    text
 }
 
 /// Answers the script of a source by a run of the days of a plan. It may wait.
@@ -139,9 +175,14 @@ pub(crate) fn run_outcome<R: Threads + Wait + Sync, F: Folder + Send, S: Source,
 {
     let lanes = match script_from(alloc, script) {
         Ok(lanes) => lanes,
-        Err(status) => return status,
+        Err(status) => {
+            drop(request);
+            return status;
+        }
     };
-    match run_text(rt, alloc, request, &lanes, folder, gate) {
+    let text = run_text(rt, alloc, request, &lanes, folder, gate);
+    drop(lanes);
+    match text {
         Ok(text) => match put_all(out, text.as_slice()) {
             Ok(()) => Status::Done,
             Err(_) => Status::WriteFault,

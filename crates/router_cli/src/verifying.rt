@@ -1,6 +1,7 @@
 //! What the program does about a claimed journey.
 ghost use Rattle.std.specs.Prelude.{◌≡◌, ◌⊎◌, ◌<◌, ◌-◌, ◌^◌, Err, IfErr, IfOk, List, Ok, length, ℕ};
 ghost use Rattle.std.specs.Io.KnownBytes.{Consumes};
+ghost use Rattle.tb_base.specs.BestValues.{ChoiceData};
 ghost use Rattle.tb_base.specs.TimetableData.{TimetableData};
 ghost use Rattle.router_cli.specs.Verifying.{ClaimGives, DayGives, IsNoClaim, IsUnverified, IsVerified, IsVerifiedText, IsVerifyOutcome};
 
@@ -61,6 +62,34 @@ fn verified_text(
     }
 }
 
+// What is written of the claim that a source makes over a timetable.
+fn claimed_text<S: Source>(
+    alloc: Global,
+    table: &Timetable,
+    source: &mut S,
+    inquiry: &Inquiry,
+) -> Result<Vec<u8>, Status>
+    requires { S.faults source.old < 2 ^ 64 - 1 }
+    ensures text { IfOk result (λ text. (claimed : ChoiceData)
+        × ClaimGives table.now (S.left source.old) (Ok claimed)
+        × IsVerifiedText table.now inquiry.now claimed text.items) }
+    ensures kept { IfOk result (λ _. S.faults source.new ≡ S.faults source.old) }
+    ensures refused { IfErr result (IsNoClaim table.now (S.left source.old)
+        (S.faults source.old) (S.faults source.new)) }
+    ensures read { (bs : List ℕ) × Consumes (S.left source.old) (S.left source.new) bs }
+{
+    let claimed = match claim_from(alloc, table, source) {
+        Ok(claimed) => claimed,
+        Err(status) => return Err(status),
+    };
+    let text = verified_text(alloc, table, inquiry, &claimed);
+    drop(claimed);
+    match text {
+        Ok(text) => Ok(text),
+        Err(Memory) => Err(Status::Memory),
+    }
+}
+
 // What is written for a request. The source is read once the timetable of the day is there.
 fn text_of<F: Folder, S: Source>(
     alloc: Global,
@@ -89,14 +118,9 @@ fn text_of<F: Folder, S: Source>(
         Ok(table) => table,
         Err(status) => return Err(status),
     };
-    let claimed = match claim_from(alloc, &table, source) {
-        Ok(claimed) => claimed,
-        Err(status) => return Err(status),
-    };
-    match verified_text(alloc, &table, &request.inquiry, &claimed) {
-        Ok(text) => Ok(text),
-        Err(_) => Err(Status::Memory),
-    }
+    let text = claimed_text(alloc, &table, source, &request.inquiry);
+    drop(table);
+    text
 }
 
 /// Judges the journey that a source claims over one day of a feed. It has no handle that waits, so

@@ -4,13 +4,13 @@ use Rattle.router_cli.proofs.answers.answer.Goals as goal
 
 pub returns-in-Build : goal.returns-in-Build
 returns-in-Build g c =
-    subst (λ r. IfOk c.report.result (λ text. IsAnswer c.args.table r text.items)) c.request.view_is
-    (subst (λ command. IfOk c.report.result (λ text. IsCommandText c.args.table c.request.inside.plain command text.items)) (sym c.in-Build.is) c.report.ensures)
+    subst (λ r. IfOk c.report-text.result (λ text. IsAnswer c.args.table r text.items)) c.request.view_is
+    (subst (λ command. IfOk c.report-text.result (λ text. IsCommandText c.args.table c.request.inside.plain command text.items)) (sym c.in-Build.is) c.report-text.ensures)
 
 pub returns-in-Direct : goal.returns-in-Direct
 returns-in-Direct g c =
-    subst (λ r. IfOk c.direct_text.result (λ text. IsAnswer c.args.table r text.items)) c.request.view_is
-    (subst (λ command. IfOk c.direct_text.result (λ text. IsCommandText c.args.table c.request.inside.plain command text.items)) (sym c.in-Direct.is) c.direct_text.ensures)
+    subst (λ r. IfOk c.direct_text-text.result (λ text. IsAnswer c.args.table r text.items)) c.request.view_is
+    (subst (λ command. IfOk c.direct_text-text.result (λ text. IsCommandText c.args.table c.request.inside.plain command text.items)) (sym c.in-Direct.is) c.direct_text-text.ensures)
 
 pub returns-in-Profile : goal.returns-in-Profile
 returns-in-Profile g c =
@@ -24,5 +24,5 @@ returns-in-Reach g c =
 
 pub returns-in-Latest : goal.returns-in-Latest
 returns-in-Latest g c =
-    subst (λ r. IfOk c.latest_answer.result (λ text. IsAnswer c.args.table r text.items)) c.request.view_is
-    (subst (λ command. IfOk c.latest_answer.result (λ text. IsCommandText c.args.table c.request.inside.plain command text.items)) (sym c.in-Latest.is) c.latest_answer.ensures)
+    subst (λ r. IfOk c.latest_answer-text.result (λ text. IsAnswer c.args.table r text.items)) c.request.view_is
+    (subst (λ command. IfOk c.latest_answer-text.result (λ text. IsCommandText c.args.table c.request.inside.plain command text.items)) (sym c.in-Latest.is) c.latest_answer-text.ensures)

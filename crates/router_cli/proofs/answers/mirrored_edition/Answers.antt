@@ -5,4 +5,4 @@ use Rattle.router_cli.proofs.answers.mirrored_edition.Goals as goal
 
 pub returns : goal.returns
 returns g c =
-    IfOk-weaker c.edition_of.result _ _ (λ e same. subst (IsMirror c.args.table.now) (sym same) c.in_ok-mirrored.ensures) c.edition_of.ensures
+    IfOk-weaker c.build.result _ _ (λ e same. subst (IsMirror c.args.table.now) (sym same) c.in_ok-mirrored.ensures) c.build.ensures

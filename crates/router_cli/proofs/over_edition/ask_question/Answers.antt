@@ -1,7 +1,8 @@
 use Rattle.std.proofs.Common.{◌∙◌, ap, w32}
 use Rattle.std.proofs.lemmas.Int.{to_z-of_z}
 use Rattle.command_line.specs.Inquiries.{InquiryData}
-use Rattle.router_cli.proofs.AnswerLemmas.{file_time-fits, same_ask}
+use Rattle.lane_serve.proofs.Times.{file_time-fits}
+use Rattle.router_cli.proofs.AnswerLemmas.{same_ask}
 use Rattle.router_cli.proofs.over_edition.ask_question.Goals as goal
 
 pub returns-clause-question : goal.returns-clause-question

@@ -1,0 +1,31 @@
+use Rattle.std.proofs.Common.{ap, subst}
+use Rattle.std.specs.Prelude.{IfOk}
+use Rattle.std.proofs.lemmas.Result.{IfOk-weaker}
+use Rattle.edition_store.specs.Editions.{EditionData, net_of}
+use Rattle.query_gate.specs.Questions.{ProfileData}
+use Rattle.query_gate.specs.Replies.{IsProfileReply}
+use Rattle.router_cli.specs.Answers.{IsProfileText, profile_data}
+use Rattle.router_cli.proofs.AnswerLemmas.{profile_shown}
+use Rattle.router_cli.proofs.LastEdition.{last_looked_at, pinned_whole, profiled_last}
+use Rattle.router_cli.proofs.over_edition.profile_by.Goals as goal
+
+pub reply_text-text-requires : goal.reply_text-text-requires
+reply_text-text-requires g c =
+    let answer = c.in_ok-answer.ensures in
+    answer.numbers c.edition-edition.result.now (answer.reply.1.0, c.edition-edition.ensures)
+
+pub returns : goal.returns
+returns g c e is =
+    let i = c.args.inquiry.now in
+    let x = c.edition-edition.result.now in
+    let p = c.in_ok-answer.answer.pinned in
+    let reply = c.in_ok-answer.answer.reply in
+    let question = c.in_ok-question.question in
+    let answer = c.in_ok-answer.ensures in
+    let same = pinned_whole c.args.caller.now.kept _ p c.requires answer.last answer.kept in
+    let right = profiled_last p.list x question reply c.edition-edition.ensures (ap ProfileData.since c.in_ok-question.ensures.question) answer.reply in
+    subst (λ (y : EditionData). IfOk c.reply_text-text.result (λ text. IsProfileText y.table i text.items))
+    (last_looked_at c.args.caller.now.kept p e x same is c.edition-edition.ensures)
+    (IfOk-weaker c.reply_text-text.result _ _
+    (λ text shown. profile_shown x c.soundness.ensures (profile_data i) reply (subst (λ q. IsProfileReply (net_of x) q reply) c.in_ok-question.ensures.question right) text.items shown)
+    c.reply_text-text.ensures)
