@@ -1,25 +1,34 @@
 //! Files of the machine.
 ghost use Rattle.std.specs.Prelude.{◌≤◌};
 
-use crate::{HostFolder, InSource, Taken, take_file, take_source};
 use std::alloc::{AllocError, Global};
 use std::fs::{File, Permissions};
 use std::os::unix::fs::{MetadataExt, PermissionsExt, symlink};
+use std::path::Path;
 use std::test::Fail;
 use std::{env, fs, process};
+use tb_io::{HostFolder, InSource, Taken, take_file, take_source};
 
-// A path in the machine's folder for files that don't stay, which no other test has.
-fn own_path(rt: &HostRuntime, name: &str) -> Result<String, Fail> {
-    let folder = env::temp_dir(rt)?;
-    let folder_path = folder.as_path().to_str().ok_or("no text")?;
-    Ok(format!(in rt.alloc(); "{folder_path}/router_{name}_{}", process::id(rt.process()))?)
+// A path in a folder, which no other test has.
+fn path_in(rt: &HostRuntime, folder: Path<'_>, name: &str) -> Result<String, Fail> {
+    let folder = folder.to_str().ok_or("no text")?;
+    Ok(format!(in rt.alloc(); "{folder}/router_{name}_{}", process::id(rt.process()))?)
 }
 
-// Bytes of which no piece of 64 KiB is like the next.
+// The same in the machine's folder for files that don't stay.
+fn own_path(rt: &HostRuntime, name: &str) -> Result<String, Fail> {
+    let folder = env::temp_dir(rt)?;
+    let path = path_in(rt, folder.as_path(), name);
+    drop(folder);
+    path
+}
+
+// So many bytes, of which no piece of 64 KiB is like the next.
 fn varied(alloc: Global, count: u32) -> Result<Vec<u8>, AllocError> {
     let mut bytes = Vec::new(alloc);
     for i in 0..count {
-        bytes.push((i % 251) as u8)?;
+        let byte = i % 251;
+        bytes.push(byte as u8)?;
     }
     Ok(bytes)
 }

@@ -2,7 +2,7 @@
 ghost use Rattle.std.specs.Prelude.{◌≡◌, None};
 ghost use Rattle.tb_io.specs.Causes.{HasCause};
 
-use crate::{Failed, Folder, Sink, Source, put_all, take_file, take_source};
+use tb_io::{Failed, Folder, Sink, Source, put_all, take_file, take_source};
 
 // An object without an end, one of whose calls fails, and which counts the calls that come after
 // that.

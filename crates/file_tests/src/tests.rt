@@ -1,0 +1,4 @@
+mod breaking;
+mod files;
+mod pieces;
+mod streams;
