@@ -16,7 +16,7 @@ use plain_rounds::plain_ask;
 use segment_queue::Desk;
 use std::alloc::Global;
 use std::thread::Threads;
-use tb_base::{IdleGate, Memory, Offer, Query, Rule, Sec, Timetable, Value, Window};
+use tb_base::{Choice, IdleGate, Memory, Offer, Query, Rule, Sec, Timetable, Value, Window};
 
 // Nothing leaves so early.
 const FIRST: Sec = -200_000;
@@ -29,12 +29,14 @@ pub fn mirrored<R: Threads + Sync>(
 ) -> Result<Edition, Memory>
     ensures { IfOk result (λ e. IsMirror table.now (EditionData.table e)) }
 {
-    let mirrored = mirror(alloc, table)?;
-    build(rt, alloc, mirrored, 1, &IdleGate)
+    match mirror(alloc, table) {
+        Ok(mirrored) => build(rt, alloc, mirrored, 1, &IdleGate),
+        Err(Memory) => Err(Memory),
+    }
 }
 
 // A departure without its legs.
-#[derive(Clone, Copy, PartialEq, Eq, Debug)]
+#[derive(Clone, Copy, PartialEq, Eq)]
 struct Leaving {
     leave: Sec,
     rides: u32,
@@ -53,25 +55,37 @@ fn query_at(alloc: Global, by: &Arrival, leave: Sec) -> Result<Query, Memory>
     })
 }
 
+// The choices that leave at the time, by plain rounds.
+fn choices_at(alloc: Global, table: &Timetable, by: &Arrival) -> Result<Vec<Choice>, Memory>
+    requires origins { All (λ p. p < length table.now.stops) by.now.from }
+    requires targets { All (λ p. p < length table.now.stops) by.now.to }
+    requires latest { by.now.by ≤ℤ pos 273599 }
+{
+    let query = query_at(alloc, by, by.by)?;
+    plain_ask(alloc, table, &query)
+}
+
+// The departure of the walk among choices that leave at a time, so that it arrives at that time.
+fn walk_among(choices: &[Choice], by: Sec) -> Option<Leaving> {
+    let first = choices.first()?;
+    if first.value.rides > 0 {
+        return None;
+    }
+    let secs = first.value.arrive.saturating_sub(by);
+    Some(Leaving {
+        leave: by.saturating_sub(secs),
+        rides: 0,
+    })
+}
+
 // The departure of the shortest walk that arrives at the time, where there is a walk.
 fn walk_by(alloc: Global, table: &Timetable, by: &Arrival) -> Result<Option<Leaving>, Memory>
     requires origins { All (λ p. p < length table.now.stops) by.now.from }
     requires targets { All (λ p. p < length table.now.stops) by.now.to }
     requires latest { by.now.by ≤ℤ pos 273599 }
 {
-    let query = query_at(alloc, by, by.by)?;
-    let choices = plain_ask(alloc, table, &query)?;
-    let Some(first) = choices.first() else {
-        return Ok(None);
-    };
-    if first.value.rides > 0 {
-        return Ok(None);
-    }
-    let secs = first.value.arrive.saturating_sub(by.by);
-    Ok(Some(Leaving {
-        leave: by.by.saturating_sub(secs),
-        rides: 0,
-    }))
+    let choices = choices_at(alloc, table, by)?;
+    Ok(walk_among(choices.as_slice(), by.by))
 }
 
 // The latest time at which a slot with so many rides leaves that arrives by a time.
@@ -134,47 +148,80 @@ fn window_by(alloc: Global, by: &Arrival) -> Result<Window, Memory>
     })
 }
 
-// Whether the legs of a departure are a journey that leaves then and arrives by the time.
-fn arrives(
+// What is said of a claim that leaves no earlier than a time.
+fn verdict_at(
     alloc: Global,
     table: &Timetable,
     by: &Arrival,
     claimed: &Claimed,
     leave: Sec,
-) -> Result<bool, Memory>
+) -> Result<Option<Verdict>, Memory>
     requires origins { All (λ p. p < length table.now.stops) by.now.from }
     requires time { leave ≤ℤ pos 359999 }
 {
     let query = query_at(alloc, by, leave)?;
-    Ok(match verdict_on(table, &query, claimed) {
-        Some(Verdict::Yes) => true,
-        Some(Verdict::OtherValue(Value { arrive, rides })) => {
-            arrive <= by.by && rides == claimed.value.rides
-        }
-        _ => false,
-    })
+    Ok(verdict_on(table, &query, claimed))
 }
 
-// Whether the legs of a departure leave too early for a time.
-fn is_too_early(
-    alloc: Global,
-    table: &Timetable,
-    by: &Arrival,
-    claimed: &Claimed,
-    leave: Sec,
-) -> Result<bool, Memory>
-    requires origins { All (λ p. p < length table.now.stops) by.now.from }
-    requires time { leave ≤ℤ pos 359999 }
-{
-    let query = query_at(alloc, by, leave)?;
-    Ok(match verdict_on(table, &query, claimed) {
+// Whether a verdict says that legs are a journey with so many rides that arrives by the time.
+fn arrives(verdict: Option<Verdict>, by: Sec, rides: u32) -> bool {
+    match verdict {
+        Some(Verdict::Yes) => true,
+        Some(Verdict::OtherValue(value)) => value.arrive <= by && value.rides == rides,
+        _ => false,
+    }
+}
+
+// Whether a verdict says that legs leave too early.
+fn is_too_early(verdict: Option<Verdict>) -> bool {
+    match verdict {
         Some(Verdict::Broken(broken)) => broken.rule == Rule::TooEarly,
         _ => false,
-    })
+    }
 }
 
-// Whether each departure has a journey that leaves just then and arrives by the time. A walk may
-// leave at any time.
+// Whether a claim is a journey that leaves just then and arrives by the time. A walk may leave at any
+// time.
+fn is_claim_right(
+    alloc: Global,
+    table: &Timetable,
+    by: &Arrival,
+    claimed: &Claimed,
+    leave: Sec,
+) -> Result<bool, Memory>
+    requires origins { All (λ p. p < length table.now.stops) by.now.from }
+    requires time { leave ≤ℤ pos 359998 }
+{
+    let rides = claimed.value.rides;
+    let then = verdict_at(alloc, table, by, claimed, leave)?;
+    if !arrives(then, by.by, rides) {
+        return Ok(false);
+    }
+    if rides == 0 {
+        return Ok(true);
+    }
+    let later = verdict_at(alloc, table, by, claimed, leave + 1)?;
+    Ok(is_too_early(later))
+}
+
+// Whether the legs of a departure are such a journey.
+fn is_right(
+    alloc: Global,
+    table: &Timetable,
+    by: &Arrival,
+    departure: &Departure,
+) -> Result<bool, Memory>
+    requires origins { All (λ p. p < length table.now.stops) by.now.from }
+{
+    let value = Value {
+        arrive: by.by,
+        rides: departure.rides,
+    };
+    let claimed = claim(alloc, value, departure.legs.as_slice())?;
+    is_claim_right(alloc, table, by, &claimed, departure.leave.min(359_998))
+}
+
+// Whether the legs of each departure are such a journey.
 fn are_right(
     alloc: Global,
     table: &Timetable,
@@ -184,17 +231,7 @@ fn are_right(
     requires origins { All (λ p. p < length table.now.stops) by.now.from }
 {
     for departure in departures {
-        let rides = departure.rides;
-        let leave = departure.leave.min(359_998);
-        let value = Value {
-            arrive: by.by,
-            rides,
-        };
-        let claimed = claim(alloc, value, departure.legs.as_slice())?;
-        if !arrives(alloc, table, by, &claimed, leave)? {
-            return Ok(false);
-        }
-        if rides > 0 && !is_too_early(alloc, table, by, &claimed, leave + 1)? {
+        if !is_right(alloc, table, by, departure)? {
             return Ok(false);
         }
     }
@@ -210,6 +247,21 @@ fn are_same(departures: &[Departure], due: &[Leaving]) -> bool {
     found.eq(due.iter().copied())
 }
 
+// The offers of all times at which one can leave and arrive by a time.
+fn offers_by(
+    alloc: Global,
+    edition: &Edition,
+    desk: &mut Desk,
+    by: &Arrival,
+) -> Result<Vec<Offer>, Memory>
+    requires origins { All (λ p. p < length edition.now.table.stops) by.now.from }
+    requires targets { All (λ p. p < length edition.now.table.stops) by.now.to }
+    requires latest { by.now.by ≤ℤ pos 273599 }
+{
+    let window = window_by(alloc, by)?;
+    offers_of(alloc, edition, desk, &window)
+}
+
 // The latest departures by a time, as the profile says.
 fn asked_departures(
     alloc: Global,
@@ -221,10 +273,29 @@ fn asked_departures(
     requires targets { All (λ p. p < length edition.now.table.stops) by.now.to }
     requires latest { by.now.by ≤ℤ pos 273599 }
 {
-    let window = window_by(alloc, by)?;
-    let offers = offers_of(alloc, edition, desk, &window)?;
     let walk = walk_by(alloc, edition.table(), by)?;
+    let offers = offers_by(alloc, edition, desk, by)?;
     due_departures(alloc, walk, offers.as_slice(), by.by)
+}
+
+// Holds departures by a time against those that are due.
+fn compare_found(
+    alloc: Global,
+    table: &Timetable,
+    by: &Arrival,
+    departures: &[Departure],
+    due: &[Leaving],
+) -> Result<Tally, Refused>
+    requires origins { All (λ p. p < length table.now.stops) by.now.from }
+{
+    held(are_same(departures, due), Difference::Departures)?;
+    let right = are_right(alloc, table, by, departures)?;
+    held(right, Difference::Departures)?;
+    Ok(Tally {
+        arrivals: 1,
+        departures: departures.len() as u64,
+        ..Tally::NOTHING
+    })
 }
 
 /// Holds the latest departures by a time against the profile of all times before.
@@ -244,13 +315,5 @@ pub fn compare_departures(
     let table = edition.table();
     let due = asked_departures(alloc, edition, desk, by)?;
     let found = latest(alloc, mirrored, table, by, desk)?;
-    let departures = found.as_slice();
-    held(are_same(departures, due.as_slice()), Difference::Departures)?;
-    let right = are_right(alloc, table, by, departures)?;
-    held(right, Difference::Departures)?;
-    Ok(Tally {
-        arrivals: 1,
-        departures: departures.len() as u64,
-        ..Tally::NOTHING
-    })
+    compare_found(alloc, table, by, found.as_slice(), due.as_slice())
 }

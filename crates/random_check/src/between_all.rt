@@ -14,13 +14,29 @@ use edition_store::Edition;
 use segment_queue::Desk;
 use std::alloc::Global;
 use std::thread::Threads;
-use tb_base::{IdleGate, Sec, Timetable};
+use tb_base::{IdleGate, Memory, Sec, Timetable};
 
 // Times at which one leaves.
 const LEAVING: [Sec; 5] = [28_800, 28_801, 29_400, 30_060, 31_200];
 
 // Times by which one arrives.
 const ARRIVING: [Sec; 5] = [29_399, 30_599, 30_600, 31_500, 33_300];
+
+// Compares for a query between two stops.
+fn try_query(
+    alloc: Global,
+    edition: &Edition,
+    desk: &mut Desk,
+    from: u32,
+    to: u32,
+    leave: Sec,
+) -> Result<Tally, Refused>
+    requires from { from < length edition.now.table.stops }
+    requires to { to < length edition.now.table.stops }
+{
+    let query = query(alloc, edition.table(), from, to, leave)?;
+    compare_values(alloc, edition, desk, &query)
+}
 
 // Compares for queries between two stops.
 fn try_queries(
@@ -35,10 +51,27 @@ fn try_queries(
 {
     let mut tally = Tally::NOTHING;
     for leave in LEAVING {
-        let query = query(alloc, edition.table(), from, to, leave)?;
-        tally.add(compare_values(alloc, edition, desk, &query)?);
+        tally.add(try_query(alloc, edition, desk, from, to, leave)?);
     }
     Ok(tally)
+}
+
+// Compares for a time to arrive by between two stops.
+fn try_arrival(
+    alloc: Global,
+    edition: &Edition,
+    mirrored: &Edition,
+    desk: &mut Desk,
+    from: u32,
+    to: u32,
+    by: Sec,
+) -> Result<Tally, Refused>
+    requires mirror { IsMirror edition.now.table mirrored.now.table }
+    requires from { from < length edition.now.table.stops }
+    requires to { to < length edition.now.table.stops }
+{
+    let by = arrival(alloc, edition.table(), from, to, by)?;
+    compare_departures(alloc, edition, mirrored, desk, &by)
 }
 
 // Compares for times to arrive by between two stops.
@@ -56,8 +89,7 @@ fn try_arrivals(
 {
     let mut tally = Tally::NOTHING;
     for by in ARRIVING {
-        let by = arrival(alloc, edition.table(), from, to, by)?;
-        tally.add(compare_departures(alloc, edition, mirrored, desk, &by)?);
+        tally.add(try_arrival(alloc, edition, mirrored, desk, from, to, by)?);
     }
     Ok(tally)
 }
@@ -136,6 +168,26 @@ fn try_editions(
     Ok(tally)
 }
 
+// Compares all over an edition. An edition that isn't handed on is dropped by a call: at the end of
+// a scope each part of it would be dropped by itself, and the proof would go through all of them.
+fn try_edition<R: Threads + Sync>(
+    rt: &R,
+    alloc: Global,
+    edition: &Edition,
+    first: Sec,
+    desk: &mut Desk,
+) -> Result<Tally, Refused> {
+    compare_hops(rt, alloc, edition)?;
+    match mirrored(rt, alloc, edition.table()) {
+        Ok(mirrored) => {
+            let compared = try_editions(alloc, edition, &mirrored, desk, first);
+            drop(mirrored);
+            compared
+        }
+        Err(Memory) => Err(Refused::Memory),
+    }
+}
+
 /// Compares all over a timetable, between all of its stops, in windows that begin at a time.
 pub fn try_between_all<R: Threads + Sync>(
     rt: &R,
@@ -144,8 +196,12 @@ pub fn try_between_all<R: Threads + Sync>(
     first: Sec,
     desk: &mut Desk,
 ) -> Result<Tally, Refused> {
-    let edition = build(rt, alloc, table, 1, &IdleGate)?;
-    compare_hops(rt, alloc, &edition)?;
-    let mirrored = mirrored(rt, alloc, edition.table())?;
-    try_editions(alloc, &edition, &mirrored, desk, first)
+    match build(rt, alloc, table, 1, &IdleGate) {
+        Ok(edition) => {
+            let compared = try_edition(rt, alloc, &edition, first, desk);
+            drop(edition);
+            compared
+        }
+        Err(Memory) => Err(Refused::Memory),
+    }
 }

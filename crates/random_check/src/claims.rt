@@ -199,6 +199,28 @@ fn add_claims(alloc: Global, choice: &Choice, claims: &mut Vec<Claimed>) -> Resu
     Ok(())
 }
 
+// The claims that differ from one of these choices in one field.
+fn claims_beside(alloc: Global, choices: &[Choice]) -> Result<Vec<Claimed>, Memory> {
+    let mut claims = Vec::new(alloc);
+    for choice in choices {
+        add_claims(alloc, choice, &mut claims)?;
+    }
+    Ok(claims)
+}
+
+// Whether each claim is judged as it has to be.
+fn are_judged(table: &Timetable, query: &Query, claims: &[Claimed], best: &[Choice]) -> bool
+    requires origins { All (λ p. p < length table.now.stops) query.now.from }
+    requires time { query.now.leave ≤ℤ pos 359999 }
+{
+    for claimed in claims {
+        if !is_judged(table, query, claimed, best) {
+            return false;
+        }
+    }
+    true
+}
+
 /// How many claims differ from one of these choices, the best, in one field, and none where one of
 /// them isn't judged as rules and values say, or is better.
 pub fn judged_claims(
@@ -210,14 +232,7 @@ pub fn judged_claims(
     requires origins { All (λ p. p < length table.now.stops) query.now.from }
     requires time { query.now.leave ≤ℤ pos 359999 }
 {
-    let mut claims = Vec::new(alloc);
-    for choice in best {
-        add_claims(alloc, choice, &mut claims)?;
-    }
-    for claimed in &claims {
-        if !is_judged(table, query, claimed, best) {
-            return Ok(None);
-        }
-    }
-    Ok(Some(claims.len()))
+    let claims = claims_beside(alloc, best)?;
+    let judged = are_judged(table, query, claims.as_slice(), best);
+    Ok(if judged { Some(claims.len()) } else { None })
 }

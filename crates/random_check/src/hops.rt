@@ -24,6 +24,19 @@ fn same_from(plain: &Rows, packed: &Set, table: &Timetable, trip: TripNo) -> boo
     true
 }
 
+// Whether a plain set has the same hops as the packed set of an edition.
+fn same_hops(plain: &Rows, edition: &Edition) -> bool
+    requires { plain.now.table ≡ edition.now.table }
+{
+    let table = edition.table();
+    for t in 0..table.trip_count() {
+        if !same_from(plain, edition.set(), table, TripNo(t)) {
+            return false;
+        }
+    }
+    true
+}
+
 // The plain set of an edition's kept transfers.
 fn plain_set<R: Threads + Sync>(rt: &R, alloc: Global, edition: &Edition) -> Result<Rows, Memory>
     ensures { IfOk result (λ rows. rows.table ≡ edition.now.table) }
@@ -40,10 +53,7 @@ pub fn compare_hops<R: Threads + Sync>(
     edition: &Edition,
 ) -> Result<(), Refused> {
     let plain = plain_set(rt, alloc, edition)?;
-    let table = edition.table();
-    for t in 0..table.trip_count() {
-        let same = same_from(&plain, edition.set(), table, TripNo(t));
-        held(same, Difference::Hops)?;
-    }
-    Ok(())
+    let same = same_hops(&plain, edition);
+    drop(plain);
+    held(same, Difference::Hops)
 }

@@ -35,8 +35,10 @@ use std::env;
 use std::process::ExitCode;
 use std::rt::Env;
 use std::thread::Threads;
-use tally::{Refused, Tally, TwinTally, read};
+use tally::{Refused, Tally, TwinTally, refusal};
+use tb_base::{Sec, Timetable};
 use trial::try_seed;
+use trip_table::DayFault;
 use twins::try_twins;
 
 /// How many feeds, and which.
@@ -67,6 +69,23 @@ fn words_of(rt: &(impl Env + AllocGlobal)) -> Option<Words> {
 enum MadeFeed {
     Town,
     Ring,
+}
+
+impl MadeFeed {
+    fn timetable(self, alloc: Global) -> Result<Timetable, DayFault> {
+        match self {
+            MadeFeed::Town => town(alloc),
+            MadeFeed::Ring => ring(alloc),
+        }
+    }
+
+    // When the windows begin that are asked for.
+    fn first_time(self) -> Sec {
+        match self {
+            MadeFeed::Town => 28_700,
+            MadeFeed::Ring => 30_000,
+        }
+    }
 }
 
 /// A feed: one that is made by hand, the one of a seed, or the twins of a seed.
@@ -102,28 +121,39 @@ fn try_made<R: Threads + Sync>(
     feed: MadeFeed,
     desk: &mut Desk,
 ) -> Result<Tally, Refused> {
-    let (table, first) = match feed {
-        MadeFeed::Town => (town(alloc), 28_700),
-        MadeFeed::Ring => (ring(alloc), 30_000),
-    };
-    try_between_all(rt, alloc, read(table)?, first, desk)
+    match feed.timetable(alloc) {
+        Ok(table) => try_between_all(rt, alloc, table, feed.first_time(), desk),
+        Err(fault) => Err(refusal(fault)),
+    }
 }
 
-fn compared<R: Threads + Sync>(rt: &R, alloc: Global, words: Words) -> Result<Tally, Ended> {
-    let mut desk = Desk::new(alloc);
+// Compares over all feeds with one desk.
+fn compared_with<R: Threads + Sync>(
+    rt: &R,
+    alloc: Global,
+    words: Words,
+    desk: &mut Desk,
+) -> Result<Tally, Ended> {
     let mut tally = Tally::NOTHING;
     for feed in [MadeFeed::Town, MadeFeed::Ring] {
-        let compared = try_made(rt, alloc, feed, &mut desk);
+        let compared = try_made(rt, alloc, feed, desk);
         add(&mut tally, FeedName::Made(feed), compared)?;
     }
     for turn in 0..words.count {
         let seed = words.seed.wrapping_add(turn);
-        let compared = try_seed(rt, alloc, &mut desk, seed);
+        let compared = try_seed(rt, alloc, desk, seed);
         add(&mut tally, FeedName::Seed(seed), compared)?;
-        let compared = try_twins(rt, alloc, &mut desk, seed);
+        let compared = try_twins(rt, alloc, desk, seed);
         add(&mut tally, FeedName::Twins(seed), compared)?;
     }
     Ok(tally)
+}
+
+fn compared<R: Threads + Sync>(rt: &R, alloc: Global, words: Words) -> Result<Tally, Ended> {
+    let mut desk = Desk::new(alloc);
+    let compared = compared_with(rt, alloc, words, &mut desk);
+    drop(desk);
+    compared
 }
 
 fn write_twins(rt: &impl Print, tally: TwinTally) {

@@ -7,7 +7,13 @@ use plain_rounds::plain_ask;
 use query_gate::uncounted::best_offers;
 use segment_queue::Desk;
 use std::alloc::Global;
-use tb_base::{Memory, Offer, Query, Sec, Slot, Timetable, Value, Window};
+use tb_base::{Choice, Memory, Offer, Query, Sec, Slot, Timetable, Value, Window};
+
+// The values with rides among those of choices.
+fn ridden_among(alloc: Global, choices: &[Choice]) -> Result<Vec<Value>, Memory> {
+    let values = choices.iter().map(|choice| choice.value);
+    Ok(values.filter(|value| value.rides > 0).collect(alloc)?)
+}
 
 // The best values with rides of a query, by plain rounds.
 fn ridden_values(alloc: Global, table: &Timetable, query: &Query) -> Result<Vec<Value>, Memory>
@@ -16,8 +22,7 @@ fn ridden_values(alloc: Global, table: &Timetable, query: &Query) -> Result<Vec<
     requires time { query.now.leave ≤ℤ pos 359999 }
 {
     let choices = plain_ask(alloc, table, query)?;
-    let values = choices.iter().map(|choice| choice.value);
-    Ok(values.filter(|value| value.rides > 0).collect(alloc)?)
+    ridden_among(alloc, choices.as_slice())
 }
 
 // Whether no later value arrives no later with no more rides.
@@ -102,6 +107,14 @@ pub fn offers_of(
     best_offers(alloc, edition, window, desk)
 }
 
+// Whether offers have these slots, in the same order.
+fn have_slots(offers: &[Offer], slots: &[Slot]) -> bool {
+    offers
+        .iter()
+        .map(|offer| offer.slot)
+        .eq(slots.iter().copied())
+}
+
 /// Holds the profile of a window of so many seconds against asking at each of them.
 pub fn compare_slots(
     alloc: Global,
@@ -117,10 +130,8 @@ pub fn compare_slots(
 {
     let asked = slots_by_seconds(alloc, edition.table(), window, seconds)?;
     let offers = offers_of(alloc, edition, desk, window)?;
-    let same = offers
-        .iter()
-        .map(|offer| offer.slot)
-        .eq(asked.iter().copied());
+    let same = have_slots(offers.as_slice(), asked.as_slice());
+    drop(offers);
     held(same, Difference::Slots)?;
     Ok(Tally {
         windows: 1,

@@ -20,6 +20,20 @@ fn have_same_values(one: &[Choice], other: &[Choice]) -> bool {
             .all(|(c, d)| c.value == d.value)
 }
 
+// Whether a choice is a journey with its value.
+fn is_right(
+    alloc: Global,
+    table: &Timetable,
+    query: &Query,
+    choice: &Choice,
+) -> Result<bool, Memory>
+    requires origins { All (λ p. p < length table.now.stops) query.now.from }
+    requires time { query.now.leave ≤ℤ pos 359999 }
+{
+    let claimed = claim(alloc, choice.value, choice.legs.as_slice())?;
+    Ok(verdict_on(table, query, &claimed) == Some(Verdict::Yes))
+}
+
 // Whether each choice is a journey with its value.
 fn are_right(
     alloc: Global,
@@ -31,8 +45,7 @@ fn are_right(
     requires time { query.now.leave ≤ℤ pos 359999 }
 {
     for choice in choices {
-        let claimed = claim(alloc, choice.value, choice.legs.as_slice())?;
-        if verdict_on(table, query, &claimed) != Some(Verdict::Yes) {
+        if !is_right(alloc, table, query, choice)? {
             return Ok(false);
         }
     }
@@ -54,26 +67,61 @@ pub fn searched(
     best_choices(alloc, edition, query, desk)
 }
 
-// The choices of a query by plain rounds, where the search has the same values and both have
-// journeys with them.
-fn same_choices(
+// Holds choices of a query against one another: they have the same values, each a journey.
+fn compare_choices(
+    alloc: Global,
+    table: &Timetable,
+    query: &Query,
+    one: &[Choice],
+    other: &[Choice],
+) -> Result<(), Refused>
+    requires origins { All (λ p. p < length table.now.stops) query.now.from }
+    requires time { query.now.leave ≤ℤ pos 359999 }
+{
+    held(have_same_values(one, other), Difference::Values)?;
+    held(are_right(alloc, table, query, one)?, Difference::Values)?;
+    held(are_right(alloc, table, query, other)?, Difference::Values)
+}
+
+// Holds the choices of the search against those of plain rounds.
+fn compare_search(
     alloc: Global,
     edition: &Edition,
     desk: &mut Desk,
     query: &Query,
-) -> Result<Vec<Choice>, Refused>
+    plain: &[Choice],
+) -> Result<(), Refused>
     requires origins { All (λ p. p < length edition.now.table.stops) query.now.from }
     requires targets { All (λ p. p < length edition.now.table.stops) query.now.to }
     requires time { query.now.leave ≤ℤ pos 359999 }
 {
-    let table = edition.table();
     let searched = searched(alloc, edition, desk, query)?;
-    let plain = plain_ask(alloc, table, query)?;
-    let (one, other) = (searched.as_slice(), plain.as_slice());
-    held(have_same_values(one, other), Difference::Values)?;
-    held(are_right(alloc, table, query, one)?, Difference::Values)?;
-    held(are_right(alloc, table, query, other)?, Difference::Values)?;
-    Ok(plain)
+    compare_choices(alloc, edition.table(), query, searched.as_slice(), plain)
+}
+
+// Holds the choices of plain rounds, the best, against the search, and claims that differ from one of
+// them in one field against the rules.
+fn compare_plain(
+    alloc: Global,
+    edition: &Edition,
+    desk: &mut Desk,
+    query: &Query,
+    best: &[Choice],
+) -> Result<Tally, Refused>
+    requires origins { All (λ p. p < length edition.now.table.stops) query.now.from }
+    requires targets { All (λ p. p < length edition.now.table.stops) query.now.to }
+    requires time { query.now.leave ≤ℤ pos 359999 }
+{
+    compare_search(alloc, edition, desk, query, best)?;
+    match judged_claims(alloc, edition.table(), query, best)? {
+        None => Err(Refused::Differs(Difference::Claims)),
+        Some(claims) => Ok(Tally {
+            queries: 1,
+            values: best.len() as u64,
+            claims: claims as u64,
+            ..Tally::NOTHING
+        }),
+    }
 }
 
 /// Holds the best values of a query against plain rounds, and claims that differ from a choice in
@@ -88,14 +136,6 @@ pub fn compare_values(
     requires targets { All (λ p. p < length edition.now.table.stops) query.now.to }
     requires time { query.now.leave ≤ℤ pos 359999 }
 {
-    let choices = same_choices(alloc, edition, desk, query)?;
-    match judged_claims(alloc, edition.table(), query, choices.as_slice())? {
-        None => Err(Refused::Differs(Difference::Claims)),
-        Some(claims) => Ok(Tally {
-            queries: 1,
-            values: choices.len() as u64,
-            claims: claims as u64,
-            ..Tally::NOTHING
-        }),
-    }
+    let plain = plain_ask(alloc, edition.table(), query)?;
+    compare_plain(alloc, edition, desk, query, plain.as_slice())
 }

@@ -9,7 +9,7 @@ use segment_queue::{Desk, Steps};
 use std::alloc::Global;
 use std::marker::Brand;
 use std::sync::ledger::{Blank, Ledger};
-use tb_base::{Memory, Query, Sec, StopNo, Timetable, Value};
+use tb_base::{Choice, Memory, Query, Sec, StopNo, Timetable, Value};
 
 // The best values to every stop, on a ledger that nobody else counts in.
 fn reach_on<L: Ledger>(
@@ -46,15 +46,14 @@ fn reach(
     reach_on::<Brand>(alloc, edition, desk, from, leave, Blank::new(1))
 }
 
-// Whether these are the best values to one stop, by plain rounds.
-fn are_best(
+// The best choices to one stop, by plain rounds.
+fn choices_to(
     alloc: Global,
     table: &Timetable,
     from: &[StopNo],
     leave: Sec,
     stop: u32,
-    values: &[Value],
-) -> Result<bool, Memory>
+) -> Result<Vec<Choice>, Memory>
     requires origins { All (λ p. p < length table.now.stops) from.now }
     requires leave { leave ≤ℤ pos 359999 }
     requires stop { stop < length table.now.stops }
@@ -64,9 +63,15 @@ fn are_best(
         to: vec![in alloc; StopNo(stop)]?,
         leave,
     };
-    let choices = plain_ask(alloc, table, &query)?;
-    let asked = choices.iter().map(|choice| choice.value);
-    Ok(asked.eq(values.iter().copied()))
+    plain_ask(alloc, table, &query)
+}
+
+// Whether choices have these values, in the same order.
+fn have_values(choices: &[Choice], values: &[Value]) -> bool {
+    choices
+        .iter()
+        .map(|choice| choice.value)
+        .eq(values.iter().copied())
 }
 
 // The values of a stop, none where there is no such list.
@@ -75,6 +80,26 @@ fn values_of(lists: &[Vec<Value>], stop: u32) -> &[Value] {
         Some(values) => values.as_slice(),
         None => &[],
     }
+}
+
+// Whether each list has the best values to its stop.
+fn are_best(
+    alloc: Global,
+    table: &Timetable,
+    from: &[StopNo],
+    leave: Sec,
+    lists: &[Vec<Value>],
+) -> Result<bool, Memory>
+    requires origins { All (λ p. p < length table.now.stops) from.now }
+    requires leave { leave ≤ℤ pos 359999 }
+{
+    for stop in 0..table.stop_count() {
+        let choices = choices_to(alloc, table, from, leave, stop)?;
+        if !have_values(choices.as_slice(), values_of(lists, stop)) {
+            return Ok(false);
+        }
+    }
+    Ok(true)
 }
 
 /// Holds the best values to every stop against asking for each stop alone.
@@ -88,15 +113,13 @@ pub fn compare_reach(
     requires origins { All (λ p. p < length edition.now.table.stops) from.now }
     requires leave { leave ≤ℤ pos 359999 }
 {
-    let table = edition.table();
     let lists = reach(alloc, edition, desk, from, leave)?;
-    for stop in 0..table.stop_count() {
-        let values = values_of(lists.as_slice(), stop);
-        let same = are_best(alloc, table, from, leave, stop, values)?;
-        held(same, Difference::Reach)?;
-    }
+    let reached = lists.len() as u64;
+    let best = are_best(alloc, edition.table(), from, leave, lists.as_slice());
+    drop(lists);
+    held(best?, Difference::Reach)?;
     Ok(Tally {
-        reached: lists.len() as u64,
+        reached,
         ..Tally::NOTHING
     })
 }

@@ -1,11 +1,11 @@
 //! What was compared, and why a comparison ends early.
 use std::alloc::AllocError;
-use tb_base::{Memory, Timetable};
+use tb_base::Memory;
 use trip_table::DayFault;
 
 /// What was compared of feeds with trips by frequency and trips of the day before, and the same
 /// trips written out, by numbers.
-#[derive(Clone, Copy, Debug)]
+#[derive(Clone, Copy)]
 pub struct TwinTally {
     /// Feeds, and of the trips of all of them those by frequency and those of the day before.
     pub feeds: u64,
@@ -44,7 +44,7 @@ impl TwinTally {
 }
 
 /// What was compared, by numbers.
-#[derive(Clone, Copy, Debug)]
+#[derive(Clone, Copy)]
 pub struct Tally {
     pub feeds: u64,
     /// Queries, and the best values of all of them.
@@ -101,7 +101,7 @@ impl Tally {
 }
 
 /// What differs.
-#[derive(Clone, Copy, Debug, PartialEq, Eq)]
+#[derive(Clone, Copy, Debug)]
 pub enum Difference {
     /// The hops of an event.
     Hops,
@@ -120,7 +120,7 @@ pub enum Difference {
 }
 
 /// Why a comparison ends early: something differs, a feed has no timetable, or memory was wanting.
-#[derive(Clone, Copy, Debug, PartialEq, Eq)]
+#[derive(Clone, Copy, Debug)]
 pub enum Refused {
     Differs(Difference),
     NoTimetable,
@@ -139,19 +139,11 @@ impl From<AllocError> for Refused {
     }
 }
 
-// Why a feed without a timetable ends a comparison.
-fn refusal(fault: DayFault) -> Refused {
+/// Why a feed without a timetable ends a comparison.
+pub fn refusal(fault: DayFault) -> Refused {
     match fault {
         DayFault::Memory => Refused::Memory,
         _ => Refused::NoTimetable,
-    }
-}
-
-/// The timetable of a feed, where it has one.
-pub fn read(table: Result<Timetable, DayFault>) -> Result<Timetable, Refused> {
-    match table {
-        Ok(table) => Ok(table),
-        Err(fault) => Err(refusal(fault)),
     }
 }
 

@@ -8,14 +8,14 @@ use super::hops::compare_hops;
 use super::profiles::compare_slots;
 use super::queries::compare_values;
 use super::reaching::compare_reach;
-use super::tally::{Refused, Tally, read};
+use super::tally::{Refused, Tally, refusal};
 use edition_build::build;
 use edition_store::Edition;
 use made_feeds::{Draw, Files, small_feed, timetable_of};
 use segment_queue::Desk;
 use std::alloc::Global;
 use std::thread::Threads;
-use tb_base::IdleGate;
+use tb_base::{IdleGate, Memory, Timetable};
 use trip_table::Options;
 
 // How many workers reduce the transfers of a feed.
@@ -45,6 +45,14 @@ pub fn some_options(draw: &mut Draw) -> Options
     }
 }
 
+// The edition of a timetable.
+fn built<R: Threads + Sync>(rt: &R, alloc: Global, table: Timetable) -> Result<Edition, Refused> {
+    match build(rt, alloc, table, WORKERS, &IdleGate) {
+        Ok(edition) => Ok(edition),
+        Err(Memory) => Err(Refused::Memory),
+    }
+}
+
 /// The edition of a feed's files.
 pub fn edition_of<R: Threads + Sync>(
     rt: &R,
@@ -55,8 +63,23 @@ pub fn edition_of<R: Threads + Sync>(
     requires change { options.now.change ≤ 86400 }
     requires station { IfSome options.now.station (λ secs. secs ≤ 86400) }
 {
-    let table = read(timetable_of(alloc, files, options))?;
-    Ok(build(rt, alloc, table, WORKERS, &IdleGate)?)
+    match timetable_of(alloc, files, options) {
+        Ok(table) => built(rt, alloc, table),
+        Err(fault) => Err(refusal(fault)),
+    }
+}
+
+// Compares for a query.
+fn try_query(
+    alloc: Global,
+    edition: &Edition,
+    desk: &mut Desk,
+    draw: &mut Draw,
+) -> Result<Tally, Refused>
+    requires { 0 < length edition.now.table.stops }
+{
+    let query = some_query(alloc, draw, edition.table())?;
+    compare_values(alloc, edition, desk, &query)
 }
 
 // Compares for queries.
@@ -70,10 +93,23 @@ fn try_queries(
 {
     let mut tally = Tally::NOTHING;
     for _turn in 0..QUERIES {
-        let query = some_query(alloc, draw, edition.table())?;
-        tally.add(compare_values(alloc, edition, desk, &query)?);
+        tally.add(try_query(alloc, edition, desk, draw)?);
     }
     Ok(tally)
+}
+
+// Compares for a window.
+fn try_window(
+    alloc: Global,
+    edition: &Edition,
+    desk: &mut Desk,
+    draw: &mut Draw,
+) -> Result<Tally, Refused>
+    requires { 0 < length edition.now.table.stops }
+{
+    let seconds = draw.below(WINDOW) + 1;
+    let window = some_window(alloc, draw, edition.table(), seconds)?;
+    compare_slots(alloc, edition, desk, &window, seconds)
 }
 
 // Compares for windows.
@@ -87,11 +123,24 @@ fn try_windows(
 {
     let mut tally = Tally::NOTHING;
     for _turn in 0..WINDOWS {
-        let seconds = draw.below(WINDOW) + 1;
-        let window = some_window(alloc, draw, edition.table(), seconds)?;
-        tally.add(compare_slots(alloc, edition, desk, &window, seconds)?);
+        tally.add(try_window(alloc, edition, desk, draw)?);
     }
     Ok(tally)
+}
+
+// Compares for a time to arrive by.
+fn try_arrival(
+    alloc: Global,
+    edition: &Edition,
+    mirrored: &Edition,
+    desk: &mut Desk,
+    draw: &mut Draw,
+) -> Result<Tally, Refused>
+    requires stops { 0 < length edition.now.table.stops }
+    requires mirror { IsMirror edition.now.table mirrored.now.table }
+{
+    let by = some_arrival(alloc, draw, edition.table())?;
+    compare_departures(alloc, edition, mirrored, desk, &by)
 }
 
 // Compares for times to arrive by.
@@ -107,14 +156,13 @@ fn try_arrivals(
 {
     let mut tally = Tally::NOTHING;
     for _turn in 0..ARRIVALS {
-        let by = some_arrival(alloc, draw, edition.table())?;
-        tally.add(compare_departures(alloc, edition, mirrored, desk, &by)?);
+        tally.add(try_arrival(alloc, edition, mirrored, desk, draw)?);
     }
     Ok(tally)
 }
 
 // Compares from some stops to all.
-fn try_origins(
+fn try_origin(
     alloc: Global,
     edition: &Edition,
     desk: &mut Desk,
@@ -123,12 +171,23 @@ fn try_origins(
     requires { 0 < length edition.now.table.stops }
 {
     let table = edition.table();
+    let from = some_stops(alloc, draw, table.stop_count())?;
+    let leave = some_time(draw, table);
+    compare_reach(alloc, edition, desk, from.as_slice(), leave)
+}
+
+// Compares from some stops to all, some times.
+fn try_origins(
+    alloc: Global,
+    edition: &Edition,
+    desk: &mut Desk,
+    draw: &mut Draw,
+) -> Result<Tally, Refused>
+    requires { 0 < length edition.now.table.stops }
+{
     let mut tally = Tally::NOTHING;
     for _turn in 0..ORIGINS {
-        let from = some_stops(alloc, draw, table.stop_count())?;
-        let leave = some_time(draw, table);
-        let reached = compare_reach(alloc, edition, desk, from.as_slice(), leave)?;
-        tally.add(reached);
+        tally.add(try_origin(alloc, edition, desk, draw)?);
     }
     Ok(tally)
 }
@@ -158,8 +217,14 @@ fn try_mirror<R: Threads + Sync>(
 ) -> Result<Tally, Refused>
     requires { 0 < length edition.now.table.stops }
 {
-    let mirrored = mirrored(rt, alloc, edition.table())?;
-    try_arrivals(alloc, edition, &mirrored, desk, draw)
+    match mirrored(rt, alloc, edition.table()) {
+        Ok(mirrored) => {
+            let compared = try_arrivals(alloc, edition, &mirrored, desk, draw);
+            drop(mirrored);
+            compared
+        }
+        Err(Memory) => Err(Refused::Memory),
+    }
 }
 
 /// Compares all over an edition.
@@ -190,6 +255,12 @@ pub fn try_seed<R: Threads + Sync>(
     let mut draw = Draw::new(seed as u64);
     let files = small_feed(alloc, &mut draw)?;
     let options = some_options(&mut draw);
-    let edition = edition_of(rt, alloc, files, &options)?;
-    try_all(rt, alloc, &edition, desk, &mut draw)
+    match edition_of(rt, alloc, files, &options) {
+        Ok(edition) => {
+            let compared = try_all(rt, alloc, &edition, desk, &mut draw);
+            drop(edition);
+            compared
+        }
+        Err(refused) => Err(refused),
+    }
 }

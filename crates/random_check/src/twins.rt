@@ -13,7 +13,7 @@ use plain_rounds::plain_ask;
 use segment_queue::Desk;
 use std::alloc::Global;
 use std::thread::Threads;
-use tb_base::{Choice, Offer, Sec, Slot, Timetable, TripNo, Value};
+use tb_base::{Choice, Memory, Offer, Sec, Slot, Timetable, TripNo, Value};
 use trip_table::Options;
 
 // How many times are asked between each two stops.
@@ -67,6 +67,57 @@ struct Editions<'a> {
     written_out: &'a Edition,
 }
 
+// The choices between two stops at a time, by the search.
+fn searched_between(
+    alloc: Global,
+    edition: &Edition,
+    desk: &mut Desk,
+    from: u32,
+    to: u32,
+    leave: Sec,
+) -> Result<Vec<Choice>, Memory>
+    requires from { from < length edition.now.table.stops }
+    requires to { to < length edition.now.table.stops }
+{
+    let query = query(alloc, edition.table(), from, to, leave)?;
+    searched(alloc, edition, desk, &query)
+}
+
+// The same by plain rounds.
+fn plain_between(
+    alloc: Global,
+    table: &Timetable,
+    from: u32,
+    to: u32,
+    leave: Sec,
+) -> Result<Vec<Choice>, Memory>
+    requires from { from < length table.now.stops }
+    requires to { to < length table.now.stops }
+{
+    let query = query(alloc, table, from, to, leave)?;
+    plain_ask(alloc, table, &query)
+}
+
+// Holds choices between two stops against those a day later, and says how many these are.
+fn values_later(
+    alloc: Global,
+    written_out: &Timetable,
+    from: u32,
+    to: u32,
+    leave: Sec,
+    given: &[Choice],
+) -> Result<u64, Refused>
+    requires from { from < length written_out.now.stops }
+    requires to { to < length written_out.now.stops }
+{
+    let choices = plain_between(alloc, written_out, from, to, day_later(leave))?;
+    let count = choices.len() as u64;
+    let same = are_values_later(given, choices.as_slice());
+    drop(choices);
+    held(same, Difference::WrittenOut)?;
+    Ok(count)
+}
+
 // Compares the best values between two stops: the search over the given feed, and plain rounds over
 // the trips that are written out.
 fn compare_query(
@@ -82,18 +133,52 @@ fn compare_query(
     requires from_later { from < length editions.now.written_out.now.table.stops }
     requires to_later { to < length editions.now.written_out.now.table.stops }
 {
-    let table = editions.written_out.table();
-    let asked = query(alloc, editions.given.table(), from, to, leave)?;
-    let later = query(alloc, table, from, to, day_later(leave))?;
-    let choices = searched(alloc, editions.given, desk, &asked)?;
-    let plain = plain_ask(alloc, table, &later)?;
-    let same = are_values_later(choices.as_slice(), plain.as_slice());
-    held(same, Difference::WrittenOut)?;
+    let written_out = editions.written_out.table();
+    let choices = searched_between(alloc, editions.given, desk, from, to, leave)?;
+    let values = values_later(alloc, written_out, from, to, leave, choices.as_slice());
+    drop(choices);
     Ok(TwinTally {
         queries: 1,
-        values: plain.len() as u64,
+        values: values?,
         ..TwinTally::NOTHING
     })
+}
+
+// The offers of a window between two stops that begins at a time.
+fn offers_between(
+    alloc: Global,
+    edition: &Edition,
+    desk: &mut Desk,
+    from: u32,
+    to: u32,
+    first: Sec,
+) -> Result<Vec<Offer>, Memory>
+    requires from { from < length edition.now.table.stops }
+    requires to { to < length edition.now.table.stops }
+{
+    let window = window(alloc, edition.table(), from, to, first)?;
+    offers_of(alloc, edition, desk, &window)
+}
+
+// Holds offers of a window against those a day later, and says how many these are.
+fn slots_later(
+    alloc: Global,
+    written_out: &Edition,
+    desk: &mut Desk,
+    from: u32,
+    to: u32,
+    first: Sec,
+    given: &[Offer],
+) -> Result<u64, Refused>
+    requires from { from < length written_out.now.table.stops }
+    requires to { to < length written_out.now.table.stops }
+{
+    let offers = offers_between(alloc, written_out, desk, from, to, day_later(first))?;
+    let count = offers.len() as u64;
+    let same = are_slots_later(given, offers.as_slice());
+    drop(offers);
+    held(same, Difference::WrittenOut)?;
+    Ok(count)
 }
 
 // Compares the profiles of a window between two stops that begins at a time.
@@ -110,16 +195,13 @@ fn compare_window(
     requires from_later { from < length editions.now.written_out.now.table.stops }
     requires to_later { to < length editions.now.written_out.now.table.stops }
 {
-    let (given, written_out) = (editions.given, editions.written_out);
-    let asked = window(alloc, given.table(), from, to, first)?;
-    let later = window(alloc, written_out.table(), from, to, day_later(first))?;
-    let offers = offers_of(alloc, given, desk, &asked)?;
-    let written = offers_of(alloc, written_out, desk, &later)?;
-    let same = are_slots_later(offers.as_slice(), written.as_slice());
-    held(same, Difference::WrittenOut)?;
+    let written_out = editions.written_out;
+    let offers = offers_between(alloc, editions.given, desk, from, to, first)?;
+    let slots = slots_later(alloc, written_out, desk, from, to, first, offers.as_slice());
+    drop(offers);
     Ok(TwinTally {
         windows: 1,
-        slots: written.len() as u64,
+        slots: slots?,
         ..TwinTally::NOTHING
     })
 }
@@ -231,12 +313,18 @@ fn try_given<R: Threads + Sync>(
     requires station { IfSome options.now.station (λ secs. secs ≤ 86400) }
 {
     let files = written_out_feed(alloc, &mut Draw::new(seed))?;
-    let written_out = edition_of(rt, alloc, files, options)?;
-    let editions = Editions {
-        given,
-        written_out: &written_out,
-    };
-    compare_twins(rt, alloc, &editions, desk, draw)
+    match edition_of(rt, alloc, files, options) {
+        Ok(edition) => {
+            let editions = Editions {
+                given,
+                written_out: &edition,
+            };
+            let compared = compare_twins(rt, alloc, &editions, desk, draw);
+            drop(edition);
+            compared
+        }
+        Err(refused) => Err(refused),
+    }
 }
 
 /// Compares all over the twins of a seed.
@@ -250,6 +338,12 @@ pub fn try_twins<R: Threads + Sync>(
     let mut draw = Draw::new(seed);
     let files = twin_feed(alloc, &mut draw)?;
     let options = some_options(&mut draw);
-    let given = edition_of(rt, alloc, files, &options)?;
-    try_given(rt, alloc, &given, &options, desk, &mut draw, seed)
+    match edition_of(rt, alloc, files, &options) {
+        Ok(given) => {
+            let compared = try_given(rt, alloc, &given, &options, desk, &mut draw, seed);
+            drop(given);
+            compared
+        }
+        Err(refused) => Err(refused),
+    }
 }
