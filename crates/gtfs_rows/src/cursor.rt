@@ -1,5 +1,5 @@
 //! The rows of a file by the names in its first row.
-ghost use Rattle.std.specs.Prelude.{◌≡◌, ◌≤◌, ◌<◌, ◌+◌, ◌^◌, ◌∷◌, [], ℕ, List, IfOk, IfSome, OnErr, MatchBool, length, map, take, position, bytes_eq, is_none, IsTrue};
+ghost use Rattle.std.specs.Prelude.{◌≡◌, ◌≤◌, ◌<◌, ◌+◌, ◌^◌, ◌∷◌, [], ℕ, List, IfOk, OnErr, MatchBool, length, map, take, position, bytes_eq, is_none, IsTrue};
 ghost use Rattle.std.specs.List.{list_all};
 ghost use Rattle.std.specs.Str.{is_utf8};
 ghost use Rattle.gtfs_rows.specs.Records.{file_records};
@@ -230,19 +230,5 @@ impl<'a> RowCursor<'a> {
             Some(Some(position)) => cut(self.records.field(*position)),
             _ => &[],
         }
-    }
-
-    /// The same where it takes few steps, which it mostly does: in a file without quotes, of a cell
-    /// of which nothing is cut.
-    #[inline(always)]
-    pub(crate) fn quick_cell(&self, column: u8) -> Option<&[u8]>
-        requires { 1 ≤ column }
-        ensures { IfSome result (λ text. text.now ≡ cell self.now.current column) }
-    {
-        let Some(Some(position)) = self.positions.get(column as usize - 1) else {
-            return Some(&[]);
-        };
-        let text = self.records.plain_field(*position)?;
-        if is_cut(text) { Some(text) } else { None }
     }
 }

@@ -1,5 +1,5 @@
 //! The records of a file, one at a time.
-ghost use Rattle.std.specs.Prelude.{◌≡◌, ◌∷◌, [], IfOk, IfSome, OnErr, MatchBool, ◌≤◌, length, get_or, IsTrue};
+ghost use Rattle.std.specs.Prelude.{◌≡◌, ◌∷◌, [], IfOk, OnErr, MatchBool, ◌≤◌, length, get_or, IsTrue};
 ghost use Rattle.csv.specs.Reading.{is_bom, strip_bom};
 ghost use Rattle.gtfs_rows.specs.Records.{file_records, RecordPosition};
 ghost use Rattle.gtfs_rows.specs.PlainText.{IsUnquoted};
@@ -106,17 +106,6 @@ impl<'a> Records<'a> {
         match &self.source {
             Source::Plain(records) => records.field(column),
             Source::Quoted(records) => records.field(column),
-        }
-    }
-
-    /// The same in a file without quotes, and `None` in any other.
-    #[inline(always)]
-    pub(crate) fn plain_field(&self, column: usize) -> Option<&[u8]>
-        ensures { IfSome result (λ field. field.now ≡ get_or self.now.current column []) }
-    {
-        match &self.source {
-            Source::Plain(records) => Some(records.field(column)),
-            Source::Quoted(_) => None,
         }
     }
 }
