@@ -1,13 +1,16 @@
 -- Marks that fall along a line.
-use Rattle.std.proofs.Common.{◌≡◌, ◌≢◌, ◌∙◌, ℕ, ◌+◌, ◌<◌, ◌≤◌, inl, inr, List, ◌∷◌, ◌↔◌, drop, get_or, ◌||◌, true, false, cond, length, set, sym, ap, subst, arith, Option, Some, None}
-use Rattle.std.specs.Prelude.{AllPairs, min, unwrap_or}
+use Rattle.std.proofs.Common.{◌≡◌, ◌≢◌, ◌∙◌, ℕ, ◌+◌, ◌<◌, ◌≤◌, inl, inr, List, [], ◌∷◌, ◌↔◌, drop, get_or, ◌||◌, Bool, true, false, cond, refl, length, length-set, set, sym, ap, subst, arith, Option, Some, None}
+use Rattle.std.specs.Prelude.{All, AllPairs, min, unwrap_or}
 use Rattle.std.proofs.lemmas.List.{drop_more, get_or-set_same, get_or-set_other}
+use Rattle.std.proofs.lemmas.List.Elements.{All-head, All-tail, All-weaker}
+use Rattle.std.proofs.lemmas.Bool.Decides.{nat_tests}
 use Rattle.tb_base.specs.TimetableData.{TimetableData}
 use Rattle.tb_base.specs.Lines.{AreDividedInto}
 use Rattle.tb_base.proofs.Ordered.{Member, AllPairs-tail}
 use Rattle.segment_queue.specs.Scans.{trips_from}
 use Rattle.segment_queue.specs.Queue.{IsFalling, lowered, mark_of, last_index}
-use Rattle.segment_queue.proofs.Distinct.{has, has_member, same_or_other, member_or_not, before_member, pairs_weaker}
+use Rattle.segment_queue.specs.Words.{is_at_most, lowered_marks}
+use Rattle.segment_queue.proofs.Distinct.{all_by_member, has, has_member, same_or_other, member_or_not, before_member, pairs_weaker}
 use Rattle.segment_queue.proofs.LineParts.{pairs_of, all_distinct, trips_no_later}
 use Rattle.segment_queue.proofs.LineViews.{member_at}
 
@@ -119,3 +122,47 @@ read_above T lines t trips k u last at m marks divided same there is stands read
     by_mark : (o : Option ℕ) → m ≡ unwrap_or o last → (at < m) ↔ (at < unwrap_or o (last_index T u))
     by_mark None e = (λ h. omega (arith, long, stands.0 (omega (arith, h, e))), λ h. omega (arith, e, stands.1 (omega (arith, h, long))))
     by_mark (Some x) e = (λ h. omega (arith, h, e), λ h. omega (arith, h, e))
+
+-- a mark is at most the index, or above it, as its test says
+low_mark : (o : Option ℕ) (at last : ℕ) → true ≡ is_at_most at o → unwrap_or o last ≤ at
+low_mark None at last e = cc
+low_mark (Some own) at last e = grind (arith, nat_tests, e)
+
+high_mark : (o : Option ℕ) (at last : ℕ) → at < last → false ≡ is_at_most at o → at < unwrap_or o last
+high_mark None at last below e = below
+high_mark (Some own) at last below e = grind (arith, nat_tests, e)
+
+pub length-lowered_marks : (trips : List ℕ) (at : ℕ) (marks : List (Option ℕ)) → length (lowered_marks trips at marks) ≡ length marks
+length-lowered_marks [] at marks = refl
+length-lowered_marks (t ∷ trips) at marks = elim (is_at_most at (get_or marks t None)) as (λ b. length (cond b marks (lowered_marks trips at (set marks t (Some at)))) ≡ length marks) [
+  | true ↦ refl
+  | false ↦ length-lowered_marks trips at (set marks t (Some at)) ∙ length-set marks t (Some at)
+]
+
+-- the rest of the trips get the index, up to the first whose mark isn't above it
+rest_lowered : (T : TimetableData) (whole rest : List ℕ) (at : ℕ) (old marks : List (Option ℕ)) → StillToLower T whole rest at old marks → All (λ t. t < length marks) rest → All (λ t. at < last_index T t) rest → (u : ℕ) → u < length T.trips →
+    mark_of T (lowered_marks rest at marks) u ≡ lowered whole at u (mark_of T old u)
+rest_lowered T whole [] at old marks still inside below u h = sym (still.todo u h)
+rest_lowered T whole (t ∷ rest) at old marks still inside below u h = by_test (is_at_most at (get_or marks t None)) refl (λ next. rest_lowered T whole rest at old fallen next there (All-tail (λ x. at < last_index T x) t rest below) u h)
+  where
+    fallen : List (Option ℕ)
+    fallen = set marks t (Some at)
+
+    there : All (λ x. x < length fallen) rest
+    there = All-weaker (λ x. x < length marks) (λ x. x < length fallen) (λ x k. omega (arith, k, length-set marks t (Some at))) rest (All-tail (λ x. x < length marks) t rest inside)
+
+    by_test : (b : Bool) → b ≡ is_at_most at (get_or marks t None) → (StillToLower T whole rest at old fallen → mark_of T (lowered_marks rest at fallen) u ≡ lowered whole at u (mark_of T old u)) →
+        mark_of T (cond b marks (lowered_marks rest at fallen)) u ≡ lowered whole at u (mark_of T old u)
+    by_test true e more = stops T whole rest t at old marks still (low_mark (get_or marks t None) at (last_index T t) e) u h
+    by_test false e more =
+        let above : at < mark_of T marks t = high_mark (get_or marks t None) at (last_index T t) (All-head (λ x. at < last_index T x) t rest below) e in
+        more (one_lowered T whole rest t at old marks still (All-head (λ x. x < length marks) t rest inside) above)
+
+-- where the index is below the last one, that lowers the marks of all trips from one on
+pub line_lowered : (T : TimetableData) (lines : List (List ℕ)) (t at : ℕ) (trips : List ℕ) (old new : List (Option ℕ)) → AreDividedInto T lines → trips ≡ trips_from lines t → IsFalling T old (trips_from lines t) → All (λ u. u < length T.trips) trips →
+    length T.trips ≤ length old → at < last_index T t → new ≡ lowered_marks trips at old → (u : ℕ) → u < length T.trips → mark_of T new u ≡ lowered (trips_from lines t) at u (mark_of T old u)
+line_lowered T lines t at trips old new divided same falling there room below are u h =
+    ap (λ (marks : List (Option ℕ)). mark_of T marks u) are
+    ∙ rest_lowered T (trips_from lines t) trips at old old (all_to_lower T lines t at trips old divided same falling)
+    (All-weaker (λ x. x < length T.trips) (λ x. x < length old) (λ x k. omega (arith, k, room)) trips there)
+    (all_by_member (λ x. at < last_index T x) trips (λ x m. omega (arith, below, (trips_no_later T lines t x divided (subst (λ xs. Member x xs) same m)).long))) u h

@@ -1,10 +1,14 @@
 -- What words above a floor are seen as.
-use Rattle.std.proofs.Common.{◌≡◌, ◌∙◌, sym, ap, subst, refl, ℕ, zero, suc, ◌+◌, ◌-◌, ◌<◌, ◌≤◌, List, [], ◌∷◌, ◌++◌, length, map, take, replicate, set, get_or, None, Some, arith, Bool, true, false, cond}
-use Rattle.std.specs.Prelude.{All, nat_lt}
+use Rattle.std.proofs.Common.{◌≡◌, ◌∙◌, sym, ap, subst, refl, ℕ, zero, suc, ◌+◌, ◌-◌, ◌<◌, ◌≤◌, ◌⊎◌, inl, inr, List, [], ◌∷◌, ◌++◌, length, length-set, map, take, replicate, set, get_or, None, Some, arith, Bool, true, false, cond}
+use Rattle.std.specs.Prelude.{All, nat_le, nat_lt}
 use Rattle.std.proofs.lemmas.List.{get_or-map, length-map, length-replicate, map-append, take_all}
-use Rattle.std.proofs.lemmas.List.Elements.{All-get_or, All-head, All-tail, All-replicate}
+use Rattle.std.proofs.lemmas.List.Elements.{All-get_or, All-head, All-set, All-tail, All-replicate, All-weaker}
+use Rattle.std.proofs.lemmas.Bool.{cases_lt}
 use Rattle.std.proofs.lemmas.Bool.Decides.{nat_tests}
-use Rattle.segment_queue.specs.Words.{IsAbove, mark_in}
+use Rattle.segment_queue.specs.Words.{IsAbove, is_at_most, lowered_marks, lowered_words, mark_in}
+
+either : (w v : ℕ) → (w ≤ v) ⊎ (v < w)
+either w v = elim (cases_lt v w) [ inl h ↦ inr h | inr h ↦ inl h ]
 
 -- a word of an earlier search has no index
 earlier_none : (f w : ℕ) → f + 10000000 ≤ w → mark_in f w ≡ None
@@ -49,6 +53,54 @@ grown_marked f n ws vs low all e =
     ap (map (mark_in f)) (e ∙ ap (λ xs. xs ++ added) whole)
     ∙ map-append (mark_in f) ws added
     ∙ ap (λ ys. map (mark_in f) ws ++ ys) (unmarked f (n - length ws) low ∙ ap (λ k. replicate (n - k) None) (sym long))
+
+-- a word that is at most the floor and an index is seen as an index that is at most this one
+word_test : (f at w : ℕ) → at < 10000000 → nat_le w (f + at) ≡ is_at_most at (mark_in f w)
+word_test f at w few = by_test (nat_lt w (f + 10000000)) refl
+  where
+    as_low : (w ≤ f + at) ⊎ (f + at < w) → nat_le w (f + at) ≡ nat_le (w - f) at
+    as_low (inl h) =
+        let here : nat_le w (f + at) ≡ true = grind (arith, nat_tests, h) in
+        let there : nat_le (w - f) at ≡ true = grind (arith, nat_tests, h) in
+        here ∙ sym there
+    as_low (inr h) =
+        let here : nat_le w (f + at) ≡ false = grind (arith, nat_tests, h) in
+        let there : nat_le (w - f) at ≡ false = grind (arith, nat_tests, h) in
+        here ∙ sym there
+
+    by_test : (b : Bool) → b ≡ nat_lt w (f + 10000000) → nat_le w (f + at) ≡ is_at_most at (cond b (Some (w - f)) None)
+    by_test true e = as_low (either w (f + at))
+    by_test false e =
+        let high : f + 10000000 ≤ w = grind (arith, nat_tests, e) in
+        let past : nat_le w (f + at) ≡ false = grind (arith, nat_tests, high, few) in
+        past
+
+-- lowered words are seen as lowered marks
+pub lowered_seen : (f at : ℕ) (trips ws : List ℕ) → at < 10000000 → All (λ t. t < length ws) trips → map (mark_in f) (lowered_words trips (f + at) ws) ≡ lowered_marks trips at (map (mark_in f) ws)
+lowered_seen f at [] ws few inside = refl
+lowered_seen f at (t ∷ trips) ws few inside = by_test (nat_le (get_or ws t 0) (f + at)) (lowered_seen f at trips (set ws t (f + at)) few rest) ∙ ap (λ b. cond b (map (mark_in f) ws) (lowered_marks trips at (set (map (mark_in f) ws) t (Some at)))) same
+  where
+    first : t < length ws
+    first = All-head (λ x. x < length ws) t trips inside
+
+    rest : All (λ x. x < length (set ws t (f + at))) trips
+    rest = All-weaker (λ x. x < length ws) (λ x. x < length (set ws t (f + at))) (λ x h. omega (arith, h, length-set ws t (f + at))) trips (All-tail (λ x. x < length ws) t trips inside)
+
+    same : nat_le (get_or ws t 0) (f + at) ≡ is_at_most at (get_or (map (mark_in f) ws) t None)
+    same = word_test f at (get_or ws t 0) few ∙ ap (is_at_most at) (sym (get_or-map (mark_in f) ws t 0 None first))
+
+    by_test : (b : Bool) → map (mark_in f) (lowered_words trips (f + at) (set ws t (f + at))) ≡ lowered_marks trips at (map (mark_in f) (set ws t (f + at))) →
+        map (mark_in f) (cond b ws (lowered_words trips (f + at) (set ws t (f + at)))) ≡ cond b (map (mark_in f) ws) (lowered_marks trips at (set (map (mark_in f) ws) t (Some at)))
+    by_test true more = refl
+    by_test false more = more ∙ ap (lowered_marks trips at) (set_marked f ws t at few)
+
+-- lowered words stay at or above the floor
+pub lowered_above : (f at : ℕ) (trips ws : List ℕ) → All (λ w. f ≤ w) ws → All (λ w. f ≤ w) (lowered_words trips (f + at) ws)
+lowered_above f at [] ws above = above
+lowered_above f at (t ∷ trips) ws above = elim (nat_le (get_or ws t 0) (f + at)) as (λ b. All (λ w. f ≤ w) (cond b ws (lowered_words trips (f + at) (set ws t (f + at))))) [
+  | true ↦ above
+  | false ↦ lowered_above f at trips (set ws t (f + at)) (All-set (λ w. f ≤ w) ws t (f + at) (omega arith) above)
+]
 
 -- no word lies below the floor
 pub above_floor : (f : ℕ) (ws : List ℕ) (t w : ℕ) → All (λ x. f ≤ x) ws → t < length ws → w ≡ get_or ws t w → f ≤ w

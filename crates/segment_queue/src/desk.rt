@@ -99,9 +99,9 @@ pub(crate) fn mark_on<S: Scan>(marks: &Marks, scan: &S, trip: TripNo) -> u32
     }
 }
 
-// Lowers the marks of a trip and of the later trips of its line to the index, where they are greater. Along a line marks
-// never rise, so it stops at the first that isn't greater. All trips of a line have the same last index: what stands for it
-// where a trip has no mark is greater than the index just where the last index is.
+// Lowers the marks of a trip and of the later trips of its line to the index, where they are greater. Along a line
+// marks never rise, so it stops at the first that isn't greater. All trips of a line have the same last index, which is
+// the mark of those that no search has marked: it is greater than the index for all of them or for none.
 pub(crate) fn lower_marks<S: Scan>(marks: &mut Marks, scan: &S, trip: TripNo, at: u32, last: u32)
     requires trip { trip < length (S.net scan.now).table.trips }
     requires room { length (S.net scan.now).table.trips ≤ length marks.old }
@@ -116,6 +116,10 @@ pub(crate) fn lower_marks<S: Scan>(marks: &mut Marks, scan: &S, trip: TripNo, at
         (mark_of (S.net scan.now).table marks.old u) }
 {
     scan.soundness();
+    if at < last {
+        marks.lower(scan.onward(trip), at);
+        return;
+    }
     for later in scan.onward(trip) {
         if marks.get_or(*later, last) <= at {
             return;

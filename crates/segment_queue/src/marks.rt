@@ -1,5 +1,5 @@
-ghost use Rattle.std.specs.Prelude.{◌≡◌, ◌-◌, ◌<◌, ◌≤◌, ◌++◌, ◌⊎◌, [], IsSomeAnd, IsTrue, MatchBool, ◌↔◌, None, Some, OnErr, OnOk, length, replicate, slice_index_or, slice_set, unwrap_or};
-ghost use Rattle.segment_queue.specs.Words.{IsAbove};
+ghost use Rattle.std.specs.Prelude.{◌≡◌, ◌-◌, ◌<◌, ◌≤◌, ◌++◌, ◌⊎◌, [], All, IsSomeAnd, IsTrue, MatchBool, ◌↔◌, None, Some, OnErr, OnOk, length, replicate, slice_index_or, slice_set, unwrap_or};
+ghost use Rattle.segment_queue.specs.Words.{IsAbove, lowered_marks, lowered_words};
 
 use std::alloc::Global;
 use std::marker::Model;
@@ -21,6 +21,20 @@ fn unmark(words: &mut Vec<u32>)
     let count = words.len();
     words.clear();
     let _ = words.resize(count, UNMARKED);
+}
+
+// Writes this word for the trips, in order, up to the first whose own isn't greater.
+fn lower_words(words: &mut [u32], trips: &[TripNo], word: u32)
+    requires { All (λ t. t < length words.old) trips.now }
+    ensures { words.new ≡ lowered_words trips.now word words.old }
+{
+    for trip in trips {
+        let place = trip.index();
+        if words[place] <= word {
+            return;
+        }
+        words[place] = word;
+    }
 }
 
 /// An index for some of the trips, emptied in no time. It is seen as a list: for each trip its index, where it has one.
@@ -164,6 +178,17 @@ impl Marks {
         ensures { self.new ≡ slice_set self.old trip (Some at) }
     {
         self.words[trip.index()] = self.floor + at;
+    }
+
+    /// Gives these trips this index, in order, up to the first that has one that isn't greater. The words of trips
+    /// without an index are greater than those of trips with one, so one comparison a trip is enough.
+    pub(crate) fn lower(&mut self, trips: &[TripNo], at: u32)
+        requires trips { All (λ t. t < length self.old) trips.now }
+        requires at { at < 10000000 }
+        ensures { self.new ≡ lowered_marks trips.now at self.old }
+    {
+        let word = self.floor + at;
+        lower_words(self.words.as_mut_slice(), trips, word);
     }
 
     /// The same marks once more.

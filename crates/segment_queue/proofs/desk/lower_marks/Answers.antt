@@ -1,11 +1,20 @@
-use Rattle.std.proofs.Common.{◌↔◌, ◌<◌, ◌≤◌, inl, inr, arith, refl}
+use Rattle.std.proofs.Common.{◌↔◌, ◌∙◌, ◌<◌, ◌≤◌, inl, inr, length, ap, arith, refl}
 use Rattle.std.proofs.lemmas.Grind.{common_steps}
 use Rattle.tb_base.specs.Network.{NetData}
 use Rattle.segment_queue.specs.Queue.{mark_of}
 use Rattle.segment_queue.specs.Scans.{trips_from}
-use Rattle.segment_queue.proofs.LoweredMarks.{all_to_lower, no_more_to_lower, one_more_lowered, read_above}
+use Rattle.segment_queue.proofs.LoweredMarks.{all_to_lower, length-lowered_marks, line_lowered, no_more_to_lower, one_more_lowered, read_above}
 use Rattle.segment_queue.proofs.Totals.{index_few}
 use Rattle.segment_queue.proofs.desk.lower_marks.Goals as goal
+
+pub returns-then-at-last-clause-trips : goal.returns-then-at-last-clause-trips
+returns-then-at-last-clause-trips g c = ap length c.lower.ensures ∙ length-lowered_marks c.onward.result.now c.args.at c.args.marks.now
+
+pub returns-then-at-last-clause-marks : goal.returns-then-at-last-clause-marks
+returns-then-at-last-clause-marks g c =
+    let N : NetData = g.S.Scan.net c.args.scan.now in
+    line_lowered N.table N.lines c.args.trip c.args.at c.onward.result.now c.args.marks.now c.lower.new.self c.requires.divided c.onward.ensures.trips c.requires.falling c.onward.ensures.there c.requires.room
+    (c.requires.last.0 c.if-at-last.true) c.lower.ensures
 
 pub loop-later-init : goal.loop-later-init
 loop-later-init g c =
