@@ -10,7 +10,6 @@
 //! such searches find at every stop and for every time.
 #![tactic(auto)]
 
-mod ahead;
 mod all_rounds;
 mod boarding;
 mod entering;

@@ -216,7 +216,7 @@ impl<S: Scan> Search<'_, S> {
             ≤ steps.old + covered_before desk.old.segments to }
     {
         desk.clear_notes();
-        self.read_segments_ahead(desk, from, to);
+        desk.read_segments_ahead(self.scan, from, to);
         let mut best = so_far;
         for n in from..to {
             best = self.weigh_segment(desk, n, round, best, steps);

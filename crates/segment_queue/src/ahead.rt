@@ -1,9 +1,8 @@
-ghost use Rattle.std.specs.Prelude.{◌≡◌, ◌<◌, length};
-ghost use Rattle.tb_base.specs.TimetableData.{events_of};
+ghost use Rattle.std.specs.Prelude.{◌≡◌, ◌≤◌, length};
+ghost use Rattle.segment_queue.specs.Queue.{IsInStep};
 
 use super::desk::Desk;
 use super::scan::Scan;
-use tb_base::TripNo;
 use transfer_pack::{FirstHop, ReadAhead};
 
 // Appends where hops begin, where there is room.
@@ -14,26 +13,43 @@ pub(crate) fn push_first(firsts: &mut Vec<FirstHop>, first: FirstHop) {
 }
 
 // Reads these hops ahead.
-fn read_ahead<S: Scan>(scan: &S, firsts: &[FirstHop], ahead: &mut ReadAhead) {
+fn read_hops<S: Scan>(scan: &S, firsts: &[FirstHop]) -> ReadAhead {
+    let mut ahead = ReadAhead::new();
     for first in firsts {
-        scan.read_hop_ahead(*first, ahead);
+        scan.read_hop_ahead(*first, &mut ahead);
     }
+    ahead
 }
 
 impl Desk {
-    /// Reads event `at` of a trip ahead.
-    pub fn read_event_ahead<S: Scan>(&mut self, scan: &S, trip: TripNo, at: u32)
-        requires trip { trip < length (S.net scan.now).table.trips }
-        requires at { at < length (events_of (S.net scan.now).table trip) }
+    // Reads the first event that each of these segments covers ahead.
+    fn read_events<S: Scan>(&self, scan: &S, from: u32, to: u32) -> ReadAhead
+        requires step { IsInStep (S.net scan.now) self.now }
+        requires to { to ≤ length self.now.segments }
+    {
+        let mut ahead = ReadAhead::new();
+        for n in from..to {
+            let segment = self.segments[n as usize];
+            scan.read_event_ahead(segment.trip, segment.board + 1, &mut ahead);
+        }
+        ahead
+    }
+
+    /// Reads the first event that each of these segments covers ahead.
+    pub fn read_segments_ahead<S: Scan>(&mut self, scan: &S, from: u32, to: u32)
+        requires step { IsInStep (S.net scan.now) self.old }
+        requires to { to ≤ length self.old.segments }
         ensures { self.new ≡ self.old }
     {
-        scan.read_event_ahead(trip, at, &mut self.ahead);
+        let ahead = self.read_events(scan, from, to);
+        self.ahead.join(ahead);
     }
 
     /// Reads the first of the hops from each event that is noted ahead.
     pub fn read_notes_ahead<S: Scan>(&mut self, scan: &S)
         ensures { self.new ≡ self.old }
     {
-        read_ahead(scan, self.firsts.as_slice(), &mut self.ahead);
+        let ahead = read_hops(scan, self.firsts.as_slice());
+        self.ahead.join(ahead);
     }
 }

@@ -42,7 +42,7 @@ pub struct Hit {
 #[derive(Drop)]
 pub struct Desk {
     marks: Marks,
-    segments: Vec<Segment>,
+    pub(crate) segments: Vec<Segment>,
     hits: Vec<Hit>,
     pub(crate) notes: Vec<Note>,
     pub(crate) firsts: Vec<FirstHop>,

@@ -14,7 +14,7 @@ pub struct FirstHop {
 /// up so that no compiler leaves the reads out.
 #[derive(Drop)]
 pub struct ReadAhead {
-    sum: usize,
+    sum: u32,
 }
 
 impl Model for ReadAhead {
@@ -32,7 +32,12 @@ impl ReadAhead {
     }
 
     // One number more.
-    pub(crate) fn take(&mut self, number: usize) {
+    pub(crate) fn take(&mut self, number: u32) {
         self.sum ^= number;
+    }
+
+    /// What was read besides.
+    pub fn join(&mut self, other: ReadAhead) {
+        self.sum ^= other.sum;
     }
 }

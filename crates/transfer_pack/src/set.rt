@@ -244,19 +244,18 @@ impl Set {
         }
     }
 
-    /// Reads an event ahead, and where its hops begin and end.
+    /// Reads an event ahead.
     pub fn read_call_ahead(&self, trip: TripNo, at: u32, ahead: &mut ReadAhead)
         requires trip { trip < length self.now.table.trips }
         requires at { at < length (events_of self.now.table trip) }
     {
-        ahead.take(self.call(trip, at).stop.index());
-        ahead.take(self.run_of(trip, at).len());
+        ahead.take(self.call(trip, at).stop.0);
     }
 
     /// Reads the first of an event's hops ahead.
     pub fn read_hop_ahead(&self, first: FirstHop, ahead: &mut ReadAhead) {
         if let Some(hop) = self.hops.get(first.place as usize) {
-            ahead.take(hop.trip.index());
+            ahead.take(hop.at);
         }
     }
 }

@@ -11,10 +11,13 @@ use Rattle.earliest_query.specs.UnderWay.{Covers, IsBounded, IsImproved}
 use Rattle.earliest_query.proofs.Noting.{bounded_one_weighed, improved_one_weighed, in_step-notes, left_one_more}
 use Rattle.earliest_query.proofs.search.Search.weigh_round.Goals as goal
 
-pub read_segments_ahead-requires : goal.read_segments_ahead-requires
-read_segments_ahead-requires g c =
+pub read_segments_ahead-requires-clause-step : goal.read_segments_ahead-requires-clause-step
+read_segments_ahead-requires-clause-step g c =
     let N : NetData = g.S.Scan.net c.args.self.now.scan.now in
     subst (IsInStep N) (sym c.clear_notes.ensures) (in_step-notes N c.args.desk.now [] c.requires.step)
+
+pub read_segments_ahead-requires-clause-to : goal.read_segments_ahead-requires-clause-to
+read_segments_ahead-requires-clause-to g c = omega (arith, c.requires.to, ap (λ (d : DeskData). length d.segments) c.clear_notes.ensures)
 
 pub loop-n-init : goal.loop-n-init
 loop-n-init g c =
