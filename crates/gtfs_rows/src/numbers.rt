@@ -1,5 +1,5 @@
 //! Numbers and times in text.
-ghost use Rattle.std.specs.Prelude.{◌≡◌, ◌≤◌, ◌<◌, ◌+◌, ◌-◌, ◌*◌, ℕ, ℤ, List, MatchOption, IfSome, Some, length, take, drop, get_or, pos, option_map};
+ghost use Rattle.std.specs.Prelude.{◌≡◌, ◌≤◌, ◌<◌, ◌+◌, ◌-◌, ◌*◌, ◌∷◌, [], ℕ, ℤ, List, MatchOption, IfSome, Some, length, take, drop, get_or, pos, option_map};
 ghost use Rattle.std.specs.Str.Parse.{AllDigits, digits_value};
 ghost use Rattle.gtfs_rows.specs.Numbers.{IsNumber, number_of, sixtieth, after_hours, clock_of, time_of, time_secs};
 
@@ -45,43 +45,27 @@ fn sixtieth(tens: u8, ones: u8) -> Option<u32>
 }
 
 // The number that two digits write.
-fn two_digits(text: &[u8]) -> u32
-    requires two { length text.now ≡ 2 }
-    requires tens { 48 ≤ get_or text.now 0 0 }
-    requires most_tens { get_or text.now 0 0 ≤ 57 }
-    requires ones { 48 ≤ get_or text.now 1 0 }
-    requires most_ones { get_or text.now 1 0 ≤ 57 }
-    ensures number { Some result ≡ number_of text.now }
-    ensures small { result < 100 }
+fn hundredth(tens: u8, ones: u8) -> Option<u32>
+    ensures number { result ≡ number_of (tens ∷ ones ∷ []) }
+    ensures small { IfSome result (λ n. n < 100) }
 {
-    (text[0] as u32 - 48) * 10 + (text[1] as u32 - 48)
+    if tens.is_ascii_digit() && ones.is_ascii_digit() {
+        Some((tens as u32 - 48) * 10 + (ones as u32 - 48))
+    } else {
+        None
+    }
 }
 
-// The number that one or two digits write. Two are read at once.
-fn hours_of(text: &[u8]) -> Option<u32>
-    requires { length text.now ≤ 2 }
-    ensures number { result ≡ number_of text.now }
-    ensures small { IfSome result (λ hours. hours < 100) }
+// The seconds of a time by its digits: two of hours, two of minutes, two of seconds.
+fn clock_secs(h: u8, i: u8, m: u8, n: u8, s: u8, t: u8) -> Option<u32>
+    ensures time { option_map pos result
+        ≡ clock_of (h ∷ i ∷ []) (58 ∷ m ∷ n ∷ 58 ∷ s ∷ t ∷ []) }
+    ensures small { IfSome result (λ secs. secs ≤ 359_999) }
 {
-    if text.len() == 2 && text[0] >= b'0' && text[0] <= b'9' && text[1] >= b'0' && text[1] <= b'9' {
-        return Some(two_digits(text));
-    }
-    number_of(text)
-}
-
-// `:MM:SS`, in seconds.
-fn after_hours(text: &[u8]) -> Option<u32>
-    ensures seconds { result ≡ after_hours text.now }
-    ensures small { IfSome result (λ secs. secs < 3600) }
-{
-    match text {
-        [b':', m, n, b':', s, t] => {
-            let minutes = sixtieth(*m, *n)?;
-            let seconds = sixtieth(*s, *t)?;
-            Some(minutes * 60 + seconds)
-        }
-        _ => None,
-    }
+    let hours = hundredth(h, i)?;
+    let minutes = sixtieth(m, n)?;
+    let seconds = sixtieth(s, t)?;
+    Some(hours * 3600 + minutes * 60 + seconds)
 }
 
 /// The same as [`time_of`], as a number of seconds.
@@ -90,13 +74,11 @@ pub(crate) fn time_secs(text: &[u8]) -> Option<u32>
     ensures time { option_map pos result ≡ time_of text.now }
     ensures small { IfSome result (λ secs. secs ≤ 359_999) }
 {
-    let len = text.len();
-    if len < 7 || len > 8 {
-        return None;
+    match text {
+        [h, i, b':', m, n, b':', s, t] => clock_secs(*h, *i, *m, *n, *s, *t),
+        [h, b':', m, n, b':', s, t] => clock_secs(b'0', *h, *m, *n, *s, *t),
+        _ => None,
     }
-    let hours = hours_of(&text[..len - 6])?;
-    let seconds = after_hours(&text[len - 6..])?;
-    Some(hours * 3600 + seconds)
 }
 
 /// The time that a text writes: hours in one or two digits, then `:MM:SS`. In seconds from noon
