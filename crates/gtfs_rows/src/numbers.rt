@@ -37,7 +37,7 @@ fn sixtieth(tens: u8, ones: u8) -> Option<u32>
     ensures number { result ≡ sixtieth tens ones }
     ensures small { IfSome result (λ n. n < 60) }
 {
-    if tens.is_ascii_digit() && ones.is_ascii_digit() && tens <= b'5' {
+    if tens >= b'0' && tens <= b'5' && ones.is_ascii_digit() {
         Some((tens as u32 - 48) * 10 + (ones as u32 - 48))
     } else {
         None

@@ -1,5 +1,5 @@
 //! The records of a text without quotes, cut where its commas and line ends stand.
-ghost use Rattle.std.specs.Int.{bit_at};
+ghost use Rattle.std.specs.Int.{bit_at, trailing_zeros, w64};
 ghost use Rattle.std.specs.Prelude.{◌≡◌, ◌≢◌, ◌≤◌, ◌<◌, ◌+◌, ◌∷◌, ◌++◌, [], ℕ, true, IfOk, IfSome, IfNone, OnOk, OnErr, MatchBool, length, get_or};
 ghost use Rattle.gtfs_rows.specs.Records.{RecordPosition};
 ghost use Rattle.gtfs_rows.specs.PlainText.{IsUnquoted, is_line_end, skip_line_ends, starts_record, records_of, record_of};
@@ -70,15 +70,16 @@ fn marks_of(text: &[u8], at: usize) -> u64
         .to_bitmask()
 }
 
-// Marks without one of them.
+// Marks without the first of them.
 #[inline(always)]
-fn without(marks: u64, place: u32) -> u64
-    requires { place < 64 }
-    ensures this { bit_at result place ≡ 0 }
-    ensures others { (k : ℕ) → k < 64 → k ≢ place → bit_at result k ≡ bit_at marks k }
-    ensures fewer { bit_at marks place ≡ 1 → result < marks }
+fn without_first(marks: u64) -> u64
+    requires { marks ≢ 0 }
+    ensures this { bit_at result (trailing_zeros w64 marks) ≡ 0 }
+    ensures others { (k : ℕ) → k < 64 → k ≢ trailing_zeros w64 marks →
+        bit_at result k ≡ bit_at marks k }
+    ensures fewer { result < marks }
 {
-    marks & !(1u64 << place)
+    marks & (marks - 1)
 }
 
 // Cuts the fields of a record that end within sixteen bytes, and gives the place where the record
@@ -104,8 +105,7 @@ fn cut_window<'a>(
 {
     let mut marks = marks_of(text, at);
     while marks != 0 {
-        let first = marks.trailing_zeros();
-        let place = at + first as usize;
+        let place = at + marks.trailing_zeros() as usize;
         let byte = text[place];
         if byte == b',' {
             add_field(fields, &text[*start..place])?;
@@ -114,7 +114,7 @@ fn cut_window<'a>(
             add_field(fields, &text[*start..place])?;
             return Ok(Some(place));
         }
-        marks = without(marks, first);
+        marks = without_first(marks);
     }
     Ok(None)
 }
@@ -162,7 +162,7 @@ fn cut_record<'a>(text: &'a [u8], fields: &mut Vec<&'a [u8]>) -> Result<&'a [u8]
 {
     let mut start = 0;
     let mut at = 0;
-    while text.len() - at >= 16 {
+    while at + 16 <= text.len() {
         if let Some(end) = cut_window(text, at, &mut start, fields)? {
             return Ok(&text[end + 1..]);
         }
