@@ -1,8 +1,10 @@
 //! Numbers and times in text.
-ghost use Rattle.std.specs.Prelude.{◌≡◌, ◌≤◌, ◌<◌, ◌+◌, ◌-◌, ◌*◌, ◌∷◌, [], ℕ, ℤ, List, MatchOption, IfSome, Some, length, take, drop, get_or, pos, option_map};
+ghost use Rattle.std.specs.Prelude.{◌≡◌, ◌≤◌, ◌<◌, ◌+◌, ◌-◌, ◌*◌, ◌∷◌, [], ℕ, ℤ, List, MatchOption, IfSome, Some, length, take, drop, get_or, pos, option_map, IsTrue};
 ghost use Rattle.std.specs.Str.Parse.{AllDigits, digits_value};
-ghost use Rattle.gtfs_rows.specs.Numbers.{IsNumber, number_of, sixtieth, after_hours, clock_of, time_of, time_secs};
+ghost use Rattle.std.specs.Int.{IsInRange};
+ghost use Rattle.gtfs_rows.specs.Numbers.{IsNumber, IsClock, number_of, sixtieth, after_hours, clock_of, time_of, time_secs};
 
+use std::simd::prelude::*;
 use tb_base::Sec;
 
 // The number that one to nine digits write.
@@ -68,12 +70,48 @@ fn clock_secs(h: u8, i: u8, m: u8, n: u8, s: u8, t: u8) -> Option<u32>
     Some(hours * 3600 + minutes * 60 + seconds)
 }
 
+// Whether eight bytes write a time.
+fn is_clock(text: &[u8]) -> bool
+    requires { length text.now ≡ 8 }
+    ensures { IsTrue result → IsClock text.now }
+{
+    let above = u8x8::from_slice(text) - u8x8::from_array(*b"00:00:00");
+    above
+        .simd_le(u8x8::from_array([9, 9, 0, 5, 9, 0, 5, 9]))
+        .all()
+}
+
+// The number that two digits write.
+fn two_digits(tens: u8, ones: u8) -> u32
+    requires tens { IsInRange 48 57 tens }
+    requires ones { IsInRange 48 57 ones }
+    ensures { result ≡ (tens - 48) * 10 + (ones - 48) }
+{
+    (tens as u32 - 48) * 10 + (ones as u32 - 48)
+}
+
+// The seconds of eight bytes that write a time.
+fn eight_secs(text: &[u8]) -> u32
+    requires eight { length text.now ≡ 8 }
+    requires clock { IsClock text.now }
+    ensures time { Some (pos result) ≡ time_of text.now }
+    ensures small { result ≤ 359_999 }
+{
+    let hours = two_digits(text[0], text[1]);
+    let minutes = two_digits(text[3], text[4]);
+    let seconds = two_digits(text[6], text[7]);
+    hours * 3600 + (minutes * 60 + seconds)
+}
+
 /// The same as [`time_of`], as a number of seconds.
 pub(crate) fn time_secs(text: &[u8]) -> Option<u32>
     ensures secs { result ≡ time_secs text.now }
     ensures time { option_map pos result ≡ time_of text.now }
     ensures small { IfSome result (λ secs. secs ≤ 359_999) }
 {
+    if text.len() == 8 && is_clock(text) {
+        return Some(eight_secs(text));
+    }
     match text {
         [h, i, b':', m, n, b':', s, t] => clock_secs(*h, *i, *m, *n, *s, *t),
         [h, b':', m, n, b':', s, t] => clock_secs(b'0', *h, *m, *n, *s, *t),

@@ -162,7 +162,7 @@ fn cut_record<'a>(text: &'a [u8], fields: &mut Vec<&'a [u8]>) -> Result<&'a [u8]
 {
     let mut start = 0;
     let mut at = 0;
-    while at + 16 <= text.len() {
+    while text.len() - at >= 16 {
         if let Some(end) = cut_window(text, at, &mut start, fields)? {
             return Ok(&text[end + 1..]);
         }
