@@ -1,4 +1,4 @@
-use Rattle.std.proofs.Common.{◌≡◌, ◌∙◌, ◌-◌, length, get_or, arith, rules}
+use Rattle.std.proofs.Common.{◌≡◌, ◌∙◌, get_or, arith, rules}
 use Rattle.gtfs_rows.specs.Numbers.{time_of}
 use Rattle.gtfs_rows.proofs.NumberTests.{eight_timed, seven_timed, secs_by_time}
 use Rattle.gtfs_rows.proofs.numbers.time_secs.Goals as goal
