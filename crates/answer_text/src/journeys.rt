@@ -11,7 +11,8 @@ use crate::text::Text;
 use std::alloc::Global;
 use tb_base::{Choice, Event, Leg, Memory, Offer, Sec, Slot, StopNo, Timetable, TripNo, Value};
 
-const NO_JOURNEY: &[u8] = b"no journey\n";
+/// The line that stands for no choice at all.
+pub const NO_JOURNEY: &[u8] = b"no journey\n";
 
 // An event of a trip.
 fn event_at(table: &Timetable, trip: TripNo, at: u32) -> Event
@@ -157,8 +158,10 @@ impl Text {
         }
     }
 
-    // Adds the lines of legs.
-    fn legs(&mut self, table: &Timetable, legs: &[Leg]) -> Result<(), Memory>
+    /// Adds one line a leg, in order: `  walk STOP STOP SECONDS`, or
+    /// `  ride TRIP STOP DEPARTURE STOP ARRIVAL`, followed by ` day-before` where the trip began on
+    /// the day before. The numbers of the legs exist in the timetable.
+    pub fn legs(&mut self, table: &Timetable, legs: &[Leg]) -> Result<(), Memory>
         requires { All (HasNumbers table.now) legs.now }
         ensures { OnOk result (self.new ≡ self.old ++ legs_text table.now legs.now) }
     {
@@ -219,18 +222,6 @@ impl Text {
         self.leave(leave)?;
         self.journey(table, arrive, rides, offer.legs.as_slice())
     }
-}
-
-/// One line a leg, in order: `  walk STOP STOP SECONDS`, or
-/// `  ride TRIP STOP DEPARTURE STOP ARRIVAL`, followed by ` day-before` where the trip began on the
-/// day before. The numbers of the legs exist in the timetable.
-pub fn legs_text(alloc: Global, table: &Timetable, legs: &[Leg]) -> Result<Vec<u8>, Memory>
-    requires { All (HasNumbers table.now) legs.now }
-    ensures { IfOk result (λ v. v.items ≡ legs_text table.now legs.now) }
-{
-    let mut text = Text::new(alloc);
-    text.legs(table, legs)?;
-    Ok(text.into_bytes())
 }
 
 /// Each choice as `arrive TIME rides N` and its legs, or `no journey` where there is none.

@@ -15,5 +15,6 @@ mod times;
 
 pub use builds::{BuildCounts, build_list_text, build_text};
 pub use faults::fault_text;
-pub use journeys::{arrival_text, choices_text, legs_text, offers_text, unknown_text};
+pub use journeys::{NO_JOURNEY, arrival_text, choices_text, offers_text, unknown_text};
+pub use text::Text;
 pub use times::time_text;

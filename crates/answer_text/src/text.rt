@@ -7,9 +7,10 @@ use std::alloc::Global;
 use std::marker::Model;
 use tb_base::{Memory, Sec};
 
-// A text that grows at its end, seen as its bytes.
+/// A text that grows at its end, seen as its bytes. What adds to it is refused only for want of
+/// memory.
 #[derive(Drop)]
-pub(crate) struct Text {
+pub struct Text {
     bytes: Vec<u8>,
     alloc: Global,
 }
@@ -23,8 +24,8 @@ impl Model for Text {
 }
 
 impl Text {
-    // No bytes.
-    pub(crate) fn new(alloc: Global) -> Text
+    /// No bytes.
+    pub fn new(alloc: Global) -> Text
         ensures { result ≡ [] }
     {
         Text {
@@ -33,15 +34,15 @@ impl Text {
         }
     }
 
-    // The bytes, to keep.
-    pub(crate) fn into_bytes(self) -> Vec<u8>
+    /// The bytes, to keep.
+    pub fn into_bytes(self) -> Vec<u8>
         ensures { result.items ≡ self }
     {
         self.bytes
     }
 
-    // Adds bytes.
-    pub(crate) fn add(&mut self, bytes: &[u8]) -> Result<(), Memory>
+    /// Adds bytes.
+    pub fn add(&mut self, bytes: &[u8]) -> Result<(), Memory>
         ensures { OnOk result (self.new ≡ self.old ++ bytes.now) }
     {
         match self.bytes.extend_from_slice(bytes) {
@@ -50,8 +51,8 @@ impl Text {
         }
     }
 
-    // Adds a count in decimal digits.
-    pub(crate) fn count(&mut self, n: u64) -> Result<(), Memory>
+    /// Adds a count in decimal digits.
+    pub fn count(&mut self, n: u64) -> Result<(), Memory>
         ensures { OnOk result (self.new ≡ self.old ++ decimal n) }
     {
         match format!(in self.alloc; "{n}") {
@@ -60,8 +61,8 @@ impl Text {
         }
     }
 
-    // Adds a number in decimal digits.
-    pub(crate) fn number(&mut self, n: u32) -> Result<(), Memory>
+    /// Adds a number in decimal digits.
+    pub fn number(&mut self, n: u32) -> Result<(), Memory>
         ensures { OnOk result (self.new ≡ self.old ++ decimal n) }
     {
         match format!(in self.alloc; "{n}") {
@@ -102,8 +103,8 @@ impl Text {
         self.two_digits(secs % 60)
     }
 
-    // Adds a time.
-    pub(crate) fn time(&mut self, time: Sec) -> Result<(), Memory>
+    /// Adds a time, in seconds from noon minus twelve hours, as `time_text` shows it.
+    pub fn time(&mut self, time: Sec) -> Result<(), Memory>
         ensures { OnOk result (self.new ≡ self.old ++ time_text time) }
     {
         if time < 0 {

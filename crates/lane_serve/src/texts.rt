@@ -1,78 +1,64 @@
 //! What a run gives, as lines of text.
 ghost use Rattle.std.specs.Prelude.{◌≡◌, ◌++◌, IfOk, OnOk, flat_map, length};
-ghost use Rattle.std.specs.Fmt.{decimal};
 ghost use Rattle.lane_serve.specs.Texts.{answered_text, closing_text, outcome_text, outcomes_text, published_text, refused_text, report_text, served_text};
 
 use crate::lane::{LaneReport, ReplyText};
 use crate::plan::{Outcome, PlanItem};
 use crate::run::Served;
-use answer_text::fault_text;
+use answer_text::{Text, fault_text};
 use gtfs_rows::FeedFault;
 use std::alloc::Global;
 use tb_base::Memory;
 
-// Adds bytes.
-fn add(text: &mut Vec<u8>, bytes: &[u8]) -> Result<(), Memory>
-    ensures { OnOk result (text.new.items ≡ text.old.items ++ bytes.now) }
-{
-    match text.extend_from_slice(bytes) {
-        Ok(()) => Ok(()),
-        Err(_) => Err(Memory),
-    }
-}
-
-// Adds a count in decimal digits.
-fn add_count(alloc: Global, text: &mut Vec<u8>, n: u64) -> Result<(), Memory>
-    ensures { OnOk result (text.new.items ≡ text.old.items ++ decimal n) }
-{
-    match format!(in alloc; "{n}") {
-        Ok(digits) => add(text, digits.as_bytes()),
-        Err(_) => Err(Memory),
-    }
-}
-
-// `edition N WORD trips N lines N kept N`.
-fn published_text(
-    alloc: Global,
+// Adds `edition N WORD trips N lines N kept N`.
+fn add_published(
+    text: &mut Text,
     word: &str,
     number: u32,
     trips: u32,
     lines: u32,
     kept: u64,
-) -> Result<Vec<u8>, Memory>
-    ensures { IfOk result (λ v. v.items ≡ published_text word.now number trips lines kept) }
+) -> Result<(), Memory>
+    ensures { OnOk result
+        (text.new ≡ text.old ++ published_text word.now number trips lines kept) }
 {
-    let mut text = Vec::new(alloc);
-    add(&mut text, b"edition ")?;
-    add_count(alloc, &mut text, u64::from(number))?;
-    add(&mut text, b" ")?;
-    add(&mut text, word.as_bytes())?;
-    add(&mut text, b" trips ")?;
-    add_count(alloc, &mut text, u64::from(trips))?;
-    add(&mut text, b" lines ")?;
-    add_count(alloc, &mut text, u64::from(lines))?;
-    add(&mut text, b" kept ")?;
-    add_count(alloc, &mut text, kept)?;
-    add(&mut text, b"\n")?;
-    Ok(text)
+    text.add(b"edition ")?;
+    text.number(number)?;
+    text.add(b" ")?;
+    text.add(word.as_bytes())?;
+    text.add(b" trips ")?;
+    text.number(trips)?;
+    text.add(b" lines ")?;
+    text.number(lines)?;
+    text.add(b" kept ")?;
+    text.count(kept)?;
+    text.add(b"\n")
 }
 
-// `refused WORD FAULT`.
-fn refused_text(alloc: Global, word: &str, fault: &FeedFault) -> Result<Vec<u8>, Memory>
-    ensures { IfOk result (λ v. v.items ≡ refused_text word.now fault.now) }
+// Adds `refused WORD FAULT`.
+fn add_refused(
+    alloc: Global,
+    text: &mut Text,
+    word: &str,
+    fault: &FeedFault,
+) -> Result<(), Memory>
+    ensures { OnOk result (text.new ≡ text.old ++ refused_text word.now fault.now) }
 {
-    let mut text = Vec::new(alloc);
-    add(&mut text, b"refused ")?;
-    add(&mut text, word.as_bytes())?;
-    add(&mut text, b" ")?;
-    add(&mut text, fault_text(alloc, fault)?.as_slice())?;
-    add(&mut text, b"\n")?;
-    Ok(text)
+    text.add(b"refused ")?;
+    text.add(word.as_bytes())?;
+    text.add(b" ")?;
+    text.add(fault_text(alloc, fault)?.as_slice())?;
+    text.add(b"\n")
 }
 
-// The line of an item's outcome.
-fn outcome_text(alloc: Global, item: &PlanItem, outcome: &Outcome) -> Result<Vec<u8>, Memory>
-    ensures { IfOk result (λ v. v.items ≡ outcome_text item.now outcome.now) }
+// Adds the line of an item's outcome.
+fn add_outcome(
+    alloc: Global,
+    text: &mut Text,
+    item: &PlanItem,
+    outcome: &Outcome,
+) -> Result<(), Memory>
+    ensures { OnOk result (text.new ≡ text.old ++ outcome_text item.now outcome.now) }
 {
     let word = item.word.as_str();
     match outcome {
@@ -81,72 +67,68 @@ fn outcome_text(alloc: Global, item: &PlanItem, outcome: &Outcome) -> Result<Vec
             trips,
             lines,
             kept,
-        } => published_text(alloc, word, *number, *trips, *lines, *kept),
-        Outcome::Refused(fault) => refused_text(alloc, word, fault),
+        } => add_published(text, word, *number, *trips, *lines, *kept),
+        Outcome::Refused(fault) => add_refused(alloc, text, word, fault),
     }
 }
 
-// One line for each item.
+// Adds one line for each item.
 fn add_outcomes(
     alloc: Global,
-    text: &mut Vec<u8>,
+    text: &mut Text,
     plan: &[PlanItem],
     outcomes: &[Outcome],
 ) -> Result<(), Memory>
     requires { length outcomes.now ≡ length plan.now }
-    ensures { OnOk result (text.new.items ≡ text.old.items ++ outcomes_text plan.now outcomes.now) }
+    ensures { OnOk result (text.new ≡ text.old ++ outcomes_text plan.now outcomes.now) }
 {
     for i in 0..plan.len() {
-        let line = outcome_text(alloc, &plan[i], &outcomes[i])?;
-        add(text, line.as_slice())?;
+        add_outcome(alloc, text, &plan[i], &outcomes[i])?;
     }
     Ok(())
 }
 
-// `K edition N`, and the reply's lines.
-fn add_reply(alloc: Global, text: &mut Vec<u8>, reply: &ReplyText) -> Result<(), Memory>
-    ensures { OnOk result (text.new.items ≡ text.old.items ++ answered_text reply.now) }
+// Adds `K edition N`, and the reply's lines.
+fn add_reply(text: &mut Text, reply: &ReplyText) -> Result<(), Memory>
+    ensures { OnOk result (text.new ≡ text.old ++ answered_text reply.now) }
 {
-    let line = reply.line;
-    let edition = reply.edition;
-    let Ok(head) = format!(in alloc; "{line} edition {edition}\n") else {
-        return Err(Memory);
-    };
-    add(text, head.as_bytes())?;
-    add(text, reply.text.bytes())
+    text.number(reply.line)?;
+    text.add(b" edition ")?;
+    text.number(reply.edition)?;
+    text.add(b"\n")?;
+    text.add(reply.text.bytes())
 }
 
-// `lane NAME`, and the replies.
-fn add_report(alloc: Global, text: &mut Vec<u8>, report: &LaneReport) -> Result<(), Memory>
-    ensures { OnOk result (text.new.items ≡ text.old.items ++ report_text report.now) }
+// Adds `lane NAME`, and the replies.
+fn add_report(text: &mut Text, report: &LaneReport) -> Result<(), Memory>
+    ensures { OnOk result (text.new ≡ text.old ++ report_text report.now) }
 {
-    add(text, b"lane ")?;
-    add(text, report.name.bytes())?;
-    add(text, b"\n")?;
+    text.add(b"lane ")?;
+    text.add(report.name.bytes())?;
+    text.add(b"\n")?;
     for reply in &report.replies {
-        add_reply(alloc, text, reply)?;
+        add_reply(text, reply)?;
     }
     Ok(())
 }
 
-// The reports of all lanes.
-fn add_reports(alloc: Global, text: &mut Vec<u8>, reports: &[LaneReport]) -> Result<(), Memory>
-    ensures { OnOk result (text.new.items ≡ text.old.items ++ flat_map report_text reports.now) }
+// Adds the reports of all lanes.
+fn add_reports(text: &mut Text, reports: &[LaneReport]) -> Result<(), Memory>
+    ensures { OnOk result (text.new ≡ text.old ++ flat_map report_text reports.now) }
 {
     for report in reports {
-        add_report(alloc, text, report)?;
+        add_report(text, report)?;
     }
     Ok(())
 }
 
-// `closing edition N`.
-fn add_closing(alloc: Global, text: &mut Vec<u8>, last: u32) -> Result<(), Memory>
-    ensures { OnOk result (text.new.items ≡ text.old.items ++ closing_text last) }
+// Adds `closing edition N`.
+fn add_closing(text: &mut Text, last: u32) -> Result<(), Memory>
+    ensures { OnOk result (text.new ≡ text.old ++ closing_text last) }
 {
-    let Ok(line) = format!(in alloc; "closing edition {last}\n") else {
-        return Err(Memory);
-    };
-    add(text, line.as_bytes())
+    text.add(b"closing edition ")?;
+    text.number(last)?;
+    text.add(b"\n")
 }
 
 /// What a run gives, as lines of text. For each item of the plan `edition N WORD trips N lines N
@@ -157,10 +139,10 @@ pub fn served_text(alloc: Global, plan: &[PlanItem], served: &Served) -> Result<
     requires { length served.now.outcomes ≡ length plan.now }
     ensures { IfOk result (λ v. v.items ≡ served_text plan.now served.now) }
 {
-    let mut text = Vec::new(alloc);
+    let mut text = Text::new(alloc);
     add_outcomes(alloc, &mut text, plan, served.outcomes.as_slice())?;
-    add_reports(alloc, &mut text, served.lanes.as_slice())?;
-    add_closing(alloc, &mut text, served.last)?;
-    add_reports(alloc, &mut text, served.closing.as_slice())?;
-    Ok(text)
+    add_reports(&mut text, served.lanes.as_slice())?;
+    add_closing(&mut text, served.last)?;
+    add_reports(&mut text, served.closing.as_slice())?;
+    Ok(text.into_bytes())
 }

@@ -4,4 +4,4 @@ use Rattle.lane_serve.proofs.texts.add_report.Given as goal
 
 abbrev pub invariant-loop-reply : goal.invariant-loop-reply
 invariant-loop-reply l =
-    l.text.items ≡ l.initial.text.items ++ flat_map answered_text (take l.reply-index l.report.replies)
+    l.text ≡ l.initial.text ++ flat_map answered_text (take l.reply-index l.report.replies)

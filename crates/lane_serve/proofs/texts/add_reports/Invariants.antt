@@ -3,4 +3,4 @@ use Rattle.lane_serve.specs.Texts.{report_text}
 use Rattle.lane_serve.proofs.texts.add_reports.Given as goal
 
 abbrev pub invariant-loop-report : goal.invariant-loop-report
-invariant-loop-report l = l.text.items ≡ l.fn.text.items ++ flat_map report_text (take l.report-index l.reports)
+invariant-loop-report l = l.text ≡ l.fn.text ++ flat_map report_text (take l.report-index l.reports)

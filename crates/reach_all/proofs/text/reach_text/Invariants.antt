@@ -4,4 +4,4 @@ use Rattle.reach_all.specs.Text.{stop_line}
 use Rattle.reach_all.proofs.text.reach_text.Given as goal
 
 abbrev pub invariant-loop-stop : goal.invariant-loop-stop
-invariant-loop-stop l = l.text.items ≡ flat_map (stop_line l.table (map (λ list. list.items) l.lists)) (numbers_below l.stop)
+invariant-loop-stop l = l.text ≡ flat_map (stop_line l.table (map (λ list. list.items) l.lists)) (numbers_below l.stop)
