@@ -36,12 +36,7 @@ fn add_published(
 }
 
 // Adds `refused WORD FAULT`.
-fn add_refused(
-    alloc: Global,
-    text: &mut Text,
-    word: &str,
-    fault: &FeedFault,
-) -> Result<(), Memory>
+fn add_refused(alloc: Global, text: &mut Text, word: &str, fault: &FeedFault) -> Result<(), Memory>
     ensures { OnOk result (text.new ≡ text.old ++ refused_text word.now fault.now) }
 {
     text.add(b"refused ")?;
