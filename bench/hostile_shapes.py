@@ -37,6 +37,10 @@ def quotes_that_open_and_close(folder, n):
     feed(folder, stop_times=TIMES + '"a",' * (25 * n) + "\n")
 
 
+def commas(folder, n):
+    feed(folder, stop_times=TIMES + "," * (100 * n) + "\n")
+
+
 def columns(folder, n):
     header = ",".join(f"c{i}" for i in range(n))
     feed(folder, stop_times=header + "," + TIMES + "," * n + "t0,8:00:00,,A,1\n")
@@ -134,6 +138,7 @@ SHAPES = {
         one_long_field_in_quotes,
         quotes,
         quotes_that_open_and_close,
+        commas,
         columns,
         columns_of_one_name,
         columns_in_each_row,
