@@ -1,5 +1,5 @@
 -- Where one arrives too late to go on.
-use Rattle.std.proofs.Common.{◌≡◌, ℕ, ◌<◌, ◌≤◌, ◌⊎◌, inl, inr, length, sym, ap, subst, arith, Option, None, Some, ℤ, pos, ◌+ℤ◌, ◌≤ℤ◌}
+use Rattle.std.proofs.Common.{◌≡◌, ℕ, ◌<◌, ◌≤◌, ◌⊎◌, inl, inr, length, sym, ap, subst, arith, Option, None, Some, ℤ, ◌≤ℤ◌}
 use Rattle.std.proofs.lemmas.Int.{ints}
 use Rattle.tb_base.specs.Network.{NetData}
 use Rattle.tb_base.specs.TimetableData.{TimetableData, arrival_at, events_of}

@@ -1,10 +1,8 @@
 -- Who boards the lines at a stop.
-use Rattle.std.proofs.Common.{◌≡◌, ◌∙◌, ℕ, zero, suc, ◌+◌, ◌<◌, inl, inr, ◌==◌, ◌&&◌, List, [], ◌∷◌, Bool, true, false, cond, length, map, get_or, refl, sym, ap, subst, arith, Option, Some, None, ℤ, ◌≤ℤ◌}
-use Rattle.std.specs.Prelude.{AllPairs, filter, int_le, nat_lt}
+use Rattle.std.proofs.Common.{◌≡◌, ◌∙◌, ℕ, zero, suc, ◌+◌, ◌<◌, inl, inr, ◌==◌, List, [], ◌∷◌, Bool, true, false, cond, length, map, get_or, refl, sym, ap, subst, arith, Option, Some, None, ℤ, ◌≤ℤ◌}
+use Rattle.std.specs.Prelude.{AllPairs, filter, int_le}
 use Rattle.std.specs.List.{concat}
 use Rattle.std.specs.Option.{option_map}
-use Rattle.std.proofs.lemmas.Bool.Decides.{nat_tests}
-use Rattle.std.proofs.lemmas.Int.{ints}
 use Rattle.std.proofs.lemmas.Bool.{and_parts, eqb-true, ltb-true, lt-ltb, eq-eqb, and_from}
 use Rattle.tb_base.specs.declared.table.Event.{Event}
 use Rattle.tb_base.specs.declared.transfer.Hop.{Hop}

@@ -1,21 +1,23 @@
 -- Events are weighed, and noted to go on from.
-use Rattle.std.proofs.Common.{◌≡◌, ◌∙◌, ℕ, suc, ◌+◌, ◌<◌, ◌≤◌, ◌⊎◌, inl, inr, List, [], ◌∷◌, ◌++◌, length, Bool, refl, sym, ap, subst, arith, Option, ℤ}
+use Rattle.std.proofs.Common.{◌≡◌, ◌∙◌, ℕ, suc, ◌+◌, ◌<◌, ◌≤◌, ◌⊎◌, inl, inr, List, [], ◌∷◌, length, Bool, refl, sym, ap, subst, arith, Option, ℤ}
 use Rattle.std.specs.Prelude.{All, Contains}
 use Rattle.std.proofs.lemmas.List.{append-nil}
 use Rattle.std.proofs.lemmas.List.Elements.{All-push, Contains-push, Contains-append_left}
 use Rattle.tb_base.specs.Network.{NetData}
-use Rattle.tb_base.specs.TimetableData.{TimetableData, arrival_at, event_at, stop_at}
+use Rattle.tb_base.specs.TimetableData.{arrival_at, event_at, stop_at}
 use Rattle.tb_base.specs.BestValues.{QueryData}
 use Rattle.tb_base.specs.Soundness.{IsSound}
 use Rattle.segment_queue.specs.declared.desk.Segment.{Segment}
 use Rattle.segment_queue.specs.declared.desk.Hit.{Hit}
 use Rattle.segment_queue.specs.declared.notes.Note.{Note}
+use Rattle.segment_queue.specs.declared.seen.Seen.{Seen}
+use Rattle.tb_base.specs.declared.transfer.Hop.{Hop}
 use Rattle.segment_queue.specs.Queue.{DeskData, IsInStep, IsSoundSegment}
 use Rattle.segment_queue.specs.Scans.{seen_at}
 use Rattle.segment_queue.specs.Traced.{round_of, segment_of}
 use Rattle.earliest_query.specs.Choices.{ArrivesBy, IsWeighed}
-use Rattle.earliest_query.specs.Noted.{IsLeft, IsNotedDown, IsSoundNote, note_of}
-use Rattle.earliest_query.specs.UnderWay.{Covers, Extends, IsBounded, IsDone, IsImproved, IsQueue}
+use Rattle.earliest_query.specs.Noted.{IsLeft, IsNotedDown, IsSoundNote}
+use Rattle.earliest_query.specs.UnderWay.{Covers, Extends, IsBounded, IsImproved, IsQueue}
 use Rattle.earliest_query.proofs.Growing.{extends-long, extends-refl, extends-round, extends-segment}
 use Rattle.earliest_query.proofs.BestSoFar.{bounded-improved, bounded-same, covers-kept, improved-trans, new_hit-kept, weighed_as, weighed_bounded, weighed_improved}
 use Rattle.earliest_query.proofs.Lateness.{arrives_by-later, arrives_on, done-kept, late-bounded}
@@ -49,22 +51,23 @@ pub notes-extends : (D : DeskData) (notes : List Note) (round : ℕ) → Extends
 notes-extends D notes round = record { more = []; segments = sym (append-nil D.segments); rounds = λ n h k. absurd (omega (arith, h, k)); hits = refl }
 
 -- a note stays sound while the queue grows
-pub sound_note-kept : (T : TimetableData) (D E : DeskData) (joined round : ℕ) (note : Note) → Extends D E joined → IsSoundNote T D.segments round note → IsSoundNote T E.segments round note
-sound_note-kept T D E joined round note e s =
+pub sound_note-kept : (shown : Seen → List Hop) (N : NetData) (D E : DeskData) (joined round : ℕ) (note : Note) → Extends D E joined → IsSoundNote shown N D.segments round note → IsSoundNote shown N E.segments round note
+sound_note-kept shown N D E joined round note e s =
     let same : segment_of E.segments note.segment ≡ segment_of D.segments note.segment = extends-segment D E joined e note.segment s.inside in
     record {
       inside = omega (arith, s.inside, extends-long D E joined e);
       this_round = extends-round D E joined e note.segment s.inside ∙ s.this_round;
       onward = omega (arith, s.onward, ap (λ (r : Segment). r.board) same);
       within = omega (arith, s.within, ap (λ (r : Segment). r.end) same);
-      is = s.is ∙ ap (λ (r : Segment). record { segment = note.segment; arr = arrival_at T r.trip (seen_at note.seen); seen = record { trip = r.trip; at = seen_at note.seen } }) (sym same);
+      arr = s.arr ∙ ap (λ (r : Segment). arrival_at N.table r.trip (seen_at note.seen)) (sym same);
+      shows = s.shows ∙ ap (λ (r : Segment). N.hops r.trip (seen_at note.seen)) (sym same);
     }
 
 -- what is left stays left, with a better hit and more notes too
 pub left-kept : (N : NetData) (Q : QueryData) (D : DeskData) (round n i : ℕ) (a b : Option Hit) (before after : List Note) → n < length D.segments → ((note : Note) → Contains before note → Contains after note) → IsImproved N.table Q D round a b
     → IsLeft N D a before n i → IsLeft N D b after n i
 left-kept N Q D round n i a b before after inside more improved (inl done) = inl (done-kept N Q D D (suc round) round n i a b (extends-refl D (suc round)) inside improved done)
-left-kept N Q D round n i a b before after inside more improved (inr noted) = inr (more (note_of N.table D.segments n i) noted)
+left-kept N Q D round n i a b before after inside more improved (inr noted) = inr (record { by = noted.by; one = more noted.by noted.one; segment = noted.segment; at = noted.at })
 
 -- an event of segment n of a desk D is weighed, by which the best so far became the result
 pub record IsWeighedAt (N : NetData) (Q : QueryData) (D : DeskData) (n at round : ℕ) (best result : Option Hit) : Type 0 where
@@ -83,14 +86,14 @@ pub record IsWeighedAt (N : NetData) (Q : QueryData) (D : DeskData) (n at round 
   pub weighed : IsWeighed N.table Q stop arr alight n at round best result
 
 -- what has been noted of segment n, up to this index, since these notes
-pub record IsNotedTo (N : NetData) (Q : QueryData) (D : DeskData) (n round : ℕ) (so_far : Option Hit) (before notes : List Note) (best : Option Hit) (at : ℕ) : Type 0 where
-  pub sound : All (IsSoundNote N.table D.segments round) notes
+pub record IsNotedTo (shown : Seen → List Hop) (N : NetData) (Q : QueryData) (D : DeskData) (n round : ℕ) (so_far : Option Hit) (before notes : List Note) (best : Option Hit) (at : ℕ) : Type 0 where
+  pub sound : All (IsSoundNote shown N D.segments round) notes
   pub kept : (note : Note) → Contains before note → Contains notes note
   pub left : (i : ℕ) → (segment_of D.segments n).board < i → i ≤ at → IsLeft N D best notes n i
   pub bounded : (i : ℕ) → (segment_of D.segments n).board < i → i ≤ at → IsBounded N.table Q D best n i
   pub improved : IsImproved N.table Q D round so_far best
 
-module _ (N : NetData) (Q : QueryData) (D : DeskData) (n done round : ℕ) (so_far best result : Option Hit) (before notes : List Note) (to : IsNotedTo N Q D n round so_far before notes best done) (w : IsWeighedAt N Q D n (done + 1) round best result) where
+module _ (shown : Seen → List Hop) (N : NetData) (Q : QueryData) (D : DeskData) (n done round : ℕ) (so_far best result : Option Hit) (before notes : List Note) (to : IsNotedTo shown N Q D n round so_far before notes best done) (w : IsWeighedAt N Q D n (done + 1) round best result) where
   covers : Covers D n (done + 1)
   covers = record { onward = omega (arith, w.onward, ap (λ (s : Segment). s.board) w.is); within = omega (arith, w.within, ap (λ (s : Segment). s.end) w.is) }
 
@@ -111,29 +114,26 @@ module _ (N : NetData) (Q : QueryData) (D : DeskData) (n done round : ℕ) (so_f
   before_or_here i h = grind arith
 
   -- it is noted, where there are hops from it
-  module _ (hops : ℕ) (after : List Note) (hops_are : hops ≡ length (N.hops (segment_of D.segments n).trip (done + 1))) (noted : IsNotedDown hops (note_of N.table D.segments n (done + 1)) notes after) where
-    more : (note : Note) → Contains notes note → Contains after note
-    more note h = elim noted [
-      | inl e ↦ subst (λ xs. Contains xs note) (sym e.1) h
-      | inr e ↦ subst (λ xs. Contains xs note) (sym e) (Contains-append_left notes (note_of N.table D.segments n (done + 1) ∷ []) note h)
+  module _ (note : Note) (after : List Note) (sound_here : IsSoundNote shown N D.segments round note) (of_n : note.segment ≡ n) (of_at : seen_at note.seen ≡ done + 1) (hops : ℕ) (hops_are : hops ≡ length (N.hops (segment_of D.segments n).trip (done + 1))) (noted : IsNotedDown hops note notes after) where
+    more : (other : Note) → Contains notes other → Contains after other
+    more other h = elim noted [
+      | inl e ↦ subst (λ xs. Contains xs other) (sym e.1) h
+      | inr e ↦ subst (λ xs. Contains xs other) (sym e) (Contains-append_left notes (note ∷ []) other h)
     ]
 
     left_here : IsLeft N D result after n (done + 1)
     left_here = elim noted [
       | inl e ↦ inl (inl (λ h in_set. absurd (omega (arith, in_set.1, hops_are, e.0))))
-      | inr e ↦ inr (subst (λ xs. Contains xs (note_of N.table D.segments n (done + 1))) (sym e) (Contains-push notes (note_of N.table D.segments n (done + 1))))
+      | inr e ↦ inr (record { by = note; one = subst (λ xs. Contains xs note) (sym e) (Contains-push notes note); segment = of_n; at = of_at })
     ]
 
-    sound_here : IsSoundNote N.table D.segments round (note_of N.table D.segments n (done + 1))
-    sound_here = record { inside = w.inside; this_round = w.is_round; onward = covers.onward; within = covers.within; is = refl }
-
-    pub noted_on : IsNotedTo N Q D n round so_far before after result (done + 1)
+    pub noted_on : IsNotedTo shown N Q D n round so_far before after result (done + 1)
     noted_on = record {
       sound = elim noted [
-        | inl e ↦ subst (All (IsSoundNote N.table D.segments round)) (sym e.1) to.sound
-        | inr e ↦ subst (All (IsSoundNote N.table D.segments round)) (sym e) (All-push (IsSoundNote N.table D.segments round) notes (note_of N.table D.segments n (done + 1)) to.sound sound_here)
+        | inl e ↦ subst (All (IsSoundNote shown N D.segments round)) (sym e.1) to.sound
+        | inr e ↦ subst (All (IsSoundNote shown N D.segments round)) (sym e) (All-push (IsSoundNote shown N D.segments round) notes note to.sound sound_here)
       ];
-      kept = λ note h. more note (to.kept note h);
+      kept = λ other h. more other (to.kept other h);
       left = λ i above below. elim (before_or_here i below) [
         | inl earlier ↦ left-kept N Q D round n i best result notes after w.inside more better (to.left i above earlier)
         | inr e ↦ subst (λ m. IsLeft N D result after n m) e left_here

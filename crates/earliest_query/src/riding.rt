@@ -60,7 +60,7 @@ fn note_down(desk: &mut Desk, segment: u32, visit: &Visit<'_>)
             arr: visit.arr,
             seen: visit.seen,
         };
-        desk.add_note(note, visit.first);
+        desk.add_note(note);
     }
 }
 
@@ -153,10 +153,10 @@ impl<S: Scan> Search<'_, S> {
         requires round { round_of desk.old.segments n ≡ round }
         requires room { length desk.old.notes + covered_indices (segment_of desk.old.segments n)
             ≤ desk.old.note_room }
-        requires notes { All (IsSoundNote (S.net self.now.scan.now).table desk.old.segments round)
+        requires notes { All (IsSoundNote (S.shown self.now.scan.now) (S.net self.now.scan.now) desk.old.segments round)
             desk.old.notes }
         ensures rest { desk.new ≡ record desk.old { notes = desk.new.notes } }
-        ensures notes { All (IsSoundNote (S.net self.now.scan.now).table desk.old.segments round)
+        ensures notes { All (IsSoundNote (S.shown self.now.scan.now) (S.net self.now.scan.now) desk.old.segments round)
             desk.new.notes }
         ensures kept { (note : Note) → Contains desk.old.notes note → Contains desk.new.notes note }
         ensures left { (i : ℕ) → Covers desk.old n i →
@@ -204,7 +204,7 @@ impl<S: Scan> Search<'_, S> {
         requires to { to ≤ length desk.old.segments }
         requires rounds { (n : ℕ) → from ≤ n → n < to → round_of desk.old.segments n ≡ round }
         ensures rest { desk.new ≡ record desk.old { notes = desk.new.notes } }
-        ensures notes { All (IsSoundNote (S.net self.now.scan.now).table desk.old.segments round)
+        ensures notes { All (IsSoundNote (S.shown self.now.scan.now) (S.net self.now.scan.now) desk.old.segments round)
             desk.new.notes }
         ensures left { (n i : ℕ) → from ≤ n → n < to → Covers desk.old n i →
             IsLeft (S.net self.now.scan.now) desk.old result desk.new.notes n i }
@@ -228,7 +228,7 @@ impl<S: Scan> Search<'_, S> {
     // hit arrives.
     fn follow_note(&self, desk: &mut Desk, best: &Option<Hit>, note: &Note, round: u32)
         requires queue { IsQueue (S.net self.now.scan.now) self.now.query.now desk.old (suc round) }
-        requires note { IsSoundNote (S.net self.now.scan.now).table desk.old.segments round
+        requires note { IsSoundNote (S.shown self.now.scan.now) (S.net self.now.scan.now) desk.old.segments round
             note.now }
         requires sufficient { AreSufficient (S.net self.now.scan.now).table
             (S.net self.now.scan.now).hops }
@@ -249,7 +249,7 @@ impl<S: Scan> Search<'_, S> {
     // Follows the hops from all events that were noted.
     fn follow_notes(&self, desk: &mut Desk, best: &Option<Hit>, round: u32)
         requires queue { IsQueue (S.net self.now.scan.now) self.now.query.now desk.old (suc round) }
-        requires notes { All (IsSoundNote (S.net self.now.scan.now).table desk.old.segments round)
+        requires notes { All (IsSoundNote (S.shown self.now.scan.now) (S.net self.now.scan.now) desk.old.segments round)
             desk.old.notes }
         requires sufficient { AreSufficient (S.net self.now.scan.now).table
             (S.net self.now.scan.now).hops }

@@ -2,7 +2,7 @@ ghost use Rattle.std.specs.Prelude.{◌≡◌, ℕ, IfOk};
 ghost use Rattle.tb_base.specs.Sufficiency.{AreSufficient};
 ghost use Rattle.tb_base.specs.Transfers.{kept_hops};
 ghost use Rattle.transfer_pack.specs.Packed.{packed};
-ghost use Rattle.edition_store.specs.Editions.{EditionData, IsEdition, kept_count, net_of};
+ghost use Rattle.edition_store.specs.Editions.{EditionData, IsEdition, kept_count, net_of, shown_of};
 
 use line_split::Lines;
 use segment_queue::{Look, Scan, Seen, Shape, Steps, View, Visit, WalkGroups};
@@ -10,7 +10,7 @@ use std::alloc::Global;
 use std::marker::Model;
 use std::sync::ledger::Ledger;
 use tb_base::{Hop, Memory, Path, Sec, StopNo, Timetable, TripNo};
-use transfer_pack::{FirstHop, ReadAhead, Set};
+use transfer_pack::{ReadAhead, Set};
 
 /// The network of a day: a timetable, its lines, and the set of its kept transfers. It holds the
 /// groups of its stops too, which a search looks at.
@@ -151,6 +151,8 @@ impl Edition {
 impl Scan for Edition {
     ghost net = { net_of };
 
+    ghost shown = { shown_of };
+
     fn soundness(&self) {
         self.view().soundness();
     }
@@ -191,8 +193,8 @@ impl Scan for Edition {
         self.view().read_event_ahead(trip, at, ahead);
     }
 
-    fn read_hop_ahead(&self, first: FirstHop, ahead: &mut ReadAhead) {
-        self.view().read_hop_ahead(first, ahead);
+    fn read_hop_ahead(&self, seen: Seen, ahead: &mut ReadAhead) {
+        self.view().read_hop_ahead(seen, ahead);
     }
 }
 

@@ -7,6 +7,7 @@ use Rattle.tb_base.specs.declared.transfer.Hop.{Hop}
 use Rattle.tb_base.specs.TimetableData.{TimetableData, events_of, stop_at}
 use Rattle.tb_base.specs.Transfers.{line_from, earliest_trip, may_be_boarded, numbers_below}
 use Rattle.segment_queue.specs.declared.seen.Seen.{Seen}
+use Rattle.transfer_pack.specs.Packed.{PackedHops, hops_in}
 
 -- the part of its line from trip t on
 abbrev pub trips_from : List (List ℕ) → ℕ → List ℕ
@@ -37,16 +38,13 @@ indices_at T p line =
 abbrev pub line_indices_at : TimetableData → List (List ℕ) → ℕ → List LineIndex
 line_indices_at T lines p = flat_map (indices_at T p) lines
 
--- event i of trip t, once it has been looked at
-abbrev pub seen_event : ℕ → ℕ → Seen
-seen_event t i = record { trip = t; at = i }
-
--- the trip of an event that has been looked at, and its index there
-abbrev pub seen_trip : Seen → ℕ
-seen_trip s = s.trip
-
+-- the index in its trip of an event that has been looked at
 abbrev pub seen_at : Seen → ℕ
 seen_at s = s.at
+
+-- the hops from there, which a set has where they stand
+abbrev pub shown_in : PackedHops → Seen → List Hop
+shown_in set s = hops_in set s.run
 
 -- who boards there no earlier than the time: the line's first trip in time, where boarding is
 -- allowed and it isn't the last index

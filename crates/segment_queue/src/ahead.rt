@@ -2,21 +2,15 @@ ghost use Rattle.std.specs.Prelude.{◌≡◌, ◌≤◌, length};
 ghost use Rattle.segment_queue.specs.Queue.{IsInStep};
 
 use super::desk::Desk;
+use super::notes::Note;
 use super::scan::Scan;
-use transfer_pack::{FirstHop, ReadAhead};
+use transfer_pack::ReadAhead;
 
-// Appends where hops begin, where there is room.
-pub(crate) fn push_first(firsts: &mut Vec<FirstHop>, first: FirstHop) {
-    if firsts.len() < firsts.capacity() {
-        firsts.push_reserved(first);
-    }
-}
-
-// Reads these hops ahead.
-fn read_hops<S: Scan>(scan: &S, firsts: &[FirstHop]) -> ReadAhead {
+// Reads the first of the hops from each of these events ahead.
+fn read_hops<S: Scan>(scan: &S, notes: &[Note]) -> ReadAhead {
     let mut ahead = ReadAhead::new();
-    for first in firsts {
-        scan.read_hop_ahead(*first, &mut ahead);
+    for note in notes {
+        scan.read_hop_ahead(note.seen, &mut ahead);
     }
     ahead
 }
@@ -49,7 +43,7 @@ impl Desk {
     pub fn read_notes_ahead<S: Scan>(&mut self, scan: &S)
         ensures { self.new ≡ self.old }
     {
-        let ahead = read_hops(scan, self.firsts.as_slice());
+        let ahead = read_hops(scan, self.notes.as_slice());
         self.ahead.join(ahead);
     }
 }

@@ -11,7 +11,7 @@ use super::scan::Scan;
 use std::alloc::Global;
 use std::marker::Model;
 use tb_base::{Memory, Query, StopNo, TripNo, Value};
-use transfer_pack::{FirstHop, ReadAhead};
+use transfer_pack::ReadAhead;
 
 /// A part of a trip: boarded at `board`, and looked at up to `end`. It was hopped onto from the segment with the first
 /// number of `parent`, at the second number, an index of that segment's trip; without a parent it is a first ride.
@@ -38,14 +38,13 @@ pub struct Hit {
 }
 
 /// What a search writes: the queue of segments, the marks, the hits, and notes of where to go on from. It is made once,
-/// and used for any number of queries. Nobody sees what is read ahead, nor where the hops from noted events begin.
+/// and used for any number of queries. Nobody sees what is read ahead.
 #[derive(Drop)]
 pub struct Desk {
     marks: Marks,
     pub(crate) segments: Vec<Segment>,
     hits: Vec<Hit>,
     pub(crate) notes: Vec<Note>,
-    pub(crate) firsts: Vec<FirstHop>,
     pub(crate) ahead: ReadAhead,
 }
 
@@ -146,7 +145,6 @@ impl Desk {
             segments: Vec::new(alloc),
             hits: Vec::new(alloc),
             notes: Vec::new(alloc),
-            firsts: Vec::new(alloc),
             ahead: ReadAhead::new(),
         }
     }
@@ -166,7 +164,6 @@ impl Desk {
         make_room_for(&mut self.segments, shape.events as usize)?;
         make_room_for(&mut self.hits, shape.events as usize + 1)?;
         make_room_for(&mut self.notes, shape.events as usize)?;
-        make_room_for(&mut self.firsts, shape.events as usize)?;
         Ok(())
     }
 
@@ -197,7 +194,6 @@ impl Desk {
         self.segments.clear();
         self.hits.clear();
         self.notes.clear();
-        self.firsts.clear();
     }
 
     /// Enters a trip at an index. Where the index is below the trip's mark, the segment from there up to the mark joins the

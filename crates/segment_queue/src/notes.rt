@@ -1,10 +1,8 @@
 ghost use Rattle.std.specs.Prelude.{◌≡◌, ◌<◌, ◌++◌, ◌∷◌, [], Some, length, slice_get};
 
-use super::ahead::push_first;
 use super::desk::{Desk, push_within};
 use super::seen::Seen;
 use tb_base::Sec;
-use transfer_pack::FirstHop;
 
 /// An event that a segment covers, to go on from later: the number of the segment, when it arrives, and the event, which has
 /// been looked at.
@@ -21,16 +19,14 @@ impl Desk {
         ensures { self.new ≡ record self.old { notes = [] } }
     {
         self.notes.clear();
-        self.firsts.clear();
     }
 
-    /// Appends a note of an event from which the hops begin there.
-    pub fn add_note(&mut self, note: Note, first: FirstHop)
+    /// Appends a note.
+    pub fn add_note(&mut self, note: Note)
         requires { length self.old.notes < self.old.note_room }
         ensures { self.new ≡ record self.old { notes = self.old.notes ++ note ∷ [] } }
     {
         push_within(&mut self.notes, note);
-        push_first(&mut self.firsts, first);
     }
 
     /// How many notes there are.

@@ -3,14 +3,14 @@ ghost use Rattle.tb_base.specs.Lines.{AreDividedInto};
 ghost use Rattle.tb_base.specs.Soundness.{IsSound, IsSoundPath};
 ghost use Rattle.tb_base.specs.Walking.{walk};
 ghost use Rattle.tb_base.specs.TimetableData.{arrival_at, event_at, event_total, events_of, stop_at};
-ghost use Rattle.segment_queue.specs.Scans.{boarding_hop, line_indices_at, no_line_index, seen_at, seen_event, seen_trip, trips_from};
+ghost use Rattle.segment_queue.specs.Scans.{boarding_hop, line_indices_at, no_line_index, seen_at, trips_from};
 ghost use Rattle.segment_queue.specs.WalkGroups.{AreWalkGroups};
 
 use super::seen::Seen;
 use super::steps::Steps;
 use std::sync::ledger::Ledger;
 use tb_base::{Hop, Path, Sec, StopNo, TripNo};
-use transfer_pack::{FirstHop, ReadAhead};
+use transfer_pack::ReadAhead;
 
 /// How large a timetable is.
 #[derive(Clone, Copy, Debug, PartialEq, Eq)]
@@ -21,8 +21,8 @@ pub struct Shape {
     pub lines: u32,
 }
 
-/// An event as a search sees it: its stop, its arrival, whether one may alight there, and the hops from it; by what
-/// they can be read again, and ahead.
+/// An event as a search sees it: its stop, its arrival, whether one may alight there, and the hops from it; and by what
+/// they can be read again.
 #[derive(Clone, Copy)]
 pub struct Visit<'a> {
     pub stop: StopNo,
@@ -30,15 +30,20 @@ pub struct Visit<'a> {
     pub alight: bool,
     pub out: &'a [Hop],
     pub seen: Seen,
-    pub first: FirstHop,
 }
 
 /// What a search looks at: the network of a day. No call takes memory.
 pub trait Scan {
+    ghost use Rattle.std.specs.Prelude.{List};
     ghost use Rattle.tb_base.specs.Network.{NetData};
+    ghost use Rattle.tb_base.specs.declared.transfer.Hop.{Hop};
+    ghost use Rattle.segment_queue.specs.declared.seen.Seen.{Seen};
 
     /// The network: a timetable, its lines, and for each event the hops by which a search goes on.
     ghost net: { Self → NetData };
+
+    /// The hops by which a search goes on from what a look showed.
+    ghost shown: { Self → Seen → List Hop };
 
     /// The timetable is sound, and the lines are its trips, each once.
     fn soundness(&self)
@@ -87,17 +92,15 @@ pub trait Scan {
 
     /// The hops from an event that has been looked at. It is no further step.
     fn hops_from(&self, seen: Seen) -> &[Hop]
-        requires trip { seen_trip seen < length (net self.now).table.trips }
-        requires at { seen_at seen < length (events_of (net self.now).table (seen_trip seen)) }
-        ensures { result.now ≡ (net self.now).hops (seen_trip seen) (seen_at seen) };
+        ensures { result.now ≡ shown self.now seen };
 
     /// Reads event `at` of a trip ahead. It shows nothing of the event, so it is no look.
     fn read_event_ahead(&self, trip: TripNo, at: u32, ahead: &mut ReadAhead)
         requires trip { trip < length (net self.now).table.trips }
         requires at { at < length (events_of (net self.now).table trip) };
 
-    /// Reads the first of the hops that begin there ahead. It shows nothing of it.
-    fn read_hop_ahead(&self, first: FirstHop, ahead: &mut ReadAhead);
+    /// Reads the first of the hops from an event that has been looked at ahead. It shows nothing of it.
+    fn read_hop_ahead(&self, seen: Seen, ahead: &mut ReadAhead);
 }
 
 /// The looks of a search at a network: who boards a line, and an event of a trip. Each is a step on
@@ -123,6 +126,7 @@ pub trait Look<L: Ledger>: Scan {
         ensures arr { result.arr ≡ arrival_at (Self.net self.now).table trip at }
         ensures alight { result.alight ≡ (event_at (Self.net self.now).table trip at).alight }
         ensures out { result.out.now ≡ (Self.net self.now).hops trip at }
-        ensures seen { result.seen ≡ seen_event trip at }
+        ensures at { seen_at result.seen ≡ at }
+        ensures shown { Self.shown self.now result.seen ≡ (Self.net self.now).hops trip at }
         ensures step { steps.new ≡ steps.old + 1 };
 }

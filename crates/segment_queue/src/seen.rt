@@ -1,15 +1,14 @@
 ghost use Rattle.std.specs.Prelude.{◌≡◌};
 ghost use Rattle.segment_queue.specs.Scans.{seen_at};
 
-use tb_base::TripNo;
+use transfer_pack::HopRun;
 
-/// An event that has been looked at: an index of a trip. Only a look gives one, and whoever has it may read the hops from there.
-/// It doesn't show its trip: of one that an earlier search left in a desk nobody can say that its event exists, and `hops_from`
-/// asks for that.
+/// An event that has been looked at: an index of a trip, and where the hops from there stand. Only a look gives one, and
+/// whoever has it may read those hops again. It doesn't show its trip, nor where they stand.
 #[derive(Clone, Copy)]
 pub struct Seen {
-    pub(crate) trip: TripNo,
     pub(crate) at: u32,
+    pub(crate) run: HopRun,
 }
 
 impl Seen {

@@ -1,7 +1,7 @@
 ghost use Rattle.std.specs.Prelude.{◌≡◌, ◌<◌, ◌+◌, ◌≤◌, ℕ, Some, All, AllPairs, IfSome, IsTrue, ◌↔◌, length, slice_get, slice_index_or};
 ghost use Rattle.tb_base.specs.Soundness.{IsSoundPath};
 ghost use Rattle.tb_base.specs.TimetableData.{arrival_at, event_at, events_of, stop_at};
-ghost use Rattle.segment_queue.specs.Scans.{seen_at, seen_event, seen_trip, trips_from};
+ghost use Rattle.segment_queue.specs.Scans.{seen_at, shown_in, trips_from};
 ghost use Rattle.segment_queue.specs.WalkGroups.{AreWalkGroups};
 ghost use Rattle.transfer_pack.specs.Packed.{packed};
 
@@ -13,7 +13,7 @@ use line_split::Lines;
 use std::marker::Model;
 use std::sync::ledger::Ledger;
 use tb_base::{Hop, OutSet, Path, Sec, StopNo, Timetable, TripNo};
-use transfer_pack::{FirstHop, ReadAhead, Set};
+use transfer_pack::{ReadAhead, Set};
 
 /// A timetable, its lines and a set of hops, as a search looks at them.
 #[derive(Drop)]
@@ -100,7 +100,8 @@ impl<'a> View<'a> {
         ensures arr { result.arr ≡ arrival_at self.now.0 trip at }
         ensures alight { result.alight ≡ (event_at self.now.0 trip at).alight }
         ensures out { result.out.now ≡ packed self.now.2 trip at }
-        ensures seen { result.seen ≡ seen_event trip at }
+        ensures at { seen_at result.seen ≡ at }
+        ensures shown { shown_in self.now.2 result.seen ≡ packed self.now.2 trip at }
         ensures step { steps.new ≡ steps.old + 1 }
     {
         steps.tick();
@@ -111,26 +112,29 @@ impl<'a> View<'a> {
             arr: call.arr,
             alight: call.alight,
             out: set.out(trip, at),
-            seen: Seen { trip, at },
-            first: set.first_hop(trip, at),
+            seen: Seen {
+                at,
+                run: set.run(trip, at),
+            },
         }
     }
 
     /// The hops from an event that has been looked at, for as long as the set is lent.
     pub fn hops_seen(&self, seen: Seen) -> &'a [Hop]
-        requires trip { seen_trip seen < length self.now.0.trips }
-        requires at { seen_at seen < length (events_of self.now.0 (seen_trip seen)) }
-        ensures { result.now ≡ packed self.now.2 (seen_trip seen) (seen_at seen) }
+        ensures { result.now ≡ shown_in self.now.2 seen }
     {
         let set = self.set;
-        set.out(seen.trip, seen.at)
+        set.hops_in(seen.run)
     }
 }
 
 impl<'a> Scan for View<'a> {
     ghost use Rattle.transfer_pack.specs.Packed.{packed};
+    ghost use Rattle.segment_queue.specs.Scans.{shown_in};
 
     ghost net = { λ v. record { table = v.0; lines = v.1.lines; hops = packed v.2 } };
+
+    ghost shown = { λ v. shown_in v.2 };
 
     fn soundness(&self) {
         let lines = self.lines;
@@ -190,9 +194,9 @@ impl<'a> Scan for View<'a> {
         set.read_call_ahead(trip, at, ahead);
     }
 
-    fn read_hop_ahead(&self, first: FirstHop, ahead: &mut ReadAhead) {
+    fn read_hop_ahead(&self, seen: Seen, ahead: &mut ReadAhead) {
         let set = self.set;
-        set.read_hop_ahead(first, ahead);
+        set.read_hop_ahead(seen.run, ahead);
     }
 }
 

@@ -2,6 +2,7 @@
 use Rattle.std.specs.Prelude.{◌≡◌, ℕ, suc, ◌+◌, ◌-◌, ◌<◌, ◌≤◌, List, [], ◌∷◌, length, take, drop, slice_index_or, nat_lt, if◌then◌else◌}
 use Rattle.tb_base.specs.declared.transfer.Hop.{Hop}
 use Rattle.tb_base.specs.TimetableData.{TimetableData, events_of}
+use Rattle.transfer_pack.specs.declared.run.HopRun.{HopRun}
 
 -- the runs of hops between each bound and the next
 abbrev pub runs_in : List Hop → List ℕ → List (List Hop)
@@ -15,11 +16,12 @@ AreBounds [] end = ⊥
 AreBounds (a ∷ []) end = a ≡ end
 AreBounds (a ∷ b ∷ bounds) end = (a ≤ b) × AreBounds (b ∷ bounds) end
 
--- the hops of all events of a timetable, one list an event, trip after trip, and the number of each
--- trip's first list, and of the list behind the last
+-- the hops of all events of a timetable, one behind the other, and one list an event, trip after
+-- trip, and the number of each trip's first list, and of the list behind the last
 pub record PackedHops : Type 0 where
   pub table : TimetableData
   pub starts : List ℕ
+  pub hops : List Hop
   pub runs : List (List Hop)
 
 -- each event of the timetable has a list: those of a trip stand before those of the next
@@ -35,3 +37,7 @@ packed S t i =
     if nat_lt i (length (events_of S.table t))
     then slice_index_or S.runs (slice_index_or S.starts t 0 + i) []
     else []
+
+-- the hops that stand there
+abbrev pub hops_in : PackedHops → HopRun → List Hop
+hops_in S r = take (r.to - r.from) (drop r.from S.hops)

@@ -1,12 +1,5 @@
 use std::marker::Model;
 
-/// Where the hops from an event begin, for reading ahead alone. No call tells the number, and no
-/// clause says which one it is.
-#[derive(Clone, Copy)]
-pub struct FirstHop {
-    pub(crate) place: u32,
-}
-
 /// What was read ahead, so that it is at hand when it is looked at. No call and no clause tells
 /// anything of it.
 ///

@@ -2,11 +2,12 @@ ghost use Rattle.std.specs.Prelude.{◌≡◌, ◌+◌, ◌<◌, ◌++◌, ◌�
 ghost use Rattle.tb_base.specs.OutSets.{AreRowsOf, hops_at, row_of};
 ghost use Rattle.tb_base.specs.Transfers.{numbers_below};
 ghost use Rattle.transfer_pack.specs.Calls.{call_of};
-ghost use Rattle.transfer_pack.specs.Packed.{AreBounds, packed, runs_in};
+ghost use Rattle.transfer_pack.specs.Packed.{AreBounds, hops_in, packed, runs_in};
 ghost use Rattle.transfer_pack.specs.Spots.{calls_in, ends_in, spot_call};
 
-use super::ahead::{FirstHop, ReadAhead};
+use super::ahead::ReadAhead;
 use super::call::Call;
+use super::run::HopRun;
 use std::alloc::Global;
 use std::marker::Model;
 use std::snapshot::Snapshot;
@@ -81,6 +82,7 @@ impl Model for Set {
     ghost view = { λ s. record {
       table = s.table.value;
       starts = s.starts.items;
+      hops = s.hops.items;
       runs = runs_in s.hops.items (ends_in s.spots.items);
     } };
 
@@ -88,6 +90,7 @@ impl Model for Set {
         × FitsRuns (record {
           table = s.table.value;
           starts = s.starts.items;
+          hops = s.hops.items;
           runs = runs_in s.hops.items (ends_in s.spots.items);
         })
         × AreCalls s.table.value s.starts.items (calls_in s.spots.items) };
@@ -233,15 +236,26 @@ impl Set {
         self.spots[event + 1].call()
     }
 
-    /// Where the hops from an event begin.
-    pub fn first_hop(&self, trip: TripNo, at: u32) -> FirstHop
+    /// Where the hops from an event stand.
+    pub fn run(&self, trip: TripNo, at: u32) -> HopRun
         requires trip { trip < length self.now.table.trips }
         requires at { at < length (events_of self.now.table trip) }
+        ensures { hops_in self.now result ≡ packed self.now trip at }
     {
         let event = self.event(trip, at);
-        FirstHop {
-            place: self.spots[event].end,
+        HopRun {
+            from: self.spots[event].end,
+            to: self.spots[event + 1].end,
         }
+    }
+
+    /// The hops that stand there.
+    pub fn hops_in(&self, place: HopRun) -> &[Hop]
+        ensures { result.now ≡ hops_in self.now place }
+    {
+        let to = (place.to as usize).min(self.hops.len());
+        let from = (place.from as usize).min(to);
+        run(self.hops.as_slice(), from, to)
     }
 
     /// Reads an event ahead.
@@ -252,9 +266,9 @@ impl Set {
         ahead.take(self.call(trip, at).stop.0);
     }
 
-    /// Reads the first of an event's hops ahead.
-    pub fn read_hop_ahead(&self, first: FirstHop, ahead: &mut ReadAhead) {
-        if let Some(hop) = self.hops.get(first.place as usize) {
+    /// Reads the first of the hops that stand there ahead.
+    pub fn read_hop_ahead(&self, place: HopRun, ahead: &mut ReadAhead) {
+        if let Some(hop) = self.hops.get(place.from as usize) {
             ahead.take(hop.at);
         }
     }

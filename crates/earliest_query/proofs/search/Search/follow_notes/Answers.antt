@@ -26,12 +26,13 @@ loop-k-init g c =
 
 pub follow_note-requires-clause-note : goal.follow_note-requires-clause-note
 follow_note-requires-clause-note g c =
-    let T = (g.S.Scan.net c.args.self.now.scan.now).table in
+    let N : NetData = g.S.Scan.net c.args.self.now.scan.now in
+    let shown = g.S.Scan.shown c.args.self.now.scan.now in
     let D : DeskData = c.args.desk.now in
     let note : Note = c.note-note.result in
     let is : get_or D.notes c.loop-k.k note ≡ note = ap (λ ns. get_or ns c.loop-k.k note) (sym c.loop-k.invariant.notes) ∙ get_or_from_slice_get c.loop-k.desk.notes c.loop-k.k note note c.note-note.ensures in
     let inside : c.loop-k.k < length D.notes = omega (arith, slice_get_within c.loop-k.desk.notes c.loop-k.k note c.note-note.ensures, ap length c.loop-k.invariant.notes) in
-    sound_note-kept T D c.loop-k.desk (suc c.args.round) c.args.round note c.loop-k.invariant.extends (subst (IsSoundNote T D.segments c.args.round) is (c.requires.notes c.loop-k.k note inside))
+    sound_note-kept shown N D c.loop-k.desk (suc c.args.round) c.args.round note c.loop-k.invariant.extends (subst (IsSoundNote shown N D.segments c.args.round) is (c.requires.notes c.loop-k.k note inside))
 
 below_or_at : (k i : ℕ) → k < i + 1 → (k < i) ⊎ (i ≡ k)
 below_or_at k i h = grind arith

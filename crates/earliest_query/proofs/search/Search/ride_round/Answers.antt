@@ -1,10 +1,10 @@
-use Rattle.std.proofs.Common.{◌≡◌, ◌∙◌, ℕ, suc, ◌<◌, inl, inr, length, refl, sym, ap, subst, arith}
+use Rattle.std.proofs.Common.{ℕ, suc, inl, inr, refl, sym, subst, arith}
 use Rattle.std.specs.Prelude.{All}
 use Rattle.tb_base.specs.Network.{NetData}
 use Rattle.tb_base.specs.BestValues.{QueryData}
 use Rattle.segment_queue.specs.Queue.{DeskData}
-use Rattle.earliest_query.specs.Noted.{IsSoundNote, note_of}
-use Rattle.earliest_query.specs.UnderWay.{Extends, IsQueue}
+use Rattle.earliest_query.specs.Noted.{IsSoundNote}
+use Rattle.earliest_query.specs.UnderWay.{Extends, IsDone, IsQueue}
 use Rattle.earliest_query.proofs.Growing.{extends-trans}
 use Rattle.earliest_query.proofs.BestSoFar.{new_hit-kept}
 use Rattle.earliest_query.proofs.Lateness.{done-kept}
@@ -19,7 +19,7 @@ follow_notes-requires-clause-queue g c =
 
 pub follow_notes-requires-clause-notes : goal.follow_notes-requires-clause-notes
 follow_notes-requires-clause-notes g c =
-    subst (λ (d : DeskData). All (IsSoundNote (g.S.Scan.net c.args.self.now.scan.now).table d.segments c.args.round) c.weigh_round-best.new.desk.notes) (sym c.weigh_round-best.ensures.rest) c.weigh_round-best.ensures.notes
+    subst (λ (d : DeskData). All (IsSoundNote (g.S.Scan.shown c.args.self.now.scan.now) (g.S.Scan.net c.args.self.now.scan.now) d.segments c.args.round) c.weigh_round-best.new.desk.notes) (sym c.weigh_round-best.ensures.rest) c.weigh_round-best.ensures.notes
 
 pub returns : goal.returns
 returns g c =
@@ -38,7 +38,7 @@ returns g c =
       extends = grown;
       followed = λ n i from below covers. elim (told.left n i from below covers) [
         | inl done ↦ done-kept N Q D F top c.args.round n i best best grown (omega (arith, below, c.requires.to)) (inl refl) done
-        | inr noted ↦ c.follow_notes.ensures.done (note_of N.table D.segments n i) noted
+        | inr noted ↦ subst (λ m. IsDone N F best m i) noted.segment (subst (λ k. IsDone N F best noted.by.segment k) noted.at (c.follow_notes.ensures.done noted.by noted.one))
       ];
       bounded = told.bounded;
       improved = new_hit-kept N.table Q D F top c.args.round c.args.so_far best grown told.improved;

@@ -1,4 +1,4 @@
-use Rattle.std.proofs.Common.{◌≡◌, ℕ, ◌+◌, ◌<◌, ◌⊎◌, inl, inr, length, get_or, subst, arith, pos, ◌+ℤ◌}
+use Rattle.std.proofs.Common.{◌≡◌, inl, inr, length, get_or, subst, arith, pos, ◌+ℤ◌}
 use Rattle.std.specs.Prelude.{Some}
 use Rattle.segment_queue.specs.Scans.{boarding_hop, line_indices_at, no_line_index}
 use Rattle.segment_queue.specs.Traced.{round_segments}

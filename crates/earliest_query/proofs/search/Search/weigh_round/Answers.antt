@@ -1,5 +1,5 @@
-use Rattle.std.proofs.Common.{◌≡◌, ◌∙◌, ℕ, suc, ◌+◌, ◌<◌, inl, [], length, refl, sym, ap, subst, arith}
-use Rattle.std.specs.Prelude.{All, sum_by}
+use Rattle.std.proofs.Common.{◌∙◌, ℕ, ◌<◌, inl, [], length, refl, sym, ap, subst, arith}
+use Rattle.std.specs.Prelude.{All}
 use Rattle.std.proofs.lemmas.List.Elements.{All-nil}
 use Rattle.std.proofs.lemmas.List.Sums.{sum_by_more, sum_by_more_le}
 use Rattle.tb_base.specs.Network.{NetData}
@@ -25,7 +25,7 @@ loop-n-init g c =
     let none = ap (λ (d : DeskData). d.notes) emptied in
     record {
       rest = emptied ∙ ap (λ ns. record c.args.desk.now { notes = ns }) (sym none);
-      sound = subst (All (IsSoundNote (g.S.Scan.net c.args.self.now.scan.now).table c.args.desk.now.segments c.args.round)) (sym none) (All-nil (IsSoundNote (g.S.Scan.net c.args.self.now.scan.now).table c.args.desk.now.segments c.args.round));
+      sound = subst (All (IsSoundNote (g.S.Scan.shown c.args.self.now.scan.now) (g.S.Scan.net c.args.self.now.scan.now) c.args.desk.now.segments c.args.round)) (sym none) (All-nil (IsSoundNote (g.S.Scan.shown c.args.self.now.scan.now) (g.S.Scan.net c.args.self.now.scan.now) c.args.desk.now.segments c.args.round));
       left = λ n i from below covers. absurd (omega (arith, from, below));
       bounded = λ n i from below covers. absurd (omega (arith, from, below));
       improved = inl refl;
@@ -61,7 +61,7 @@ weigh_segment-best-requires-clause-room g c =
 
 pub weigh_segment-best-requires-clause-notes : goal.weigh_segment-best-requires-clause-notes
 weigh_segment-best-requires-clause-notes g c =
-    subst (λ (d : DeskData). All (IsSoundNote (g.S.Scan.net c.args.self.now.scan.now).table d.segments c.args.round) c.loop-n.desk.notes) (sym c.loop-n.invariant.rest) c.loop-n.invariant.sound
+    subst (λ (d : DeskData). All (IsSoundNote (g.S.Scan.shown c.args.self.now.scan.now) (g.S.Scan.net c.args.self.now.scan.now) d.segments c.args.round) c.loop-n.desk.notes) (sym c.loop-n.invariant.rest) c.loop-n.invariant.sound
 
 pub loop-n-preserved : goal.loop-n-preserved
 loop-n-preserved g c =
@@ -83,7 +83,7 @@ loop-n-preserved g c =
     let covered = ap (λ (d : DeskData). covered_indices (segment_of d.segments k)) before.rest in
     record {
       rest = told.rest ∙ ap (λ (d : DeskData). record d { notes = F.notes }) before.rest;
-      sound = subst (λ (d : DeskData). All (IsSoundNote N.table d.segments c.args.round) F.notes) before.rest told.notes;
+      sound = subst (λ (d : DeskData). All (IsSoundNote (g.S.Scan.shown c.args.self.now.scan.now) N d.segments c.args.round) F.notes) before.rest told.notes;
       left = left_one_more N Q D E.notes F.notes c.args.from k c.args.round c.args.so_far c.loop-n.best result inside told.kept improved before.left left;
       bounded = bounded_one_weighed N Q D E.notes F.notes c.args.from k c.args.round c.args.so_far c.loop-n.best result inside told.kept improved before.bounded bounded;
       improved = improved_one_weighed N Q D E.notes F.notes c.args.from k c.args.round c.args.so_far c.loop-n.best result inside told.kept improved before.improved;

@@ -1,4 +1,4 @@
-use Rattle.std.proofs.Common.{◌≡◌, ◌∙◌, ℕ, suc, ◌+◌, inl, inr, [], ◌∷◌, length, length-append, sym, ap, subst, refl, arith}
+use Rattle.std.proofs.Common.{◌≡◌, ◌∙◌, ℕ, ◌+◌, inl, inr, [], ◌∷◌, length, length-append, sym, ap, subst, refl, arith}
 use Rattle.std.proofs.lemmas.Int.{ints}
 use Rattle.std.proofs.lemmas.Option.{get_or_from_slice_get}
 use Rattle.tb_base.specs.Network.{NetData}
@@ -8,7 +8,7 @@ use Rattle.segment_queue.specs.declared.desk.Segment.{Segment}
 use Rattle.segment_queue.specs.declared.notes.Note.{Note}
 use Rattle.segment_queue.specs.Queue.{DeskData, IsSoundSegment}
 use Rattle.segment_queue.specs.Traced.{no_segment, segment_of}
-use Rattle.earliest_query.specs.Noted.{IsNotedDown, note_of}
+use Rattle.earliest_query.specs.Noted.{IsNotedDown, IsSoundNote}
 use Rattle.earliest_query.proofs.Following.{sound_event}
 use Rattle.earliest_query.proofs.Noting.{IsWeighedAt, bounded_late, improved_late, left_late, noted_on}
 use Rattle.earliest_query.proofs.search.Search.weigh_segment.Goals as goal
@@ -74,6 +74,7 @@ note_down-requires g c =
 pub loop-before-preserved : goal.loop-before-preserved
 loop-before-preserved g c =
     let N : NetData = g.S.Scan.net c.args.self.now.scan.now in
+    let shown = g.S.Scan.shown c.args.self.now.scan.now in
     let Q : QueryData = c.args.self.now.query.now in
     let D : DeskData = c.args.desk.now in
     let E : DeskData = c.loop-before.desk in
@@ -101,16 +102,23 @@ loop-before-preserved g c =
     let trip : (segment_of D.segments n).trip ≡ c.in-Some.segment.trip = ap (λ (s : Segment). s.trip) same in
     let hops_are = ap length c.visit-visit.ensures.out ∙ ap (λ t. length (N.hops t at)) (sym trip) in
     let arr_is = c.visit-visit.ensures.arr ∙ ap (λ t. arrival_at N.table t at) (sym trip) in
-    let note_is : ◌≡◌ {A = Note} (record { segment = n; arr = c.visit-visit.result.arr; seen = c.visit-visit.result.seen }) (note_of N.table D.segments n at)
-    = ap (λ a. record { segment = n; arr = a; seen = c.visit-visit.result.seen }) arr_is
-    ∙ ap (λ s. record { segment = n; arr = arrival_at N.table (segment_of D.segments n).trip at; seen = s }) (c.visit-visit.ensures.seen ∙ ap (λ t. record { trip = t; at = at }) (sym trip)) in
-    let noted : IsNotedDown (length c.visit-visit.result.out.now) (note_of N.table D.segments n at) E.notes F.notes = subst (λ x. IsNotedDown (length c.visit-visit.result.out.now) x E.notes F.notes) note_is c.note_down.ensures.noted in
+    let note : Note = record { segment = n; arr = c.visit-visit.result.arr; seen = c.visit-visit.result.seen } in
+    let seen_is = c.visit-visit.ensures.at in
+    let sound : IsSoundNote shown N D.segments c.args.round note = record {
+      inside = c.requires.segment;
+      this_round = c.requires.round;
+      onward = omega (arith, seen_is, ap (λ (s : Segment). s.board) same);
+      within = omega (arith, seen_is, c.loop-before-test.true, ap (λ (s : Segment). s.end) same);
+      arr = arr_is ∙ ap (λ k. arrival_at N.table (segment_of D.segments n).trip k) (sym seen_is);
+      shows = c.visit-visit.ensures.shown ∙ ap (λ t. N.hops t at) (sym trip) ∙ ap (λ k. N.hops (segment_of D.segments n).trip k) (sym seen_is);
+    } in
+    let noted : IsNotedDown (length c.visit-visit.result.out.now) note E.notes F.notes = c.note_down.ensures.noted in
     record {
       rest = c.note_down.ensures.rest ∙ ap (λ (d : DeskData). record d { notes = F.notes }) before.rest;
-      noted = noted_on N Q D n c.loop-before.before c.args.round c.args.so_far c.loop-before.best c.weigh-best.result D.notes E.notes before.noted w (length c.visit-visit.result.out.now) F.notes hops_are noted;
+      noted = noted_on shown N Q D n c.loop-before.before c.args.round c.args.so_far c.loop-before.best c.weigh-best.result D.notes E.notes before.noted w note F.notes sound refl seen_is (length c.visit-visit.result.out.now) hops_are noted;
       few = elim noted [
         | inl e ↦ omega (arith, before.few, ap length e.1)
-        | inr e ↦ omega (arith, before.few, ap length e, length-append E.notes (note_of N.table D.segments n at ∷ []), ap (λ (s : Segment). s.board) same)
+        | inr e ↦ omega (arith, before.few, ap length e, length-append E.notes (note ∷ []), ap (λ (s : Segment). s.board) same)
       ];
       steps = omega (arith, before.steps, c.visit-visit.ensures.step, ap (λ (s : Segment). s.board) same);
     }
@@ -118,6 +126,7 @@ loop-before-preserved g c =
 pub returns-then-is_late : goal.returns-then-is_late
 returns-then-is_late g c =
     let N : NetData = g.S.Scan.net c.args.self.now.scan.now in
+    let shown = g.S.Scan.shown c.args.self.now.scan.now in
     let Q : QueryData = c.args.self.now.query.now in
     let D : DeskData = c.args.desk.now in
     let E : DeskData = c.loop-before.desk in
@@ -147,9 +156,9 @@ returns-then-is_late g c =
       rest = before.rest;
       notes = before.noted.sound;
       kept = before.noted.kept;
-      left = left_late N Q D n c.loop-before.before c.args.round c.args.so_far c.loop-before.best c.weigh-best.result D.notes E.notes before.noted w c.soundness.ensures.sound whole late;
-      bounded = bounded_late N Q D n c.loop-before.before c.args.round c.args.so_far c.loop-before.best c.weigh-best.result D.notes E.notes before.noted w c.soundness.ensures.sound whole late;
-      improved = improved_late N Q D n c.loop-before.before c.args.round c.args.so_far c.loop-before.best c.weigh-best.result D.notes E.notes before.noted w c.soundness.ensures.sound whole late;
+      left = left_late shown N Q D n c.loop-before.before c.args.round c.args.so_far c.loop-before.best c.weigh-best.result D.notes E.notes before.noted w c.soundness.ensures.sound whole late;
+      bounded = bounded_late shown N Q D n c.loop-before.before c.args.round c.args.so_far c.loop-before.best c.weigh-best.result D.notes E.notes before.noted w c.soundness.ensures.sound whole late;
+      improved = improved_late shown N Q D n c.loop-before.before c.args.round c.args.so_far c.loop-before.best c.weigh-best.result D.notes E.notes before.noted w c.soundness.ensures.sound whole late;
       few = omega (arith, before.few, ap (λ (s : Segment). s.board) same, ap (λ (s : Segment). s.end) same, c.loop-before-test.true);
       steps = omega (arith, before.steps, c.visit-visit.ensures.step, ap (λ (s : Segment). s.board) same, ap (λ (s : Segment). s.end) same, c.loop-before-test.true);
     }

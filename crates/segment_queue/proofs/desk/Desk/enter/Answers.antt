@@ -23,7 +23,7 @@ pub returns-clause-step : goal.returns-clause-step
 returns-clause-step g c =
     let N : NetData = g.S.Scan.net c.args.scan.now in
     let step : IsInStep N (the_view c.self.inside) = subst (IsInStep N) (sym c.self.view_is) c.requires.step in
-    in_step-entered N (the_view c.self.inside) (the_view (record { marks = c.lower_marks.new.marks; segments = c.push_within.new.items; hits = c.self.inside.hits; notes = c.self.inside.notes; firsts = c.self.inside.firsts; ahead = c.self.inside.ahead })) c.args.trip c.args.at c.args.parent c.soundness.ensures.divided step c.requires.trip
+    in_step-entered N (the_view c.self.inside) (the_view (record { marks = c.lower_marks.new.marks; segments = c.push_within.new.items; hits = c.self.inside.hits; notes = c.self.inside.notes; ahead = c.self.inside.ahead })) c.args.trip c.args.at c.args.parent c.soundness.ensures.divided step c.requires.trip
     (omega (arith, c.mark_on-end.ensures, c.if-end-at.false))
     (record {
       segments = c.push_within.ensures.items ∙ ap (λ e. c.self.inside.segments.items ++ record { trip = c.args.trip; board = c.args.at; end = e; parent = c.args.parent } ∷ []) c.mark_on-end.ensures;

@@ -6,25 +6,20 @@ use Rattle.segment_queue.proofs.desk.Desk.make_room.Goals as goal
 
 pub returns-in_err-make_room_for-clause-step : goal.returns-in_err-make_room_for-clause-step
 returns-in_err-make_room_for-clause-step g c =
-    λ N step. in_step-grown N (the_view c.self.inside) (the_view (record { marks = c.make_room.new.self; segments = c.make_room_for.new.items; hits = c.self.inside.hits; notes = c.self.inside.notes; firsts = c.self.inside.firsts; ahead = c.self.inside.ahead })) _
+    λ N step. in_step-grown N (the_view c.self.inside) (the_view (record { marks = c.make_room.new.self; segments = c.make_room_for.new.items; hits = c.self.inside.hits; notes = c.self.inside.notes; ahead = c.self.inside.ahead })) _
     (subst (IsInStep N) (sym c.self.view_is) step) c.in_ok-make_room.ensures.room c.make_room_for.ensures.items c.make_room_for.ensures.grows (omega arith) (omega arith)
 
 pub returns-in_err-make_room_for-2-clause-step : goal.returns-in_err-make_room_for-2-clause-step
 returns-in_err-make_room_for-2-clause-step g c =
-    λ N step. in_step-grown N (the_view c.self.inside) (the_view (record { marks = c.make_room.new.self; segments = c.make_room_for.new.items; hits = c.make_room_for-2.new.items; notes = c.self.inside.notes; firsts = c.self.inside.firsts; ahead = c.self.inside.ahead })) _
+    λ N step. in_step-grown N (the_view c.self.inside) (the_view (record { marks = c.make_room.new.self; segments = c.make_room_for.new.items; hits = c.make_room_for-2.new.items; notes = c.self.inside.notes; ahead = c.self.inside.ahead })) _
     (subst (IsInStep N) (sym c.self.view_is) step) c.in_ok-make_room.ensures.room c.make_room_for.ensures.items c.make_room_for.ensures.grows c.make_room_for-2.ensures.grows (omega arith)
 
 pub returns-in_err-make_room_for-3-clause-step : goal.returns-in_err-make_room_for-3-clause-step
 returns-in_err-make_room_for-3-clause-step g c =
-    λ N step. in_step-grown N (the_view c.self.inside) (the_view (record { marks = c.make_room.new.self; segments = c.make_room_for.new.items; hits = c.make_room_for-2.new.items; notes = c.make_room_for-3.new.items; firsts = c.self.inside.firsts; ahead = c.self.inside.ahead })) _
-    (subst (IsInStep N) (sym c.self.view_is) step) c.in_ok-make_room.ensures.room c.make_room_for.ensures.items c.make_room_for.ensures.grows c.make_room_for-2.ensures.grows c.make_room_for-3.ensures.grows
-
-pub returns-in_err-make_room_for-4-clause-step : goal.returns-in_err-make_room_for-4-clause-step
-returns-in_err-make_room_for-4-clause-step g c =
-    λ N step. in_step-grown N (the_view c.self.inside) (the_view (record { marks = c.make_room.new.self; segments = c.make_room_for.new.items; hits = c.make_room_for-2.new.items; notes = c.make_room_for-3.new.items; firsts = c.make_room_for-4.new.items; ahead = c.self.inside.ahead })) _
+    λ N step. in_step-grown N (the_view c.self.inside) (the_view (record { marks = c.make_room.new.self; segments = c.make_room_for.new.items; hits = c.make_room_for-2.new.items; notes = c.make_room_for-3.new.items; ahead = c.self.inside.ahead })) _
     (subst (IsInStep N) (sym c.self.view_is) step) c.in_ok-make_room.ensures.room c.make_room_for.ensures.items c.make_room_for.ensures.grows c.make_room_for-2.ensures.grows c.make_room_for-3.ensures.grows
 
 pub returns-clause-step : goal.returns-clause-step
 returns-clause-step g c =
-    λ N step. in_step-grown N (the_view c.self.inside) (the_view (record { marks = c.make_room.new.self; segments = c.make_room_for.new.items; hits = c.make_room_for-2.new.items; notes = c.make_room_for-3.new.items; firsts = c.make_room_for-4.new.items; ahead = c.self.inside.ahead })) _
+    λ N step. in_step-grown N (the_view c.self.inside) (the_view (record { marks = c.make_room.new.self; segments = c.make_room_for.new.items; hits = c.make_room_for-2.new.items; notes = c.make_room_for-3.new.items; ahead = c.self.inside.ahead })) _
     (subst (IsInStep N) (sym c.self.view_is) step) c.in_ok-make_room.ensures.room c.make_room_for.ensures.items c.make_room_for.ensures.grows c.make_room_for-2.ensures.grows c.make_room_for-3.ensures.grows
