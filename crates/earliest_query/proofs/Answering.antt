@@ -6,7 +6,7 @@ use Rattle.std.proofs.lemmas.List.{take_all}
 use Rattle.std.proofs.lemmas.List.Elements.{All-map, All-weaker, All-contains, All-nil, All-cons}
 use Rattle.tb_base.specs.Network.{NetData}
 use Rattle.tb_base.specs.declared.query.Value.{Value}
-use Rattle.tb_base.specs.TimetableData.{TimetableData, arrival_at, departure_at, event_total, events_of, stop_at, MayAlight}
+use Rattle.tb_base.specs.TimetableData.{TimetableData, arrival_at, departure_at, event_total, stop_at, MayAlight}
 use Rattle.tb_base.specs.Walking.{walk}
 use Rattle.tb_base.specs.Journeys.{Ride, Leads, walk_secs}
 use Rattle.tb_base.specs.BestValues.{IsAttained, IsBest, IsStep, QueryData, value_of}
@@ -24,15 +24,15 @@ use Rattle.tb_laws.proofs.UTurnLaws.{some}
 use Rattle.segment_queue.specs.declared.desk.Segment.{Segment}
 use Rattle.segment_queue.specs.declared.desk.Hit.{Hit}
 use Rattle.segment_queue.specs.Queue.{DeskData, IsInStep, covered_indices}
-use Rattle.segment_queue.specs.Traced.{IsAnswered, IsTracedHit, no_segment, round_of, round_segments, segment_of}
+use Rattle.segment_queue.specs.Traced.{IsAnswered, IsTracedHit, no_segment, round_of, segment_of}
 use Rattle.segment_queue.proofs.Totals.{last_le_events}
 use Rattle.earliest_query.specs.Choices.{ArrivesBy, hits_of}
 use Rattle.earliest_query.specs.UnderWay.{AreBoarded, Extends, IsHit, IsQueue, covered_before}
 use Rattle.earliest_query.specs.Ridden.{IsRidden}
-use Rattle.segment_queue.proofs.Rounds.{board_of, end_of, length-round_segments, trip_of}
 use Rattle.earliest_query.proofs.Reaching.{hit_attained, reached_all, same_values}
 use Rattle.earliest_query.proofs.Following.{get_or-inside}
 use Rattle.earliest_query.proofs.BestSoFar.{IsWalkHit}
+use Rattle.earliest_query.proofs.Sorting.{IsPartAt, part_at, parts, parts_reach}
 use Rattle.earliest_query.proofs.Keeping.{hits_of-same, value_member}
 
 -- the origin that a stop is boarded from
@@ -112,12 +112,6 @@ module _ (T : TimetableData) (origins : List ℕ) (stop : ℕ) where
       ]
 
 module _ (N : NetData) (Q : QueryData) (D : DeskData) (round : ℕ) (ridden : IsRidden N Q D (length D.segments) round) where
-  abbrev rounds : List RoundSegment
-  rounds = round_segments D.segments
-
-  long : length rounds ≡ length D.segments
-  long = length-round_segments D.segments
-
   abbrev values : List Value
   values = map (λ (h : Hit). h.value) D.hits
 
@@ -129,25 +123,30 @@ module _ (N : NetData) (Q : QueryData) (D : DeskData) (round : ℕ) (ridden : Is
   all_attained : All (IsAttained N.table Q) values
   all_attained = All-map (IsAttained N.table Q) (λ (h : Hit). h.value) D.hits (All-weaker (IsTracedHit N.table Q D.segments) (λ (h : Hit). IsAttained N.table Q h.value) (λ h t. hit_attained N.table Q D.segments ridden.queue.entered h t) D.hits ridden.traced)
 
-  pub searched : IsPrunedSearch N.table N.hops Q.from Q.leave values rounds
+  abbrev pub parts_of : List RoundSegment
+  parts_of = parts N Q D round ridden
+
+  at_part : (m : ℕ) → m < length parts_of → IsPartAt N Q D round ridden parts_of m
+  at_part m h = part_at N Q D round ridden m h
+
+  pub searched : IsPrunedSearch N.table N.hops Q.from Q.leave values parts_of
   searched = record {
-    reached = λ n h. let inside : n < length D.segments = omega (arith, h, long) in
-        subst (λ t. IsReached N.table Q.from Q.leave (round_of D.segments n) t (segment_at rounds n).board) (sym (trip_of D.segments n inside))
-        (subst (λ b. IsReached N.table Q.from Q.leave (round_of D.segments n) (segment_of D.segments n).trip b) (sym (board_of D.segments n inside)) (reached_all N.table Q D.segments ridden.queue.entered n inside));
+    reached = λ m h. let q = at_part m h in
+        subst (λ r. IsReached N.table Q.from Q.leave r (segment_at parts_of m).trip (segment_at parts_of m).board) (sym q.round)
+        (subst (λ t. IsReached N.table Q.from Q.leave (round_of D.segments q.of) t (segment_at parts_of m).board) (sym q.trip)
+        (subst (λ b. IsReached N.table Q.from Q.leave (round_of D.segments q.of) (segment_of D.segments q.of).trip b) (sym q.board) (reached_all N.table Q D.segments ridden.queue.entered q.of q.inside)));
     starts = λ p t b secs from boards not_last walks in_time.
         let choice = first_choice N.table Q.from (stop_at N.table t b) p secs from walks in
-        subst (λ m. IsCovered N.table rounds m 1 t b) (sym long)
+        parts_reach N Q D round ridden 1 t b
         (ridden.boarded choice.0.place choice.0.below (stop_at N.table t b) choice.0.secs choice.0.walks (record { nearest = choice.0.nearest; first = choice.0.first }) t b boards not_last refl (sooner choice.0.secs secs (departure_at N.table t b) choice.1 in_time));
-    goes_on = λ n i h inside onward within in_set.
-        let below : n < length D.segments = omega (arith, inside, long) in
-        elim (ridden.followed n i below (record { onward = omega (arith, onward, board_of D.segments n below); within = omega (arith, within, end_of D.segments n below) })) [
-          | inl followed ↦ inl (subst (λ m. IsCovered N.table rounds m (suc (segment_at rounds n).round) h.trip h.at) (sym long) (followed h (subst (λ t. Contains (N.hops t i) h) (trip_of D.segments n below) in_set)))
-          | inr hit ↦ inr (subst (λ t. IsLate values (arrival_at N.table t i) (segment_at rounds n).round) (sym (trip_of D.segments n below)) (late_by (arrival_at N.table (segment_of D.segments n).trip i) (round_of D.segments n) hit))
+    goes_on = λ m i h inside onward within in_set.
+        let q = at_part m inside in
+        let s = q.made i (omega (arith, onward, q.board)) within in
+        elim s.followed [
+          | inl followed ↦ inl (subst (λ r. IsCovered N.table parts_of (length parts_of) (suc r) h.trip h.at) (sym q.round) (parts_reach N Q D round ridden (suc (round_of D.segments q.of)) h.trip h.at (followed h (subst (λ t. Contains (N.hops t i) h) q.trip in_set))))
+          | inr hit ↦ inr (subst (λ r. IsLate values (arrival_at N.table (segment_at parts_of m).trip i) r) (sym q.round) (subst (λ t. IsLate values (arrival_at N.table t i) (round_of D.segments q.of)) (sym q.trip) (late_by (arrival_at N.table (segment_of D.segments q.of).trip i) (round_of D.segments q.of) hit)))
         ];
-    ends = λ n inside.
-        let below : n < length D.segments = omega (arith, inside, long) in
-        subst (λ t. (length (events_of N.table t) ≤ suc (segment_at rounds n).end) ⊎ IsCovered N.table rounds n (segment_at rounds n).round t (segment_at rounds n).end) (sym (trip_of D.segments n below))
-        (subst (λ e. (length (events_of N.table (segment_of D.segments n).trip) ≤ suc e) ⊎ IsCovered N.table rounds n (segment_at rounds n).round (segment_of D.segments n).trip e) (sym (end_of D.segments n below)) (ridden.queue.ends n below));
+    ends = λ m inside. (at_part m inside).ends;
   }
     where
       sooner : (a b : ℕ) (d : ℤ) → a ≤ b → (Q.leave +ℤ pos b) ≤ℤ d → (Q.leave +ℤ pos a) ≤ℤ d
@@ -177,19 +176,17 @@ module _ (N : NetData) (Q : QueryData) (D : DeskData) (round : ℕ) (ridden : Is
             let j = best.attained.0 in
             best_hit v best (from_walk j.origin j.rides j.target best.attained.1.journey.origin best.attained.1.journey.target best.attained.1.journey.leads best.attained.1.value (sym e))
         by_rides (suc k) e =
-            let found : IsFound N.table Q.to rounds v = pruned_value_found N.table N.hops Q values rounds sound searched all_attained sufficient v best (omega (arith, e)) in
-            let n : ℕ = found.segment in
-            let below : n < length D.segments = omega (arith, found.inside, long) in
-            let trip : (segment_at rounds n).trip ≡ (segment_of D.segments n).trip = trip_of D.segments n below in
-            let walks : IsSome (walk N.table (stop_at N.table (segment_of D.segments n).trip found.at) found.target) = subst (λ t. IsSome (walk N.table (stop_at N.table t found.at) found.target)) trip found.walks in
+            let found : IsFound N.table Q.to parts_of v = pruned_value_found N.table N.hops Q values parts_of sound searched all_attained sufficient v best (omega (arith, e)) in
+            let q = at_part found.segment found.inside in
+            let n : ℕ = q.of in
+            let walks : IsSome (walk N.table (stop_at N.table (segment_of D.segments n).trip found.at) found.target) = subst (λ t. IsSome (walk N.table (stop_at N.table t found.at) found.target)) q.trip found.walks in
             let w = some (walk N.table (stop_at N.table (segment_of D.segments n).trip found.at) found.target) walks in
-            let hit = ridden.values n found.at found.target w.0 below
-            (record { onward = omega (arith, found.onward, board_of D.segments n below); within = omega (arith, found.within, end_of D.segments n below) })
-            (record { alights = subst (λ t. MayAlight N.table t found.at) trip found.alights; target = found.to; walks = w.1 }) in
+            let hit = (q.made found.at (omega (arith, found.onward, q.board)) found.within).values found.target w.0
+            (record { alights = subst (λ t. MayAlight N.table t found.at) q.trip found.alights; target = found.to; walks = w.1 }) in
             best_hit v best (subst (IsHit D.hits) (value_is v _ _
             (ap (λ z. arrival_at N.table (segment_of D.segments n).trip found.at +ℤ z) (sym (walk_secs-is N.table (stop_at N.table (segment_of D.segments n).trip found.at) found.target w.0 w.1))
-            ∙ subst (λ t. (arrival_at N.table t found.at +ℤ walk_secs N.table (stop_at N.table t found.at) found.target) ≡ v.arrive) trip found.arrives)
-            found.round) hit)
+            ∙ subst (λ t. (arrival_at N.table t found.at +ℤ walk_secs N.table (stop_at N.table t found.at) found.target) ≡ v.arrive) q.trip found.arrives)
+            (sym q.round ∙ found.round)) hit)
 
     map_pairs : (hs : List Hit) → AllPairs (λ (h k : Hit). IsStep h.value k.value) hs → AllPairs IsStep (map (λ (h : Hit). h.value) hs)
     map_pairs [] pairs = λ i j d a b. absurd (omega (arith, b))
@@ -238,9 +235,8 @@ first_ridden N Q C D E walked no_segment no_hit is queue extends boarded traced 
       within = omega arith;
       this_round = λ n h inside. extends.rounds n (omega (arith, none)) inside;
       boarded = boarded;
-      followed = λ n i h. absurd (omega (arith, h));
+      served = λ n i h. absurd (omega (arith, h));
       walks = λ p q secs a b w. subst (λ hs. IsHit hs (record { arrive = Q.leave +ℤ pos secs; rides = 0 })) (sym hits) (first.by (Q.leave +ℤ pos secs) (bounded p q secs a b w));
-      values = λ n i q secs h. absurd (omega (arith, h));
       traced = subst (All (IsTracedHit N.table Q E.segments)) (sym hits) first.traced;
       stairs = subst (AllPairs (λ (h k : Hit). IsStep h.value k.value)) (sym hits) (λ i j d a b. absurd (omega (arith, a, b, first.one)));
       fewer = subst (All (λ (h : Hit). h.value.rides < 1)) (sym hits) first.fewer;

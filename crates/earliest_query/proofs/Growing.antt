@@ -11,7 +11,7 @@ use Rattle.tb_base.specs.Sufficiency.{IsPossibleHop}
 use Rattle.segment_queue.specs.declared.desk.Segment.{Segment}
 use Rattle.segment_queue.specs.Queue.{DeskData, mark_of}
 use Rattle.segment_queue.specs.Traced.{IsEntered, round_of, round_segments, segment_of}
-use Rattle.earliest_query.specs.UnderWay.{Extends, IsQueue, IsReachedBy}
+use Rattle.earliest_query.specs.UnderWay.{Extends, IsOutdone, IsQueue, IsReachedAhead, IsReachedBy, trips_left}
 use Rattle.segment_queue.proofs.Rounds.{segment_at-kept, segment_of-kept, round_of-kept}
 
 pub covered-kept : (T : TimetableData) (segments more : List Segment) (n m round top t b : ℕ) → IsCovered T (round_segments segments) n round t b → n ≤ length segments → n ≤ m → round ≤ top
@@ -29,6 +29,14 @@ covered-kept T segments more n m round top t b c inside onward later =
 pub covered-later : (T : TimetableData) (segments : List Segment) (n m round top t b : ℕ) → IsCovered T (round_segments segments) n round t b → n ≤ m → round ≤ top → IsCovered T (round_segments segments) m top t b
 covered-later T segments n m round top t b c onward later =
     record { by = c.by; within = omega (arith, c.within, onward); by_then = omega (arith, c.by_then, later); trip = c.trip; board = c.board }
+
+-- what a trip ahead has reached stays reached
+pub ahead-kept : (N : NetData) (segments more : List Segment) (n m round top t b : ℕ) → IsReachedAhead N segments n round t b → n ≤ length segments → n ≤ m → round ≤ top → IsReachedAhead N (segments ++ more) m top t b
+unfolding covered-kept
+ahead-kept N segments more n m round top t b c inside onward later = record {
+  cover = covered-kept N.table segments more n m round top t b c.cover inside onward later;
+  ahead = omega (arith, c.ahead, ap (λ (s : Segment). trips_left N s.trip) (segment_of-kept segments more c.cover.by (omega (arith, c.cover.within, inside))));
+}
 
 pub extends-refl : (D : DeskData) (round : ℕ) → Extends D D round
 extends-refl D round = record { more = []; segments = sym (append-nil D.segments); rounds = λ n h k. absurd (omega (arith, h, k)); hits = refl }
@@ -58,6 +66,20 @@ pub extends-reached : (T : TimetableData) (D D' : DeskData) (joined n m round to
 extends-reached T D D' joined n m round top t b e c inside onward later =
     subst (λ xs. IsCovered T (round_segments xs) m top t b) (sym e.segments) (covered-kept T D.segments e.more n m round top t b c inside onward later)
 
+-- what is outdone stays outdone
+pub outdone-kept : (N : NetData) (D D' : DeskData) (joined n i : ℕ) → Extends D D' joined → n < length D.segments → IsOutdone N D.segments n i → IsOutdone N D'.segments n i
+outdone-kept N D D' joined n i e inside o =
+    let by = extends-segment D D' joined e o.by o.within in
+    let this = extends-segment D D' joined e n inside in
+    record {
+      by = o.by;
+      within = omega (arith, o.within, extends-long D D' joined e);
+      by_then = omega (arith, o.by_then, extends-round D D' joined e o.by o.within, extends-round D D' joined e n inside);
+      trip = subst (λ (s : Segment). IsTripNoLater N.table s.trip (segment_of D'.segments n).trip) (sym by) (subst (λ (s : Segment). IsTripNoLater N.table (segment_of D.segments o.by).trip s.trip) (sym this) o.trip);
+      ahead = omega (arith, o.ahead, ap (λ (s : Segment). trips_left N s.trip) by, ap (λ (s : Segment). trips_left N s.trip) this);
+      board = omega (arith, o.board, ap (λ (s : Segment). s.board) by);
+    }
+
 pub entered-kept : (T : TimetableData) (Q : QueryData) (segments more : List Segment) (n : ℕ) (parent : Option (ℕ × ℕ)) (trip board : ℕ) → n ≤ length segments → IsEntered T Q segments n parent trip board → IsEntered T Q (segments ++ more) n parent trip board
 entered-kept T Q segments more n None trip board inside h = h
 entered-kept T Q segments more n (Some p) trip board inside h =
@@ -71,11 +93,12 @@ entered-kept T Q segments more n (Some p) trip board inside h =
 
 -- the rounds may have come further
 pub queue-later : (N : NetData) (Q : QueryData) (D : DeskData) (round top : ℕ) → round ≤ top → IsQueue N Q D round → IsQueue N Q D top
+unfolding covered-later
 queue-later N Q D round top later q = record {
   step = q.step;
   entered = q.entered;
   by_hops = q.by_hops;
   rounds = λ n h. omega (arith, q.rounds n h, later);
-  marked = λ t h. elim (q.marked t h) [ inl e ↦ inl e | inr c ↦ inr (covered-later N.table D.segments (length D.segments) (length D.segments) round top t (mark_of N.table D.marks t) c (omega arith) later) ];
+  marked = λ t h. elim (q.marked t h) [ inl e ↦ inl e | inr c ↦ inr (record { cover = covered-later N.table D.segments (length D.segments) (length D.segments) round top t (mark_of N.table D.marks t) c.cover (omega arith) later; ahead = c.ahead }) ];
   ends = q.ends;
 }

@@ -17,11 +17,11 @@ use Rattle.segment_queue.specs.Queue.{DeskData, IsInStep}
 use Rattle.segment_queue.specs.Traced.{IsTracedHit, round_of, segment_of}
 use Rattle.segment_queue.proofs.Distinct.{of_member}
 use Rattle.earliest_query.specs.Choices.{ArrivesBy, hits_of, last_of}
-use Rattle.earliest_query.specs.UnderWay.{Covers, Extends, IsBounded, IsDone, IsFollowed, IsHit, IsImproved, IsNewHit, IsOffered, IsQueue}
-use Rattle.earliest_query.specs.Ridden.{IsRidden}
-use Rattle.earliest_query.proofs.Growing.{extends-long, extends-reached, extends-round, extends-segment}
+use Rattle.earliest_query.specs.UnderWay.{Covers, Extends, IsBounded, IsDealtWith, IsDone, IsFollowed, IsHit, IsImproved, IsNewHit, IsOffered, IsOutdone, IsQueue}
+use Rattle.earliest_query.specs.Ridden.{IsRidden, IsServed}
+use Rattle.earliest_query.proofs.Growing.{extends-long, extends-reached, extends-round, extends-segment, outdone-kept}
 use Rattle.earliest_query.proofs.Following.{followed-kept}
-use Rattle.earliest_query.proofs.BestSoFar.{covers-kept, traced-kept}
+use Rattle.earliest_query.proofs.BestSoFar.{bounded-same, covers-kept, traced-kept}
 use Rattle.earliest_query.proofs.StopSums.{pairs_append}
 use Rattle.tb_base.proofs.NumberFacts.{lt-eqb}
 
@@ -182,7 +182,6 @@ module _ (T : TimetableData) (Q : QueryData) (D E : DeskData) (joined round : �
 
 -- what has been done after a round, where one was late by an old measure before it, and is by a new one behind it
 module _ (N : NetData) (Q : QueryData) (D E : DeskData) (best : Option Hit) (from to round : ℕ) (to_is : to ≡ length D.segments) (this_round : (n : ℕ) → from ≤ n → n < length D.segments → round_of D.segments n ≡ round) (extends : Extends D E (suc round))
-    (followed : (n i : ℕ) → from ≤ n → n < to → Covers D n i → IsDone N E best n i) (bounded : (n i : ℕ) → from ≤ n → n < to → Covers D n i → IsBounded N.table Q D best n i)
     (Old Late : ℤ → ℕ → Type 0) (still : (time : ℤ) (rides : ℕ) → Old time rides → Late time rides) (by_best : (time : ℤ) → ArrivesBy best time → Late time round) where
   ridden_or_now : (n : ℕ) → (n < from) ⊎ (from ≤ n)
   ridden_or_now n = grind arith
@@ -202,41 +201,48 @@ module _ (N : NetData) (Q : QueryData) (D E : DeskData) (best : Option Hit) (fro
       subst (λ (s : Segment). Late (time s) (round_of E.segments n)) (sym (same n h))
       (subst (λ r. Late (time (segment_of D.segments n)) r) (sym (same_round n h)) late)
 
-  done_before : (n i : ℕ) → n < to → IsFollowed N D n i ⊎ Old (arrival_at N.table (segment_of D.segments n).trip i) (round_of D.segments n) → IsFollowed N E n i ⊎ Late (arrival_at N.table (segment_of E.segments n).trip i) (round_of E.segments n)
+  pub done_before : (n i : ℕ) → n < to → IsFollowed N D n i ⊎ Old (arrival_at N.table (segment_of D.segments n).trip i) (round_of D.segments n) → IsFollowed N E n i ⊎ Late (arrival_at N.table (segment_of E.segments n).trip i) (round_of E.segments n)
   done_before n i h (inl followed) = inl (followed-kept N D E (suc round) n i extends (omega (arith, h, to_is)) followed)
   done_before n i h (inr late) = inr (late_grown n (λ (s : Segment). arrival_at N.table s.trip i) h (still (arrival_at N.table (segment_of D.segments n).trip i) (round_of D.segments n) late))
 
-  done_now : (n i : ℕ) → n < to → from ≤ n → IsDone N E best n i → IsFollowed N E n i ⊎ Late (arrival_at N.table (segment_of E.segments n).trip i) (round_of E.segments n)
+  pub done_now : (n i : ℕ) → n < to → from ≤ n → IsDone N E best n i → IsFollowed N E n i ⊎ Late (arrival_at N.table (segment_of E.segments n).trip i) (round_of E.segments n)
   done_now n i h now (inl followed) = inl followed
   done_now n i h now (inr late) =
       inr (subst (λ r. Late (arrival_at N.table (segment_of E.segments n).trip i) r) (sym (same_round n h ∙ now_round n h now))
       (by_best (arrival_at N.table (segment_of E.segments n).trip i) late))
 
-  pub done_next : ((n i : ℕ) → n < from → Covers D n i → IsFollowed N D n i ⊎ Old (arrival_at N.table (segment_of D.segments n).trip i) (round_of D.segments n)) →
+  pub done_next : ((n i : ℕ) → from ≤ n → n < to → Covers D n i → IsDone N E best n i) → ((n i : ℕ) → n < from → Covers D n i → IsFollowed N D n i ⊎ Old (arrival_at N.table (segment_of D.segments n).trip i) (round_of D.segments n)) →
       (n i : ℕ) → n < to → Covers E n i → IsFollowed N E n i ⊎ Late (arrival_at N.table (segment_of E.segments n).trip i) (round_of E.segments n)
-  done_next before n i h covers = elim (ridden_or_now n) [
+  done_next followed before n i h covers = elim (ridden_or_now n) [
     | inl old ↦ done_before n i h (before n i old (covers-kept E D n i (same n h) covers))
     | inr now ↦ done_now n i h now (followed n i now h (covers-kept E D n i (same n h) covers))
   ]
 
-  offered : (n i q secs : ℕ) → n < to → IsOffered N.table Q E n i q secs → IsOffered N.table Q D n i q secs
+  pub offered : (n i q secs : ℕ) → n < to → IsOffered N.table Q E n i q secs → IsOffered N.table Q D n i q secs
   offered n i q secs h offer = record {
     alights = subst (λ (s : Segment). MayAlight N.table s.trip i) (same n h) offer.alights;
     target = offer.target;
     walks = subst (λ (s : Segment). walk N.table (stop_at N.table s.trip i) q ≡ Some secs) (same n h) offer.walks;
   }
 
-  pub offers_next : ((n i q secs : ℕ) → n < from → Covers D n i → IsOffered N.table Q D n i q secs → Old (arrival_at N.table (segment_of D.segments n).trip i +ℤ pos secs) (round_of D.segments n)) →
+  pub offers_before : (n i q secs : ℕ) → n < to → Old (arrival_at N.table (segment_of D.segments n).trip i +ℤ pos secs) (round_of D.segments n) → Late (arrival_at N.table (segment_of E.segments n).trip i +ℤ pos secs) (round_of E.segments n)
+  offers_before n i q secs h old =
+      late_grown n (λ (s : Segment). arrival_at N.table s.trip i +ℤ pos secs) h (still (arrival_at N.table (segment_of D.segments n).trip i +ℤ pos secs) (round_of D.segments n) old)
+
+  pub offers_now : (n i q secs : ℕ) → n < to → from ≤ n → ArrivesBy best (arrival_at N.table (segment_of D.segments n).trip i +ℤ pos secs) → Late (arrival_at N.table (segment_of E.segments n).trip i +ℤ pos secs) (round_of E.segments n)
+  offers_now n i q secs h now by =
+      late_grown n (λ (s : Segment). arrival_at N.table s.trip i +ℤ pos secs) h
+      (subst (λ r. Late (arrival_at N.table (segment_of D.segments n).trip i +ℤ pos secs) r) (sym (now_round n h now)) (by_best (arrival_at N.table (segment_of D.segments n).trip i +ℤ pos secs) by))
+
+  pub offers_next : ((n i : ℕ) → from ≤ n → n < to → Covers D n i → IsBounded N.table Q D best n i) → ((n i q secs : ℕ) → n < from → Covers D n i → IsOffered N.table Q D n i q secs → Old (arrival_at N.table (segment_of D.segments n).trip i +ℤ pos secs) (round_of D.segments n)) →
       (n i q secs : ℕ) → n < to → Covers E n i → IsOffered N.table Q E n i q secs → Late (arrival_at N.table (segment_of E.segments n).trip i +ℤ pos secs) (round_of E.segments n)
-  offers_next before n i q secs h covers offer =
-      late_grown n (λ (s : Segment). arrival_at N.table s.trip i +ℤ pos secs) h (elim (ridden_or_now n) [
-        | inl old ↦ still (arrival_at N.table (segment_of D.segments n).trip i +ℤ pos secs) (round_of D.segments n) (before n i q secs old (covers-kept E D n i (same n h) covers) (offered n i q secs h offer))
-        | inr now ↦ subst (λ r. Late (arrival_at N.table (segment_of D.segments n).trip i +ℤ pos secs) r) (sym (now_round n h now))
-            (by_best (arrival_at N.table (segment_of D.segments n).trip i +ℤ pos secs) (bounded n i now h (covers-kept E D n i (same n h) covers) q secs (offered n i q secs h offer)))
-      ])
+  offers_next bounded before n i q secs h covers offer = elim (ridden_or_now n) [
+    | inl old ↦ offers_before n i q secs h (before n i q secs old (covers-kept E D n i (same n h) covers) (offered n i q secs h offer))
+    | inr now ↦ offers_now n i q secs h now (bounded n i now h (covers-kept E D n i (same n h) covers) q secs (offered n i q secs h offer))
+  ]
 
 module _ (N : NetData) (Q : QueryData) (D E : DeskData) (best : Option Hit) (from to round : ℕ) (ridden : IsRidden N Q D from round) (to_is : to ≡ length D.segments) (below : from < length D.segments)
-    (queue : IsQueue N Q E (suc round)) (extends : Extends D E (suc round)) (followed : (n i : ℕ) → from ≤ n → n < to → Covers D n i → IsDone N E best n i) (bounded : (n i : ℕ) → from ≤ n → n < to → Covers D n i → IsBounded N.table Q D best n i)
+    (queue : IsQueue N Q E (suc round)) (extends : Extends D E (suc round)) (dealt : (n i : ℕ) → from ≤ n → n < to → Covers D n i → IsDealtWith N Q E best n i ⊎ IsOutdone N E.segments n i)
     (improved : IsImproved N.table Q E round (last_of D.hits) best) where
   abbrev added : List Hit
   added = hits_of round best
@@ -259,6 +265,37 @@ module _ (N : NetData) (Q : QueryData) (D E : DeskData) (best : Option Hit) (fro
   next : suc round ≡ round + 1
   next = omega arith
 
+  abbrev Served : ℕ → ℕ → Type 0
+  Served n i = IsServed N Q (record E { hits = D.hits ++ added }) n i ⊎ IsOutdone N E.segments n i
+
+  served_before : (n i : ℕ) → n < to → IsServed N Q D n i → IsServed N Q (record E { hits = D.hits ++ added }) n i
+  served_before n i h s = record {
+    followed = done_before N Q D E best from to round to_is ridden.this_round extends Old Late still by_best n i h s.followed;
+    values = λ q secs offer. offers_before N Q D E best from to round to_is ridden.this_round extends Old Late still by_best n i q secs h
+        (s.values q secs (offered N Q D E best from to round to_is ridden.this_round extends Old Late still by_best n i q secs h (record { alights = offer.alights; target = offer.target; walks = offer.walks })));
+  }
+
+  served_now : (n i : ℕ) → n < to → from ≤ n → IsDealtWith N Q E best n i → IsServed N Q (record E { hits = D.hits ++ added }) n i
+  served_now n i h now d =
+      let grown = extends-segment D E (suc round) extends n (omega (arith, h, to_is)) in
+      let bounded = bounded-same N.table Q E D best n i grown d.bounded in record {
+        followed = done_now N Q D E best from to round to_is ridden.this_round extends Old Late still by_best n i h now d.done;
+        values = λ q secs offer. offers_now N Q D E best from to round to_is ridden.this_round extends Old Late still by_best n i q secs h now
+            (bounded q secs (offered N Q D E best from to round to_is ridden.this_round extends Old Late still by_best n i q secs h (record { alights = offer.alights; target = offer.target; walks = offer.walks })));
+      }
+
+  ridden_or_this : (n : ℕ) → (n < from) ⊎ (from ≤ n)
+  ridden_or_this n = grind arith
+
+  served_next : (n i : ℕ) → n < to → Covers E n i → Served n i
+  served_next n i h covers =
+      let inside : n < length D.segments = omega (arith, h, to_is) in
+      let before = covers-kept E D n i (extends-segment D E (suc round) extends n inside) covers in
+      elim (ridden_or_this n) [
+        | inl old ↦ elim (ridden.served n i old before) [ inl s ↦ inl (served_before n i h s) | inr o ↦ inr (outdone-kept N D E (suc round) n i extends inside o) ]
+        | inr now ↦ elim (dealt n i now h before) [ inl d ↦ inl (served_now n i h now d) | inr o ↦ inr o ]
+      ]
+
   pub ridden_next : IsRidden N Q (record E { hits = D.hits ++ added }) to (round + 1)
   ridden_next = record {
     queue = subst (IsQueue N Q (record E { hits = D.hits ++ added })) next (queue-hits N Q E (D.hits ++ added) (suc round) queue);
@@ -268,10 +305,8 @@ module _ (N : NetData) (Q : QueryData) (D E : DeskData) (best : Option Hit) (fro
     this_round = λ n h inside. extends.rounds n (omega (arith, h, to_is)) inside ∙ next;
     boarded = λ place h. λ stop secs walks first. λ t b boards not_last here in_time.
         extends-reached N.table D E (suc round) (length D.segments) (length E.segments) 1 1 t b extends (ridden.boarded place h stop secs walks first t b boards not_last here in_time) (omega arith) (extends-long D E (suc round) extends) (omega arith);
-    followed = λ n i h covers. done_next N Q D E best from to round to_is ridden.this_round extends followed bounded Old Late still by_best ridden.followed n i h (record { onward = covers.onward; within = covers.within });
+    served = λ n i h covers. served_next n i h (record { onward = covers.onward; within = covers.within });
     walks = λ p q secs a b w. hit-more D.hits added (Q.leave +ℤ pos secs) 0 (ridden.walks p q secs a b w);
-    values = λ n i q secs h covers offer. offers_next N Q D E best from to round to_is ridden.this_round extends followed bounded Old Late still by_best ridden.values n i q secs h
-        (record { onward = covers.onward; within = covers.within }) (record { alights = offer.alights; target = offer.target; walks = offer.walks });
     traced = traced_next N.table Q D E (suc round) round (last_of D.hits) best added extends adds ridden.traced;
     stairs = stairs_next N.table Q D E (suc round) round (last_of D.hits) best added extends adds ridden.stairs;
     fewer = fewer_next N.table Q D E (suc round) round (last_of D.hits) best added extends adds ridden.fewer;

@@ -1,3 +1,4 @@
+pub mod Ahead
 pub mod Growing
 pub mod OneMore
 pub mod Nearest
@@ -8,6 +9,7 @@ pub mod StopSums
 pub mod FromOrigins
 pub mod Keeping
 pub mod Reaching
+pub mod Sorting
 pub mod Answering
 pub mod Lateness
 pub mod LookingAt

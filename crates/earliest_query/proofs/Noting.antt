@@ -1,6 +1,6 @@
 -- Events are weighed, and noted to go on from.
-use Rattle.std.proofs.Common.{◌≡◌, ◌∙◌, ℕ, suc, ◌+◌, ◌<◌, ◌≤◌, ◌⊎◌, inl, inr, List, [], ◌∷◌, length, Bool, refl, sym, ap, subst, arith, Option, ℤ}
-use Rattle.std.specs.Prelude.{All, Contains}
+use Rattle.std.proofs.Common.{◌≡◌, ◌∙◌, ℕ, suc, ◌+◌, ◌<◌, ◌≤◌, ◌⊎◌, inl, inr, List, [], ◌∷◌, length, Bool, refl, sym, ap, subst, arith, Option, None, Some, ℤ}
+use Rattle.std.specs.Prelude.{All, Contains, min, slice_index_or, unwrap_or}
 use Rattle.std.proofs.lemmas.List.{append-nil}
 use Rattle.std.proofs.lemmas.List.Elements.{All-push, Contains-push, Contains-append_left}
 use Rattle.tb_base.specs.Network.{NetData}
@@ -12,12 +12,17 @@ use Rattle.segment_queue.specs.declared.desk.Hit.{Hit}
 use Rattle.segment_queue.specs.declared.notes.Note.{Note}
 use Rattle.segment_queue.specs.declared.seen.Seen.{Seen}
 use Rattle.tb_base.specs.declared.transfer.Hop.{Hop}
-use Rattle.segment_queue.specs.Queue.{DeskData, IsInStep, IsSoundSegment}
-use Rattle.segment_queue.specs.Scans.{seen_at}
-use Rattle.segment_queue.specs.Traced.{round_of, segment_of}
+use Rattle.segment_queue.specs.Queue.{DeskData, IsClipped, IsInStep, IsSoundSegment, last_index, mark_of}
+use Rattle.segment_queue.specs.Scans.{seen_at, trips_from}
+use Rattle.segment_queue.specs.Traced.{no_segment, round_of, segment_of}
 use Rattle.earliest_query.specs.Choices.{ArrivesBy, IsWeighed}
-use Rattle.earliest_query.specs.Noted.{IsLeft, IsNotedDown, IsSoundNote}
-use Rattle.earliest_query.specs.UnderWay.{Covers, Extends, IsBounded, IsImproved, IsQueue}
+use Rattle.earliest_query.specs.Noted.{IsLeft, IsNotedDown, IsSoundNote, IsWeighedOff}
+use Rattle.earliest_query.specs.UnderWay.{Covers, Extends, IsBounded, IsImproved, IsOutdone, IsQueue, trips_left}
+use Rattle.earliest_query.proofs.LineBoarding.{no_later-trans}
+use Rattle.segment_queue.proofs.LineParts.{itself, of_lines, trips_no_later}
+use Rattle.segment_queue.proofs.Rounds.{board_of, trip_of}
+use Rattle.tb_base.specs.Lines.{AreDividedInto, IsTripNoLater}
+use Rattle.tb_base.proofs.Ordered.{Member}
 use Rattle.earliest_query.proofs.Growing.{extends-long, extends-refl, extends-round, extends-segment}
 use Rattle.earliest_query.proofs.BestSoFar.{bounded-improved, bounded-same, covers-kept, improved-trans, new_hit-kept, weighed_as, weighed_bounded, weighed_improved}
 use Rattle.earliest_query.proofs.Lateness.{arrives_by-later, arrives_on, done-kept, late-bounded}
@@ -171,6 +176,52 @@ module _ (shown : Seen → List Hop) (N : NetData) (Q : QueryData) (D : DeskData
     pub improved_late : IsImproved N.table Q D round so_far result
     improved_late = improved_now
 
+-- what has been weighed stays so, with a better hit and more notes too
+pub weighed_off-kept : (N : NetData) (Q : QueryData) (D : DeskData) (round n i : ℕ) (a b : Option Hit) (before after : List Note) → n < length D.segments → ((note : Note) → Contains before note → Contains after note) → IsImproved N.table Q D round a b
+    → IsWeighedOff N Q D a before n i → IsWeighedOff N Q D b after n i
+weighed_off-kept N Q D round n i a b before after inside more improved w =
+    record { left = left-kept N Q D round n i a b before after inside more improved w.left; bounded = bounded-improved N.table Q D D round a b n i improved w.bounded }
+
+-- a clipped segment ends no later
+pub clipped_within : (N : NetData) (marks : List (Option ℕ)) (s : Segment) (end : ℕ) → IsClipped N marks s end → end ≤ s.end
+clipped_within N marks s end (inl whole) = omega (arith, whole.1)
+clipped_within N marks s end (inr (v, there, before, end_is)) = omega (arith, end_is)
+
+-- a segment is clipped: past there it is outdone
+pub clipped_outdone : (N : NetData) (Q : QueryData) (D : DeskData) (n round end i : ℕ) (s : Segment) → AreDividedInto N.table N.lines → IsQueue N Q D round → n < length D.segments → round_of D.segments n ≡ round → segment_of D.segments n ≡ s → IsClipped N D.marks s end
+    → i ≤ s.end → end < i → IsOutdone N D.segments n i
+clipped_outdone N Q D n round end i s divided queue inside is_round is (inl whole) within past = absurd (omega (arith, whole.1, within, past))
+clipped_outdone N Q D n round end i s divided queue inside is_round is (inr (v, there, before, end_is)) within past = by_mark (slice_index_or D.marks v None) refl
+  where
+    sound : IsSoundSegment N.table s
+    sound = subst (IsSoundSegment N.table) is (queue.step.segments n no_segment inside)
+
+    behind : Member s.trip (trips_from N.lines v)
+    behind = subst (Member s.trip) (sym before) (inr (itself s.trip N.lines (of_lines N.table N.lines s.trip divided sound.trip)))
+
+    no_later : IsTripNoLater N.table v s.trip
+    no_later = trips_no_later N.table N.lines v s.trip divided behind
+
+    fewer : trips_left N s.trip < trips_left N v
+    fewer = omega (arith, ap length before)
+
+    by_mark : (o : Option ℕ) → slice_index_or D.marks v None ≡ o → IsOutdone N D.segments n i
+    by_mark None none = absurd (let e : end ≡ min s.end s.end = end_is ∙ ap (λ o. min s.end (unwrap_or o s.end)) none in omega (arith, e, within, past))
+    by_mark (Some m) some =
+        let e : end ≡ min s.end m = end_is ∙ ap (λ o. min s.end (unwrap_or o s.end)) some in
+        let mark : mark_of N.table D.marks v ≡ m = ap (λ o. unwrap_or o (last_index N.table v)) some in
+        elim (queue.marked v there) [
+          | inl last ↦ absurd (omega (arith, last, mark, e, within, past, sound.within, no_later.long))
+          | inr c ↦ (let here : c.cover.by < length D.segments = c.cover.within in record {
+            by = c.cover.by;
+            within = c.cover.within;
+            by_then = omega (arith, c.cover.by_then, is_round);
+            trip = subst (λ (r : Segment). IsTripNoLater N.table (segment_of D.segments c.cover.by).trip r.trip) (sym is) (no_later-trans N.table (segment_of D.segments c.cover.by).trip v s.trip (subst (λ t. IsTripNoLater N.table t v) (trip_of D.segments c.cover.by here) c.cover.trip) no_later);
+            ahead = omega (arith, c.ahead, fewer, ap (λ (r : Segment). trips_left N r.trip) is);
+            board = omega (arith, c.cover.board, board_of D.segments c.cover.by here, mark, e, within, past);
+          })
+        ]
+
 -- segment k of a desk D is weighed, once it has these notes
 module _ (N : NetData) (Q : QueryData) (D : DeskData) (notes after : List Note) (from k round : ℕ) (so_far best result : Option Hit) (inside : k < length D.segments) (kept : (note : Note) → Contains notes note → Contains after note)
     (improved : IsImproved N.table Q (record D { notes = notes }) round best result) where
@@ -183,16 +234,17 @@ module _ (N : NetData) (Q : QueryData) (D : DeskData) (notes after : List Note) 
   covers_this : (n i : ℕ) → k ≡ n → Covers D n i → Covers (record D { notes = notes }) k i
   covers_this n i e c = covers-kept D (record D { notes = notes }) k i refl (subst (λ m. Covers D m i) (sym e) c)
 
-  pub left_one_more : ((n i : ℕ) → from ≤ n → n < k → Covers D n i → IsLeft N D best notes n i) → ((i : ℕ) → Covers (record D { notes = notes }) k i → IsLeft N (record D { notes = notes }) result after k i) → (n i : ℕ) → from ≤ n → n < k + 1 → Covers D n i → IsLeft N D result after n i
-  left_one_more before this n i above below c = elim (before_or_this n below) [
-    | inl earlier ↦ left-kept N Q D round n i best result notes after (omega (arith, earlier, inside)) kept better_now (before n i above earlier c)
-    | inr e ↦ subst (λ m. IsLeft N D result after m i) e (this i (covers_this n i e c))
-  ]
-
-  pub bounded_one_weighed : ((n i : ℕ) → from ≤ n → n < k → Covers D n i → IsBounded N.table Q D best n i) → ((i : ℕ) → Covers (record D { notes = notes }) k i → IsBounded N.table Q (record D { notes = notes }) result k i) → (n i : ℕ) → from ≤ n → n < k + 1 → Covers D n i → IsBounded N.table Q D result n i
-  bounded_one_weighed before this n i above below c = elim (before_or_this n below) [
-    | inl earlier ↦ bounded-improved N.table Q D D round best result n i better_now (before n i above earlier c)
-    | inr e ↦ subst (λ m. IsBounded N.table Q D result m i) e (bounded-same N.table Q (record D { notes = notes }) D result k i refl (this i (covers_this n i e c)))
+  pub weighed_one_more : ((n i : ℕ) → from ≤ n → n < k → Covers D n i → IsWeighedOff N Q D best notes n i ⊎ IsOutdone N D.segments n i) → ((i : ℕ) → Covers (record D { notes = notes }) k i → IsWeighedOff N Q (record D { notes = notes }) result after k i ⊎ IsOutdone N D.segments k i)
+      → (n i : ℕ) → from ≤ n → n < k + 1 → Covers D n i → IsWeighedOff N Q D result after n i ⊎ IsOutdone N D.segments n i
+  weighed_one_more before this n i above below c = elim (before_or_this n below) [
+    | inl earlier ↦ elim (before n i above earlier c) [
+      | inl w ↦ inl (weighed_off-kept N Q D round n i best result notes after (omega (arith, earlier, inside)) kept better_now w)
+      | inr o ↦ inr o
+    ]
+    | inr e ↦ elim (this i (covers_this n i e c)) [
+      | inl w ↦ inl (subst (λ m. IsWeighedOff N Q D result after m i) e (record { left = w.left; bounded = bounded-same N.table Q (record D { notes = notes }) D result k i refl w.bounded }))
+      | inr o ↦ inr (subst (λ m. IsOutdone N D.segments m i) e o)
+    ]
   ]
 
   pub improved_one_weighed : IsImproved N.table Q D round so_far best → IsImproved N.table Q D round so_far result

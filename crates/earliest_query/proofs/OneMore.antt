@@ -15,9 +15,10 @@ use Rattle.segment_queue.specs.Traced.{IsEntered, UsesHops, round_after, round_o
 use Rattle.segment_queue.proofs.Distinct.{member_or_not}
 use Rattle.segment_queue.proofs.LineParts.{trips_no_later}
 use Rattle.segment_queue.proofs.LoweredMarks.{lowered-in, lowered-out}
-use Rattle.earliest_query.specs.UnderWay.{Extends, IsQueue, IsReachedBy}
+use Rattle.earliest_query.specs.UnderWay.{Extends, IsQueue, IsReachedAhead, IsReachedBy, trips_left}
+use Rattle.earliest_query.proofs.Ahead.{left_behind}
 use Rattle.segment_queue.proofs.Rounds.{segment_at-last, segment_of-last, segment_of-kept, round_of-kept}
-use Rattle.earliest_query.proofs.Growing.{covered-kept, entered-kept, extends-refl}
+use Rattle.earliest_query.proofs.Growing.{ahead-kept, entered-kept, extends-refl}
 
 below_or_last : (n k : ℕ) → n < k + 1 → (n < k) ⊎ (k ≡ n)
 below_or_last n k h = grind arith
@@ -28,7 +29,7 @@ module _ (N : NetData) (Q : QueryData) (D : DeskData) (round trip at : ℕ) (par
   reached_before refused not_last =
       elim (queue.marked trip inside) [
         | inl last ↦ absurd (omega (arith, last, refused, not_last))
-        | inr c ↦ record { by = c.by; within = c.within; by_then = c.by_then; trip = c.trip; board = omega (arith, c.board, refused) }
+        | inr c ↦ record { by = c.cover.by; within = c.cover.within; by_then = c.cover.by_then; trip = c.cover.trip; board = omega (arith, c.cover.board, refused) }
       ]
 
   module _ (D' : DeskData) (step : IsInStep N D') (enters : EntersSegment N trip at parent D D') (below : at < mark_of N.table D.marks trip) (same_round : round_after (round_segments D.segments) parent ≡ round)
@@ -40,7 +41,7 @@ module _ (N : NetData) (Q : QueryData) (D : DeskData) (round trip at : ℕ) (par
     all = D.segments ++ new ∷ []
 
     abbrev Ends : ℕ → ℕ → Segment → Type 0
-    Ends m r s = (length (events_of N.table s.trip) ≤ suc s.end) ⊎ IsCovered N.table (round_segments all) m r s.trip s.end
+    Ends m r s = (length (events_of N.table s.trip) ≤ suc s.end) ⊎ IsReachedAhead N all m r s.trip s.end
 
     abbrev By : ℕ → Segment → Segment → Type 0
     By i s before = Contains (N.hops before.trip i) (record { trip = s.trip; at = s.board })
@@ -67,29 +68,33 @@ module _ (N : NetData) (Q : QueryData) (D : DeskData) (round trip at : ℕ) (par
       board = omega (arith, ap (λ (r : RoundSegment). r.board) new_at, behind);
     }
 
+    by_new_ahead : (u b : ℕ) → IsTripNoLater N.table trip u → trips_left N u ≤ trips_left N trip → at ≤ b → IsReachedAhead N all (length all) round u b
+    unfolding by_new
+    by_new_ahead u b follows no_more behind = record { cover = by_new u b follows behind; ahead = omega (arith, no_more, ap (λ (s : Segment). trips_left N s.trip) new_of) }
+
     reached_all : IsCovered N.table (round_segments all) (length all) round trip at
     reached_all = by_new trip at (no_later N.table trip trip (inl refl)) (omega arith)
 
-    old_cover : (u b : ℕ) → IsCovered N.table (round_segments D.segments) (length D.segments) round u b → IsCovered N.table (round_segments all) (length all) round u b
-    old_cover u b c = covered-kept N.table D.segments (new ∷ []) (length D.segments) (length all) round round u b c (omega arith) (omega (arith, longer)) (omega arith)
+    old_cover : (u b : ℕ) → IsReachedAhead N D.segments (length D.segments) round u b → IsReachedAhead N all (length all) round u b
+    old_cover u b c = ahead-kept N D.segments (new ∷ []) (length D.segments) (length all) round round u b c (omega arith) (omega (arith, longer)) (omega arith)
 
-    marked_all : (u : ℕ) → u < length N.table.trips → (length (events_of N.table u) ≤ suc (mark_of N.table D'.marks u)) ⊎ IsCovered N.table (round_segments all) (length all) round u (mark_of N.table D'.marks u)
+    marked_all : (u : ℕ) → u < length N.table.trips → (length (events_of N.table u) ≤ suc (mark_of N.table D'.marks u)) ⊎ IsReachedAhead N all (length all) round u (mark_of N.table D'.marks u)
     marked_all u h =
         elim (member_or_not u (trips_from N.lines trip)) [
-          | inl e ↦ by_mark (cases_lt at (mark_of N.table D.marks u)) (enters.marks u h ∙ lowered-in (trips_from N.lines trip) at u (mark_of N.table D.marks u) e.1) (trips_no_later N.table N.lines trip u divided e.0)
+          | inl e ↦ by_mark (cases_lt at (mark_of N.table D.marks u)) (enters.marks u h ∙ lowered-in (trips_from N.lines trip) at u (mark_of N.table D.marks u) e.1) (trips_no_later N.table N.lines trip u divided e.0) (left_behind trip u N.lines divided.once e.0)
           | inr e ↦ old (enters.marks u h ∙ lowered-out (trips_from N.lines trip) at u (mark_of N.table D.marks u) e.1)
         ]
       where
-        old : mark_of N.table D'.marks u ≡ mark_of N.table D.marks u → (length (events_of N.table u) ≤ suc (mark_of N.table D'.marks u)) ⊎ IsCovered N.table (round_segments all) (length all) round u (mark_of N.table D'.marks u)
+        old : mark_of N.table D'.marks u ≡ mark_of N.table D.marks u → (length (events_of N.table u) ≤ suc (mark_of N.table D'.marks u)) ⊎ IsReachedAhead N all (length all) round u (mark_of N.table D'.marks u)
         old e =
             elim (queue.marked u h) [
               | inl last ↦ inl (omega (arith, last, e))
-              | inr c ↦ inr (subst (λ m. IsCovered N.table (round_segments all) (length all) round u m) (sym e) (old_cover u (mark_of N.table D.marks u) c))
+              | inr c ↦ inr (subst (λ m. IsReachedAhead N all (length all) round u m) (sym e) (old_cover u (mark_of N.table D.marks u) c))
             ]
 
-        by_mark : (at < mark_of N.table D.marks u) ⊎ (mark_of N.table D.marks u ≤ at) → mark_of N.table D'.marks u ≡ min (mark_of N.table D.marks u) at → IsTripNoLater N.table trip u → (length (events_of N.table u) ≤ suc (mark_of N.table D'.marks u)) ⊎ IsCovered N.table (round_segments all) (length all) round u (mark_of N.table D'.marks u)
-        by_mark (inl above) e follows = inr (by_new u (mark_of N.table D'.marks u) follows (omega (arith, e, above)))
-        by_mark (inr low) e follows = old (omega (arith, e, low))
+        by_mark : (at < mark_of N.table D.marks u) ⊎ (mark_of N.table D.marks u ≤ at) → mark_of N.table D'.marks u ≡ min (mark_of N.table D.marks u) at → IsTripNoLater N.table trip u → trips_left N u ≤ trips_left N trip → (length (events_of N.table u) ≤ suc (mark_of N.table D'.marks u)) ⊎ IsReachedAhead N all (length all) round u (mark_of N.table D'.marks u)
+        by_mark (inl above) e follows no_more = inr (by_new_ahead u (mark_of N.table D'.marks u) follows no_more (omega (arith, e, above)))
+        by_mark (inr low) e follows no_more = old (omega (arith, e, low))
 
     entered_all : (n : ℕ) → n < length all → IsEntered N.table Q all n (segment_of all n).parent (segment_of all n).trip (segment_of all n).board
     entered_all n h =
@@ -107,14 +112,14 @@ module _ (N : NetData) (Q : QueryData) (D : DeskData) (round trip at : ℕ) (par
           | inr e ↦ subst (λ m. round_of all m ≤ round) e (omega (arith, new_round))
         ]
 
-    ends_all : (n : ℕ) → n < length all → (length (events_of N.table (segment_of all n).trip) ≤ suc (segment_of all n).end) ⊎ IsCovered N.table (round_segments all) n (round_of all n) (segment_of all n).trip (segment_of all n).end
+    ends_all : (n : ℕ) → n < length all → (length (events_of N.table (segment_of all n).trip) ≤ suc (segment_of all n).end) ⊎ IsReachedAhead N all n (round_of all n) (segment_of all n).trip (segment_of all n).end
     ends_all n h = by_place (below_or_last n (length D.segments) (omega (arith, h, longer)))
       where
-        new_ends : (length (events_of N.table trip) ≤ suc (mark_of N.table D.marks trip)) ⊎ IsCovered N.table (round_segments all) (length D.segments) round trip (mark_of N.table D.marks trip)
+        new_ends : (length (events_of N.table trip) ≤ suc (mark_of N.table D.marks trip)) ⊎ IsReachedAhead N all (length D.segments) round trip (mark_of N.table D.marks trip)
         new_ends =
             elim (queue.marked trip inside) [
               | inl last ↦ inl last
-              | inr c ↦ inr (covered-kept N.table D.segments (new ∷ []) (length D.segments) (length D.segments) round round trip (mark_of N.table D.marks trip) c (omega arith) (omega arith) (omega arith))
+              | inr c ↦ inr (ahead-kept N D.segments (new ∷ []) (length D.segments) (length D.segments) round round trip (mark_of N.table D.marks trip) c (omega arith) (omega arith) (omega arith))
             ]
 
         by_place : (n < length D.segments) ⊎ (length D.segments ≡ n) → Ends n (round_of all n) (segment_of all n)
@@ -123,7 +128,7 @@ module _ (N : NetData) (Q : QueryData) (D : DeskData) (round trip at : ℕ) (par
             (subst (λ r. Ends n r (segment_of D.segments n)) (sym (round_of-kept D.segments (new ∷ []) n k))
             (elim (queue.ends n k) [
               | inl last ↦ inl last
-              | inr c ↦ inr (covered-kept N.table D.segments (new ∷ []) n n (round_of D.segments n) (round_of D.segments n) (segment_of D.segments n).trip (segment_of D.segments n).end c (omega (arith, k)) (omega arith) (omega arith))
+              | inr c ↦ inr (ahead-kept N D.segments (new ∷ []) n n (round_of D.segments n) (round_of D.segments n) (segment_of D.segments n).trip (segment_of D.segments n).end c (omega (arith, k)) (omega arith) (omega arith))
             ]))
         by_place (inr e) =
             subst (λ m. Ends m (round_of all m) (segment_of all m)) e
@@ -156,8 +161,8 @@ module _ (N : NetData) (Q : QueryData) (D : DeskData) (round trip at : ℕ) (par
       entered = subst (λ xs. (n : ℕ) → n < length xs → IsEntered N.table Q xs n (segment_of xs n).parent (segment_of xs n).trip (segment_of xs n).board) (sym enters.segments) entered_all;
       by_hops = subst (λ xs. UsesHops N.hops xs) (sym enters.segments) by_hops_all;
       rounds = subst (λ xs. (n : ℕ) → n < length xs → round_of xs n ≤ round) (sym enters.segments) rounds_all;
-      marked = subst (λ xs. (u : ℕ) → u < length N.table.trips → (length (events_of N.table u) ≤ suc (mark_of N.table D'.marks u)) ⊎ IsCovered N.table (round_segments xs) (length xs) round u (mark_of N.table D'.marks u)) (sym enters.segments) marked_all;
-      ends = subst (λ xs. (n : ℕ) → n < length xs → (length (events_of N.table (segment_of xs n).trip) ≤ suc (segment_of xs n).end) ⊎ IsCovered N.table (round_segments xs) n (round_of xs n) (segment_of xs n).trip (segment_of xs n).end) (sym enters.segments) ends_all;
+      marked = subst (λ xs. (u : ℕ) → u < length N.table.trips → (length (events_of N.table u) ≤ suc (mark_of N.table D'.marks u)) ⊎ IsReachedAhead N xs (length xs) round u (mark_of N.table D'.marks u)) (sym enters.segments) marked_all;
+      ends = subst (λ xs. (n : ℕ) → n < length xs → (length (events_of N.table (segment_of xs n).trip) ≤ suc (segment_of xs n).end) ⊎ IsReachedAhead N xs n (round_of xs n) (segment_of xs n).trip (segment_of xs n).end) (sym enters.segments) ends_all;
     }
 
     pub reached-entered : IsReachedBy N.table D' (length D'.segments) round trip at

@@ -151,8 +151,8 @@ module _ (N : NetData) (Q : QueryData) (D E F : DeskData) (levels levels' : List
   swept_on_kept = record {
     queue = swept_queue-on N Q E (record F { segments = E.segments; hits = D.hits ++ added }) levels' refl queue;
     gone_on = record {
-      done = λ n i h covers. done_next N Q D E best from to round to_is swept.this_round extends followed bounded Old Late still by_best swept.gone_on.done n i h (record { onward = covers.onward; within = covers.within });
-      offers = λ n i q secs h covers offer. offers_next N Q D E best from to round to_is swept.this_round extends followed bounded Old Late still by_best swept.gone_on.offers n i q secs h
+      done = λ n i h covers. done_next N Q D E best from to round to_is swept.this_round extends Old Late still by_best followed swept.gone_on.done n i h (record { onward = covers.onward; within = covers.within });
+      offers = λ n i q secs h covers offer. offers_next N Q D E best from to round to_is swept.this_round extends Old Late still by_best bounded swept.gone_on.offers n i q secs h
           (record { onward = covers.onward; within = covers.within }) (record { alights = offer.alights; target = offer.target; walks = offer.walks });
       attained = attained;
     };

@@ -4,3 +4,4 @@ pub mod Ridden
 pub mod Sweeping
 pub mod Bounding
 pub mod Noted
+pub mod Parts

@@ -7,12 +7,13 @@ use Rattle.tb_base.specs.declared.transfer.Hop.{Hop}
 use Rattle.tb_base.specs.TimetableData.{TimetableData, arrival_at, departure_at, events_of, stop_at, MayAlight, MayBoard}
 use Rattle.tb_base.specs.Walking.{walk}
 use Rattle.tb_base.specs.BestValues.{IsNoWorse, QueryData}
+use Rattle.tb_base.specs.Lines.{IsTripNoLater}
 use Rattle.tb_base.specs.Search.{IsCovered}
 use Rattle.segment_queue.specs.declared.desk.Hit.{Hit}
 use Rattle.segment_queue.specs.declared.desk.Segment.{Segment}
 use Rattle.segment_queue.specs.Queue.{DeskData, IsInStep, covered_indices, mark_of}
 use Rattle.segment_queue.specs.Traced.{IsEntered, IsTracedHit, UsesHops, round_of, round_segments, segment_of}
-use Rattle.segment_queue.specs.Scans.{line_indices_at}
+use Rattle.segment_queue.specs.Scans.{line_indices_at, trips_from}
 use Rattle.earliest_query.specs.Choices.{ArrivesBy, IsFirstChoice}
 
 -- segments of this round have joined the queue, and the hits are as before
@@ -28,6 +29,16 @@ pub record Extends (D D' : DeskData) (round : ℕ) : Type 0 where
 abbrev pub IsReachedBy : TimetableData → DeskData → ℕ → ℕ → ℕ → ℕ → Type 0
 IsReachedBy T D n round t b = IsCovered T (round_segments D.segments) n round t b
 
+-- how many trips of its line there are from trip t on
+abbrev pub trips_left : NetData → ℕ → ℕ
+trips_left N t = length (trips_from N.lines t)
+
+-- the same as IsReachedBy, where there are no fewer trips on its line from the segment's trip than
+-- from t
+pub record IsReachedAhead (N : NetData) (segments : List Segment) (n round t b : ℕ) : Type 0 where
+  pub cover : IsCovered N.table (round_segments segments) n round t b
+  pub ahead : trips_left N t ≤ trips_left N (segment_of segments cover.by).trip
+
 -- The queue of a search whose rounds have come up to this one.
 pub record IsQueue (N : NetData) (Q : QueryData) (D : DeskData) (round : ℕ) : Type 0 where
   pub step : IsInStep N D
@@ -39,13 +50,13 @@ pub record IsQueue (N : NetData) (Q : QueryData) (D : DeskData) (round : ℕ) : 
   -- a trip's mark is its last index, or at it a segment has reached the trip
   pub marked : (t : ℕ) → t < length N.table.trips →
       (length (events_of N.table t) ≤ suc (mark_of N.table D.marks t))
-      ⊎ IsReachedBy N.table D (length D.segments) round t (mark_of N.table D.marks t)
+      ⊎ IsReachedAhead N D.segments (length D.segments) round t (mark_of N.table D.marks t)
   -- the end of a segment is its trip's last index, or at it a segment before it has reached the
   -- trip
   pub ends : (n : ℕ) → n < length D.segments →
       (length (events_of N.table (segment_of D.segments n).trip)
       ≤ suc (segment_of D.segments n).end)
-      ⊎ IsReachedBy N.table D n (round_of D.segments n) (segment_of D.segments n).trip
+      ⊎ IsReachedAhead N D.segments n (round_of D.segments n) (segment_of D.segments n).trip
       (segment_of D.segments n).end
 
 -- segment n covers index i of its trip
@@ -64,6 +75,17 @@ abbrev pub IsDone : NetData → DeskData → Option Hit → ℕ → ℕ → Type
 IsDone N D best n i =
     IsFollowed N D n i ⊎ ArrivesBy best (arrival_at N.table (segment_of D.segments n).trip i)
 
+-- Index i of segment n is outdone: before it a segment, in a round that is no later, has boarded a
+-- trip that is no later and from which there are more trips on its line.
+pub record IsOutdone (N : NetData) (segments : List Segment) (n i : ℕ) : Type 0 where
+  pub by : ℕ
+  pub within : by < length segments
+  pub by_then : round_of segments by ≤ round_of segments n
+  pub trip : IsTripNoLater N.table (segment_of segments by).trip (segment_of segments n).trip
+  pub ahead : trips_left N (segment_of segments n).trip
+      < trips_left N (segment_of segments by).trip
+  pub board : (segment_of segments by).board < i
+
 -- to alight from segment n at index i, and walk to a target
 pub record IsOffered (T : TimetableData) (Q : QueryData) (D : DeskData)
     (n i q secs : ℕ) : Type 0 where
@@ -75,6 +97,13 @@ pub record IsOffered (T : TimetableData) (Q : QueryData) (D : DeskData)
 abbrev pub IsBounded : TimetableData → QueryData → DeskData → Option Hit → ℕ → ℕ → Type 0
 IsBounded T Q D best n i = (q secs : ℕ) → IsOffered T Q D n i q secs →
     ArrivesBy best (arrival_at T (segment_of D.segments n).trip i +ℤ pos secs)
+
+-- a round has dealt with index i of segment n: it is done with, and the best hit so far arrives no
+-- later than by alighting there
+pub record IsDealtWith (N : NetData) (Q : QueryData) (D : DeskData) (best : Option Hit) (n i : ℕ)
+    : Type 0 where
+  pub done : IsDone N D best n i
+  pub bounded : IsBounded N.table Q D best n i
 
 -- a hit of this round that arrives before the best so far
 pub record IsNewHit (T : TimetableData) (Q : QueryData) (D : DeskData) (round : ℕ)

@@ -2,7 +2,7 @@
 ghost use Rattle.std.specs.Prelude.{◌≡◌, ◌<◌, ◌∷◌, [], ℕ, ℤ, List, Option};
 ghost use Rattle.tb_base.specs.BestValues.{IsAttained, IsBest, QueryData};
 ghost use Rattle.tb_base.specs.Network.{NetData};
-ghost use Rattle.tb_base.specs.Search.{IsFound};
+ghost use Rattle.tb_base.specs.Search.{IsFound, RoundSegment};
 ghost use Rattle.tb_base.specs.Soundness.{IsSound};
 ghost use Rattle.tb_base.specs.Sufficiency.{AreSufficient};
 ghost use Rattle.tb_base.specs.declared.query.Value.{Value};
@@ -10,14 +10,16 @@ ghost use Rattle.tb_laws.specs.Pruning.{IsLate, IsPrunedSearch};
 ghost use Rattle.segment_queue.specs.Queue.{DeskData};
 ghost use Rattle.segment_queue.specs.Traced.{IsAnswered, round_segments};
 ghost use Rattle.segment_queue.specs.declared.desk.Segment.{Segment};
+ghost use Rattle.earliest_query.specs.Parts.{ArePartsOf};
 ghost use Rattle.earliest_query.specs.Sweeping.{IsSweptTo};
 
-/// A search over a sufficient set that goes on from everywhere, as one without targets does, finds
-/// for every stop each best value with rides: by alighting at an event of a segment that was
-/// entered in the round of so many rides.
+/// A search over a sufficient set, of whose segments parts go on from everywhere, as those of one
+/// without targets do, finds for every stop each best value with rides: by alighting at an event of
+/// a segment that was entered in the round of so many rides.
 pub fn best_values_at_every_stop()
     ensures { (N : NetData) (from : List ℕ) (leave : ℤ) (segments : List Segment) →
-        IsPrunedSearch N.table N.hops from leave [] (round_segments segments) →
+        (parts : List RoundSegment) → ArePartsOf (round_segments segments) parts →
+        IsPrunedSearch N.table N.hops from leave [] parts →
         AreSufficient N.table N.hops → (stop : ℕ) (v : Value) →
         IsBest N.table (record { from = from; to = stop ∷ []; leave = leave }) v → 0 < v.rides →
         IsFound N.table (stop ∷ []) (round_segments segments) v }

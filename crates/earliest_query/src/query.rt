@@ -1,10 +1,12 @@
-ghost use Rattle.std.specs.Prelude.{◌+◌, ◌<◌, ◌≤◌, All, length, map, pos, ◌≤ℤ◌};
+ghost use Rattle.std.specs.Prelude.{List, ◌+◌, ◌<◌, ◌≤◌, All, length, map, pos, ◌≤ℤ◌};
 ghost use Rattle.tb_base.specs.Sufficiency.{AreSufficient};
 ghost use Rattle.tb_base.specs.TimetableData.{event_total};
 ghost use Rattle.tb_laws.specs.Pruning.{IsPrunedSearch};
 ghost use Rattle.segment_queue.specs.Queue.{Fits, IsInStep};
 ghost use Rattle.segment_queue.specs.Traced.{IsAnswered, round_segments};
+ghost use Rattle.tb_base.specs.Search.{RoundSegment};
 ghost use Rattle.earliest_query.specs.Choices.{lines_near};
+ghost use Rattle.earliest_query.specs.Parts.{ArePartsOf};
 
 use super::all_rounds::keep;
 use super::search::Search;
@@ -15,8 +17,9 @@ use tb_base::Query;
 
 /// Searches over a set of hops that is sufficient, and leaves the answer in the desk: its hits have
 /// exactly the best values of the query, and its segments go by hops of the set. It goes on from
-/// everywhere but where it arrives no earlier than a hit with no more rides; so for a query without
-/// targets the segments serve every stop. It takes no memory, and at most as many steps as there
+/// everywhere but where it arrives no earlier than a hit with no more rides, or where an earlier trip
+/// of the line serves with no more rides: parts of its segments are such a search. So for a query
+/// without targets the segments serve every stop. It takes no memory, and at most as many steps as there
 /// are events and, at the stops with a walk from an origin, line indices.
 pub fn earliest<L: Ledger, S: Look<L>>(
     scan: &S,
@@ -30,8 +33,10 @@ pub fn earliest<L: Ledger, S: Look<L>>(
     requires sufficient { AreSufficient (S.net scan.now).table (S.net scan.now).hops }
     ensures step { IsInStep (S.net scan.now) desk.new }
     ensures answered { IsAnswered (S.net scan.now) query.now desk.new }
-    ensures searched { IsPrunedSearch (S.net scan.now).table (S.net scan.now).hops query.now.from
-        query.now.leave (map (λ h. h.value) desk.new.hits) (round_segments desk.new.segments) }
+    ensures searched { (parts : List RoundSegment)
+        × ArePartsOf (round_segments desk.new.segments) parts
+        × IsPrunedSearch (S.net scan.now).table (S.net scan.now).hops query.now.from
+        query.now.leave (map (λ h. h.value) desk.new.hits) parts }
     ensures steps { steps.new ≤ steps.old
         + (event_total (S.net scan.now).table + lines_near (S.net scan.now) query.now.from) }
 {

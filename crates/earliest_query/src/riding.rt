@@ -1,13 +1,13 @@
-ghost use Rattle.std.specs.Prelude.{◌≡◌, ◌+◌, ◌<◌, ◌≤◌, ℕ, suc, Option, Some, All, Contains, IsTrue, ◌↔◌, MatchBool, length, pos, ◌≤ℤ◌};
+ghost use Rattle.std.specs.Prelude.{◌≡◌, ◌+◌, ◌<◌, ◌≤◌, ◌⊎◌, ℕ, suc, Option, Some, All, Contains, IsTrue, ◌↔◌, MatchBool, length, pos, ◌≤ℤ◌};
 ghost use Rattle.tb_base.specs.Sufficiency.{AreSufficient};
 ghost use Rattle.tb_base.specs.Walking.{walk};
-ghost use Rattle.segment_queue.specs.Queue.{IsInStep, covered_indices};
+ghost use Rattle.segment_queue.specs.Queue.{covered_indices};
 ghost use Rattle.segment_queue.specs.Scans.{seen_at};
 ghost use Rattle.segment_queue.specs.Traced.{round_of, segment_of};
 ghost use Rattle.segment_queue.specs.declared.notes.Note.{Note};
 ghost use Rattle.earliest_query.specs.Choices.{ArrivesBy, IsWeighed, alighting_hit, earlier_hit};
-ghost use Rattle.earliest_query.specs.Noted.{IsLeft, IsNotedDown, IsSoundNote};
-ghost use Rattle.earliest_query.specs.UnderWay.{Covers, Extends, IsBounded, IsDone, IsImproved, IsQueue, covered_before};
+ghost use Rattle.earliest_query.specs.Noted.{IsNotedDown, IsSoundNote, IsWeighedOff};
+ghost use Rattle.earliest_query.specs.UnderWay.{Covers, Extends, IsDealtWith, IsDone, IsImproved, IsOutdone, IsQueue, covered_before};
 
 use super::search::Search;
 use super::walks::{nearest, targets};
@@ -137,7 +137,8 @@ impl<S: Scan> Search<'_, S> {
     }
 
     // Looks at the indices that a segment covers one by one, weighs to alight there, and notes them to
-    // go on from. It ends where one gets no earlier than the best hit so far arrives.
+    // go on from. It ends where one gets no earlier than the best hit so far arrives, and where the
+    // trip before on the line has been entered, in which one is there as early with no more rides.
     fn weigh_segment<L: Ledger>(
         &self,
         desk: &mut Desk,
@@ -148,21 +149,21 @@ impl<S: Scan> Search<'_, S> {
     ) -> Option<Hit>
     where
         S: Look<L>,
-        requires step { IsInStep (S.net self.now.scan.now) desk.old }
+        requires queue { IsQueue (S.net self.now.scan.now) self.now.query.now desk.old round }
         requires segment { n < length desk.old.segments }
         requires round { round_of desk.old.segments n ≡ round }
         requires room { length desk.old.notes + covered_indices (segment_of desk.old.segments n)
             ≤ desk.old.note_room }
-        requires notes { All (IsSoundNote (S.shown self.now.scan.now) (S.net self.now.scan.now) desk.old.segments round)
-            desk.old.notes }
+        requires notes { All (IsSoundNote (S.shown self.now.scan.now) (S.net self.now.scan.now)
+            desk.old.segments round) desk.old.notes }
         ensures rest { desk.new ≡ record desk.old { notes = desk.new.notes } }
-        ensures notes { All (IsSoundNote (S.shown self.now.scan.now) (S.net self.now.scan.now) desk.old.segments round)
-            desk.new.notes }
+        ensures notes { All (IsSoundNote (S.shown self.now.scan.now) (S.net self.now.scan.now)
+            desk.old.segments round) desk.new.notes }
         ensures kept { (note : Note) → Contains desk.old.notes note → Contains desk.new.notes note }
-        ensures left { (i : ℕ) → Covers desk.old n i →
-            IsLeft (S.net self.now.scan.now) desk.old result desk.new.notes n i }
-        ensures bounded { (i : ℕ) → Covers desk.old n i →
-            IsBounded (S.net self.now.scan.now).table self.now.query.now desk.old result n i }
+        ensures weighed { (i : ℕ) → Covers desk.old n i →
+            IsWeighedOff (S.net self.now.scan.now) self.now.query.now desk.old result
+            desk.new.notes n i
+            ⊎ IsOutdone (S.net self.now.scan.now) desk.old.segments n i }
         ensures improved { IsImproved (S.net self.now.scan.now).table self.now.query.now desk.old
             round so_far result }
         ensures few { length desk.new.notes
@@ -174,8 +175,9 @@ impl<S: Scan> Search<'_, S> {
         let Some(segment) = desk.segment(n) else {
             return so_far;
         };
+        let end = desk.clipped_end(scan, &segment);
         let mut best = so_far;
-        for before in segment.board..segment.end {
+        for before in segment.board..end {
             let at = before + 1;
             let visit = scan.visit(segment.trip, at, steps);
             best = self.weigh(best, &visit, n, at, round);
@@ -199,17 +201,17 @@ impl<S: Scan> Search<'_, S> {
     ) -> Option<Hit>
     where
         S: Look<L>,
-        requires step { IsInStep (S.net self.now.scan.now) desk.old }
+        requires queue { IsQueue (S.net self.now.scan.now) self.now.query.now desk.old round }
         requires from { from ≤ to }
         requires to { to ≤ length desk.old.segments }
         requires rounds { (n : ℕ) → from ≤ n → n < to → round_of desk.old.segments n ≡ round }
         ensures rest { desk.new ≡ record desk.old { notes = desk.new.notes } }
-        ensures notes { All (IsSoundNote (S.shown self.now.scan.now) (S.net self.now.scan.now) desk.old.segments round)
-            desk.new.notes }
-        ensures left { (n i : ℕ) → from ≤ n → n < to → Covers desk.old n i →
-            IsLeft (S.net self.now.scan.now) desk.old result desk.new.notes n i }
-        ensures bounded { (n i : ℕ) → from ≤ n → n < to → Covers desk.old n i →
-            IsBounded (S.net self.now.scan.now).table self.now.query.now desk.old result n i }
+        ensures notes { All (IsSoundNote (S.shown self.now.scan.now) (S.net self.now.scan.now)
+            desk.old.segments round) desk.new.notes }
+        ensures weighed { (n i : ℕ) → from ≤ n → n < to → Covers desk.old n i →
+            IsWeighedOff (S.net self.now.scan.now) self.now.query.now desk.old result
+            desk.new.notes n i
+            ⊎ IsOutdone (S.net self.now.scan.now) desk.old.segments n i }
         ensures improved { IsImproved (S.net self.now.scan.now).table self.now.query.now desk.old
             round so_far result }
         ensures steps { steps.new + covered_before desk.old.segments from
@@ -228,8 +230,8 @@ impl<S: Scan> Search<'_, S> {
     // hit arrives.
     fn follow_note(&self, desk: &mut Desk, best: &Option<Hit>, note: &Note, round: u32)
         requires queue { IsQueue (S.net self.now.scan.now) self.now.query.now desk.old (suc round) }
-        requires note { IsSoundNote (S.shown self.now.scan.now) (S.net self.now.scan.now) desk.old.segments round
-            note.now }
+        requires note { IsSoundNote (S.shown self.now.scan.now) (S.net self.now.scan.now)
+            desk.old.segments round note.now }
         requires sufficient { AreSufficient (S.net self.now.scan.now).table
             (S.net self.now.scan.now).hops }
         ensures queue { IsQueue (S.net self.now.scan.now) self.now.query.now desk.new (suc round) }
@@ -249,8 +251,8 @@ impl<S: Scan> Search<'_, S> {
     // Follows the hops from all events that were noted.
     fn follow_notes(&self, desk: &mut Desk, best: &Option<Hit>, round: u32)
         requires queue { IsQueue (S.net self.now.scan.now) self.now.query.now desk.old (suc round) }
-        requires notes { All (IsSoundNote (S.shown self.now.scan.now) (S.net self.now.scan.now) desk.old.segments round)
-            desk.old.notes }
+        requires notes { All (IsSoundNote (S.shown self.now.scan.now) (S.net self.now.scan.now)
+            desk.old.segments round) desk.old.notes }
         requires sufficient { AreSufficient (S.net self.now.scan.now).table
             (S.net self.now.scan.now).hops }
         ensures queue { IsQueue (S.net self.now.scan.now) self.now.query.now desk.new (suc round) }
@@ -278,7 +280,7 @@ impl<S: Scan> Search<'_, S> {
     ) -> Option<Hit>
     where
         S: Look<L>,
-        requires queue { IsQueue (S.net self.now.scan.now) self.now.query.now desk.old (suc round) }
+        requires queue { IsQueue (S.net self.now.scan.now) self.now.query.now desk.old round }
         requires from { from ≤ to }
         requires to { to ≤ length desk.old.segments }
         requires rounds { (n : ℕ) → from ≤ n → n < to → round_of desk.old.segments n ≡ round }
@@ -286,10 +288,9 @@ impl<S: Scan> Search<'_, S> {
             (S.net self.now.scan.now).hops }
         ensures queue { IsQueue (S.net self.now.scan.now) self.now.query.now desk.new (suc round) }
         ensures extends { Extends desk.old desk.new (suc round) }
-        ensures followed { (n i : ℕ) → from ≤ n → n < to → Covers desk.old n i →
-            IsDone (S.net self.now.scan.now) desk.new result n i }
-        ensures bounded { (n i : ℕ) → from ≤ n → n < to → Covers desk.old n i →
-            IsBounded (S.net self.now.scan.now).table self.now.query.now desk.old result n i }
+        ensures ridden { (n i : ℕ) → from ≤ n → n < to → Covers desk.old n i →
+            IsDealtWith (S.net self.now.scan.now) self.now.query.now desk.new result n i
+            ⊎ IsOutdone (S.net self.now.scan.now) desk.new.segments n i }
         ensures improved { IsImproved (S.net self.now.scan.now).table self.now.query.now desk.new
             round so_far result }
         ensures steps { steps.new + covered_before desk.old.segments from

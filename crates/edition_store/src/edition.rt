@@ -185,6 +185,10 @@ impl Scan for Edition {
         self.view().trips_onward(trip)
     }
 
+    fn before(&self, trip: TripNo) -> Option<TripNo> {
+        self.view().trip_before(trip)
+    }
+
     fn hops_from(&self, seen: Seen) -> &[Hop] {
         self.view().hops_seen(seen)
     }

@@ -25,7 +25,7 @@ pub trips_from-past : (line : List ℕ) (lines : List (List ℕ)) (t : ℕ) → 
 trips_from-past line lines t e = ap (λ b. cond b (line_from t line) (trips_from lines t)) e
 
 -- the part of a line is of the line
-member_from : (u t : ℕ) (line : List ℕ) → Member u (line_from t line) → Member u line
+pub member_from : (u t : ℕ) (line : List ℕ) → Member u (line_from t line) → Member u line
 member_from u t [] h = h
 member_from u t (x ∷ xs) h =
     elim (same_or_other x t) [

@@ -11,11 +11,11 @@ use Rattle.std.proofs.lemmas.List.Sums.{sum_by-append, sum_by-cons}
 use Rattle.tb_base.specs.TimetableData.{TimetableData, event_total, events_of, stop_at}
 use Rattle.tb_base.specs.Lines.{AreDividedInto, AreLines, may_join, place_trip}
 use Rattle.tb_base.specs.Transfers.{earliest_trip, line_from, may_be_boarded, numbers_below}
-use Rattle.tb_base.proofs.Ordered.{Member, AllPairs-tail}
+use Rattle.tb_base.proofs.Ordered.{Member, AllPairs-tail, Contains-from_Member}
 use Rattle.tb_base.proofs.Members.{Member-concat_at, Member-filter_back, Member-flat_map_back, Member-from_slice_get, Member-map_back, Member-numbers_below, Member-numbers_below_back}
 use Rattle.line_split.specs.declared.lines.Berth.{Berth}
 use Rattle.line_split.specs.LinesOf.{berths_at, calls_at, line_events}
-use Rattle.segment_queue.specs.Scans.{LineIndex, boarding_hop, first_trip, indices_at, line_indices_at, no_line_index, trips_from}
+use Rattle.segment_queue.specs.Scans.{IsFirst, LineIndex, StandsBefore, boarding_hop, first_trip, indices_at, line_indices_at, no_line_index, trips_from}
 use Rattle.segment_queue.proofs.Distinct.{AreDistinct, before_member, has_member, in_one_part, member_or_not, of_member, pairs_left, pairs_right, same_or_other}
 use Rattle.segment_queue.proofs.LineParts.{line_from-other, line_from-same, member_lines, trips_from-here, trips_from-past}
 use Rattle.segment_queue.proofs.Totals.{distinct_sum, all_events}
@@ -137,6 +137,26 @@ trips_from-drop (line ∷ lines) t (suc l) k distinct is =
       | inl e ↦ absurd (in_one_part t line (concat lines) distinct e.0 (Member-concat_at lines l k t is))
       | inr e ↦ trips_from-past line lines t e.1 ∙ trips_from-drop lines t l k (pairs_right (λ t u. t ≢ u) line (concat lines) distinct) is
     ]
+
+row_inside : (lines : List (List ℕ)) (l k t : ℕ) → slice_get (get_or lines l []) k ≡ Some t → l < length lines
+row_inside [] l k t is = cc
+row_inside (line ∷ lines) zero k t is = omega arith
+row_inside (line ∷ lines) (suc l) k t is = (let inside = row_inside lines l k t is in omega (arith, inside))
+
+-- who stands at place 0 is the first of the line
+pub is_first : (lines : List (List ℕ)) (t l k : ℕ) → AreDistinct (concat lines) → slice_get (get_or lines l []) k ≡ Some t → k ≡ 0 → IsFirst lines t
+is_first lines t l k distinct is first =
+    Contains-from_Member (trips_from lines t) lines
+    (subst (λ row. Member row lines) (sym (trips_from-drop lines t l k distinct is ∙ ap (λ n. drop n (get_or lines l [])) first)) (member_at lines l [] (row_inside lines l k t is)))
+
+drop_step : (xs : List ℕ) (k v : ℕ) → slice_get xs k ≡ Some v → drop k xs ≡ v ∷ drop (suc k) xs
+drop_step [] k v is = cc
+drop_step (x ∷ xs) zero v is = cc
+drop_step (x ∷ xs) (suc k) v is = drop_step xs k v is
+
+-- who stands at the place before stands before
+pub stands_before : (lines : List (List ℕ)) (v t l k : ℕ) → AreDistinct (concat lines) → slice_get (get_or lines l []) (suc k) ≡ Some t → slice_get (get_or lines l []) k ≡ Some v → StandsBefore lines v t
+stands_before lines v t l k distinct is before = trips_from-drop lines v l k distinct before ∙ drop_step (get_or lines l []) k v before ∙ ap (λ ys. v ∷ ys) (sym (trips_from-drop lines t l (suc k) distinct is))
 
 -- the trips from one on are of the lines
 pub trips_from-inside : (lines : List (List ℕ)) (t n : ℕ) → All (λ u. u < n) (concat lines) → All (λ u. u < n) (trips_from lines t)

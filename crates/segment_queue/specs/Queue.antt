@@ -1,5 +1,5 @@
 -- The queue of a search: the segments that it has entered, a mark for each trip, and the hits.
-use Rattle.std.specs.Prelude.{◌≡◌, ℕ, ◌+◌, ◌-◌, ◌==◌, ◌<◌, ◌≤◌, List, [], ◌∷◌, ◌++◌, Option, None, length, min, sum_by, unwrap_or, slice_index_or, if◌then◌else◌, All, AllPairs}
+use Rattle.std.specs.Prelude.{◌≡◌, ℕ, ◌+◌, ◌-◌, ◌==◌, ◌<◌, ◌≤◌, ◌⊎◌, List, [], ◌∷◌, ◌++◌, Option, None, length, min, sum_by, unwrap_or, slice_index_or, if◌then◌else◌, All, AllPairs}
 use Rattle.std.specs.List.{list_any}
 use Rattle.tb_base.specs.Network.{NetData}
 use Rattle.tb_base.specs.TimetableData.{TimetableData, events_of, event_total}
@@ -7,7 +7,7 @@ use Rattle.tb_base.specs.Transfers.{numbers_below}
 use Rattle.segment_queue.specs.declared.desk.Segment.{Segment}
 use Rattle.segment_queue.specs.declared.desk.Hit.{Hit}
 use Rattle.segment_queue.specs.declared.notes.Note.{Note}
-use Rattle.segment_queue.specs.Scans.{trips_from}
+use Rattle.segment_queue.specs.Scans.{IsFirst, StandsBefore, trips_from}
 
 -- a desk: an index for each trip that has been reached, the segments, the hits and the notes in
 -- order, and room for how many of them
@@ -40,6 +40,13 @@ pub record IsSoundSegment (T : TimetableData) (s : Segment) : Type 0 where
   pub trip : s.trip < length T.trips
   pub onward : s.board < s.end
   pub within : s.end < length (events_of T s.trip)
+
+-- A segment is clipped by the trip just before on its line: what is behind that trip's mark is left
+-- out.
+abbrev pub IsClipped : NetData → List (Option ℕ) → Segment → ℕ → Type 0
+IsClipped N marks s end = (IsFirst N.lines s.trip × (end ≡ s.end))
+    ⊎ ((v : ℕ) × (v < length N.table.trips) × StandsBefore N.lines v s.trip
+    × (end ≡ min s.end (unwrap_or (slice_index_or marks v None) s.end)))
 
 -- how many indices a segment covers: those behind its boarding, up to its end
 abbrev pub covered_indices : Segment → ℕ

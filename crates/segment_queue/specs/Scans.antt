@@ -1,6 +1,6 @@
 -- What a search sees of lines: the trips from one on, the line indices at a stop, and who boards
 -- there.
-use Rattle.std.specs.Prelude.{ℕ, ◌==◌, List, [], ◌∷◌, Option, None, length, map, filter, flat_map, slice_index_or, if◌then◌else◌, ℤ}
+use Rattle.std.specs.Prelude.{◌≡◌, ℕ, ◌==◌, Contains, List, [], ◌∷◌, Option, None, length, map, filter, flat_map, slice_index_or, if◌then◌else◌, ℤ}
 use Rattle.std.specs.List.{list_any}
 use Rattle.std.specs.Option.{option_map}
 use Rattle.tb_base.specs.declared.transfer.Hop.{Hop}
@@ -14,6 +14,14 @@ abbrev pub trips_from : List (List ℕ) → ℕ → List ℕ
 trips_from [] t = []
 trips_from (line ∷ lines) t = if list_any (λ x. x == t) line then line_from t line
     else trips_from lines t
+
+-- of its line trip v stands just before trip t
+abbrev pub StandsBefore : List (List ℕ) → ℕ → ℕ → Type 0
+StandsBefore lines v t = trips_from lines v ≡ v ∷ trips_from lines t
+
+-- trip t is the first of its line
+abbrev pub IsFirst : List (List ℕ) → ℕ → Type 0
+IsFirst lines t = Contains lines (trips_from lines t)
 
 -- a line, and an index of its trips
 pub record LineIndex : Type 0 where

@@ -16,6 +16,18 @@ fn read_hops<S: Scan>(scan: &S, notes: &[Note]) -> ReadAhead {
 }
 
 impl Desk {
+    // Reads ahead what clips each of these segments.
+    fn read_clips<S: Scan>(&self, scan: &S, from: u32, to: u32) -> ReadAhead
+        requires step { IsInStep (S.net scan.now) self.now }
+        requires to { to ≤ length self.now.segments }
+    {
+        let mut ahead = ReadAhead::new();
+        for n in from..to {
+            ahead.take(self.clipped_end(scan, &self.segments[n as usize]));
+        }
+        ahead
+    }
+
     // Reads the first event that each of these segments covers ahead.
     fn read_events<S: Scan>(&self, scan: &S, from: u32, to: u32) -> ReadAhead
         requires step { IsInStep (S.net scan.now) self.now }
@@ -29,14 +41,16 @@ impl Desk {
         ahead
     }
 
-    /// Reads the first event that each of these segments covers ahead.
+    /// Reads the first event that each of these segments covers ahead, and what clips it.
     pub fn read_segments_ahead<S: Scan>(&mut self, scan: &S, from: u32, to: u32)
         requires step { IsInStep (S.net scan.now) self.old }
         requires to { to ≤ length self.old.segments }
         ensures { self.new ≡ self.old }
     {
-        let ahead = self.read_events(scan, from, to);
-        self.ahead.join(ahead);
+        let clips = self.read_clips(scan, from, to);
+        self.ahead.join(clips);
+        let events = self.read_events(scan, from, to);
+        self.ahead.join(events);
     }
 
     /// Reads the first of the hops from each event that is noted ahead.

@@ -3,7 +3,7 @@ ghost use Rattle.tb_base.specs.Lines.{AreDividedInto};
 ghost use Rattle.tb_base.specs.Network.{NetData};
 ghost use Rattle.tb_base.specs.TimetableData.{TimetableData, event_total, events_of};
 ghost use Rattle.segment_queue.specs.Scans.{trips_from};
-ghost use Rattle.segment_queue.specs.Queue.{EntersSegment, Fits, IsFalling, IsInStep, last_index, lowered, mark_of};
+ghost use Rattle.segment_queue.specs.Queue.{EntersSegment, Fits, IsClipped, IsFalling, IsInStep, last_index, lowered, mark_of};
 
 use super::marks::Marks;
 use super::notes::Note;
@@ -281,6 +281,19 @@ impl Desk {
         ensures { result ≡ slice_get self.now.segments n }
     {
         self.segments.get(n as usize).copied()
+    }
+
+    /// Up to which index a segment has to be looked at. Where the trip just before on its line has been entered, whoever
+    /// sits in that is there as early: what is behind its mark is left out.
+    pub fn clipped_end<S: Scan>(&self, scan: &S, segment: &Segment) -> u32
+        requires trip { segment.now.trip < length (S.net scan.now).table.trips }
+        requires room { length (S.net scan.now).table.trips ≤ length self.now.marks }
+        ensures { IsClipped (S.net scan.now) self.now.marks segment.now result }
+    {
+        match scan.before(segment.trip) {
+            Some(before) => segment.end.min(self.marks.get_or(before, segment.end)),
+            None => segment.end,
+        }
     }
 
     /// Appends a hit.

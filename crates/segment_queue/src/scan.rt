@@ -1,9 +1,9 @@
-ghost use Rattle.std.specs.Prelude.{◌≡◌, ◌+◌, ◌<◌, ◌≤◌, ◌∷◌, [], ℕ, All, AllPairs, IfSome, IsTrue, Some, length, slice_get, slice_index_or};
+ghost use Rattle.std.specs.Prelude.{◌≡◌, ◌+◌, ◌<◌, ◌≤◌, ◌∷◌, [], ℕ, All, AllPairs, IfSome, IsTrue, MatchOption, Some, length, slice_get, slice_index_or};
 ghost use Rattle.tb_base.specs.Lines.{AreDividedInto};
 ghost use Rattle.tb_base.specs.Soundness.{IsSound, IsSoundPath};
 ghost use Rattle.tb_base.specs.Walking.{walk};
 ghost use Rattle.tb_base.specs.TimetableData.{arrival_at, event_at, event_total, events_of, stop_at};
-ghost use Rattle.segment_queue.specs.Scans.{boarding_hop, line_indices_at, no_line_index, seen_at, trips_from};
+ghost use Rattle.segment_queue.specs.Scans.{IsFirst, StandsBefore, boarding_hop, line_indices_at, no_line_index, seen_at, trips_from};
 ghost use Rattle.segment_queue.specs.WalkGroups.{AreWalkGroups};
 
 use super::seen::Seen;
@@ -89,6 +89,13 @@ pub trait Scan {
         requires { trip < length (net self.now).table.trips }
         ensures trips { result.now ≡ trips_from (net self.now).lines trip }
         ensures there { All (λ u. u < length (net self.now).table.trips) result.now };
+
+    /// The trip just before on the trip's line, where there is one.
+    fn before(&self, trip: TripNo) -> Option<TripNo>
+        requires { trip < length (net self.now).table.trips }
+        ensures { MatchOption result (IsFirst (net self.now).lines trip)
+            (λ v. (v < length (net self.now).table.trips)
+            × StandsBefore (net self.now).lines v trip) };
 
     /// The hops from an event that has been looked at. It is no further step.
     fn hops_from(&self, seen: Seen) -> &[Hop]

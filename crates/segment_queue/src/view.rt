@@ -1,7 +1,7 @@
-ghost use Rattle.std.specs.Prelude.{◌≡◌, ◌<◌, ◌+◌, ◌≤◌, ℕ, Some, All, AllPairs, IfSome, IsTrue, ◌↔◌, length, slice_get, slice_index_or};
+ghost use Rattle.std.specs.Prelude.{◌≡◌, ◌<◌, ◌+◌, ◌≤◌, ℕ, Some, All, AllPairs, IfSome, IsTrue, MatchOption, ◌↔◌, length, slice_get, slice_index_or};
 ghost use Rattle.tb_base.specs.Soundness.{IsSoundPath};
 ghost use Rattle.tb_base.specs.TimetableData.{arrival_at, event_at, events_of, stop_at};
-ghost use Rattle.segment_queue.specs.Scans.{seen_at, shown_in, trips_from};
+ghost use Rattle.segment_queue.specs.Scans.{IsFirst, StandsBefore, seen_at, shown_in, trips_from};
 ghost use Rattle.segment_queue.specs.WalkGroups.{AreWalkGroups};
 ghost use Rattle.transfer_pack.specs.Packed.{packed};
 
@@ -90,6 +90,21 @@ impl<'a> View<'a> {
         let lines = self.lines;
         lines.soundness();
         lines.onward(trip)
+    }
+
+    /// The trip just before on the trip's line, where there is one.
+    pub fn trip_before(&self, trip: TripNo) -> Option<TripNo>
+        requires { trip < length self.now.0.trips }
+        ensures { MatchOption result (IsFirst self.now.1.lines trip)
+            (λ v. (v < length self.now.0.trips) × StandsBefore self.now.1.lines v trip) }
+    {
+        let lines = self.lines;
+        lines.soundness();
+        let (line, place) = lines.of(trip);
+        if place == 0 {
+            return None;
+        }
+        Some(lines.trips(line)[place as usize - 1])
     }
 
     /// Event `at` of a trip, for as long as the set is lent. It is a step.
@@ -183,6 +198,10 @@ impl<'a> Scan for View<'a> {
 
     fn onward(&self, trip: TripNo) -> &[TripNo] {
         self.trips_onward(trip)
+    }
+
+    fn before(&self, trip: TripNo) -> Option<TripNo> {
+        self.trip_before(trip)
     }
 
     fn hops_from(&self, seen: Seen) -> &[Hop] {

@@ -24,8 +24,8 @@ impl ReadAhead {
         ReadAhead { sum: 0 }
     }
 
-    // One number more.
-    pub(crate) fn take(&mut self, number: u32) {
+    /// One number more that was read.
+    pub fn take(&mut self, number: u32) {
         self.sum ^= number;
     }
 

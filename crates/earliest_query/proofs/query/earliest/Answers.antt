@@ -1,5 +1,7 @@
 use Rattle.std.proofs.Common.{ap, arith}
+use Rattle.tb_base.specs.Network.{NetData}
 use Rattle.segment_queue.specs.Queue.{DeskData}
+use Rattle.earliest_query.proofs.Sorting.{are_parts, parts}
 use Rattle.earliest_query.proofs.Answering.{answered, covered_all, first_ridden, searched}
 use Rattle.earliest_query.proofs.query.earliest.Goals as goal
 
@@ -18,4 +20,9 @@ returns-clause-steps g c =
 
 pub returns-clause-searched : goal.returns-clause-searched
 returns-clause-searched g c =
-    searched (g.S.Scan.net c.args.scan.now) c.args.query.now c.ride_all.new.desk c.ride_all.ensures.ridden.0 c.ride_all.ensures.ridden.1
+    let N : NetData = g.S.Scan.net c.args.scan.now in
+    let Q = c.args.query.now in
+    let D : DeskData = c.ride_all.new.desk in
+    let round = c.ride_all.ensures.ridden.0 in
+    let ridden = c.ride_all.ensures.ridden.1 in
+    (parts N Q D round ridden, are_parts N Q D round ridden, searched N Q D round ridden)

@@ -36,7 +36,7 @@ returns-clause-ridden g c =
     let more = c.ride_round-best.ensures in
     let improved = subst (λ o. IsImproved N.table Q E c.args.round o c.ride_round-best.result) c.last_hit-last.ensures more.improved in
     let next : IsRidden N Q (record E { hits = D.hits ++ hits_of c.args.round c.ride_round-best.result }) c.count-to.result (c.args.round + 1)
-    = ridden_next N Q D E c.ride_round-best.result c.args.from c.count-to.result c.args.round c.requires.ridden c.count-to.ensures.result c.requires.from more.queue more.extends more.followed more.bounded improved in
+    = ridden_next N Q D E c.ride_round-best.result c.args.from c.count-to.result c.args.round c.requires.ridden c.count-to.ensures.result c.requires.from more.queue more.extends more.ridden improved in
     subst (λ d. IsRidden N Q d c.count-to.result (c.args.round + 1))
     (ap (λ hs. record E { hits = hs ++ hits_of c.args.round c.ride_round-best.result }) (sym more.extends.hits) ∙ sym c.keep.ensures) next
 

@@ -1,12 +1,12 @@
-use Rattle.std.proofs.Common.{ℕ, suc, inl, inr, refl, sym, subst, arith}
+use Rattle.std.proofs.Common.{ℕ, suc, ◌<◌, inl, inr, length, refl, sym, subst, arith}
 use Rattle.std.specs.Prelude.{All}
 use Rattle.tb_base.specs.Network.{NetData}
 use Rattle.tb_base.specs.BestValues.{QueryData}
 use Rattle.segment_queue.specs.Queue.{DeskData}
 use Rattle.earliest_query.specs.Noted.{IsSoundNote}
 use Rattle.earliest_query.specs.UnderWay.{Extends, IsDone, IsQueue}
-use Rattle.earliest_query.proofs.Growing.{extends-trans}
-use Rattle.earliest_query.proofs.BestSoFar.{new_hit-kept}
+use Rattle.earliest_query.proofs.Growing.{extends-segment, extends-trans, outdone-kept, queue-later}
+use Rattle.earliest_query.proofs.BestSoFar.{bounded-same, new_hit-kept}
 use Rattle.earliest_query.proofs.Lateness.{done-kept}
 use Rattle.earliest_query.proofs.Noting.{extends-notes, queue-notes}
 use Rattle.earliest_query.proofs.search.Search.ride_round.Goals as goal
@@ -15,7 +15,7 @@ pub follow_notes-requires-clause-queue : goal.follow_notes-requires-clause-queue
 follow_notes-requires-clause-queue g c =
     let N : NetData = g.S.Scan.net c.args.self.now.scan.now in
     let E : DeskData = c.weigh_round-best.new.desk in
-    subst (λ d. IsQueue N c.args.self.now.query.now d (suc c.args.round)) (sym c.weigh_round-best.ensures.rest) (queue-notes N c.args.self.now.query.now c.args.desk.now E.notes (suc c.args.round) c.requires.queue)
+    subst (λ d. IsQueue N c.args.self.now.query.now d (suc c.args.round)) (sym c.weigh_round-best.ensures.rest) (queue-notes N c.args.self.now.query.now c.args.desk.now E.notes (suc c.args.round) (queue-later N c.args.self.now.query.now c.args.desk.now c.args.round (suc c.args.round) (omega arith) c.requires.queue))
 
 pub follow_notes-requires-clause-notes : goal.follow_notes-requires-clause-notes
 follow_notes-requires-clause-notes g c =
@@ -36,11 +36,18 @@ returns g c =
     record {
       queue = c.follow_notes.ensures.queue;
       extends = grown;
-      followed = λ n i from below covers. elim (told.left n i from below covers) [
-        | inl done ↦ done-kept N Q D F top c.args.round n i best best grown (omega (arith, below, c.requires.to)) (inl refl) done
-        | inr noted ↦ subst (λ m. IsDone N F best m i) noted.segment (subst (λ k. IsDone N F best noted.by.segment k) noted.at (c.follow_notes.ensures.done noted.by noted.one))
-      ];
-      bounded = told.bounded;
+      ridden = λ n i from below covers.
+          let inside : n < length D.segments = omega (arith, below, c.requires.to) in
+          elim (told.weighed n i from below covers) [
+            | inl w ↦ inl (record {
+              done = elim w.left [
+                | inl done ↦ done-kept N Q D F top c.args.round n i best best grown inside (inl refl) done
+                | inr noted ↦ subst (λ m. IsDone N F best m i) noted.segment (subst (λ k. IsDone N F best noted.by.segment k) noted.at (c.follow_notes.ensures.done noted.by noted.one))
+              ];
+              bounded = bounded-same N.table Q D F best n i (sym (extends-segment D F top grown n inside)) w.bounded;
+            })
+            | inr o ↦ inr (outdone-kept N D F top n i grown inside o)
+          ];
       improved = new_hit-kept N.table Q D F top c.args.round c.args.so_far best grown told.improved;
       steps = told.steps;
     }

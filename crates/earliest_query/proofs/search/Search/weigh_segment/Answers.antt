@@ -1,4 +1,4 @@
-use Rattle.std.proofs.Common.{◌≡◌, ◌∙◌, ℕ, ◌+◌, inl, inr, [], ◌∷◌, length, length-append, sym, ap, subst, refl, arith}
+use Rattle.std.proofs.Common.{◌≡◌, ◌∙◌, ℕ, ◌+◌, ◌<◌, ◌≤◌, ◌⊎◌, inl, inr, [], ◌∷◌, length, length-append, sym, ap, subst, refl, arith}
 use Rattle.std.proofs.lemmas.Int.{ints}
 use Rattle.std.proofs.lemmas.Option.{get_or_from_slice_get}
 use Rattle.tb_base.specs.Network.{NetData}
@@ -10,7 +10,7 @@ use Rattle.segment_queue.specs.Queue.{DeskData, IsSoundSegment}
 use Rattle.segment_queue.specs.Traced.{no_segment, segment_of}
 use Rattle.earliest_query.specs.Noted.{IsNotedDown, IsSoundNote}
 use Rattle.earliest_query.proofs.Following.{sound_event}
-use Rattle.earliest_query.proofs.Noting.{IsWeighedAt, bounded_late, improved_late, left_late, noted_on}
+use Rattle.earliest_query.proofs.Noting.{IsWeighedAt, bounded_late, clipped_outdone, clipped_within, improved_late, left_late, noted_on}
 use Rattle.earliest_query.proofs.search.Search.weigh_segment.Goals as goal
 
 pub loop-before-init : goal.loop-before-init
@@ -26,6 +26,7 @@ loop-before-init g c =
         bounded = λ i above below. absurd (omega (arith, board, above, below));
         improved = inl refl;
       };
+      within = (let sound = c.requires.queue.step.segments c.args.n no_segment c.requires.segment in omega (arith, board, sound.onward));
       few = omega (arith, board);
       steps = omega (arith, board);
     }
@@ -33,29 +34,29 @@ loop-before-init g c =
 pub visit-visit-requires-clause-trip : goal.visit-visit-requires-clause-trip
 visit-visit-requires-clause-trip g c =
     let same : segment_of c.args.desk.now.segments c.args.n ≡ c.in-Some.segment = get_or_from_slice_get c.args.desk.now.segments c.args.n c.in-Some.segment no_segment (sym c.in-Some.ensures) in
-    let sound = subst (IsSoundSegment (g.S.Scan.net c.args.self.now.scan.now).table) same (c.requires.step.segments c.args.n no_segment c.requires.segment) in
+    let sound = subst (IsSoundSegment (g.S.Scan.net c.args.self.now.scan.now).table) same (c.requires.queue.step.segments c.args.n no_segment c.requires.segment) in
     sound.trip
 
 pub visit-visit-requires-clause-at : goal.visit-visit-requires-clause-at
 visit-visit-requires-clause-at g c =
     let same : segment_of c.args.desk.now.segments c.args.n ≡ c.in-Some.segment = get_or_from_slice_get c.args.desk.now.segments c.args.n c.in-Some.segment no_segment (sym c.in-Some.ensures) in
-    let sound = subst (IsSoundSegment (g.S.Scan.net c.args.self.now.scan.now).table) same (c.requires.step.segments c.args.n no_segment c.requires.segment) in
-    omega (arith, sound.within, c.loop-before-test.true)
+    let sound = subst (IsSoundSegment (g.S.Scan.net c.args.self.now.scan.now).table) same (c.requires.queue.step.segments c.args.n no_segment c.requires.segment) in
+    omega (arith, sound.within, c.loop-before-test.true, clipped_within (g.S.Scan.net c.args.self.now.scan.now) c.args.desk.now.marks c.in-Some.segment c.clipped_end-end.result c.clipped_end-end.ensures)
 
 pub weigh-best-requires-clause-stop : goal.weigh-best-requires-clause-stop
 weigh-best-requires-clause-stop g c =
     let T : TimetableData = (g.S.Scan.net c.args.self.now.scan.now).table in
     let same : segment_of c.args.desk.now.segments c.args.n ≡ c.in-Some.segment = get_or_from_slice_get c.args.desk.now.segments c.args.n c.in-Some.segment no_segment (sym c.in-Some.ensures) in
-    let sound = subst (IsSoundSegment T) same (c.requires.step.segments c.args.n no_segment c.requires.segment) in
-    let event = sound_event T c.in-Some.segment.trip (c.loop-before.before + 1) c.soundness.ensures.sound sound.trip (omega (arith, sound.within, c.loop-before-test.true)) in
+    let sound = subst (IsSoundSegment T) same (c.requires.queue.step.segments c.args.n no_segment c.requires.segment) in
+    let event = sound_event T c.in-Some.segment.trip (c.loop-before.before + 1) c.soundness.ensures.sound sound.trip (omega (arith, sound.within, c.loop-before-test.true, clipped_within (g.S.Scan.net c.args.self.now.scan.now) c.args.desk.now.marks c.in-Some.segment c.clipped_end-end.result c.clipped_end-end.ensures)) in
     omega (arith, c.visit-visit.ensures.stop, event.stop)
 
 pub weigh-best-requires-clause-arr : goal.weigh-best-requires-clause-arr
 weigh-best-requires-clause-arr g c =
     let T : TimetableData = (g.S.Scan.net c.args.self.now.scan.now).table in
     let same : segment_of c.args.desk.now.segments c.args.n ≡ c.in-Some.segment = get_or_from_slice_get c.args.desk.now.segments c.args.n c.in-Some.segment no_segment (sym c.in-Some.ensures) in
-    let sound = subst (IsSoundSegment T) same (c.requires.step.segments c.args.n no_segment c.requires.segment) in
-    let event = sound_event T c.in-Some.segment.trip (c.loop-before.before + 1) c.soundness.ensures.sound sound.trip (omega (arith, sound.within, c.loop-before-test.true)) in
+    let sound = subst (IsSoundSegment T) same (c.requires.queue.step.segments c.args.n no_segment c.requires.segment) in
+    let event = sound_event T c.in-Some.segment.trip (c.loop-before.before + 1) c.soundness.ensures.sound sound.trip (omega (arith, sound.within, c.loop-before-test.true, clipped_within (g.S.Scan.net c.args.self.now.scan.now) c.args.desk.now.marks c.in-Some.segment c.clipped_end-end.result c.clipped_end-end.ensures)) in
     omega (arith, ints, c.visit-visit.ensures.arr, event.waits, event.latest)
 
 pub note_down-requires : goal.note_down-requires
@@ -66,6 +67,7 @@ note_down-requires g c =
       c.loop-before.invariant.few,
       c.requires.room,
       c.loop-before-test.true,
+      clipped_within (g.S.Scan.net c.args.self.now.scan.now) c.args.desk.now.marks c.in-Some.segment c.clipped_end-end.result c.clipped_end-end.ensures,
       ap (λ (s : Segment). s.board) same,
       ap (λ (s : Segment). s.end) same,
       ap (λ (d : DeskData). d.note_room) c.loop-before.invariant.rest,
@@ -90,7 +92,7 @@ loop-before-preserved g c =
       inside = c.requires.segment;
       is_round = c.requires.round;
       onward = omega arith;
-      within = omega (arith, c.loop-before-test.true);
+      within = omega (arith, c.loop-before-test.true, clipped_within (g.S.Scan.net c.args.self.now.scan.now) c.args.desk.now.marks c.in-Some.segment c.clipped_end-end.result c.clipped_end-end.ensures);
       stop = c.visit-visit.result.stop;
       arr = c.visit-visit.result.arr;
       alight = c.visit-visit.result.alight;
@@ -108,7 +110,7 @@ loop-before-preserved g c =
       inside = c.requires.segment;
       this_round = c.requires.round;
       onward = omega (arith, seen_is, ap (λ (s : Segment). s.board) same);
-      within = omega (arith, seen_is, c.loop-before-test.true, ap (λ (s : Segment). s.end) same);
+      within = omega (arith, seen_is, c.loop-before-test.true, clipped_within (g.S.Scan.net c.args.self.now.scan.now) c.args.desk.now.marks c.in-Some.segment c.clipped_end-end.result c.clipped_end-end.ensures, ap (λ (s : Segment). s.end) same);
       arr = arr_is ∙ ap (λ k. arrival_at N.table (segment_of D.segments n).trip k) (sym seen_is);
       shows = c.visit-visit.ensures.shown ∙ ap (λ t. N.hops t at) (sym trip) ∙ ap (λ k. N.hops (segment_of D.segments n).trip k) (sym seen_is);
     } in
@@ -116,6 +118,7 @@ loop-before-preserved g c =
     record {
       rest = c.note_down.ensures.rest ∙ ap (λ (d : DeskData). record d { notes = F.notes }) before.rest;
       noted = noted_on shown N Q D n c.loop-before.before c.args.round c.args.so_far c.loop-before.best c.weigh-best.result D.notes E.notes before.noted w note F.notes sound refl seen_is (length c.visit-visit.result.out.now) hops_are noted;
+      within = omega (arith, c.loop-before-test.true, clipped_within (g.S.Scan.net c.args.self.now.scan.now) c.args.desk.now.marks c.in-Some.segment c.clipped_end-end.result c.clipped_end-end.ensures, ap (λ (s : Segment). s.end) same);
       few = elim noted [
         | inl e ↦ omega (arith, before.few, ap length e.1)
         | inr e ↦ omega (arith, before.few, ap length e, length-append E.notes (note ∷ []), ap (λ (s : Segment). s.board) same)
@@ -134,7 +137,7 @@ returns-then-is_late g c =
     let at : ℕ = c.loop-before.before + 1 in
     let before = c.loop-before.invariant in
     let same : segment_of D.segments n ≡ c.in-Some.segment = get_or_from_slice_get D.segments n c.in-Some.segment no_segment (sym c.in-Some.ensures) in
-    let whole = c.requires.step.segments n no_segment c.requires.segment in
+    let whole = c.requires.queue.step.segments n no_segment c.requires.segment in
     let w : IsWeighedAt N Q D n at c.args.round c.loop-before.best c.weigh-best.result
     = record {
       segment = c.in-Some.segment;
@@ -142,7 +145,7 @@ returns-then-is_late g c =
       inside = c.requires.segment;
       is_round = c.requires.round;
       onward = omega arith;
-      within = omega (arith, c.loop-before-test.true);
+      within = omega (arith, c.loop-before-test.true, clipped_within (g.S.Scan.net c.args.self.now.scan.now) c.args.desk.now.marks c.in-Some.segment c.clipped_end-end.result c.clipped_end-end.ensures);
       stop = c.visit-visit.result.stop;
       arr = c.visit-visit.result.arr;
       alight = c.visit-visit.result.alight;
@@ -156,11 +159,10 @@ returns-then-is_late g c =
       rest = before.rest;
       notes = before.noted.sound;
       kept = before.noted.kept;
-      left = left_late shown N Q D n c.loop-before.before c.args.round c.args.so_far c.loop-before.best c.weigh-best.result D.notes E.notes before.noted w c.soundness.ensures.sound whole late;
-      bounded = bounded_late shown N Q D n c.loop-before.before c.args.round c.args.so_far c.loop-before.best c.weigh-best.result D.notes E.notes before.noted w c.soundness.ensures.sound whole late;
+      weighed = λ i covers. inl (record { left = left_late shown N Q D n c.loop-before.before c.args.round c.args.so_far c.loop-before.best c.weigh-best.result D.notes E.notes before.noted w c.soundness.ensures.sound whole late i covers; bounded = bounded_late shown N Q D n c.loop-before.before c.args.round c.args.so_far c.loop-before.best c.weigh-best.result D.notes E.notes before.noted w c.soundness.ensures.sound whole late i covers });
       improved = improved_late shown N Q D n c.loop-before.before c.args.round c.args.so_far c.loop-before.best c.weigh-best.result D.notes E.notes before.noted w c.soundness.ensures.sound whole late;
-      few = omega (arith, before.few, ap (λ (s : Segment). s.board) same, ap (λ (s : Segment). s.end) same, c.loop-before-test.true);
-      steps = omega (arith, before.steps, c.visit-visit.ensures.step, ap (λ (s : Segment). s.board) same, ap (λ (s : Segment). s.end) same, c.loop-before-test.true);
+      few = omega (arith, before.few, before.within);
+      steps = omega (arith, before.steps, c.visit-visit.ensures.step, ap (λ (s : Segment). s.board) same, ap (λ (s : Segment). s.end) same, c.loop-before-test.true, clipped_within (g.S.Scan.net c.args.self.now.scan.now) c.args.desk.now.marks c.in-Some.segment c.clipped_end-end.result c.clipped_end-end.ensures);
     }
 
 pub returns-clause-rest : goal.returns-clause-rest
@@ -172,31 +174,24 @@ returns-clause-notes g c = c.loop-before.invariant.noted.sound
 pub returns-clause-kept : goal.returns-clause-kept
 returns-clause-kept g c = c.loop-before.invariant.noted.kept
 
-pub returns-clause-left : goal.returns-clause-left
-returns-clause-left g c = λ i covers.
-    let same : segment_of c.args.desk.now.segments c.args.n ≡ c.in-Some.segment = get_or_from_slice_get c.args.desk.now.segments c.args.n c.in-Some.segment no_segment (sym c.in-Some.ensures) in
-    c.loop-before.invariant.noted.left i covers.onward (omega (arith, covers.within, ap (λ (s : Segment). s.end) same, c.loop-before-test.false))
+at_most_or_past : (i e : ℕ) → (i ≤ e) ⊎ (e < i)
+at_most_or_past i e = grind arith
 
-pub returns-clause-bounded : goal.returns-clause-bounded
-returns-clause-bounded g c = λ i covers.
-    let same : segment_of c.args.desk.now.segments c.args.n ≡ c.in-Some.segment = get_or_from_slice_get c.args.desk.now.segments c.args.n c.in-Some.segment no_segment (sym c.in-Some.ensures) in
-    c.loop-before.invariant.noted.bounded i covers.onward (omega (arith, covers.within, ap (λ (s : Segment). s.end) same, c.loop-before-test.false))
+pub returns-clause-weighed : goal.returns-clause-weighed
+returns-clause-weighed g c = λ i covers.
+    let D : DeskData = c.args.desk.now in
+    let same : segment_of D.segments c.args.n ≡ c.in-Some.segment = get_or_from_slice_get D.segments c.args.n c.in-Some.segment no_segment (sym c.in-Some.ensures) in
+    elim (at_most_or_past i c.loop-before.before) [
+      | inl within ↦ inl (record { left = c.loop-before.invariant.noted.left i covers.onward within; bounded = c.loop-before.invariant.noted.bounded i covers.onward within })
+      | inr past ↦ inr (clipped_outdone (g.S.Scan.net c.args.self.now.scan.now) c.args.self.now.query.now D c.args.n c.args.round c.clipped_end-end.result i c.in-Some.segment c.soundness.ensures.divided c.requires.queue c.requires.segment c.requires.round same c.clipped_end-end.ensures
+          (omega (arith, covers.within, ap (λ (s : Segment). s.end) same)) (omega (arith, past, c.loop-before-test.false)))
+    ]
 
 pub returns-clause-improved : goal.returns-clause-improved
 returns-clause-improved g c = c.loop-before.invariant.noted.improved
 
 pub returns-clause-few : goal.returns-clause-few
-returns-clause-few g c =
-    let T : TimetableData = (g.S.Scan.net c.args.self.now.scan.now).table in
-    let same : segment_of c.args.desk.now.segments c.args.n ≡ c.in-Some.segment = get_or_from_slice_get c.args.desk.now.segments c.args.n c.in-Some.segment no_segment (sym c.in-Some.ensures) in
-    let sound = subst (IsSoundSegment T) same (c.requires.step.segments c.args.n no_segment c.requires.segment) in
-    let within = c.loop-before.auto.before-end (omega (arith, sound.onward)) in
-    omega (arith, within, c.loop-before.invariant.few, ap (λ (s : Segment). s.board) same, ap (λ (s : Segment). s.end) same, c.loop-before-test.false, sound.onward)
+returns-clause-few g c = omega (arith, c.loop-before.invariant.few, c.loop-before.invariant.within)
 
 pub returns-clause-steps : goal.returns-clause-steps
-returns-clause-steps g c =
-    let T : TimetableData = (g.S.Scan.net c.args.self.now.scan.now).table in
-    let same : segment_of c.args.desk.now.segments c.args.n ≡ c.in-Some.segment = get_or_from_slice_get c.args.desk.now.segments c.args.n c.in-Some.segment no_segment (sym c.in-Some.ensures) in
-    let sound = subst (IsSoundSegment T) same (c.requires.step.segments c.args.n no_segment c.requires.segment) in
-    let within = c.loop-before.auto.before-end (omega (arith, sound.onward)) in
-    omega (arith, within, c.loop-before.invariant.steps, ap (λ (s : Segment). s.board) same, ap (λ (s : Segment). s.end) same, c.loop-before-test.false, sound.onward)
+returns-clause-steps g c = omega (arith, c.loop-before.invariant.steps, c.loop-before.invariant.within)
