@@ -78,9 +78,9 @@ fn reduced_row(
     trip: TripNo,
 ) -> Result<Vec<Transfer>, Memory>
     requires lines { lines.now.table ≡ table.now }
-    requires labels { length labels.old ≡ length table.now.stops }
+    requires labels { labels.old.table ≡ table.now }
     requires trip { trip < length table.now.trips }
-    ensures labels { length labels.new ≡ length labels.old }
+    ensures labels { labels.new.table ≡ table.now }
     ensures row { IfOk result (λ row. row.items
         ≡ transfers_of table.now (kept_hops table.now lines.now.lines trip) trip) }
 {
@@ -104,11 +104,11 @@ fn row_of(
     touched: bool,
 ) -> Result<Vec<Transfer>, Memory>
     requires lines { lines.now.table ≡ table.now }
-    requires labels { length labels.old ≡ length table.now.stops }
+    requires labels { labels.old.table ≡ table.now }
     requires trip { trip < length table.now.trips }
     requires retimed { IsRetimed old.now.table table.now }
     requires touched { touched ≡ is_touched (network_of old.now) lines.now trip }
-    ensures labels { length labels.new ≡ length labels.old }
+    ensures labels { labels.new.table ≡ table.now }
     ensures row { IfOk result (λ row. row.items
         ≡ transfers_of table.now (kept_hops table.now lines.now.lines trip) trip) }
 {
@@ -164,7 +164,7 @@ impl Rows {
         lines.soundness();
         let before = Network::new(old.table(), old.lines());
         let retiming = Retiming::between(alloc, before, Network::new(table, lines))?;
-        let mut labels = Labels::new(alloc, table.stop_count())?;
+        let mut labels = Labels::new(alloc, table)?;
         let mut rows = Rows::new(alloc);
         for t in 0..table.trip_count() {
             let trip = TripNo(t);

@@ -1,4 +1,3 @@
-pub mod Paths
 pub mod Trips
 pub mod Back
 pub mod Sound

@@ -11,12 +11,12 @@ use Rattle.tb_base.specs.TimetableData.{StationData, TimetableData, path_total}
 use Rattle.tb_base.specs.Soundness.{IsSound, IsSoundFootpaths, IsSoundPath, IsSoundStation, IsSoundTrip, place_names}
 use Rattle.tb_base.specs.Walking.{KeepsFootpathLaw, change, footpath_secs}
 use Rattle.tb_base.proofs.Members.{All-from_Member}
-use Rattle.tb_base.proofs.Ordered.{Contains-from_Member, Member}
 use Rattle.tb_base.proofs.Walks.{leaving_sound}
 use Rattle.mirror_table.specs.Mirror.{IsMirror, mirror_trip}
-use Rattle.mirror_table.specs.TurnedPaths.{turned_into}
+use Rattle.paths_into.specs.TurnedPaths.{turned_into}
 use Rattle.mirror_table.proofs.Back.{change_back}
-use Rattle.mirror_table.proofs.Paths.{into_ascends, into_found, into_from, into_none}
+use Rattle.paths_into.proofs.Paths.{into_ascends, into_found, into_none}
+use Rattle.paths_into.proofs.Ways.{path_sound, row_ascends}
 use Rattle.mirror_table.proofs.Trips.{events_in, sound_trips}
 
 -- how the mirror M of T is made
@@ -28,9 +28,6 @@ pub record IsMade (T M : TimetableData) : Type 0 where
   pub rows : length M.footpaths.paths ≡ length T.stops
   pub paths : (q : ℕ) → q < length T.stops → get_or M.footpaths.paths q [] ≡ turned_into T.footpaths.paths q (length T.stops)
   pub total : path_total M.footpaths ≡ path_total T.footpaths
-
-member_of : {X : Type 0} (P : X → Type 0) (xs : List X) (x : X) → All P xs → Member x xs → P x
-member_of P xs x all h = let k = Contains-from_Member x xs h in subst P k.2 (all k.0 x k.1)
 
 -- no footpath leads past the last stop
 none_past : (n p : ℕ) (row : List Path) → All (λ f. f.to < n) row → n ≤ p → find (λ (f : Path). f.to == p) row ≡ None
@@ -81,25 +78,13 @@ module _ (T M : TimetableData) (sound : IsSound T) (made : IsMade T M) where
       subst (λ (o : Option ℕ). IsSomeAnd o (λ x. x ≤ pq + qr)) (sym (change_back T M is_mirror.footpaths p r)) (subst (λ n. IsSomeAnd (change T r p) (λ x. x ≤ n)) swap there)
 
   -- the rows of footpaths
-  path_sound : (p : ℕ) (f : Path) → Member f (turned_into T.footpaths.paths p (length T.stops)) → IsSoundPath (length T.stops) p f
-  path_sound p f h =
-      let r : (f.to < length T.stops) × ((g : Path) × Member g (get_or T.footpaths.paths f.to []) × (g.to ≡ p) × (f.secs ≡ g.secs)) = into_from T.footpaths.paths p (length T.stops) f h in
-      let g : IsSoundPath (length T.stops) f.to r.1.0 = member_of (IsSoundPath (length T.stops) f.to) (get_or T.footpaths.paths f.to []) r.1.0 (leaving_sound T f.to sound r.0) r.1.1 in
-      record { to = r.0; away = λ e. g.away (r.1.2 ∙ sym e); secs = subst (λ s. s ≤ 86400) (sym r.1.3) g.secs }
-
   row_sound : (p : ℕ) → p < length T.stops → All (IsSoundPath (length T.stops) p) (get_or M.footpaths.paths p [])
-  row_sound p inside = subst (All (IsSoundPath (length T.stops) p)) (sym (made.paths p inside)) (All-from_Member (IsSoundPath (length T.stops) p) (turned_into T.footpaths.paths p (length T.stops)) (path_sound p))
-
-  row_ascends : (p : ℕ) → AllPairs (λ (f g : Path). f.to < g.to) (get_or T.footpaths.paths p [])
-  row_ascends p = elim (cases_lt p (length T.footpaths.paths)) [
-    | inl h ↦ sound.footpaths.ascending p [] h
-    | inr h ↦ subst (AllPairs (λ (f g : Path). f.to < g.to)) (sym (get_or_past T.footpaths.paths p [] h)) (λ i j d before inside. absurd (omega (arith, inside)))
-  ]
+  row_sound p inside = subst (All (IsSoundPath (length T.stops) p)) (sym (made.paths p inside)) (All-from_Member (IsSoundPath (length T.stops) p) (turned_into T.footpaths.paths p (length T.stops)) (path_sound T sound p))
 
   ascending : All (λ row. AllPairs (λ (f g : Path). f.to < g.to) row) M.footpaths.paths
   ascending i d inside =
       let within : i < length T.stops = omega (arith, inside, made.rows) in
-      subst (AllPairs (λ (f g : Path). f.to < g.to)) (sym (made.paths i within) ∙ get_or_default M.footpaths.paths i [] d inside) (into_ascends T.footpaths.paths i (length T.stops) row_ascends)
+      subst (AllPairs (λ (f g : Path). f.to < g.to)) (sym (made.paths i within) ∙ get_or_default M.footpaths.paths i [] d inside) (into_ascends T.footpaths.paths i (length T.stops) (row_ascends T sound))
 
   many : length M.footpaths.change ≡ length T.stops
   many = ap length made.change ∙ sound.change_times

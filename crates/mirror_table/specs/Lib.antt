@@ -1,4 +1,3 @@
 pub mod Departures
 pub mod Mirror
 pub mod TurnedJourneys
-pub mod TurnedPaths

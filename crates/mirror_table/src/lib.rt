@@ -10,7 +10,6 @@
 
 pub mod laws;
 mod mirrored;
-mod turned_paths;
 mod turned_trips;
 
 pub use mirrored::mirror;

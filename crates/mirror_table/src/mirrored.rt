@@ -1,8 +1,8 @@
 ghost use Rattle.std.specs.Prelude.{IfOk};
 ghost use Rattle.mirror_table.specs.Mirror.{IsMirror};
 
-use crate::turned_paths::PathRows;
 use crate::turned_trips::mirrored_trips;
+use paths_into::PathsInto;
 use std::alloc::Global;
 use table_copies::{change_times, stations, stops};
 use tb_base::{Memory, Parts, Timetable};
@@ -19,7 +19,7 @@ pub fn mirror(alloc: Global, table: &Timetable) -> Result<Timetable, Memory>
         stations: stations(alloc, table)?,
         trips: mirrored_trips(alloc, table)?,
         change: change_times(alloc, table)?,
-        paths: PathRows::of(alloc, table)?.into_rows(),
+        paths: PathsInto::of(alloc, table)?.into_rows(),
     };
     Timetable::new(alloc, parts)
 }

@@ -1,9 +1,11 @@
 -- What the loops of the workers keep.
 use Rattle.std.proofs.Common.{◌≡◌, ◌∙◌, ℕ, ◌+◌, ◌<◌, ◌≤◌, Ok, Result, Vec, Global, IfOk, List, [], ◌∷◌, ◌++◌, All, length, map, subst, ap, sym, arith, length-append}
-use Rattle.std.proofs.lemmas.List.{append-nil}
+use Rattle.std.proofs.lemmas.List.{append-nil, map-append}
 use Rattle.std.proofs.lemmas.List.Elements.{All-push}
 use Rattle.std.proofs.lemmas.List.Concat.{flat_map-append}
 use Rattle.tb_base.specs.declared.memory.Memory.{Memory}
+use Rattle.reduce_workers.specs.declared.rule.Hand.{Hand}
+use Rattle.reduce_workers.specs.Claim.{hand}
 use Rattle.reduce_workers.specs.Reductions.{ReducedData}
 use Rattle.reduce_workers.specs.Seats.{ClaimData, SeatData, IsDone, IsOpen, drawn_of}
 use Rattle.reduce_workers.specs.Work.{Worked, piece_of, pieces_of}
@@ -18,6 +20,22 @@ pub record Works (c : ClaimData) (f : ℕ → ReducedData) (seat : SeatData) (do
   pub stands : IsOpen c (drawn_of seat) seat
   pub short : Short (drawn_of seat)
   pub all : done ≡ map (piece_of f) (drawn_of seat)
+
+-- one piece more
+pub works_more : (c : ClaimData) (f : ℕ → ReducedData) (old new : SeatData) (done more : List (ℕ × ReducedData)) (n : ℕ) (one : ReducedData) → Works c f old done → All (λ x. x < n) (drawn_of old)
+    → IsOpen c (drawn_of old ++ n ∷ []) new → one ≡ f n → more ≡ done ++ (n, one) ∷ [] → Works c f new more
+works_more c f old new done more n one w rising open_now is e = record {
+  stands = (open_now.0, open_now.1 ∙ ap (λ xs. hand c.pieces xs 1 0) (sym drawn));
+  short = subst Short (sym drawn) (λ m all.
+      let last : n < m = all_last (λ x. x < m) (drawn_of old) n all in
+      let few : length (drawn_of old) ≤ n = w.short n rising in
+      let long = length-append (drawn_of old) (n ∷ []) in
+      omega (arith, last, few, long));
+  all = e ∙ ap (λ xs. xs ++ (n, one) ∷ []) w.all ∙ ap (λ r. map (piece_of f) (drawn_of old) ++ (n, r) ∷ []) is ∙ sym (map-append (piece_of f) (drawn_of old) (n ∷ [])) ∙ ap (map (piece_of f)) (sym drawn);
+}
+  where
+    drawn : drawn_of new ≡ drawn_of old ++ n ∷ []
+    drawn = ap (λ (h : Hand). h.drawn) open_now.1
 
 -- what a worker brings, or that memory ran out
 abbrev Brought : Type 0

@@ -17,7 +17,7 @@ IsCountedTo T t hops i count =
 
 -- from its last event down to event i trip t is reduced to these rows, and counted
 pub record IsDoneTo (T : TimetableData) (lines : List (List ℕ)) (t i : ℕ) (rows : List Transfer)
-    (generated after_uturn : ℕ) (labels : List (Option ℤ)) : Type 0 where
-  pub reduced : IsReducedTo T lines t i rows labels
+    (generated after_uturn : ℕ) (times : List (Option ℤ)) : Type 0 where
+  pub reduced : IsReducedTo T lines t i rows times
   pub generated_to : IsCountedTo T t (candidates T lines t) i generated
   pub cut_to : IsCountedTo T t (candidates_without_u_turns T lines t) i after_uturn

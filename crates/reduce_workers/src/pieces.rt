@@ -33,9 +33,9 @@ pub fn reduce_piece(
     piece: u32,
 ) -> Result<Reduced, Memory>
     requires lines { lines.now.table ≡ table.now }
-    requires labels { length labels.old ≡ length table.now.stops }
+    requires labels { labels.old.table ≡ table.now }
     requires piece { piece < piece_count (length table.now.trips) }
-    ensures labels { length labels.new ≡ length labels.old }
+    ensures labels { labels.new.table ≡ table.now }
     ensures reduced { IfOk result (λ r. r ≡ piece_reduced table.now lines.now.lines piece) }
 {
     reduce_piece_by(alloc, table, lines, table, labels, piece)
@@ -52,9 +52,9 @@ pub(crate) fn reduce_piece_by<C: Calls>(
 ) -> Result<Reduced, Memory>
     requires lines { lines.now.table ≡ table.now }
     requires calls { C.table calls.now ≡ table.now }
-    requires labels { length labels.old ≡ length table.now.stops }
+    requires labels { labels.old.table ≡ table.now }
     requires piece { piece < piece_count (length table.now.trips) }
-    ensures labels { length labels.new ≡ length labels.old }
+    ensures labels { labels.new.table ≡ table.now }
     ensures reduced { IfOk result (λ r. r ≡ piece_reduced table.now lines.now.lines piece) }
 {
     table.soundness();

@@ -3,7 +3,6 @@ ghost use Rattle.std.specs.Prelude.{◌≡◌, ◌+◌, ◌-◌, ◌<◌, ◌≤
 ghost use Rattle.tb_base.specs.TimetableData.{events_of};
 ghost use Rattle.tb_base.specs.Transfers.{candidates, candidates_without_u_turns, kept_hops, transfers_of};
 ghost use Rattle.transfer_reduce.specs.Tried.{AreTried};
-ghost use Rattle.transfer_reduce.specs.Walked.{AreWalked};
 ghost use Rattle.reduce_workers.specs.Reductions.{reduced, reduced_from};
 ghost use Rattle.reduce_workers.specs.Events.{IsDoneTo};
 
@@ -40,21 +39,19 @@ impl TripReduced {
     ) -> Result<(), Memory>
         requires lines { lines.now.table ≡ table.now }
         requires calls { C.table calls.now ≡ table.now }
-        requires labels { length labels.old ≡ length table.now.stops }
-        requires walked { AreWalked table.now labels.old }
+        requires labels { labels.old.table ≡ table.now }
         requires room { 0 < length tried.old }
-        requires tried { AreTried table.now labels.old tried.old }
+        requires tried { AreTried table.now labels.old.times tried.old }
         requires trip { trip < length table.now.trips }
         requires at { at < length (events_of table.now trip) }
         requires found { found.old.items ≡ [] }
         requires done { IsDoneTo table.now lines.now.lines trip (at + 1) self.old.rows.items
-            self.old.generated self.old.after_uturn labels.old }
-        ensures labels { length labels.new ≡ length labels.old }
-        ensures walked { OnOk result (AreWalked table.now labels.new) }
-        ensures tried { OnOk result (AreTried table.now labels.new tried.new) }
+            self.old.generated self.old.after_uturn labels.old.times }
+        ensures labels { labels.new.table ≡ table.now }
+        ensures tried { OnOk result (AreTried table.now labels.new.times tried.new) }
         ensures found { OnOk result (found.new.items ≡ []) }
         ensures done { OnOk result (IsDoneTo table.now lines.now.lines trip at self.new.rows.items
-            self.new.generated self.new.after_uturn labels.new) }
+            self.new.generated self.new.after_uturn labels.new.times) }
     {
         table.soundness();
         lines.soundness();
@@ -79,9 +76,9 @@ fn reduce_trip<C: Calls>(
 ) -> Result<TripReduced, Memory>
     requires lines { lines.now.table ≡ table.now }
     requires calls { C.table calls.now ≡ table.now }
-    requires labels { length labels.old ≡ length table.now.stops }
+    requires labels { labels.old.table ≡ table.now }
     requires trip { trip < length table.now.trips }
-    ensures labels { length labels.new ≡ length labels.old }
+    ensures labels { labels.new.table ≡ table.now }
     ensures rows { IfOk result (λ r. r.rows.items
         ≡ transfers_of table.now (kept_hops table.now lines.now.lines trip) trip) }
     ensures generated { IfOk result (λ r. r.generated
@@ -120,12 +117,12 @@ impl Reduced {
     ) -> Result<(), Memory>
         requires lines { lines.now.table ≡ table.now }
         requires calls { C.table calls.now ≡ table.now }
-        requires labels { length labels.old ≡ length table.now.stops }
+        requires labels { labels.old.table ≡ table.now }
         requires trip { trip < length table.now.trips }
         requires trips { self.old.trips ≤ trip }
         requires before { self.old
             ≡ reduced_from table.now lines.now.lines (trip - self.old.trips) self.old.trips }
-        ensures labels { length labels.new ≡ length labels.old }
+        ensures labels { labels.new.table ≡ table.now }
         ensures trips { OnOk result (self.new.trips ≡ self.old.trips + 1) }
         ensures after { OnOk result (self.new
             ≡ reduced_from table.now lines.now.lines (trip - self.old.trips)
@@ -157,9 +154,9 @@ pub(crate) fn reduce_from<C: Calls>(
 ) -> Result<Reduced, Memory>
     requires lines { lines.now.table ≡ table.now }
     requires calls { C.table calls.now ≡ table.now }
-    requires labels { length labels.old ≡ length table.now.stops }
+    requires labels { labels.old.table ≡ table.now }
     requires within { first + count ≤ length table.now.trips }
-    ensures labels { length labels.new ≡ length labels.old }
+    ensures labels { labels.new.table ≡ table.now }
     ensures reduced { IfOk result (λ r. r ≡ reduced_from table.now lines.now.lines first count) }
 {
     table.soundness();

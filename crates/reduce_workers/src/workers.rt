@@ -35,7 +35,7 @@ fn reduce_drawn<G: Gate>(
     requires seat { IsOpen claim.now [] seat }
     ensures { IfOk result (Worked claim.now (piece_reduced table.now lines.now.lines)) }
 {
-    let mut labels = Labels::new(alloc, table.stop_count())?;
+    let mut labels = Labels::new(alloc, table)?;
     let mut done = Vec::new(alloc);
     while let Some(n) = claim.draw(&mut seat) {
         gate.begin(Work::Piece(n));
@@ -51,7 +51,7 @@ fn reduce_drawn<G: Gate>(
 /// it is done with it. The kept transfers and the counts are the same for every number of workers,
 /// whoever draws which piece. Where no thread can be started the caller does that worker's part
 /// itself. The lines are those of the timetable. Takes memory for the kept transfers, eight bytes an
-/// event, and for each worker one label a stop and the candidates of one event besides. Refused
+/// event, and for each worker one label a stop, the footpaths, and the candidates of one event besides. Refused
 /// only for want of memory.
 pub fn reduce_all<G: Gate, R: Threads + Sync>(
     rt: &R,

@@ -1,5 +1,5 @@
 -- A hop improves on the alternatives before it where it is sooner at some stop where it ends.
-use Rattle.std.proofs.Common.{◌≡◌, ◌≢◌, ◌∙◌, sym, ap, subst, refl, ℕ, ◌+◌, ◌<◌, ◌≤◌, ◌⊎◌, inl, inr, Bool, true, false, ◌||◌, List, [], ◌∷◌, length, get_or, ℤ, pos, ◌+ℤ◌, ◌≤ℤ◌, Option, Some, None, arith}
+use Rattle.std.proofs.Common.{◌≡◌, ◌≢◌, ◌∙◌, sym, ap, subst, refl, ℕ, ◌+◌, ◌<◌, ◌≤◌, ◌⊎◌, inl, inr, Bool, true, false, ◌||◌, List, [], ◌∷◌, length, ℤ, pos, ◌+ℤ◌, ◌≤ℤ◌, Option, Some, None, arith}
 use Rattle.std.specs.Prelude.{All, IsSomeAnd}
 use Rattle.std.specs.List.{cons_option, list_any}
 use Rattle.std.specs.Option.{option_map}
@@ -16,9 +16,11 @@ use Rattle.tb_laws.proofs.LabelLaws.{is_soonest-label}
 use Rattle.tb_base.proofs.Members.{Member-numbers_below}
 use Rattle.tb_laws.proofs.Triangles.{change-change, change-other, walk-other, walk-same, walk-walk}
 use Rattle.tb_laws.specs.Labels.{label}
-use Rattle.transfer_reduce.proofs.Lesser.{IsOffered, earliest_sooner, label_below, label_offered, not_sooner-some, offer_by, some_not_sooner}
-use Rattle.transfer_reduce.proofs.Walks.{offer_by-walk, plus_zero, sooner_at}
+use Rattle.transfer_reduce.proofs.Lesser.{IsOffered, earliest_sooner, label_below, label_offered, not_sooner-some, offer_by, offer_by-walk, some_not_sooner}
 use Rattle.tb_base.proofs.Lists.{option_map-back}
+
+plus_zero : (x : ℤ) → (x +ℤ pos 0) ≡ x
+plus_zero x = omega (arith, ints)
 
 -- ---- some element passes
 
@@ -26,7 +28,7 @@ pub any-none : {X : Type 0} (test : X → Bool) (xs : List X) → ((x : X) → M
 any-none test [] h = refl
 any-none test (x ∷ xs) h = ap (λ b. b || list_any test xs) (h x (inl refl)) ∙ any-none test xs (λ y m. h y (inr m))
 
-any-some : {X : Type 0} (test : X → Bool) (xs : List X) (x : X) → Member x xs → test x ≡ true → list_any test xs ≡ true
+pub any-some : {X : Type 0} (test : X → Bool) (xs : List X) (x : X) → Member x xs → test x ≡ true → list_any test xs ≡ true
 any-some test [] x m h = absurd m
 any-some test (y ∷ ys) x (inl e) h = ap (λ b. b || list_any test ys) (ap test e ∙ h)
 any-some test (y ∷ ys) x (inr m) h = ap (λ b. test y || b) (any-some test ys x m h) ∙ or_true (test y)
@@ -43,7 +45,7 @@ any-member {X} test (y ∷ ys) h = by_test (λ k. any-member test ys k) (test y)
     by_test more true e k = (y, inl refl, sym e)
     by_test more false e k = let r = more k in (r.0, inr r.1, r.2)
 
-pub none-member : {X : Type 0} (test : X → Bool) (xs : List X) → list_any test xs ≡ false → (x : X) → Member x xs → test x ≡ false
+none-member : {X : Type 0} (test : X → Bool) (xs : List X) → list_any test xs ≡ false → (x : X) → Member x xs → test x ≡ false
 none-member test [] h x m = absurd m
 none-member test (y ∷ ys) h x m = by_test (λ k l. none-member test ys k x l) (test y) refl h m
   where
@@ -51,10 +53,6 @@ none-member test (y ∷ ys) h x m = by_test (λ k l. none-member test ys k x l) 
     by_test more true e k m = cc
     by_test more false e k (inl is) = ap test (sym is) ∙ sym e
     by_test more false e k (inr l) = more k l
-
-any-same : {X : Type 0} (f g : X → Bool) (P : X → Type 0) → ((x : X) → P x → f x ≡ g x) → (xs : List X) → All P xs → list_any f xs ≡ list_any g xs
-any-same f g P h [] all = refl
-any-same f g P h (x ∷ xs) all = (λ i. h x (All-head P x xs all) i || any-same f g P h xs (All-tail P x xs all) i)
 
 -- ---- one number for each stop is enough
 
@@ -102,11 +100,11 @@ module _ (T : TimetableData) (sound : IsSound T) where
       ∙ any-none (λ e. is_sooner (offer_by secs_to e p) (label secs_to (es ∷ ess) p)) events
       (λ e m. not_sooner secs_to follows (es ∷ ess) e (none-member (λ e. is_sooner (Some e.arr) (label (walk T) (es ∷ ess) e.stop)) events none e m) p)
 
-  pub improves_is : (es : List Event) (ess : List (List Event)) (events : List Event) (labels : List (Option ℤ)) → All (λ e. e.stop < length T.stops) events → ((p : ℕ) → p < length T.stops → get_or labels p None ≡ label (walk T) (es ∷ ess) p) →
-      is_improvement T (es ∷ ess) events ≡ list_any (sooner_at labels) events
-  improves_is es ess events labels inside shown =
+  -- the events of some alternative are at a stop sooner than a label
+  pub improves_is : (es : List Event) (ess : List (List Event)) (events : List Event) → All (λ e. e.stop < length T.stops) events →
+      is_improvement T (es ∷ ess) events ≡ list_any (λ e. is_sooner (Some e.arr) (label (walk T) (es ∷ ess) e.stop)) events
+  improves_is es ess events inside =
       by_test (list_any (λ e. is_sooner (Some e.arr) (label (walk T) (es ∷ ess) e.stop)) events) refl
-      ∙ sym (any-same (sooner_at labels) (λ e. is_sooner (Some e.arr) (label (walk T) (es ∷ ess) e.stop)) (λ e. e.stop < length T.stops) (λ e h. ap (is_sooner (Some e.arr)) (shown e.stop h)) events inside)
     where
       member_inside : (xs : List Event) → All (λ e. e.stop < length T.stops) xs → (e : Event) → Member e xs → e.stop < length T.stops
       member_inside [] all e m = absurd m

@@ -1,11 +1,13 @@
 -- The lesser of two times, and the least that some events offer.
-use Rattle.std.proofs.Common.{◌≡◌, ◌∙◌, sym, ap, subst, refl, ℕ, ◌⊎◌, inl, inr, Bool, true, false, cond, ◌||◌, List, [], ◌∷◌, ◌++◌, ℤ, pos, ◌+ℤ◌, ◌≤ℤ◌, Option, Some, None, arith}
+use Rattle.std.proofs.Common.{◌≡◌, ◌∙◌, sym, ap, subst, refl, ℕ, ◌⊎◌, inl, inr, Bool, true, false, cond, ◌||◌, List, [], ◌∷◌, ℤ, pos, ◌+ℤ◌, ◌≤ℤ◌, Option, Some, None, arith}
 use Rattle.std.specs.Prelude.{int_le, int_lt, filter_map, IsSomeAnd}
 use Rattle.std.specs.List.{cons_option, list_any}
 use Rattle.std.specs.Int.{int_min}
 use Rattle.std.specs.Option.{option_map}
 use Rattle.std.proofs.lemmas.Int.{ints}
 use Rattle.tb_base.specs.declared.table.Event.{Event}
+use Rattle.tb_base.specs.TimetableData.{TimetableData}
+use Rattle.tb_base.specs.Walking.{walk}
 use Rattle.tb_base.specs.Transfers.{earliest_offer, is_sooner, least}
 use Rattle.tb_base.proofs.Ordered.{Member}
 use Rattle.tb_laws.specs.Labels.{lesser, label}
@@ -76,14 +78,17 @@ lesser-below_left (Some y) (Some z) x h = elim (≤ℤ-cases y z) [
   | inr k ↦ subst (λ o. IsSomeAnd o (λ y. y ≤ℤ x)) (sym (lesser-right y z k)) (≤ℤ-trans z y x k h)
 ]
 
+-- the lesser comes by a time where one of the two does
+pub lesser-by : (a b : Option ℤ) (x : ℤ) → IsSomeAnd (lesser a b) (λ y. y ≤ℤ x) → IsSomeAnd a (λ y. y ≤ℤ x) ⊎ IsSomeAnd b (λ y. y ≤ℤ x)
+lesser-by None b x h = inr h
+lesser-by (Some y) None x h = inl h
+lesser-by (Some y) (Some z) x h = elim (≤ℤ-cases y z) [
+  | inl k ↦ inl (subst (λ o. IsSomeAnd o (λ y. y ≤ℤ x)) (lesser-left y z k) h)
+  | inr k ↦ inr (subst (λ o. IsSomeAnd o (λ y. y ≤ℤ x)) (lesser-right y z k) h)
+]
+
 pub lesser-below_right : (a b : Option ℤ) (x : ℤ) → IsSomeAnd b (λ y. y ≤ℤ x) → IsSomeAnd (lesser a b) (λ y. y ≤ℤ x)
 lesser-below_right a b x h = subst (λ o. IsSomeAnd o (λ y. y ≤ℤ x)) (lesser-comm b a) (lesser-below_left b a x h)
-
--- what is not sooner is not the lesser
-pub not_sooner-lesser : (a b : Option ℤ) → is_sooner a b ≡ false → lesser a b ≡ b
-not_sooner-lesser None b h = refl
-not_sooner-lesser (Some x) None h = cc
-not_sooner-lesser (Some x) (Some y) h = lesser-right x y (int_lt-false x y h)
 
 -- what is not sooner comes no earlier than some time
 pub not_sooner-some : (x : ℤ) (b : Option ℤ) → is_sooner (Some x) b ≡ false → IsSomeAnd b (λ y. y ≤ℤ x)
@@ -141,6 +146,14 @@ least-cons x (y ∷ ys) =
 abbrev pub offer_by : (ℕ → ℕ → Option ℕ) → Event → ℕ → Option ℤ
 offer_by secs_to e p = earliest_offer secs_to (e ∷ []) p
 
+-- it walks there
+pub offer_by-walk : (T : TimetableData) (e : Event) (p : ℕ) → offer_by (walk T) e p ≡ option_map (λ secs. e.arr +ℤ pos secs) (walk T e.stop p)
+offer_by-walk T e p = by_option (walk T e.stop p)
+  where
+    by_option : (o : Option ℕ) → least (cons_option (option_map (λ secs. e.arr +ℤ pos secs) o) []) ≡ option_map (λ secs. e.arr +ℤ pos secs) o
+    by_option None = refl
+    by_option (Some secs) = refl
+
 pub earliest_offer-cons : (secs_to : ℕ → ℕ → Option ℕ) (e : Event) (es : List Event) (p : ℕ) → earliest_offer secs_to (e ∷ es) p ≡ lesser (offer_by secs_to e p) (earliest_offer secs_to es p)
 earliest_offer-cons secs_to e es p = by_option (secs_to e.stop p)
   where
@@ -148,12 +161,6 @@ earliest_offer-cons secs_to e es p = by_option (secs_to e.stop p)
         ≡ lesser (least (cons_option (option_map (λ secs. e.arr +ℤ pos secs) o) [])) (earliest_offer secs_to es p)
     by_option None = refl
     by_option (Some secs) = least-cons (e.arr +ℤ pos secs) (filter_map (λ e. option_map (λ secs. e.arr +ℤ pos secs) (secs_to e.stop p)) es)
-
-pub earliest_offer-snoc : (secs_to : ℕ → ℕ → Option ℕ) (es : List Event) (e : Event) (p : ℕ) → earliest_offer secs_to (es ++ e ∷ []) p ≡ lesser (earliest_offer secs_to es p) (offer_by secs_to e p)
-earliest_offer-snoc secs_to [] e p = refl
-earliest_offer-snoc secs_to (f ∷ fs) e p =
-    earliest_offer-cons secs_to f (fs ++ e ∷ []) p ∙ ap (lesser (offer_by secs_to f p)) (earliest_offer-snoc secs_to fs e p)
-    ∙ sym (lesser-assoc (offer_by secs_to f p) (earliest_offer secs_to fs p) (offer_by secs_to e p)) ∙ ap (λ o. lesser o (offer_by secs_to e p)) (sym (earliest_offer-cons secs_to f fs p))
 
 -- the earliest of some events is sooner where one of them is
 pub earliest_sooner : (secs_to : ℕ → ℕ → Option ℕ) (es : List Event) (p : ℕ) (c : Option ℤ) → is_sooner (earliest_offer secs_to es p) c ≡ list_any (λ e. is_sooner (offer_by secs_to e p) c) es
@@ -169,7 +176,7 @@ pub record IsOffered (secs_to : ℕ → ℕ → Option ℕ) (ess : List (List Ev
   pub member : Member event events
   pub offer : offer_by secs_to event p ≡ Some time
 
-earliest_is : (secs_to : ℕ → ℕ → Option ℕ) (es : List Event) (p : ℕ) (time : ℤ) → earliest_offer secs_to es p ≡ Some time → (e : Event) × Member e es × (offer_by secs_to e p ≡ Some time)
+pub earliest_is : (secs_to : ℕ → ℕ → Option ℕ) (es : List Event) (p : ℕ) (time : ℤ) → earliest_offer secs_to es p ≡ Some time → (e : Event) × Member e es × (offer_by secs_to e p ≡ Some time)
 earliest_is secs_to [] p time h = cc
 earliest_is secs_to (e ∷ es) p time h = by_case (λ k. earliest_is secs_to es p time k) (lesser-is (offer_by secs_to e p) (earliest_offer secs_to es p) time (sym (earliest_offer-cons secs_to e es p) ∙ h))
   where

@@ -1,5 +1,7 @@
+pub mod WordLaws
 pub mod Lesser
-pub mod Walks
 pub mod Improvement
+pub mod Sources
+pub mod Alighting
+pub mod Reaching
 pub mod Steps
-pub mod TriedLemmas

@@ -1,27 +1,28 @@
 -- The steps of a reduction.
-use Rattle.std.proofs.Common.{◌≡◌, ◌∙◌, sym, ap, subst, refl, ℕ, zero, suc, ◌+◌, ◌<◌, ◌≤◌, ◌⊎◌, inl, inr, Bool, true, false, cond, ◌&&◌, List, [], ◌∷◌, ◌++◌, length, map, get_or, set, take, drop, ℤ, pos, ◌≤ℤ◌, Option, None, arith, append_assoc}
+use Rattle.std.proofs.Common.{◌≡◌, ◌∙◌, sym, ap, subst, refl, ℕ, zero, suc, ◌+◌, ◌<◌, ◌≤◌, ◌⊎◌, inl, inr, Bool, true, false, cond, ◌&&◌, List, [], ◌∷◌, ◌++◌, length, map, get_or, set, take, drop, ℤ, pos, ◌≤ℤ◌, Option, Some, None, arith, append_assoc}
 use Rattle.std.specs.Prelude.{All, filter, filter_map, flat_map, nat_lt, not}
 use Rattle.std.specs.List.{list_any}
 use Rattle.std.proofs.lemmas.Bool.{cases_lt, and_parts}
+use Rattle.std.proofs.lemmas.Bool.Decides.{nat_tests}
 use Rattle.std.proofs.lemmas.List.{append-nil, drop_more, drop-set-lt, get_or_past, take_more_set}
-use Rattle.std.proofs.lemmas.List.Elements.{All-drop, All-filter, All-nil}
+use Rattle.std.proofs.lemmas.List.Elements.{All-drop, All-filter}
 use Rattle.tb_base.specs.declared.table.Event.{Event}
 use Rattle.tb_base.specs.declared.transfer.Hop.{Hop}
 use Rattle.tb_base.specs.declared.transfer.Transfer.{Transfer}
 use Rattle.tb_base.specs.Soundness.{IsSound, IsSoundTrip}
 use Rattle.tb_base.specs.TimetableData.{TripData, TimetableData, event_at, events_of, no_event, no_trip}
 use Rattle.flat_calls.specs.CallsOf.{IsSoundCall, call_of}
-use Rattle.tb_base.specs.Transfers.{Alternative, alightings, alternatives_at, boarding_indexes, candidates_without_u_turns, earliest_offer, hop_onto, improving_alternatives, is_improvement, is_u_turn, kept_alternatives, kept_hops, numbers_below, numbers_down, transfers_of}
+use Rattle.tb_base.specs.Transfers.{Alternative, alightings, alternatives_at, boarding_indexes, candidates_without_u_turns, hop_onto, improving_alternatives, is_improvement, is_sooner, is_u_turn, kept_alternatives, kept_hops, numbers_below, numbers_down, transfers_of}
 use Rattle.tb_base.specs.Walking.{walk}
 use Rattle.tb_base.proofs.Ordered.{Member}
 use Rattle.tb_base.proofs.Members.{Member-append}
 use Rattle.tb_base.proofs.NumberFacts.{≤ℤ-trans}
 use Rattle.tb_laws.proofs.TransferLaws.{kept_transfers}
-use Rattle.tb_laws.specs.Labels.{label, lesser}
+use Rattle.tb_laws.specs.Labels.{label}
 use Rattle.transfer_reduce.specs.Reduced.{HasRowAt, IsReducedTo, Reduces, alternative_row, hop_from, row_of, rows_below}
-use Rattle.transfer_reduce.specs.Walked.{hop_alightings, offer_at, stay_offer}
+use Rattle.transfer_reduce.specs.Reached.{AreLowered, AreShown, hop_alightings}
 use Rattle.transfer_reduce.proofs.Improvement.{improves_is}
-use Rattle.transfer_reduce.proofs.Walks.{offer_by-walk, sooner_at}
+use Rattle.transfer_reduce.proofs.Reaching.{nowhere, stay_not_shown, stay_shown, stops_inside}
 
 -- rows of the events below n stand below n
 rows_lower : (t : ℕ) (f : ℕ → List Hop) (n : ℕ) (x : Transfer) → Member x (flat_map (λ i. map (row_of t i) (f i)) (numbers_down n)) → x.at < n
@@ -43,13 +44,6 @@ drop_head (suc n) [] d y ys h = cc
 drop_head zero (x ∷ xs) d y ys h = (omega arith, cc)
 drop_head (suc n) (x ∷ xs) d y ys h = let r = drop_head n xs d y ys h in (omega (arith, r.0), r.1)
 
-pub stops_inside : (T : TimetableData) → IsSound T → (t : ℕ) → All (λ e. e.stop < length T.stops) (events_of T t)
-stops_inside T sound t = by_case (cases_lt t (length T.trips))
-  where
-    by_case : (t < length T.trips) ⊎ (length T.trips ≤ t) → All (λ e. e.stop < length T.stops) (events_of T t)
-    by_case (inl h) = λ k d below. (IsSoundTrip.events (sound.trip t no_trip h) k d below).stop
-    by_case (inr h) = subst (λ (trip : TripData). All (λ e. e.stop < length T.stops) trip.events) (sym (get_or_past T.trips t no_trip h)) (All-nil (λ (e : Event). e.stop < length T.stops))
-
 module _ (T : TimetableData) (sound : IsSound T) (lines : List (List ℕ)) (t : ℕ) where
   abbrev before : ℕ → List Alternative
   before i = flat_map (alternatives_at T lines t) (numbers_down i)
@@ -58,16 +52,17 @@ module _ (T : TimetableData) (sound : IsSound T) (lines : List (List ℕ)) (t : 
   kept_rows = filter_map (alternative_row t) (kept_alternatives T lines t)
 
   -- a row of the event that is taken up
-  pub take_step : (firsts rows : List Transfer) (labels new : List (Option ℤ)) (n i taken kept : ℕ) (x : Transfer) → taken < length rows → kept ≤ taken → x ≡ get_or rows taken x → x.at ≡ i → length labels ≡ length T.stops →
-      ((p : ℕ) → p < length labels → get_or new p None ≡ lesser (earliest_offer (walk T) (hop_alightings T x) p) (get_or labels p None)) → (b : Bool) → b ≡ list_any (sooner_at labels) (hop_alightings T x) →
+  pub take_step : (firsts rows : List Transfer) (labels new : List (Option ℤ)) (n i taken kept : ℕ) (x : Transfer) → taken < length rows → kept ≤ taken → x ≡ get_or rows taken x → x.at ≡ i →
+      ((ess : List (List Event)) → AreShown T labels ess → AreShown T new (hop_alightings T x ∷ ess)) → (b : Bool) →
+      ((ess : List (List Event)) → AreShown T labels ess → b ≡ list_any (λ e. is_sooner (Some e.arr) (label (walk T) ess e.stop)) (hop_alightings T x)) →
       Reduces T lines t firsts rows labels n i taken kept → Reduces T lines t firsts (cond b (set rows kept x) rows) new n i (taken + 1) (cond b (kept + 1) kept)
-  take_step firsts rows labels new n i taken kept x below order is here long lowered b improves r = by_hops r.hops r.earlier r.left r.done r.shown r.begun
+  take_step firsts rows labels new n i taken kept x below order is here offered b improves r = by_hops r.hops r.earlier r.left r.done r.shown r.begun
     where
       head : drop taken rows ≡ x ∷ drop (taken + 1) rows
       head = drop_more rows taken x below ∙ ap (λ y. y ∷ drop (taken + 1) rows) (sym is)
 
       by_hops : (hops : List Hop) (earlier : List (List Event)) → drop taken rows ≡ map (row_of t i) hops ++ rows_below T lines t n → kept_rows ≡ (firsts ++ take kept rows) ++ filter_map (alternative_row t) (improving_alternatives T t earlier (map (hop_from i) hops ++ before i))
-          → ((p : ℕ) → p < length T.stops → get_or labels p None ≡ label (walk T) earlier p) → (hops ≡ []) ⊎ (0 < length earlier) → Reduces T lines t firsts (cond b (set rows kept x) rows) new n i (taken + 1) (cond b (kept + 1) kept)
+          → AreShown T labels earlier → (hops ≡ []) ⊎ (0 < length earlier) → Reduces T lines t firsts (cond b (set rows kept x) rows) new n i (taken + 1) (cond b (kept + 1) kept)
       by_hops [] earlier left done shown begun =
           let m : Member x (rows_below T lines t n) = subst (λ ys. Member x ys) (sym head ∙ left) (inl refl) in
           absurd (omega (arith, here, r.few, rows_lower t (candidates_without_u_turns T lines t) n x m))
@@ -88,10 +83,12 @@ module _ (T : TimetableData) (sound : IsSound T) (lines : List (List ℕ)) (t : 
           inside = All-filter (λ (e : Event). e.alight) (λ (e : Event). e.stop < length T.stops) (drop (h.at + 1) (events_of T h.trip)) (All-drop (λ (e : Event). e.stop < length T.stops) (h.at + 1) (events_of T h.trip) (stops_inside T sound h.trip))
 
           improvement : is_improvement T (es ∷ ess) (alightings T t (hop_from i h)) ≡ b
-          improvement = improves_is T sound es ess (alightings T t (hop_from i h)) labels inside shown ∙ ap (λ y. list_any (sooner_at labels) (hop_alightings T y)) (sym own) ∙ sym improves
+          improvement =
+              improves_is T sound es ess (alightings T t (hop_from i h)) inside
+              ∙ ap (λ y. list_any (λ e. is_sooner (Some e.arr) (label (walk T) (es ∷ ess) e.stop)) (hop_alightings T y)) (sym own) ∙ sym (improves (es ∷ ess) shown)
 
-          now_shown : (p : ℕ) → p < length T.stops → get_or new p None ≡ label (walk T) (alightings T t (hop_from i h) ∷ es ∷ ess) p
-          now_shown p k = lowered p (omega (arith, k, long)) ∙ (λ j. lesser (earliest_offer (walk T) (hop_alightings T (own j)) p) (shown p k j))
+          now_shown : AreShown T new (alightings T t (hop_from i h) ∷ es ∷ ess)
+          now_shown = subst (λ y. AreShown T new (hop_alightings T y ∷ es ∷ ess)) own (offered (es ∷ ess) shown)
 
           by_test : (c : Bool) → c ≡ b → Reduces T lines t firsts (cond c (set rows kept x) rows) new n i (taken + 1) (cond c (kept + 1) kept)
           by_test true e = record {
@@ -119,12 +116,14 @@ module _ (T : TimetableData) (sound : IsSound T) (lines : List (List ℕ)) (t : 
           }
 
   -- the event before is taken up: one may stay there
-  pub next_step : (firsts rows : List Transfer) (labels new : List (Option ℤ)) (n i taken kept : ℕ) → n ≤ i → drop taken rows ≡ map (row_of t i) (candidates_without_u_turns T lines t i) ++ rows_below T lines t n → length labels ≡ length T.stops →
-      ((p : ℕ) → p < length labels → get_or new p None ≡ lesser (stay_offer T t i p) (get_or labels p None)) → IsReducedTo T lines t (suc i) (firsts ++ take kept rows) labels → Reduces T lines t firsts rows new n i taken kept
-  next_step firsts rows labels new n i taken kept few left long lowered r = by_mark (nat_lt 0 i && (event_at T t i).alight) refl
+  pub next_step : (firsts rows : List Transfer) (labels new : List (Option ℤ)) (n i taken kept : ℕ) → n ≤ i → drop taken rows ≡ map (row_of t i) (candidates_without_u_turns T lines t i) ++ rows_below T lines t n → (i ≡ 0 → new ≡ labels) → (0 < i → AreLowered T t i (i + 1) labels new) → IsReducedTo T lines t (suc i) (firsts ++ take kept rows) labels → Reduces T lines t firsts rows new n i taken kept
+  next_step firsts rows labels new n i taken kept few left none lowered r = by_mark (nat_lt 0 i && (event_at T t i).alight) refl
     where
       rows_with : (b : Bool) → b ≡ (nat_lt 0 i && (event_at T t i).alight) → alternatives_at T lines t i ≡ cond b (record { at = i; hop = None } ∷ map (hop_from i) (candidates_without_u_turns T lines t i)) []
       rows_with b e = ap (λ b. cond b (record { at = i; hop = None } ∷ map (hop_from i) (candidates_without_u_turns T lines t i)) []) (sym e)
+
+      after : nat_lt 0 i ≡ true → 0 < i
+      after h = grind (arith, nat_tests, h)
 
       stays : (c : Bool) (xs : List Alternative) → filter_map (alternative_row t) (cond c (record { at = i; hop = None } ∷ xs) xs) ≡ filter_map (alternative_row t) xs
       stays true xs = refl
@@ -138,9 +137,7 @@ module _ (T : TimetableData) (sound : IsSound T) (lines : List (List ℕ)) (t : 
         left = left;
         done = r.done ∙ ap (λ xs. (firsts ++ take kept rows) ++ filter_map (alternative_row t) (improving_alternatives T t r.earlier (xs ++ before i))) (rows_with true e)
             ∙ ap (λ ys. (firsts ++ take kept rows) ++ ys) (stays (is_improvement T r.earlier (event_at T t i ∷ [])) (improving_alternatives T t ((event_at T t i ∷ []) ∷ r.earlier) (map (hop_from i) (candidates_without_u_turns T lines t i) ++ before i)));
-        shown = λ p k. lowered p (omega (arith, k, long))
-            ∙ (λ j. lesser ((ap (λ b. cond b (cond (event_at T t i).alight (offer_at T (call_of (event_at T t i)) p) None) None) (and_parts (nat_lt 0 i) (event_at T t i).alight (sym e)).0
-            ∙ ap (λ b. cond b (offer_at T (call_of (event_at T t i)) p) None) (and_parts (nat_lt 0 i) (event_at T t i).alight (sym e)).1 ∙ sym (offer_by-walk T (event_at T t i) p)) j) (r.shown p k j));
+        shown = stay_shown T sound t i labels new r.earlier (lowered (after (and_parts (nat_lt 0 i) (event_at T t i).alight (sym e)).0)) (and_parts (nat_lt 0 i) (event_at T t i).alight (sym e)).1 r.shown;
         begun = inr (omega arith);
       }
       by_mark false e = record {
@@ -150,14 +147,20 @@ module _ (T : TimetableData) (sound : IsSound T) (lines : List (List ℕ)) (t : 
         left = left ∙ ap (λ hs. map (row_of t i) hs ++ rows_below T lines t n)
             (ap (λ b. filter (λ h. not (is_u_turn T t i h)) (cond b (flat_map (λ q. flat_map (λ line. filter_map (λ j. hop_onto T t i line j) (boarding_indexes T line q)) lines) (numbers_below (length T.stops))) [])) (sym e));
         done = r.done ∙ ap (λ xs. (firsts ++ take kept rows) ++ filter_map (alternative_row t) (improving_alternatives T t r.earlier (xs ++ before i))) (rows_with false e);
-        shown = λ p k. lowered p (omega (arith, k, long)) ∙ ap (λ o. lesser o (get_or labels p None)) (nothing (nat_lt 0 i) (event_at T t i).alight (offer_at T (call_of (event_at T t i)) p) (sym e)) ∙ r.shown p k;
+        shown = by_place (cases_lt 0 i) (sym e);
         begun = inl refl;
       }
         where
-          nothing : (a c : Bool) (o : Option ℤ) → (a && c) ≡ false → cond a (cond c o None) None ≡ None
-          nothing true true o h = cc
-          nothing true false o h = refl
-          nothing false c o h = refl
+          before_none : 0 < i → nat_lt 0 i ≡ true
+          before_none h = grind (arith, nat_tests, h)
+
+          no_mark : (a c : Bool) → a ≡ true → (a && c) ≡ false → c ≡ false
+          no_mark true c h f = f
+          no_mark false c h f = cc
+
+          by_place : (0 < i) ⊎ (i ≤ 0) → (nat_lt 0 i && (event_at T t i).alight) ≡ false → AreShown T new r.earlier
+          by_place (inl h) f = stay_not_shown T sound t i labels new r.earlier (lowered h) (no_mark (nat_lt 0 i) (event_at T t i).alight (before_none h) f) r.shown
+          by_place (inr h) f = subst (λ ts. AreShown T ts r.earlier) (sym (none (omega (arith, h)))) r.shown
 
   -- no row of the event is left
   pub event_done : (firsts rows : List Transfer) (labels : List (Option ℤ)) (n i taken kept : ℕ) → (HasRowAt rows i taken → ⊥) → Reduces T lines t firsts rows labels n i taken kept →
@@ -176,7 +179,7 @@ module _ (T : TimetableData) (sound : IsSound T) (lines : List (List ℕ)) (t : 
   begins n labels k none = record {
     earlier = [];
     done = ap (λ m. filter_map (alternative_row t) (improving_alternatives T t [] (before m))) (sym k);
-    shown = λ p h. none p;
+    shown = λ p time below. (λ k. absurd (nowhere T labels none p time k), λ k. absurd k);
   }
 
 -- what is kept down to event 0

@@ -1,4 +1,5 @@
-pub mod Stamped
-pub mod Walked
+pub mod Words
+pub mod LabelsData
+pub mod Reached
 pub mod Reduced
 pub mod Tried

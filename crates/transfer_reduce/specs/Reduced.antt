@@ -1,13 +1,12 @@
 -- How far a reduction has come.
-use Rattle.std.specs.Prelude.{◌≡◌, ◌⊎◌, ℕ, ◌<◌, ◌≤◌, List, [], ◌++◌, length, map, take, drop, filter_map, flat_map, ℤ, Option, None, Some, slice_index_or}
+use Rattle.std.specs.Prelude.{◌≡◌, ◌⊎◌, ℕ, ◌<◌, ◌≤◌, List, [], ◌++◌, length, map, take, drop, filter_map, flat_map, ℤ, Option, Some, slice_index_or}
 use Rattle.std.specs.Option.{option_map}
 use Rattle.tb_base.specs.declared.table.Event.{Event}
 use Rattle.tb_base.specs.declared.transfer.Hop.{Hop}
 use Rattle.tb_base.specs.declared.transfer.Transfer.{Transfer}
 use Rattle.tb_base.specs.TimetableData.{TimetableData}
 use Rattle.tb_base.specs.Transfers.{Alternative, alternatives_at, candidates_without_u_turns, improving_alternatives, kept_alternatives, numbers_down}
-use Rattle.tb_base.specs.Walking.{walk}
-use Rattle.tb_laws.specs.Labels.{label}
+use Rattle.transfer_reduce.specs.Reached.{AreShown}
 
 -- what stands for a transfer that isn't there
 abbrev pub no_transfer : Transfer
@@ -35,21 +34,20 @@ rows_below T lines t n =
     flat_map (λ j. map (row_of t j) (candidates_without_u_turns T lines t j)) (numbers_down n)
 
 -- From the last event of trip t down to event i these are kept. The alternatives there have been
--- looked at, and the labels are what they offer.
+-- looked at, and by the times one is where they bring one.
 pub record IsReducedTo (T : TimetableData) (lines : List (List ℕ)) (t i : ℕ)
-    (kept : List Transfer) (labels : List (Option ℤ)) : Type 0 where
+    (kept : List Transfer) (times : List (Option ℤ)) : Type 0 where
   pub earlier : List (List Event)
   pub done : filter_map (alternative_row t) (kept_alternatives T lines t)
       ≡ kept ++ filter_map (alternative_row t)
       (improving_alternatives T t earlier (flat_map (alternatives_at T lines t) (numbers_down i)))
-  pub shown : (p : ℕ) → p < length T.stops →
-      slice_index_or labels p None ≡ label (walk T) earlier p
+  pub shown : AreShown T times earlier
 
 -- Before these rows some are kept. Of the rows the first ones are kept; from a place on they are
 -- those of some hops of event i, and of the events below n. The alternatives until then have been
--- looked at, and the labels are what they offer.
+-- looked at, and by the times one is where they bring one.
 pub record Reduces (T : TimetableData) (lines : List (List ℕ)) (t : ℕ)
-    (before rows : List Transfer) (labels : List (Option ℤ)) (n i taken kept : ℕ) : Type 0 where
+    (before rows : List Transfer) (times : List (Option ℤ)) (n i taken kept : ℕ) : Type 0 where
   pub hops : List Hop
   pub earlier : List (List Event)
   pub few : n ≤ i
@@ -58,6 +56,5 @@ pub record Reduces (T : TimetableData) (lines : List (List ℕ)) (t : ℕ)
       ≡ (before ++ take kept rows) ++ filter_map (alternative_row t)
       (improving_alternatives T t earlier
       (map (hop_from i) hops ++ flat_map (alternatives_at T lines t) (numbers_down i)))
-  pub shown : (p : ℕ) → p < length T.stops →
-      slice_index_or labels p None ≡ label (walk T) earlier p
+  pub shown : AreShown T times earlier
   pub begun : (hops ≡ []) ⊎ (0 < length earlier)

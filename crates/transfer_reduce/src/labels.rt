@@ -1,96 +1,86 @@
-//! For each stop the earliest that one may be there.
-ghost use Rattle.std.specs.Prelude.{◌≡◌, ◌<◌, All, IfOk, None, Some, length, replicate, slice_index_or, slice_set};
-ghost use Rattle.tb_base.specs.Transfers.{is_sooner};
-ghost use Rattle.tb_laws.specs.Labels.{lesser};
-ghost use Rattle.transfer_reduce.specs.Stamped.{shown};
+//! For each stop the earliest arrival that was offered there, and who can walk there.
+ghost use Rattle.std.specs.Prelude.{◌≡◌, ◌<◌, ◌↔◌, ◌⊎◌, ◌≤ℤ◌, ℕ, ℤ, pos, negsuc, true, false, IfOk, None, length, slice_index_or};
+ghost use Rattle.transfer_reduce.specs.Reached.{IsBy, IsReached};
 
+use super::times::Times;
+use paths_into::PathsInto;
 use std::alloc::Global;
 use std::marker::Model;
-use tb_base::{Memory, Sec, StopNo};
+use std::snapshot::Snapshot;
+use tb_base::{Memory, Sec, StopNo, Timetable};
 
-/// A time, and the stamp of the reduction that it belongs to.
-#[derive(Clone, Copy, Debug, PartialEq, Eq)]
-struct Label {
-    stamp: u32,
-    time: Sec,
-}
-
-/// For each stop the earliest time that was offered there, if any was. A label with an older stamp
-/// is none, so that all are forgotten at once.
+/// For each stop of a timetable the earliest arrival that was offered there, if any was, and the
+/// footpaths that lead to it. They remember for contracts of which timetable they are; that takes no
+/// room.
 #[derive(Drop)]
 pub struct Labels {
-    labels: Vec<Label>,
-    stamp: u32,
+    table: Snapshot<Timetable>,
+    into: PathsInto,
+    times: Times,
 }
 
 impl Model for Labels {
-    ghost use Rattle.std.specs.Prelude.{List, Option, ℤ, map, All, ◌≤◌};
-    ghost use Rattle.std.specs.Coded.{coded_list, coded_option, coded_ℤ};
+    ghost use Rattle.transfer_reduce.specs.LabelsData.{AreLabels, LabelsData};
 
-    ghost Value = { List (Option ℤ) };
+    ghost Value = { LabelsData };
 
-    ghost use Rattle.transfer_reduce.specs.Stamped.{shown};
+    ghost view = { λ l. record { table = l.table.value; times = l.times } };
 
-    ghost view = { λ l. map (shown l.stamp) l.labels.items };
-
-    ghost invariant = { λ l. All (λ e. e.stamp ≤ l.stamp) l.labels.items };
+    ghost invariant = { λ l. AreLabels l.table.value l.into l.times };
 }
 
 impl Labels {
-    /// Labels for so many stops, with no time at any.
-    pub fn new(alloc: Global, stops: u32) -> Result<Labels, Memory>
-        ensures { IfOk result (λ labels. labels ≡ replicate stops None) }
+    /// Labels for the stops of a timetable, with no time at any. Takes memory by the number of stops
+    /// and footpaths. Refused only for want of memory.
+    pub fn new(alloc: Global, table: &Timetable) -> Result<Labels, Memory>
+        ensures { IfOk result (λ labels. labels.table ≡ table.now) }
     {
-        let mut labels = Vec::new(alloc);
-        labels.reserve(stops as usize)?;
-        for _stop in 0..stops {
-            labels.push(Label { stamp: 0, time: 0 })?;
-        }
-        Ok(Labels { labels, stamp: 1 })
+        table.soundness();
+        Ok(Labels {
+            table: Snapshot::of(table),
+            into: PathsInto::of(alloc, table)?,
+            times: Times::new(alloc, table.stop_count())?,
+        })
     }
 
     /// Forgets all times.
     pub(crate) fn clear(&mut self)
-        ensures { self.new ≡ replicate (length self.old) None }
+        ensures table { self.new.table ≡ self.old.table }
+        ensures times { (p : ℕ) → slice_index_or self.new.times p None ≡ None }
     {
-        if self.stamp < u32::MAX {
-            self.stamp += 1;
-        } else {
-            wipe(self.labels.as_mut_slice());
-            self.stamp = 1;
-        }
+        self.times.clear();
     }
 
-    /// Lowers the time at a stop to this one, where it is sooner: then the answer is true.
-    pub(crate) fn lower(&mut self, stop: StopNo, time: Sec) -> bool
-        requires { stop < length self.old }
-        ensures sooner { result ≡ is_sooner (Some time) (slice_index_or self.old stop None) }
-        ensures labels { self.new
-            ≡ slice_set self.old stop (lesser (Some time) (slice_index_or self.old stop None)) }
+    /// Whether a time is sooner at a stop than one is there by all that was offered, on foot too.
+    #[inline(always)]
+    pub(crate) fn is_sooner(&self, stop: StopNo, time: Sec) -> bool
+        requires stop { stop < length self.now.table.stops }
+        requires earliest { negsuc 86399 ≤ℤ time }
+        requires latest { time ≤ℤ pos 359999 }
+        ensures sooner { result ≡ true → IsReached self.now.table self.now.times stop time → ⊥ }
+        ensures late { result ≡ false → IsReached self.now.table self.now.times stop time }
     {
-        if !is_before(&self.labels[stop.index()], self.stamp, time) {
+        if !self.times.is_sooner(time, stop, 0) {
             return false;
         }
-        self.labels[stop.index()] = Label {
-            stamp: self.stamp,
-            time,
-        };
+        for path in self.into.at(stop) {
+            if !self.times.is_sooner(time, path.to, path.secs) {
+                return false;
+            }
+        }
         true
     }
-}
 
-// Whether a time is sooner than that of a label, which counts only with this stamp.
-fn is_before(label: &Label, stamp: u32, time: Sec) -> bool
-    ensures { result ≡ is_sooner (Some time) (shown stamp label.now) }
-{
-    label.stamp != stamp || time < label.time
-}
-
-// Gives each label the oldest stamp.
-fn wipe(labels: &mut [Label])
-    ensures { All (λ e. e.stamp ≡ 0) labels.new }
-{
-    for label in labels.iter_mut() {
-        *label = Label { stamp: 0, time: 0 };
+    /// Lowers the time at a stop to this one, where it is sooner.
+    #[inline(always)]
+    pub(crate) fn lower(&mut self, stop: StopNo, time: Sec)
+        requires stop { stop < length self.old.table.stops }
+        requires earliest { negsuc 86399 ≤ℤ time }
+        requires latest { time ≤ℤ pos 359999 }
+        ensures table { self.new.table ≡ self.old.table }
+        ensures times { (p : ℕ) (x : ℤ) →
+            IsBy self.new.times p x ↔ (IsBy self.old.times p x ⊎ ((stop ≡ p) × (time ≤ℤ x))) }
+    {
+        self.times.lower(stop, time);
     }
 }

@@ -3,7 +3,6 @@ ghost use Rattle.std.specs.Prelude.{◌≡◌, ◌<◌, ◌≤◌, ◌+◌, ◌+
 ghost use Rattle.tb_base.specs.TimetableData.{events_of};
 ghost use Rattle.tb_base.specs.Transfers.{candidates_without_u_turns, kept_hops, transfers_of};
 ghost use Rattle.transfer_reduce.specs.Tried.{AreTried};
-ghost use Rattle.transfer_reduce.specs.Walked.{AreWalked};
 ghost use Rattle.transfer_reduce.specs.Reduced.{HasRowAt, IsReducedTo, Reduces, row_of, rows_below};
 ghost use Rattle.tb_base.specs.declared.transfer.Transfer.{Transfer};
 
@@ -44,22 +43,20 @@ fn take_row<C: Calls>(
     done: Progress,
 ) -> Progress
     requires table { C.table calls.now ≡ table.now }
-    requires labels { length labels.old ≡ length table.now.stops }
-    requires walked { AreWalked table.now labels.old }
+    requires labels { labels.old.table ≡ table.now }
     requires room { 0 < length tried.old }
-    requires tried { AreTried table.now labels.old tried.old }
+    requires tried { AreTried table.now labels.old.times tried.old }
     requires taken { done.taken < length rows.old }
     requires kept { done.kept ≤ done.taken }
     requires here { HasRowAt rows.old done.at done.taken }
-    ensures labels { length labels.new ≡ length labels.old }
-    ensures walked { AreWalked table.now labels.new }
-    ensures tried { AreTried table.now labels.new tried.new }
+    ensures labels { labels.new.table ≡ table.now }
+    ensures tried { AreTried table.now labels.new.times tried.new }
     ensures at { result.at ≡ done.at }
     ensures taken { result.taken ≡ done.taken + 1 }
     ensures kept { result.kept ≤ result.taken }
     ensures reduces { (lines : List (List ℕ)) (t n : ℕ) (before : List Transfer) →
-        Reduces table.now lines t before rows.old labels.old n done.at done.taken done.kept →
-        Reduces table.now lines t before rows.new labels.new n result.at result.taken
+        Reduces table.now lines t before rows.old labels.old.times n done.at done.taken done.kept →
+        Reduces table.now lines t before rows.new labels.new.times n result.at result.taken
         result.kept }
 {
     table.soundness();
@@ -96,21 +93,19 @@ fn take_rows<C: Calls>(
     done: Progress,
 ) -> Progress
     requires table { C.table calls.now ≡ table.now }
-    requires labels { length labels.old ≡ length table.now.stops }
-    requires walked { AreWalked table.now labels.old }
+    requires labels { labels.old.table ≡ table.now }
     requires room { 0 < length tried.old }
-    requires tried { AreTried table.now labels.old tried.old }
+    requires tried { AreTried table.now labels.old.times tried.old }
     requires taken { done.taken ≤ length rows.old }
     requires kept { done.kept ≤ done.taken }
-    ensures labels { length labels.new ≡ length labels.old }
-    ensures walked { AreWalked table.now labels.new }
-    ensures tried { AreTried table.now labels.new tried.new }
+    ensures labels { labels.new.table ≡ table.now }
+    ensures tried { AreTried table.now labels.new.times tried.new }
     ensures at { result.at ≡ done.at }
     ensures taken { result.taken ≤ length rows.old }
     ensures kept { result.kept ≤ result.taken }
     ensures reduces { (lines : List (List ℕ)) (t n : ℕ) (before : List Transfer) →
-        Reduces table.now lines t before rows.old labels.old n done.at done.taken done.kept →
-        IsReducedTo table.now lines t done.at (before ++ take result.kept rows.new) labels.new
+        Reduces table.now lines t before rows.old labels.old.times n done.at done.taken done.kept →
+        IsReducedTo table.now lines t done.at (before ++ take result.kept rows.new) labels.new.times
         × (drop result.taken rows.new ≡ rows_below table.now lines t n) }
 {
     table.soundness();
@@ -132,16 +127,14 @@ fn take_event<C: Calls>(
     done: Progress,
 ) -> Progress
     requires table { C.table calls.now ≡ table.now }
-    requires labels { length labels.old ≡ length table.now.stops }
-    requires walked { AreWalked table.now labels.old }
+    requires labels { labels.old.table ≡ table.now }
     requires room { 0 < length tried.old }
-    requires tried { AreTried table.now labels.old tried.old }
+    requires tried { AreTried table.now labels.old.times tried.old }
     requires inside { done.at < length (events_of table.now trip) }
     requires taken { done.taken ≤ length rows.old }
     requires kept { done.kept ≤ done.taken }
-    ensures labels { length labels.new ≡ length labels.old }
-    ensures walked { AreWalked table.now labels.new }
-    ensures tried { AreTried table.now labels.new tried.new }
+    ensures labels { labels.new.table ≡ table.now }
+    ensures tried { AreTried table.now labels.new.times tried.new }
     ensures at { result.at ≡ done.at }
     ensures taken { result.taken ≤ length rows.old }
     ensures kept { result.kept ≤ result.taken }
@@ -150,8 +143,8 @@ fn take_event<C: Calls>(
         (candidates_without_u_turns table.now lines trip done.at)
         ++ rows_below table.now lines trip n →
         IsReducedTo table.now lines trip (done.at + 1) (before ++ take done.kept rows.old)
-        labels.old →
-        IsReducedTo table.now lines trip done.at (before ++ take result.kept rows.new) labels.new
+        labels.old.times →
+        IsReducedTo table.now lines trip done.at (before ++ take result.kept rows.new) labels.new.times
         × (drop result.taken rows.new ≡ rows_below table.now lines trip n) }
 {
     table.soundness();
@@ -162,13 +155,12 @@ fn take_event<C: Calls>(
 /// Begins the reduction of a trip: the labels forget all times, whatever they served before, and no
 /// trip is tried.
 pub fn begin_trip(table: &Timetable, labels: &mut Labels) -> [Tried; TRIED]
-    requires { length labels.old ≡ length table.now.stops }
-    ensures labels { length labels.new ≡ length labels.old }
-    ensures walked { AreWalked table.now labels.new }
+    requires { labels.old.table ≡ table.now }
+    ensures labels { labels.new.table ≡ table.now }
     ensures room { 0 < length result }
-    ensures tried { AreTried table.now labels.new result }
+    ensures tried { AreTried table.now labels.new.times result }
     ensures reduced { (lines : List (List ℕ)) (t : ℕ) →
-        IsReducedTo table.now lines t (length (events_of table.now t)) [] labels.new }
+        IsReducedTo table.now lines t (length (events_of table.now t)) [] labels.new.times }
 {
     table.soundness();
     labels.clear();
@@ -188,18 +180,16 @@ pub fn reduce_event<C: Calls>(
     rows: &mut Vec<Transfer>,
 )
     requires table { C.table calls.now ≡ table.now }
-    requires labels { length labels.old ≡ length table.now.stops }
-    requires walked { AreWalked table.now labels.old }
+    requires labels { labels.old.table ≡ table.now }
     requires room { 0 < length tried.old }
-    requires tried { AreTried table.now labels.old tried.old }
+    requires tried { AreTried table.now labels.old.times tried.old }
     requires inside { at < length (events_of table.now trip) }
-    ensures labels { length labels.new ≡ length labels.old }
-    ensures walked { AreWalked table.now labels.new }
-    ensures tried { AreTried table.now labels.new tried.new }
+    ensures labels { labels.new.table ≡ table.now }
+    ensures tried { AreTried table.now labels.new.times tried.new }
     ensures reduced { (lines : List (List ℕ)) (before : List Transfer) → rows.old.items
         ≡ map (row_of trip at) (candidates_without_u_turns table.now lines trip at) →
-        IsReducedTo table.now lines trip (at + 1) before labels.old →
-        IsReducedTo table.now lines trip at (before ++ rows.new.items) labels.new }
+        IsReducedTo table.now lines trip (at + 1) before labels.old.times →
+        IsReducedTo table.now lines trip at (before ++ rows.new.items) labels.new.times }
 {
     let none = Progress {
         at,
@@ -214,9 +204,9 @@ pub fn reduce_event<C: Calls>(
 /// down, exactly the kept ones stay, in their order. The labels are for the stops of this
 /// timetable, and may have served any trip before. Takes no memory.
 pub fn reduce(table: &Timetable, labels: &mut Labels, trip: TripNo, rows: &mut Vec<Transfer>)
-    requires labels { length labels.old ≡ length table.now.stops }
+    requires labels { labels.old.table ≡ table.now }
     requires trip { trip < length table.now.trips }
-    ensures labels { length labels.new ≡ length labels.old }
+    ensures labels { labels.new.table ≡ table.now }
     ensures kept { (lines : List (List ℕ)) → rows.old.items
         ≡ transfers_of table.now (candidates_without_u_turns table.now lines trip) trip →
         rows.new.items ≡ transfers_of table.now (kept_hops table.now lines trip) trip }

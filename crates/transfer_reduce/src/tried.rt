@@ -1,7 +1,8 @@
 //! Trips that were hopped onto already: what they bring need not be offered again.
-ghost use Rattle.std.specs.Prelude.{◌≡◌, ◌+◌, ◌-◌, ◌≤◌, drop, length, take};
+ghost use Rattle.std.specs.Prelude.{◌≤◌, ℤ, List, Option, length};
 ghost use Rattle.tb_base.specs.TimetableData.{events_of};
-ghost use Rattle.transfer_reduce.specs.Tried.{IsUntried};
+ghost use Rattle.transfer_reduce.specs.Reached.{AreReached};
+ghost use Rattle.transfer_reduce.specs.Tried.{IsTried};
 
 use flat_calls::Calls;
 use tb_base::{Transfer, TripNo};
@@ -22,10 +23,11 @@ impl Tried {
 }
 
 /// Where the events behind a hop end that were not offered when the trip was tried.
+#[inline(always)]
 pub(crate) fn untried_end<C: Calls>(calls: &C, tried: &Tried, row: &Transfer) -> usize
-    ensures events { IsUntried (C.table calls.now) row.now tried.now
-        (take (result - (row.now.to_at + 1))
-        (drop (row.now.to_at + 1) (events_of (C.table calls.now) row.now.to_trip))) }
+    ensures rest { (times : List (Option ℤ)) → IsTried (C.table calls.now) times tried.now →
+        AreReached (C.table calls.now) times row.now.to_trip result
+        (length (events_of (C.table calls.now) row.now.to_trip)) }
     ensures inside { result ≤ length (events_of (C.table calls.now) row.now.to_trip) }
 {
     let count = calls.count(row.to_trip);

@@ -13,14 +13,13 @@ loop-at-init g c =
     let t = c.args.trip in
     let all : c.count-at.result ≡ length (events_of c.args.table.now c.args.trip) = c.count-at.ensures ∙ ap (λ (U : TimetableData). length (events_of U c.args.trip)) c.requires.calls in
     record {
-      labels = c.begin_trip-tried.ensures.labels ∙ c.requires.labels;
-      walked = c.begin_trip-tried.ensures.walked;
+      labels = c.begin_trip-tried.ensures.labels;
       tried = c.begin_trip-tried.ensures.tried;
       inside = omega (arith, all);
       found = c.new-found.ensures.items;
       done = record {
-        reduced = subst (λ ys. IsReducedTo T lines t c.count-at.result ys c.begin_trip-tried.new.labels) (sym c.new.ensures.items)
-            (subst (λ n. IsReducedTo T lines t n [] c.begin_trip-tried.new.labels) (sym all) (c.begin_trip-tried.ensures.reduced lines t));
+        reduced = subst (λ ys. IsReducedTo T lines t c.count-at.result ys c.begin_trip-tried.new.labels.times) (sym c.new.ensures.items)
+            (subst (λ n. IsReducedTo T lines t n [] c.begin_trip-tried.new.labels.times) (sym all) (c.begin_trip-tried.ensures.reduced lines t));
         generated_to = none_counted T t (candidates T lines t) c.count-at.result all;
         cut_to = none_counted T t (candidates_without_u_turns T lines t) c.count-at.result all;
       };
@@ -31,8 +30,8 @@ returns-clause-rows g c =
     let none : c.loop-at.at ≡ 0 = omega arith in
     let inv = c.loop-at.invariant in
     c.shrink_to_fit.ensures.items
-    ∙ ends c.args.table.now c.args.lines.now.lines c.args.trip c.loop-at.done.rows.items c.loop-at.labels
-    (subst (λ n. IsReducedTo c.args.table.now c.args.lines.now.lines c.args.trip n c.loop-at.done.rows.items c.loop-at.labels) none inv.done.reduced)
+    ∙ ends c.args.table.now c.args.lines.now.lines c.args.trip c.loop-at.done.rows.items c.loop-at.labels.times
+    (subst (λ n. IsReducedTo c.args.table.now c.args.lines.now.lines c.args.trip n c.loop-at.done.rows.items c.loop-at.labels.times) none inv.done.reduced)
 
 pub returns-clause-generated : goal.returns-clause-generated
 returns-clause-generated g c =

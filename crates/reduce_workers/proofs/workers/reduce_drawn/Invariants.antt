@@ -6,7 +6,7 @@ use Rattle.reduce_workers.proofs.workers.reduce_drawn.Given as goal
 
 abbrev pub invariant-loop-n : goal.invariant-loop-n
 invariant-loop-n g l = record {
-  labels : length l.labels ≡ length l.table.stops;
+  labels : l.labels.table ≡ l.table;
   works : Works l.claim (piece_reduced l.table l.lines.lines) l.seat l.done.items;
 }
 

@@ -10,7 +10,7 @@ returns-clause-reduced g c = λ lines before is r.
     let t = c.args.trip in
     let at = c.args.at in
     let least : 0 ≤ c.args.at = omega arith in
-    let first = subst (λ ys. IsReducedTo T lines t (at + 1) ys c.args.labels.now) (sym (append-nil before)) r in
+    let first = subst (λ ys. IsReducedTo T lines t (at + 1) ys c.args.labels.now.times) (sym (append-nil before)) r in
     let both = c.take_event-done.ensures.reduced lines 0 before least (c.as_mut_slice.ensures.value ∙ is ∙ sym (append-nil (map (row_of t at) (candidates_without_u_turns T lines t at)))) first in
     let now = with_items_is c.args.rows.now c.take_event-done.new.rows (c.take_event-done.auto.rows ∙ c.as_mut_slice.ensures.len) in
-    subst (λ ys. IsReducedTo T lines t at (before ++ ys) c.take_event-done.new.labels) (sym (c.truncate.ensures.items ∙ ap (take c.take_event-done.result.kept) now)) both.0
+    subst (λ ys. IsReducedTo T lines t at (before ++ ys) c.take_event-done.new.labels.times) (sym (c.truncate.ensures.items ∙ ap (take c.take_event-done.result.kept) now)) both.0

@@ -12,8 +12,8 @@ returns-then-not-offer_hop-clause-reduces g c =
     let is = get_or_default c.args.rows.now c.args.done.taken read x c.requires.taken in
     let here = ap (λ (r : Transfer). r.at) (get_or_default c.args.rows.now c.args.done.taken read (record { trip = 0; at = 0; to_trip = 0; to_at = 0 }) c.requires.taken) ∙ c.requires.here.1 in
     λ lines t n before r.
-    take_step c.args.table.now c.soundness.ensures lines t before c.args.rows.now c.args.labels.now c.offer_hop.new.labels n c.args.done.at c.args.done.taken c.args.done.kept x
-    c.requires.taken c.requires.kept is here c.requires.labels c.offer_hop.ensures.labels false (sym c.if-not-offer_hop.true ∙ c.offer_hop.ensures.sooner) r
+    take_step c.args.table.now c.soundness.ensures lines t before c.args.rows.now c.args.labels.now.times c.offer_hop.new.labels.times n c.args.done.at c.args.done.taken c.args.done.kept x
+    c.requires.taken c.requires.kept is here c.offer_hop.ensures.shown false (λ ess shown. sym c.if-not-offer_hop.true ∙ c.offer_hop.ensures.sooner ess shown) r
 
 pub returns-clause-reduces : goal.returns-clause-reduces
 returns-clause-reduces g c =
@@ -23,6 +23,6 @@ returns-clause-reduces g c =
     let here = ap (λ (r : Transfer). r.at) (get_or_default c.args.rows.now c.args.done.taken read (record { trip = 0; at = 0; to_trip = 0; to_at = 0 }) c.requires.taken) ∙ c.requires.here.1 in
     let moved = c.put_row.ensures read in
     λ lines t n before r.
-    subst (λ rows. Reduces c.args.table.now lines t before rows c.offer_hop.new.labels n c.args.done.at (c.args.done.taken + 1) (c.args.done.kept + 1)) (sym moved)
-    (take_step c.args.table.now c.soundness.ensures lines t before c.args.rows.now c.args.labels.now c.offer_hop.new.labels n c.args.done.at c.args.done.taken c.args.done.kept x
-    c.requires.taken c.requires.kept is here c.requires.labels c.offer_hop.ensures.labels true (sym c.if-not-offer_hop.false ∙ c.offer_hop.ensures.sooner) r)
+    subst (λ rows. Reduces c.args.table.now lines t before rows c.offer_hop.new.labels.times n c.args.done.at (c.args.done.taken + 1) (c.args.done.kept + 1)) (sym moved)
+    (take_step c.args.table.now c.soundness.ensures lines t before c.args.rows.now c.args.labels.now.times c.offer_hop.new.labels.times n c.args.done.at c.args.done.taken c.args.done.kept x
+    c.requires.taken c.requires.kept is here c.offer_hop.ensures.shown true (λ ess shown. sym c.if-not-offer_hop.false ∙ c.offer_hop.ensures.sooner ess shown) r)

@@ -13,5 +13,5 @@ returns-clause-reduces g c = λ lines t n before r.
     let next = c.loop-labels.next in
     let rows = c.loop-labels.rows in
     let away : HasRowAt c.loop-labels.rows c.loop-labels.next.at c.loop-labels.next.taken → ⊥ = λ h. clash c.has_row.result c.loop-labels-test.false (c.has_row.ensures.1 h) in
-    subst (λ m. IsReducedTo T lines t m (before ++ take next.kept rows) c.loop-labels.labels × (drop next.taken rows ≡ rows_below T lines t n)) inv.at
-    (event_done T c.soundness.ensures lines t before rows c.loop-labels.labels n next.at next.taken next.kept away (inv.reduces lines t n before r))
+    subst (λ m. IsReducedTo T lines t m (before ++ take next.kept rows) c.loop-labels.labels.times × (drop next.taken rows ≡ rows_below T lines t n)) inv.at
+    (event_done T c.soundness.ensures lines t before rows c.loop-labels.labels.times n next.at next.taken next.kept away (inv.reduces lines t n before r))

@@ -48,7 +48,7 @@ returns-clause-done g c =
     = c.cut_by.ensures ∙ ap (filter (λ r. not (is_u_turn_row T r))) items ∙ event_cut T lines t at in
     let long_cut : c.len-2.result ≡ length c.cut_by.new.rows.items = grind (arith, common_steps) in
     record {
-      reduced = subst (λ ys. IsReducedTo T lines t at ys c.reduce_event.new.labels) (sym c.in_ok-append.ensures.items) (c.reduce_event.ensures.reduced lines c.args.self.now.rows.items cut c.requires.done.reduced);
+      reduced = subst (λ ys. IsReducedTo T lines t at ys c.reduce_event.new.labels.times) (sym c.in_ok-append.ensures.items) (c.reduce_event.ensures.reduced lines c.args.self.now.rows.items cut c.requires.done.reduced);
       generated_to = counted_more T t (candidates T lines t) at c.args.self.now.generated c.len.result c.requires.done.generated_to (long ∙ ap length items);
       cut_to = counted_more T t (candidates_without_u_turns T lines t) at c.args.self.now.after_uturn c.len-2.result c.requires.done.cut_to (long_cut ∙ ap length cut);
     }

@@ -1,0 +1,10 @@
+//! For each stop of a timetable the footpaths that lead to it.
+//!
+//! A timetable has, for each stop, the footpaths that leave it. `PathsInto` gives the layer above,
+//! for each stop, exactly those that lead to it, each with the stop that it comes from, in ascending
+//! order. Footpaths are those of transfers.txt in the GTFS Schedule Reference.
+#![tactic(auto)]
+
+mod rows;
+
+pub use rows::PathsInto;
