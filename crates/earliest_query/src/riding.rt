@@ -218,9 +218,9 @@ impl<S: Scan> Search<'_, S> {
             ≤ steps.old + covered_before desk.old.segments to }
     {
         desk.clear_notes();
-        desk.read_segments_ahead(self.scan, from, to);
         let mut best = so_far;
         for n in from..to {
+            desk.read_segments_ahead(self.scan, from, n, to);
             best = self.weigh_segment(desk, n, round, best, steps);
         }
         best
@@ -260,8 +260,8 @@ impl<S: Scan> Search<'_, S> {
         ensures done { (note : Note) → Contains desk.old.notes note →
             IsDone (S.net self.now.scan.now) desk.new best.now note.segment (seen_at note.seen) }
     {
-        desk.read_notes_ahead(self.scan);
         for k in 0..desk.note_count() {
+            desk.read_notes_ahead(self.scan, k);
             let note = desk.note(k);
             self.follow_note(desk, best, &note, round);
         }

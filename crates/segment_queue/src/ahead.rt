@@ -6,6 +6,9 @@ use super::notes::Note;
 use super::scan::Scan;
 use transfer_pack::ReadAhead;
 
+// How many segments, or notes, are read ahead at a time: so few that what was read is still at hand when it is looked at.
+const STRETCH: u32 = 512;
+
 // Reads the first of the hops from each of these events ahead.
 fn read_hops<S: Scan>(scan: &S, notes: &[Note]) -> ReadAhead {
     let mut ahead = ReadAhead::new();
@@ -41,23 +44,35 @@ impl Desk {
         ahead
     }
 
-    /// Reads the first event that each of these segments covers ahead, and what clips it.
-    pub fn read_segments_ahead<S: Scan>(&mut self, scan: &S, from: u32, to: u32)
+    /// At each so many segments of a round, which begins at a number, reads the first event that the next of them cover
+    /// ahead, and what clips them: of the segments from number `n` up to another.
+    pub fn read_segments_ahead<S: Scan>(&mut self, scan: &S, begin: u32, n: u32, to: u32)
         requires step { IsInStep (S.net scan.now) self.old }
+        requires begin { begin ≤ n }
         requires to { to ≤ length self.old.segments }
         ensures { self.new ≡ self.old }
     {
-        let clips = self.read_clips(scan, from, to);
+        if (n - begin) % STRETCH != 0 {
+            return;
+        }
+        let end = to.min(n.saturating_add(STRETCH));
+        let clips = self.read_clips(scan, n, end);
         self.ahead.join(clips);
-        let events = self.read_events(scan, from, to);
+        let events = self.read_events(scan, n, end);
         self.ahead.join(events);
     }
 
-    /// Reads the first of the hops from each event that is noted ahead.
-    pub fn read_notes_ahead<S: Scan>(&mut self, scan: &S)
+    /// At each so many notes reads the first of the hops from the events that are noted next ahead, from note `k` on.
+    pub fn read_notes_ahead<S: Scan>(&mut self, scan: &S, k: usize)
         ensures { self.new ≡ self.old }
     {
-        let ahead = read_hops(scan, self.notes.as_slice());
+        if k % STRETCH as usize != 0 {
+            return;
+        }
+        let notes = self.notes.as_slice();
+        let from = k.min(notes.len());
+        let end = notes.len().min(k.saturating_add(STRETCH as usize));
+        let ahead = read_hops(scan, &notes[from..end]);
         self.ahead.join(ahead);
     }
 }

@@ -13,16 +13,19 @@ use Rattle.earliest_query.proofs.Noting.{sound_note-kept}
 use Rattle.earliest_query.proofs.search.Search.follow_notes.Goals as goal
 
 pub loop-k-init : goal.loop-k-init
-loop-k-init g c =
-    let N : NetData = g.S.Scan.net c.args.self.now.scan.now in
-    let top : ℕ = suc c.args.round in
-    let same = c.read_notes_ahead.ensures in
-    record {
-      queue = subst (λ d. IsQueue N c.args.self.now.query.now d top) (sym same) c.requires.queue;
-      extends = subst (λ d. Extends c.args.desk.now d top) (sym same) (extends-refl c.args.desk.now top);
-      notes = ap (λ (d : DeskData). d.notes) same;
-      done = λ j d below. absurd (omega (arith, below));
-    }
+loop-k-init g c = record {
+  queue = c.requires.queue;
+  extends = extends-refl c.args.desk.now (suc c.args.round);
+  notes = refl;
+  done = λ j d below. absurd (omega (arith, below));
+}
+
+pub note-note-requires : goal.note-note-requires
+note-note-requires g c = omega (arith, c.loop-k-test.true, c.note_count-k-end.ensures, ap (λ (d : DeskData). length d.notes) c.read_notes_ahead.ensures, ap length c.loop-k.invariant.notes)
+
+pub follow_note-requires-clause-queue : goal.follow_note-requires-clause-queue
+follow_note-requires-clause-queue g c =
+    subst (λ d. IsQueue (g.S.Scan.net c.args.self.now.scan.now) c.args.self.now.query.now d (suc c.args.round)) (sym c.read_notes_ahead.ensures) c.loop-k.invariant.queue
 
 pub follow_note-requires-clause-note : goal.follow_note-requires-clause-note
 follow_note-requires-clause-note g c =
@@ -30,9 +33,11 @@ follow_note-requires-clause-note g c =
     let shown = g.S.Scan.shown c.args.self.now.scan.now in
     let D : DeskData = c.args.desk.now in
     let note : Note = c.note-note.result in
-    let is : get_or D.notes c.loop-k.k note ≡ note = ap (λ ns. get_or ns c.loop-k.k note) (sym c.loop-k.invariant.notes) ∙ get_or_from_slice_get c.loop-k.desk.notes c.loop-k.k note note c.note-note.ensures in
-    let inside : c.loop-k.k < length D.notes = omega (arith, slice_get_within c.loop-k.desk.notes c.loop-k.k note c.note-note.ensures, ap length c.loop-k.invariant.notes) in
-    sound_note-kept shown N D c.loop-k.desk (suc c.args.round) c.args.round note c.loop-k.invariant.extends (subst (IsSoundNote shown N D.segments c.args.round) is (c.requires.notes c.loop-k.k note inside))
+    let X : DeskData = c.read_notes_ahead.new.self in
+    let notes : X.notes ≡ D.notes = ap (λ (d : DeskData). d.notes) c.read_notes_ahead.ensures ∙ c.loop-k.invariant.notes in
+    let is : get_or D.notes c.loop-k.k note ≡ note = ap (λ ns. get_or ns c.loop-k.k note) (sym notes) ∙ get_or_from_slice_get X.notes c.loop-k.k note note c.note-note.ensures in
+    let inside : c.loop-k.k < length D.notes = omega (arith, slice_get_within X.notes c.loop-k.k note c.note-note.ensures, ap length notes) in
+    sound_note-kept shown N D X (suc c.args.round) c.args.round note (subst (λ d. Extends D d (suc c.args.round)) (sym c.read_notes_ahead.ensures) c.loop-k.invariant.extends) (subst (IsSoundNote shown N D.segments c.args.round) is (c.requires.notes c.loop-k.k note inside))
 
 below_or_at : (k i : ℕ) → k < i + 1 → (k < i) ⊎ (i ≡ k)
 below_or_at k i h = grind arith
@@ -42,22 +47,25 @@ loop-k-preserved g c =
     let N : NetData = g.S.Scan.net c.args.self.now.scan.now in
     let Q : QueryData = c.args.self.now.query.now in
     let D : DeskData = c.args.desk.now in
-    let E : DeskData = c.loop-k.desk in
+    let E : DeskData = c.read_notes_ahead.new.self in
+    let same : E ≡ c.loop-k.desk = c.read_notes_ahead.ensures in
     let F : DeskData = c.follow_note.new.desk in
     let best = c.args.best.now in
     let k : ℕ = c.loop-k.k in
     let top : ℕ = suc c.args.round in
     let note : Note = c.note-note.result in
     let before = c.loop-k.invariant in
-    let inside : k < length D.notes = omega (arith, slice_get_within E.notes k note c.note-note.ensures, ap length before.notes) in
+    let notes : E.notes ≡ D.notes = ap (λ (d : DeskData). d.notes) same ∙ before.notes in
+    let extends : Extends D E top = subst (λ d. Extends D d top) (sym same) before.extends in
+    let inside : k < length D.notes = omega (arith, slice_get_within E.notes k note c.note-note.ensures, ap length notes) in
     record {
       queue = c.follow_note.ensures.queue;
-      extends = extends-trans D E F top before.extends c.follow_note.ensures.extends;
-      notes = c.follow_note.ensures.notes ∙ before.notes;
+      extends = extends-trans D E F top extends c.follow_note.ensures.extends;
+      notes = c.follow_note.ensures.notes ∙ notes;
       done = λ j d below. elim (below_or_at j k below) [
         | inl earlier ↦ done-kept N Q E F top c.args.round (get_or D.notes j d).segment (seen_at (get_or D.notes j d).seen) best best c.follow_note.ensures.extends
-            (let sound = c.requires.notes j d (omega (arith, earlier, inside)) in omega (arith, sound.inside, extends-long D E top before.extends)) (inl refl) (before.done j d earlier)
-        | inr e ↦ (let is : note ≡ get_or D.notes j d = sym (get_or_from_slice_get E.notes k note d c.note-note.ensures) ∙ ap (λ ns. get_or ns k d) before.notes ∙ ap (λ m. get_or D.notes m d) e in
+            (let sound = c.requires.notes j d (omega (arith, earlier, inside)) in omega (arith, sound.inside, extends-long D E top extends)) (inl refl) (subst (λ e. IsDone N e best (get_or D.notes j d).segment (seen_at (get_or D.notes j d).seen)) (sym same) (before.done j d earlier))
+        | inr e ↦ (let is : note ≡ get_or D.notes j d = sym (get_or_from_slice_get E.notes k note d c.note-note.ensures) ∙ ap (λ ns. get_or ns k d) notes ∙ ap (λ m. get_or D.notes m d) e in
             subst (λ (x : Note). IsDone N F best x.segment (seen_at x.seen)) is c.follow_note.ensures.done)
       ];
     }
@@ -65,4 +73,4 @@ loop-k-preserved g c =
 pub returns-clause-done : goal.returns-clause-done
 returns-clause-done g c = λ note h.
     let D : DeskData = c.args.desk.now in
-    subst (λ (x : Note). IsDone (g.S.Scan.net c.args.self.now.scan.now) c.loop-k.desk c.args.best.now x.segment (seen_at x.seen)) h.2 (c.loop-k.invariant.done h.0 note (omega (arith, h.1, c.loop-k-test.false, c.note_count-k-end.ensures, ap (λ (d : DeskData). length d.notes) c.read_notes_ahead.ensures)))
+    subst (λ (x : Note). IsDone (g.S.Scan.net c.args.self.now.scan.now) c.loop-k.desk c.args.best.now x.segment (seen_at x.seen)) h.2 (c.loop-k.invariant.done h.0 note (omega (arith, h.1, c.loop-k-test.false, c.note_count-k-end.ensures)))
