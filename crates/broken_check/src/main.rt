@@ -15,36 +15,12 @@ mod asking;
 mod breaks;
 mod trial;
 
+use made_feeds::Seeds;
 use std::alloc::Global;
-use std::env;
 use std::process::ExitCode;
-use std::rt::Env;
 use std::sync::Wait;
 use std::thread::Threads;
 use trial::{Refused, Tally, try_seed};
-
-/// How many feeds, and from which seed on.
-#[derive(Clone, Copy)]
-struct Words {
-    count: u32,
-    seed: u32,
-}
-
-fn words_of(rt: &(impl Env + AllocGlobal)) -> Option<Words> {
-    let Ok(args) = env::args(rt) else {
-        return None;
-    };
-    let mut args = args.skip(1);
-    let count = args.next()?;
-    let seed = match args.next() {
-        Some(seed) => gtfs_rows::number_of(seed.as_bytes())?,
-        None => 1,
-    };
-    Some(Words {
-        count: gtfs_rows::number_of(count.as_bytes())?,
-        seed,
-    })
-}
 
 // Why it ended early, and over the feed of which seed.
 #[derive(Clone, Copy)]
@@ -53,10 +29,10 @@ struct Ended {
     refused: Refused,
 }
 
-fn tried<R: Threads + Wait + Sync>(rt: &R, alloc: Global, words: Words) -> Result<Tally, Ended> {
+fn tried<R: Threads + Wait + Sync>(rt: &R, alloc: Global, seeds: Seeds) -> Result<Tally, Ended> {
     let mut tally = Tally::NOTHING;
-    for turn in 0..words.count {
-        let seed = words.seed.wrapping_add(turn);
+    for turn in 0..seeds.count {
+        let seed = seeds.seed(turn);
         match try_seed(rt, alloc, seed) {
             Ok(other) => tally.add(other),
             Err(refused) => return Err(Ended { seed, refused }),
@@ -66,11 +42,11 @@ fn tried<R: Threads + Wait + Sync>(rt: &R, alloc: Global, words: Words) -> Resul
 }
 
 fn main(rt: HostRuntime) -> ExitCode {
-    let Some(words) = words_of(&rt) else {
+    let Some(seeds) = Seeds::of_words(&rt) else {
         let _ = eprintln!(rt; "usage: broken_check COUNT [SEED]");
         return ExitCode::from(2);
     };
-    match tried(&rt, rt.alloc(), words) {
+    match tried(&rt, rt.alloc(), seeds) {
         Ok(Tally { broken, answered }) => {
             let refused = broken.wrapping_sub(answered);
             let _ = println!(rt; "broken feeds {broken} answered {answered} refused {refused}");

@@ -60,10 +60,10 @@ fn is_right(
         value: choice.value,
         legs: Vec::from_slice(alloc, choice.legs.as_slice())?,
     };
-    if claimed.legs.len() as u64 >= MOST_LEGS {
-        return Ok(false);
-    }
-    Ok(judge(table, query, &claimed) == Verdict::Yes)
+    let right = (claimed.legs.len() as u64) < MOST_LEGS
+        && judge(table, query, &claimed) == Verdict::Yes;
+    drop(claimed);
+    Ok(right)
 }
 
 // Whether each choice is a journey with its value.
@@ -84,8 +84,43 @@ fn are_right(
     Ok(true)
 }
 
-// The choices of a question over an edition, each of which is a journey with its value. None where
-// the edition lacks one of its stops.
+// The choices of a query over an edition.
+fn searched(
+    alloc: Global,
+    edition: &Edition,
+    desk: &mut Desk,
+    query: &Query,
+) -> Result<Vec<Choice>, Memory>
+    requires origins { All (λ p. p < length edition.now.table.stops) query.now.from }
+    requires targets { All (λ p. p < length edition.now.table.stops) query.now.to }
+    requires time { query.now.leave ≤ℤ pos 359999 }
+{
+    desk.make_room(edition)?;
+    best_choices(alloc, edition, query, desk)
+}
+
+// The choices of a query over an edition, each of which is a journey with its value.
+fn right_choices(
+    alloc: Global,
+    edition: &Edition,
+    desk: &mut Desk,
+    query: &Query,
+) -> Result<Vec<Choice>, Refused>
+    requires origins { All (λ p. p < length edition.now.table.stops) query.now.from }
+    requires targets { All (λ p. p < length edition.now.table.stops) query.now.to }
+    requires time { query.now.leave ≤ℤ pos 359999 }
+{
+    let choices = searched(alloc, edition, desk, query)?;
+    let refused = match are_right(alloc, edition.table(), query, choices.as_slice()) {
+        Ok(true) => return Ok(choices),
+        Ok(false) => Refused::Differs(Difference::Values),
+        Err(Memory) => Refused::Memory,
+    };
+    drop(choices);
+    Err(refused)
+}
+
+// The same for a question. None where the edition lacks one of its stops.
 fn choices_of(
     alloc: Global,
     edition: &Edition,
@@ -97,11 +132,9 @@ fn choices_of(
         return Ok(Vec::new(alloc));
     }
     let query = query_of(alloc, table, question)?;
-    desk.make_room(edition)?;
-    let choices = best_choices(alloc, edition, &query, desk)?;
-    let right = are_right(alloc, table, &query, choices.as_slice())?;
-    held(right, Difference::Values)?;
-    Ok(choices)
+    let choices = right_choices(alloc, edition, desk, &query);
+    drop(query);
+    choices
 }
 
 // Whether the choices have the same values in the same order.
@@ -111,6 +144,20 @@ fn have_same_values(one: &[Choice], other: &[Choice]) -> bool {
             .iter()
             .zip(other.iter())
             .all(|(c, d)| c.value == d.value)
+}
+
+// Whether a question has these values over an edition, in the same order.
+fn has_values(
+    alloc: Global,
+    edition: &Edition,
+    desk: &mut Desk,
+    question: &Question,
+    choices: &[Choice],
+) -> Result<bool, Refused> {
+    let others = choices_of(alloc, edition, desk, question)?;
+    let same = have_same_values(choices, others.as_slice());
+    drop(others);
+    Ok(same)
 }
 
 // Holds the best values of a question over two editions against one another.
@@ -123,10 +170,11 @@ fn compare_values(
     tally: &mut Tally,
 ) -> Result<(), Refused> {
     let choices = choices_of(alloc, one, desk, question)?;
-    let others = choices_of(alloc, other, desk, question)?;
-    let same = have_same_values(choices.as_slice(), others.as_slice());
-    held(same, Difference::Values)?;
-    tally.add_query(choices.len());
+    let values = choices.len();
+    let same = has_values(alloc, other, desk, question, choices.as_slice());
+    drop(choices);
+    held(same?, Difference::Values)?;
+    tally.add_query(values);
     Ok(())
 }
 

@@ -19,43 +19,19 @@ mod tally;
 mod touched;
 mod trial;
 
+use made_feeds::Seeds;
 use segment_queue::Desk;
 use std::alloc::Global;
-use std::env;
 use std::process::ExitCode;
-use std::rt::Env;
 use std::thread::Threads;
 use tally::{Faults, Refused, Tally};
 use trial::try_seed;
-
-/// How many feeds, and which.
-#[derive(Clone, Copy)]
-struct Words {
-    count: u32,
-    seed: u32,
-}
 
 /// How a comparison ended early, and over the feed of which seed.
 #[derive(Clone, Copy)]
 struct Ended {
     seed: u32,
     refused: Refused,
-}
-
-fn words_of(rt: &(impl Env + AllocGlobal)) -> Option<Words> {
-    let Ok(args) = env::args(rt) else {
-        return None;
-    };
-    let mut args = args.skip(1);
-    let count = args.next()?;
-    let seed = match args.next() {
-        Some(seed) => gtfs_rows::number_of(seed.as_bytes())?,
-        None => 1,
-    };
-    Some(Words {
-        count: gtfs_rows::number_of(count.as_bytes())?,
-        seed,
-    })
 }
 
 // Compares over the feed of a seed.
@@ -77,11 +53,11 @@ fn try_feeds<R: Threads + Sync>(
     rt: &R,
     alloc: Global,
     desk: &mut Desk,
-    words: Words,
+    seeds: Seeds,
     tally: &mut Tally,
 ) -> Result<(), Ended> {
-    for turn in 0..words.count {
-        try_feed(rt, alloc, desk, words.seed.wrapping_add(turn), tally)?;
+    for turn in 0..seeds.count {
+        try_feed(rt, alloc, desk, seeds.seed(turn), tally)?;
     }
     Ok(())
 }
@@ -90,11 +66,13 @@ fn try_feeds<R: Threads + Sync>(
 fn compare<R: Threads + Sync>(
     rt: &R,
     alloc: Global,
-    words: Words,
+    seeds: Seeds,
     tally: &mut Tally,
 ) -> Result<(), Ended> {
     let mut desk = Desk::new(alloc);
-    try_feeds(rt, alloc, &mut desk, words, tally)
+    let compared = try_feeds(rt, alloc, &mut desk, seeds, tally);
+    drop(desk);
+    compared
 }
 
 fn write_faults(rt: &impl Print, faults: &Faults) {
@@ -141,12 +119,12 @@ fn write_ended(rt: &(impl Print + Eprint), ended: Ended) -> ExitCode {
 }
 
 fn main(rt: HostRuntime) -> ExitCode {
-    let Some(words) = words_of(&rt) else {
+    let Some(seeds) = Seeds::of_words(&rt) else {
         let _ = eprintln!(rt; "usage: late_check COUNT [SEED]");
         return ExitCode::from(2);
     };
     let mut tally = Tally::NOTHING;
-    match compare(&rt, rt.alloc(), words, &mut tally) {
+    match compare(&rt, rt.alloc(), seeds, &mut tally) {
         Ok(()) => {
             write_tally(&rt, &tally);
             ExitCode::from(0)

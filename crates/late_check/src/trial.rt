@@ -76,7 +76,10 @@ fn compare_faults(
     tally: &mut Tally,
 ) -> Result<(), Refused> {
     match amended(alloc, old.table(), lates) {
-        Ok(_) => Err(Refused::Differs(Difference::Fault)),
+        Ok(table) => {
+            drop(table);
+            Err(Refused::Differs(Difference::Fault))
+        }
         Err(other) => {
             held(fault == other, Difference::Fault)?;
             tally.refused.add(fault)
@@ -127,8 +130,14 @@ fn try_amended<R: Threads + Sync>(
     draw: &mut Draw,
     tally: &mut Tally,
 ) -> Result<(), Refused> {
-    let anew = built_anew(rt, alloc, old, lates)?;
-    compare_amended(alloc, old, found, &anew, desk, draw, tally)
+    match built_anew(rt, alloc, old, lates) {
+        Ok(anew) => {
+            let compared = compare_amended(alloc, old, found, &anew, desk, draw, tally);
+            drop(anew);
+            compared
+        }
+        Err(refused) => Err(refused),
+    }
 }
 
 // Amends an edition by lates, and compares.
@@ -142,7 +151,11 @@ fn try_lates<R: Threads + Sync>(
     tally: &mut Tally,
 ) -> Result<(), Refused> {
     match amend(alloc, old, lates) {
-        Ok(found) => try_amended(rt, alloc, old, lates, &found, desk, draw, tally),
+        Ok(found) => {
+            let compared = try_amended(rt, alloc, old, lates, &found, desk, draw, tally);
+            drop(found);
+            compared
+        }
         Err(fault) => compare_faults(alloc, old, lates, fault, tally),
     }
 }
@@ -158,7 +171,9 @@ fn try_list<R: Threads + Sync>(
 ) -> Result<(), Refused> {
     let lates = some_lates(alloc, draw, old.table())?;
     tally.lists = tally.lists.wrapping_add(1);
-    try_lates(rt, alloc, old, lates.as_slice(), desk, draw, tally)
+    let compared = try_lates(rt, alloc, old, lates.as_slice(), desk, draw, tally);
+    drop(lates);
+    compared
 }
 
 // Amends an edition by some lists of lates, one after another.
@@ -202,8 +217,14 @@ fn try_beside<R: Threads + Sync>(
     draw: &mut Draw,
     tally: &mut Tally,
 ) -> Result<(), Refused> {
-    let aside = built_anew(rt, alloc, old, &[])?;
-    try_edition(rt, alloc, old, &aside, desk, draw, tally)
+    match built_anew(rt, alloc, old, &[]) {
+        Ok(aside) => {
+            let compared = try_edition(rt, alloc, old, &aside, desk, draw, tally);
+            drop(aside);
+            compared
+        }
+        Err(refused) => Err(refused),
+    }
 }
 
 // The edition of a feed.
@@ -221,6 +242,12 @@ pub fn try_seed<R: Threads + Sync>(
     tally: &mut Tally,
 ) -> Result<(), Refused> {
     let mut draw = Draw::new(seed as u64);
-    let old = edition(rt, alloc, &mut draw)?;
-    try_beside(rt, alloc, &old, desk, &mut draw, tally)
+    match edition(rt, alloc, &mut draw) {
+        Ok(old) => {
+            let compared = try_beside(rt, alloc, &old, desk, &mut draw, tally);
+            drop(old);
+            compared
+        }
+        Err(refused) => Err(refused),
+    }
 }

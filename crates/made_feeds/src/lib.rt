@@ -4,19 +4,22 @@
 //! `small_feed` makes the files of a feed with loops, marks of boarding and alighting, footpaths,
 //! forbidden ways, stations, ties and times beyond midnight, that look random; the same seed gives
 //! the same files. `twin_feed` makes one with trips by frequency and trips of the day before, and
-//! `written_out_feed` of the same seed one with the same trips written out, a day later. Nothing is
-//! promised of feeds and timetables but that they are made safely.
+//! `written_out_feed` of the same seed one with the same trips written out, a day later. `Seeds`
+//! says which of them a program takes. Nothing is promised of feeds and timetables but that they are
+//! made safely.
 #![tactic(auto)]
 
 mod calls;
 mod draw;
 mod made;
 mod random;
+mod seeds;
 mod texts;
 mod twins;
 
 pub use draw::Draw;
 pub use made::{ring, town};
 pub use random::small_feed;
+pub use seeds::Seeds;
 pub use texts::{Feed, Files, timetable, timetable_of};
 pub use twins::{DAY, twin_feed, written_out_feed};

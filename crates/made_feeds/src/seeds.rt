@@ -1,0 +1,36 @@
+//! Which feeds a program takes, as its words say.
+use gtfs_rows::number_of;
+use std::env;
+use std::rt::Env;
+
+/// How many feeds, and the seed of the first; each further one has the next seed.
+#[derive(Clone, Copy)]
+pub struct Seeds {
+    pub count: u32,
+    pub first: u32,
+}
+
+impl Seeds {
+    /// What the words of a program say that are `COUNT [SEED]`; the first seed is 1 where none is
+    /// given. None where they don't say a number.
+    pub fn of_words(rt: &(impl Env + AllocGlobal)) -> Option<Seeds> {
+        let Ok(args) = env::args(rt) else {
+            return None;
+        };
+        let mut args = args.skip(1);
+        let count = args.next()?;
+        let first = match args.next() {
+            Some(seed) => number_of(seed.as_bytes())?,
+            None => 1,
+        };
+        Some(Seeds {
+            count: number_of(count.as_bytes())?,
+            first,
+        })
+    }
+
+    /// The seed of a feed by its number, from 0.
+    pub fn seed(self, turn: u32) -> u32 {
+        self.first.wrapping_add(turn)
+    }
+}
