@@ -1,14 +1,14 @@
 //! What the program answers over files in memory.
-ghost use Rattle.std.specs.Prelude.{◌≡◌, ◌<◌, ◌-◌, ◌^◌, IfOk};
+ghost use Rattle.std.specs.Prelude.{◌<◌, ◌-◌, ◌^◌};
 
 use made_feeds::Files;
-use router_cli::{route, status_text};
+use router_cli::{Status, route, status_text};
 use std::alloc::Global;
 use std::str;
 use std::sync::Wait;
 use std::thread::Threads;
 use tb_base::{IdleGate, Memory};
-use tb_io::{MemFolder, MemSink, MemSource};
+use tb_io::{Folder, MemFolder, MemSink, MemSource, Sink};
 
 // The bytes that an answer may have.
 const ROOM: usize = 200_000;
@@ -77,6 +77,61 @@ fn copied(alloc: Global, files: &[(String, Vec<u8>)]) -> Result<Files, Memory> {
     Ok(found)
 }
 
+// How a run ended with a status, and what it wrote.
+fn ending_of(alloc: Global, status: &Status, sink: &MemSink) -> Result<Ending, Memory> {
+    Ok(Ending {
+        code: status.code(),
+        out: sink.bytes().to_vec(alloc)?,
+        err: status_text(alloc, status)?,
+    })
+}
+
+// How the program ends over a folder, with no script.
+fn status_over<R: Threads + Wait + Sync, F: Folder + Send, K: Sink>(
+    rt: &R,
+    alloc: Global,
+    words: &[String],
+    folder: &mut F,
+    sink: &mut K,
+) -> Status
+    requires folder { F.faults folder.old < 2 ^ 64 - 1 }
+    requires sink { K.faults sink.old < 2 ^ 64 - 1 }
+{
+    let mut script = MemSource::new(Vec::new(alloc), Vec::new(alloc));
+    let status = route(rt, alloc, words, folder, &mut script, sink, &IdleGate);
+    drop(script);
+    status
+}
+
+// The same, with what it wrote.
+fn ending_over<R: Threads + Wait + Sync, F: Folder + Send>(
+    rt: &R,
+    alloc: Global,
+    words: &[String],
+    folder: &mut F,
+) -> Result<Ending, Memory>
+    requires { F.faults folder.old < 2 ^ 64 - 1 }
+{
+    let mut sink = MemSink::new(alloc, ROOM, Vec::new(alloc))?;
+    let status = status_over(rt, alloc, words, folder, &mut sink);
+    let ending = ending_of(alloc, &status, &sink);
+    drop(sink);
+    ending
+}
+
+// How the program ends over files.
+fn ending_over_files<R: Threads + Wait + Sync>(
+    rt: &R,
+    alloc: Global,
+    files: &[(String, Vec<u8>)],
+    words: &[String],
+) -> Result<Ending, Memory> {
+    let mut folder = MemFolder::new(copied(alloc, files)?, Vec::new(alloc));
+    let ending = ending_over(rt, alloc, words, &mut folder);
+    drop(folder);
+    ending
+}
+
 /// How the program ends over files, with the words of a line.
 pub fn asked<R: Threads + Wait + Sync>(
     rt: &R,
@@ -85,22 +140,7 @@ pub fn asked<R: Threads + Wait + Sync>(
     line: &str,
 ) -> Result<Ending, Memory> {
     let words = words_of(alloc, line)?;
-    let mut folder = MemFolder::new(copied(alloc, files)?, Vec::new(alloc));
-    let mut script = MemSource::new(Vec::new(alloc), Vec::new(alloc));
-    let mut sink = MemSink::new(alloc, ROOM, Vec::new(alloc))?;
-    let words = words.as_slice();
-    let status = route(
-        rt,
-        alloc,
-        words,
-        &mut folder,
-        &mut script,
-        &mut sink,
-        &IdleGate,
-    );
-    Ok(Ending {
-        code: status.code(),
-        out: sink.bytes().to_vec(alloc)?,
-        err: status_text(alloc, &status)?,
-    })
+    let ending = ending_over_files(rt, alloc, files, words.as_slice());
+    drop(words);
+    ending
 }

@@ -126,24 +126,37 @@ fn command_ending<R: Threads + Wait + Sync>(
     asked(rt, alloc, files, line.as_str())
 }
 
-// What is wrong with how the further commands end, beside the first.
-fn wrong_beside<R: Threads + Wait + Sync>(
+// What is wrong with how a further command ends, beside the first.
+fn wrong_with(came: &Ending, first: &Ending, command: u32) -> Option<Wrong> {
+    if !came.is_sound() {
+        return Some(Wrong::Unsound(command));
+    }
+    if !came.has_status_of(first) {
+        return Some(Wrong::OtherStatus(command));
+    }
+    if command == 1 && !came.has_values_of(first) {
+        return Some(Wrong::OtherValues);
+    }
+    None
+}
+
+// What is wrong with how the first command ended, or a further one ends.
+fn wrong_among<R: Threads + Wait + Sync>(
     rt: &R,
     alloc: Global,
     files: &[(String, Vec<u8>)],
     question: Question,
     first: &Ending,
 ) -> Result<Option<Wrong>, Memory> {
+    if !first.is_sound() {
+        return Ok(Some(Wrong::Unsound(0)));
+    }
     for command in 1..5 {
         let came = command_ending(rt, alloc, files, question, command)?;
-        if !came.is_sound() {
-            return Ok(Some(Wrong::Unsound(command)));
-        }
-        if !came.has_status_of(first) {
-            return Ok(Some(Wrong::OtherStatus(command)));
-        }
-        if command == 1 && !came.has_values_of(first) {
-            return Ok(Some(Wrong::OtherValues));
+        let wrong = wrong_with(&came, first, command);
+        drop(came);
+        if wrong.is_some() {
+            return Ok(wrong);
         }
     }
     Ok(None)
@@ -158,13 +171,25 @@ fn sound_ending<R: Threads + Wait + Sync>(
     broken: Option<Broken>,
 ) -> Result<Ending, Refused> {
     let first = command_ending(rt, alloc, files, question, 0)?;
-    if !first.is_sound() {
-        return Err(Refused::Found(Wrong::Unsound(0), broken));
+    let refused = match wrong_among(rt, alloc, files, question, &first) {
+        Ok(None) => return Ok(first),
+        Ok(Some(wrong)) => Refused::Found(wrong, broken),
+        Err(Memory) => Refused::Memory,
+    };
+    drop(first);
+    Err(refused)
+}
+
+// Holds how the first command ends over files of which one is broken against how it ended before.
+fn compared(came: &Ending, whole: &Ending, broken: Broken) -> Result<Tally, Refused> {
+    let same = came.has_status_of(whole) && came.has_values_of(whole);
+    if broken.how == Break::Turned && !same {
+        return Err(Refused::Found(Wrong::OrderMatters, Some(broken)));
     }
-    match wrong_beside(rt, alloc, files, question, &first)? {
-        Some(wrong) => Err(Refused::Found(wrong, broken)),
-        None => Ok(first),
-    }
+    Ok(Tally {
+        broken: 1,
+        answered: u64::from(came.is_answer()),
+    })
 }
 
 // Tries files of which one is broken. They were answered so before.
@@ -176,16 +201,59 @@ fn try_broken<R: Threads + Wait + Sync>(
     broken: Broken,
     whole: &Ending,
 ) -> Result<Tally, Refused> {
+    let came = sound_ending(rt, alloc, files, question, Some(broken))?;
+    let compared = compared(&came, whole, broken);
+    drop(came);
+    compared
+}
+
+// Breaks files, and tries them.
+fn try_break<R: Threads + Wait + Sync>(
+    rt: &R,
+    alloc: Global,
+    files: &[(String, Vec<u8>)],
+    question: Question,
+    broken: Broken,
+    whole: &Ending,
+) -> Result<Tally, Refused> {
     let files = broken_files(alloc, files, broken)?;
-    let came = sound_ending(rt, alloc, files.as_slice(), question, Some(broken))?;
-    let same = came.has_status_of(whole) && came.has_values_of(whole);
-    if broken.how == Break::Turned && !same {
-        return Err(Refused::Found(Wrong::OrderMatters, Some(broken)));
+    let tried = try_broken(rt, alloc, files.as_slice(), question, broken, whole);
+    drop(files);
+    tried
+}
+
+// Breaks files often, and tries them each time.
+fn try_breaks<R: Threads + Wait + Sync>(
+    rt: &R,
+    alloc: Global,
+    files: &[(String, Vec<u8>)],
+    question: Question,
+    whole: &Ending,
+    draw: &mut Draw,
+) -> Result<Tally, Refused> {
+    if !whole.is_answer() {
+        return Err(Refused::Found(Wrong::NoAnswer, None));
     }
-    Ok(Tally {
-        broken: 1,
-        answered: u64::from(came.is_answer()),
-    })
+    let mut tally = Tally::NOTHING;
+    for _turn in 0..BREAKS {
+        let broken = some_broken(draw, files);
+        tally.add(try_break(rt, alloc, files, question, broken, whole)?);
+    }
+    Ok(tally)
+}
+
+// Tries files, whole and broken.
+fn try_files<R: Threads + Wait + Sync>(
+    rt: &R,
+    alloc: Global,
+    files: &[(String, Vec<u8>)],
+    draw: &mut Draw,
+) -> Result<Tally, Refused> {
+    let question = Question::some(draw);
+    let whole = sound_ending(rt, alloc, files, question, None)?;
+    let tried = try_breaks(rt, alloc, files, question, &whole, draw);
+    drop(whole);
+    tried
 }
 
 /// Tries the feed of a seed.
@@ -196,15 +264,7 @@ pub fn try_seed<R: Threads + Wait + Sync>(
 ) -> Result<Tally, Refused> {
     let mut draw = Draw::new(seed as u64);
     let files = small_feed(alloc, &mut draw)?;
-    let question = Question::some(&mut draw);
-    let whole = sound_ending(rt, alloc, files.as_slice(), question, None)?;
-    if !whole.is_answer() {
-        return Err(Refused::Found(Wrong::NoAnswer, None));
-    }
-    let mut tally = Tally::NOTHING;
-    for _turn in 0..BREAKS {
-        let broken = some_broken(&mut draw, files.as_slice());
-        tally.add(try_broken(rt, alloc, files.as_slice(), question, broken, &whole)?);
-    }
-    Ok(tally)
+    let tried = try_files(rt, alloc, files.as_slice(), &mut draw);
+    drop(files);
+    tried
 }
