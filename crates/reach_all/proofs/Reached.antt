@@ -166,7 +166,7 @@ module _ (N : NetData) (from : List ℕ) (leave : ℤ) (D : DeskData) (lists : L
     ends = λ n inside.
         let below : n < length D.segments = omega (arith, inside, long) in
         subst (λ t. (length (events_of N.table t) ≤ suc (segment_at segments n).end) ⊎ IsCovered N.table segments n (segment_at segments n).round t (segment_at segments n).end) (sym (trip_of D.segments n below))
-        (subst (λ e. (length (events_of N.table (segment_of D.segments n).trip) ≤ suc e) ⊎ IsCovered N.table segments n (segment_at segments n).round (segment_of D.segments n).trip e) (sym (end_of D.segments n below)) (spread.queue.ends n below));
+        (subst (λ e. (length (events_of N.table (segment_of D.segments n).trip) ≤ suc e) ⊎ IsCovered N.table segments n (segment_at segments n).round (segment_of D.segments n).trip e) (sym (end_of D.segments n below)) (elim (spread.queue.ends n below) [ inl last ↦ inl last | inr c ↦ inr c.cover ]));
   }
 
   module _ (stop : ℕ) where
