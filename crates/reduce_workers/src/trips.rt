@@ -40,7 +40,7 @@ impl TripReduced {
         requires lines { lines.now.table ≡ table.now }
         requires calls { C.table calls.now ≡ table.now }
         requires labels { labels.old.table ≡ table.now }
-        requires room { 0 < length tried.old }
+        requires room { 1024 ≤ length tried.old }
         requires tried { AreTried table.now labels.old.times tried.old }
         requires trip { trip < length table.now.trips }
         requires at { at < length (events_of table.now trip) }

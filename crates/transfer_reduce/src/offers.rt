@@ -11,7 +11,7 @@ ghost use Rattle.transfer_reduce.specs.Reached.{AreLowered, AreReached, AreShown
 ghost use Rattle.transfer_reduce.specs.Tried.{AreTried};
 
 use super::labels::Labels;
-use super::tried::{Tried, untried_end};
+use super::tried::{TRIED, Tried, untried_end};
 use flat_calls::{Call, Calls};
 use tb_base::{Timetable, Transfer, TripNo};
 
@@ -102,7 +102,7 @@ pub(crate) fn offer_hop<C: Calls>(
 ) -> bool
     requires table { C.table calls.now ≡ table.now }
     requires labels { labels.old.table ≡ table.now }
-    requires room { 0 < length tried.old }
+    requires room { 1024 ≤ length tried.old }
     requires tried { AreTried table.now labels.old.times tried.old }
     ensures labels { labels.new.table ≡ table.now }
     ensures tried { AreTried table.now labels.new.times tried.new }
@@ -113,7 +113,7 @@ pub(crate) fn offer_hop<C: Calls>(
         AreShown table.now labels.new.times (hop_alightings table.now row.now ∷ earlier) }
 {
     table.soundness();
-    let place = row.to_trip.index() % tried.len();
+    let place = row.to_trip.index() % TRIED;
     let end = untried_end(calls, &tried[place], row);
     let behind = row.to_at as usize + 1;
     let first = first_sooner(table, calls, labels, row.to_trip, behind, end);

@@ -8,12 +8,9 @@ ghost use Rattle.tb_base.specs.declared.transfer.Transfer.{Transfer};
 
 use super::labels::Labels;
 use super::offers::{offer_hop, offer_stay};
-use super::tried::Tried;
+use super::tried::{TRIED, Tried};
 use flat_calls::Calls;
 use tb_base::{Timetable, Transfer, TripNo};
-
-/// How many tried trips are remembered, each in the place of the one before with the same remainder.
-const TRIED: usize = 1024;
 
 /// How far a reduction has come: it is at event `at`, with `taken` rows, of which `kept` are kept.
 #[derive(Clone, Copy, Debug, PartialEq, Eq)]
@@ -44,7 +41,7 @@ fn take_row<C: Calls>(
 ) -> Progress
     requires table { C.table calls.now ≡ table.now }
     requires labels { labels.old.table ≡ table.now }
-    requires room { 0 < length tried.old }
+    requires room { 1024 ≤ length tried.old }
     requires tried { AreTried table.now labels.old.times tried.old }
     requires taken { done.taken < length rows.old }
     requires kept { done.kept ≤ done.taken }
@@ -94,7 +91,7 @@ fn take_rows<C: Calls>(
 ) -> Progress
     requires table { C.table calls.now ≡ table.now }
     requires labels { labels.old.table ≡ table.now }
-    requires room { 0 < length tried.old }
+    requires room { 1024 ≤ length tried.old }
     requires tried { AreTried table.now labels.old.times tried.old }
     requires taken { done.taken ≤ length rows.old }
     requires kept { done.kept ≤ done.taken }
@@ -128,7 +125,7 @@ fn take_event<C: Calls>(
 ) -> Progress
     requires table { C.table calls.now ≡ table.now }
     requires labels { labels.old.table ≡ table.now }
-    requires room { 0 < length tried.old }
+    requires room { 1024 ≤ length tried.old }
     requires tried { AreTried table.now labels.old.times tried.old }
     requires inside { done.at < length (events_of table.now trip) }
     requires taken { done.taken ≤ length rows.old }
@@ -157,7 +154,7 @@ fn take_event<C: Calls>(
 pub fn begin_trip(table: &Timetable, labels: &mut Labels) -> [Tried; TRIED]
     requires { labels.old.table ≡ table.now }
     ensures labels { labels.new.table ≡ table.now }
-    ensures room { 0 < length result }
+    ensures room { 1024 ≤ length result }
     ensures tried { AreTried table.now labels.new.times result }
     ensures reduced { (lines : List (List ℕ)) (t : ℕ) →
         IsReducedTo table.now lines t (length (events_of table.now t)) [] labels.new.times }
@@ -181,7 +178,7 @@ pub fn reduce_event<C: Calls>(
 )
     requires table { C.table calls.now ≡ table.now }
     requires labels { labels.old.table ≡ table.now }
-    requires room { 0 < length tried.old }
+    requires room { 1024 ≤ length tried.old }
     requires tried { AreTried table.now labels.old.times tried.old }
     requires inside { at < length (events_of table.now trip) }
     ensures labels { labels.new.table ≡ table.now }
