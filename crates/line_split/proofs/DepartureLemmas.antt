@@ -1,10 +1,10 @@
 -- The departures of a line at an index are one run, and the first in time is found along it.
 use Rattle.std.proofs.Common.{◌≡◌, ◌∙◌, sym, ap, subst, refl, ℕ, zero, suc, ◌+◌, ◌*◌, ◌<◌, ◌≤◌, ◌⊎◌, inl, inr, true, false, cond, List, [], ◌∷◌, ◌++◌, length, map, get_or, take, drop, Some, ℤ, ◌≤ℤ◌, ◌<ℤ◌, arith, append_assoc, length-append}
-use Rattle.std.specs.Prelude.{AllPairs, flat_map, int_le, int_lt, slice_get}
+use Rattle.std.specs.Prelude.{AllPairs, flat_map, int_le, int_lt, pos, slice_get}
 use Rattle.std.specs.List.{AllWithin, range_with_len}
 use Rattle.std.specs.List.Sorted.{IsPartitionedBy}
 use Rattle.std.proofs.lemmas.Int.{ints}
-use Rattle.std.proofs.lemmas.List.{append-nil, length-map, take-append-drop, drop_more, take_at, drop_at, take_more, flat_map_more, get_or-map}
+use Rattle.std.proofs.lemmas.List.{append-nil, get_or_default, length-map, take-append-drop, drop_more, take_at, drop_at, take_more, flat_map_more, get_or-map}
 use Rattle.std.proofs.lemmas.List.FromFn.{get_or-map-range_with_len, map-range_with_len_more}
 use Rattle.std.proofs.lemmas.List.Concat.{flat_map-append}
 use Rattle.tb_base.specs.TimetableData.{TimetableData, departure_at}
@@ -155,3 +155,37 @@ found_at T line row at place time asked departures t e r g h =
     (subst (λ ds. AllWithin (λ x. x <ℤ time) ds 0 place) e (subst (λ s. AllWithin (λ x. x <ℤ s) departures 0 place) t g))
     (subst (λ ds. AllWithin (λ x. time ≤ℤ x) ds place (length ds)) e (subst (λ s. AllWithin (λ x. s ≤ℤ x) departures place (length departures)) t h))
     ∙ ap (λ xs. slice_get xs place) (sym r)
+
+-- ---- the departures that are earlier, counted
+
+pub counts_one : (xs : List ℤ) (time : ℤ) (n i : ℕ) → AllPairs (λ x y. x ≤ℤ y) xs → n ≤ i → i < length xs → AllWithin (λ x. x <ℤ time) xs 0 n → AllWithin (λ x. time ≤ℤ x) xs n i →
+    get_or xs i (pos 0) <ℤ time → (n + 1 ≤ i + 1) × AllWithin (λ x. x <ℤ time) xs 0 (n + 1) × AllWithin (λ x. time ≤ℤ x) xs (n + 1) (i + 1)
+counts_one xs time n i up order inside earlier later is = (omega arith, below, λ k d low high. absurd (omega (arith, same, low, high)))
+  where
+    none : (a b c : ℤ) → a ≤ℤ b → b ≤ℤ c → c <ℤ a → ⊥
+    none a b c f g h = omega (arith, ints, f, g, h)
+
+    same : n ≡ i
+    same = by_case (grind (arith, order))
+      where
+        by_case : (n < i) ⊎ (n ≡ i) → n ≡ i
+        by_case (inl before) = absurd (none time (get_or xs n (pos 0)) (get_or xs i (pos 0)) (later n (pos 0) (omega arith) before) (up n i (pos 0) before inside) is)
+        by_case (inr e) = e
+
+    below : AllWithin (λ x. x <ℤ time) xs 0 (n + 1)
+    below k d low high = by_case (grind (arith, high, same))
+      where
+        by_case : (k < n) ⊎ (k ≡ i) → get_or xs k d <ℤ time
+        by_case (inl before) = earlier k d low before
+        by_case (inr e) = subst (λ m. get_or xs m d <ℤ time) (sym e) (subst (λ x. x <ℤ time) (get_or_default xs i (pos 0) d inside) is)
+
+pub counts_none : (xs : List ℤ) (time : ℤ) (n i : ℕ) → n ≤ i → AllWithin (λ x. time ≤ℤ x) xs n i → i < length xs → time ≤ℤ get_or xs i (pos 0) →
+    (n ≤ i + 1) × AllWithin (λ x. time ≤ℤ x) xs n (i + 1)
+counts_none xs time n i order later inside is = (omega arith, onward)
+  where
+    onward : AllWithin (λ x. time ≤ℤ x) xs n (i + 1)
+    onward k d low high = by_case (grind (arith, high))
+      where
+        by_case : (k < i) ⊎ (k ≡ i) → time ≤ℤ get_or xs k d
+        by_case (inl before) = later k d low before
+        by_case (inr e) = subst (λ m. time ≤ℤ get_or xs m d) (sym e) (subst (λ x. time ≤ℤ x) (get_or_default xs i (pos 0) d inside) is)

@@ -250,6 +250,26 @@ fn part(departures: &[Sec], start: usize, count: usize) -> &[Sec]
     &departures[start..start + count]
 }
 
+// How many departures are few: these are counted one by one.
+const FEW: usize = 64;
+
+// How many of these departures are earlier than the time, counted without a branch for each.
+fn count_earlier(departures: &[Sec], time: Sec) -> u32
+    requires few { length departures.now ≤ 64 }
+    requires order { AllPairs (λ x y. x ≤ℤ y) departures.now }
+    ensures bound { result ≤ length departures.now }
+    ensures earlier { AllWithin (λ x. x <ℤ time) departures.now 0 result }
+    ensures from { AllWithin (λ x. time ≤ℤ x) departures.now result (length departures.now) }
+{
+    let mut earlier: u32 = 0;
+    for departure in departures {
+        if *departure < time {
+            earlier += 1;
+        }
+    }
+    earlier
+}
+
 // The first place from which on no departure is earlier than the time.
 fn first_from(departures: &[Sec], time: Sec) -> usize
     requires { AllPairs (λ x y. x ≤ℤ y) departures.now }
@@ -257,5 +277,8 @@ fn first_from(departures: &[Sec], time: Sec) -> usize
     ensures earlier { AllWithin (λ x. x <ℤ time) departures.now 0 result }
     ensures from { AllWithin (λ x. time ≤ℤ x) departures.now result (length departures.now) }
 {
+    if departures.len() <= FEW {
+        return count_earlier(departures, time) as usize;
+    }
     departures.partition_point(|departure| *departure < time)
 }
