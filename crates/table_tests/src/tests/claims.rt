@@ -1,12 +1,12 @@
 //! Claimed journeys over the town.
-ghost use Rattle.std.specs.Prelude.{◌≤ℤ◌, pos};
+ghost use Rattle.std.specs.Prelude.{◌<◌, ◌≤ℤ◌, All, length, pos};
 
 use super::between;
-use journey_read::{JourneyFault, Verdict, judge, read_journey};
+use journey_read::{Claimed, JourneyFault, Verdict, judge, read_journey};
 use made_feeds::town;
 use std::alloc::Global;
 use std::test::Fail;
-use tb_base::{Rule, RuleBroken, Sec, Timetable, Value};
+use tb_base::{Query, Rule, RuleBroken, Sec, Timetable, Value};
 
 const CLAIM: &str = "# over C
 arrive 08:35:00 rides 2\r
@@ -19,6 +19,21 @@ ride T A 08:00:00 C 08:20:00
 ride W C 08:20:30 D 08:35:00
 ";
 
+// What is said of a claim.
+fn verdict_on(
+    table: &Timetable,
+    query: &Query,
+    claimed: &Claimed,
+) -> Result<Result<Verdict, JourneyFault>, Fail>
+    requires origins { All (λ p. p < length table.now.stops) query.now.from }
+    requires time { query.now.leave ≤ℤ pos 359999 }
+{
+    if claimed.legs.len() as u64 >= 4_294_967_296 {
+        return Err("too many legs".into());
+    }
+    Ok(Ok(judge(table, query, claimed)))
+}
+
 // What is said of a claim from A to D, or why it is none.
 fn said_of(
     alloc: Global,
@@ -29,14 +44,16 @@ fn said_of(
     requires { leave ≤ℤ pos 359999 }
 {
     let query = between(alloc, table, "A", "D", leave)?;
-    let claimed = match read_journey(alloc, table, claim.as_bytes()) {
-        Ok(claimed) => claimed,
-        Err(fault) => return Ok(Err(fault)),
+    let said = match read_journey(alloc, table, claim.as_bytes()) {
+        Ok(claimed) => {
+            let verdict = verdict_on(table, &query, &claimed);
+            drop(claimed);
+            verdict
+        }
+        Err(fault) => Ok(Err(fault)),
     };
-    if claimed.legs.len() as u64 >= 4_294_967_296 {
-        return Err("too many legs".into());
-    }
-    Ok(Ok(judge(table, &query, &claimed)))
+    drop(query);
+    said
 }
 
 // Texts that claim nothing, and why.
@@ -70,45 +87,49 @@ fn faults() -> [(&'static str, JourneyFault); 9] {
     ]
 }
 
+// What is said of a claim over the town.
+fn said_over_town(
+    alloc: Global,
+    claim: &str,
+    leave: Sec,
+) -> Result<Result<Verdict, JourneyFault>, Fail>
+    requires { leave ≤ℤ pos 359999 }
+{
+    let table = town(alloc)?;
+    let said = said_of(alloc, &table, claim, leave);
+    drop(table);
+    said
+}
+
 #[test]
 fn a_claim_is_judged(rt: HostRuntime) -> Result<(), Fail> {
-    let table = town(rt.alloc())?;
     let early = RuleBroken {
         leg: 0,
         rule: Rule::TooEarly,
     };
-    assert_eq!(rt;
-        said_of(rt.alloc(), &table, CLAIM, 28_800)?,
-        Ok(Verdict::Yes)
-    );
-    assert_eq!(rt;
-        said_of(rt.alloc(), &table, CLAIM, 28_801)?,
-        Ok(Verdict::Broken(early))
-    );
+    let said = said_over_town(rt.alloc(), CLAIM, 28_800)?;
+    assert_eq!(rt; said, Ok(Verdict::Yes));
+    let said = said_over_town(rt.alloc(), CLAIM, 28_801)?;
+    assert_eq!(rt; said, Ok(Verdict::Broken(early)));
     Ok(())
 }
 
 #[test]
 fn another_value_is_told(rt: HostRuntime) -> Result<(), Fail> {
-    let table = town(rt.alloc())?;
     let own = Value {
         arrive: 30_900,
         rides: 2,
     };
-    let said = said_of(rt.alloc(), &table, ONE_RIDE, 28_800)?;
+    let said = said_over_town(rt.alloc(), ONE_RIDE, 28_800)?;
     assert_eq!(rt; said, Ok(Verdict::OtherValue(own)));
     Ok(())
 }
 
 #[test]
 fn faults_of_claims(rt: HostRuntime) -> Result<(), Fail> {
-    let table = town(rt.alloc())?;
     for (claim, fault) in faults() {
-        assert_eq!(rt;
-            said_of(rt.alloc(), &table, claim, 28_800)?,
-            Err(fault),
-            "{claim}"
-        );
+        let said = said_over_town(rt.alloc(), claim, 28_800)?;
+        assert_eq!(rt; said, Err(fault), "{claim}");
     }
     Ok(())
 }

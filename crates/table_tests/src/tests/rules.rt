@@ -1,9 +1,12 @@
 //! The ten rules of a journey, each broken once.
+ghost use Rattle.std.specs.Prelude.{◌<◌, ◌^◌, length};
+
 use super::{ON_FOOT, between, ride};
 use journey_rules::fault;
 use made_feeds::town;
+use std::alloc::Global;
 use std::test::Fail;
-use tb_base::{Leg, Rule, RuleBroken, Sec, StopNo};
+use tb_base::{Leg, Rule, RuleBroken, Sec, StopNo, Timetable};
 
 fn walk(from: u32, to: u32, secs: u32) -> Leg {
     Leg::Walk {
@@ -91,22 +94,50 @@ fn three_legs() -> [(&'static str, Sec, Leg, Leg, Leg, Option<RuleBroken>); 5] {
     ]
 }
 
+// Which rule legs break that lead to D.
+fn broken_by(
+    alloc: Global,
+    table: &Timetable,
+    from: &str,
+    leave: Sec,
+    legs: &[Leg],
+) -> Result<Option<RuleBroken>, Fail>
+    requires { length legs.now < 2 ^ 32 }
+{
+    let query = between(alloc, table, from, "D", leave)?;
+    let found = fault(table, &query, legs);
+    drop(query);
+    Ok(found)
+}
+
+// The same over the town.
+fn broken_over_town(
+    alloc: Global,
+    from: &str,
+    leave: Sec,
+    legs: &[Leg],
+) -> Result<Option<RuleBroken>, Fail>
+    requires { length legs.now < 2 ^ 32 }
+{
+    let table = town(alloc)?;
+    let found = broken_by(alloc, &table, from, leave, legs);
+    drop(table);
+    found
+}
+
 #[test]
 fn rules_of_one_leg(rt: HostRuntime) -> Result<(), Fail> {
-    let table = town(rt.alloc())?;
-    let query = between(rt.alloc(), &table, "A", "D", 28_800)?;
     for (leg, rule_broken) in one_leg() {
-        assert_eq!(rt; fault(&table, &query, &[leg]), rule_broken, "{leg:?}");
+        let found = broken_over_town(rt.alloc(), "A", 28_800, &[leg])?;
+        assert_eq!(rt; found, rule_broken, "{leg:?}");
     }
     Ok(())
 }
 
 #[test]
 fn rules_of_two_legs(rt: HostRuntime) -> Result<(), Fail> {
-    let table = town(rt.alloc())?;
-    let query = between(rt.alloc(), &table, "A", "D", 28_800)?;
     for (first, second, rule_broken) in two_legs() {
-        let found = fault(&table, &query, &[first, second]);
+        let found = broken_over_town(rt.alloc(), "A", 28_800, &[first, second])?;
         assert_eq!(rt; found, rule_broken, "{second:?}");
     }
     Ok(())
@@ -114,10 +145,8 @@ fn rules_of_two_legs(rt: HostRuntime) -> Result<(), Fail> {
 
 #[test]
 fn rules_of_three_legs(rt: HostRuntime) -> Result<(), Fail> {
-    let table = town(rt.alloc())?;
     for (from, leave, first, second, third, rule_broken) in three_legs() {
-        let query = between(rt.alloc(), &table, from, "D", leave)?;
-        let found = fault(&table, &query, &[first, second, third]);
+        let found = broken_over_town(rt.alloc(), from, leave, &[first, second, third])?;
         assert_eq!(rt; found, rule_broken, "{from} at {leave}");
     }
     Ok(())
