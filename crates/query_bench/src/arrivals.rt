@@ -5,7 +5,7 @@ ghost use Rattle.mirror_table.specs.Departures.{ArrivalData};
 ghost use Rattle.mirror_table.specs.Mirror.{IsMirror};
 
 use crate::queries::Found;
-use arrive_by::{Arrival, latest, mirror};
+use arrive_by::{Arrival, Departure, latest, mirror};
 use edition_build::build;
 use edition_store::Edition;
 use made_feeds::Draw;
@@ -22,8 +22,10 @@ pub fn mirrored<R: Threads + Sync>(
 ) -> Result<Edition, Memory>
     ensures { IfOk result (λ e. IsMirror table.now (EditionData.table e)) }
 {
-    let mirrored = mirror(alloc, table)?;
-    build(rt, alloc, mirrored, 1, &IdleGate)
+    match mirror(alloc, table) {
+        Ok(mirrored) => build(rt, alloc, mirrored, 1, &IdleGate),
+        Err(Memory) => Err(Memory),
+    }
 }
 
 // A time of the day to arrive by between two stops.
@@ -46,24 +48,52 @@ fn arrival(alloc: Global, table: &Timetable, draw: &mut Draw) -> Result<Arrival,
     })
 }
 
-// What so many times find.
-fn found_by(
+// The count of departures, and the sum of their times.
+fn found_in(departures: &[Departure]) -> Found {
+    let mut found = Found::NOTHING;
+    for departure in departures {
+        found.add_time(departure.leave);
+    }
+    found
+}
+
+// What a time between two stops finds.
+fn by_arrival(
     alloc: Global,
     mirrored: &Edition,
     table: &Timetable,
-    count: u32,
+    desk: &mut Desk,
+    draw: &mut Draw,
 ) -> Result<Found, Memory>
     requires mirror { IsMirror table.now mirrored.now.table }
     requires stops { 0 < length table.now.stops }
 {
-    let mut desk = Desk::new(alloc);
+    let by = arrival(alloc, table, draw)?;
+    let departures = latest(alloc, mirrored, table, &by, desk);
+    drop(by);
+    let departures = departures?;
+    let found = found_in(departures.as_slice());
+    drop(departures);
+    Ok(found)
+}
+
+// What so many times find with one desk.
+fn arrivals_with(
+    alloc: Global,
+    mirrored: &Edition,
+    table: &Timetable,
+    desk: &mut Desk,
+    count: u32,
+) -> Result<Found, Memory>
+    requires { IsMirror table.now mirrored.now.table }
+{
     let mut draw = Draw::new(1);
     let mut found = Found::NOTHING;
+    if table.stop_count() == 0 {
+        return Ok(found);
+    }
     for _turn in 0..count {
-        let by = arrival(alloc, table, &mut draw)?;
-        for departure in &latest(alloc, mirrored, table, &by, &mut desk)? {
-            found.add_time(departure.leave);
-        }
+        found.add(by_arrival(alloc, mirrored, table, desk, &mut draw)?);
     }
     Ok(found)
 }
@@ -78,8 +108,8 @@ pub fn by_arrivals(
 ) -> Result<Found, Memory>
     requires { IsMirror table.now mirrored.now.table }
 {
-    if table.stop_count() == 0 {
-        return Ok(Found::NOTHING);
-    }
-    found_by(alloc, mirrored, table, count)
+    let mut desk = Desk::new(alloc);
+    let found = arrivals_with(alloc, mirrored, table, &mut desk, count);
+    drop(desk);
+    found
 }

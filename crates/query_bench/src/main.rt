@@ -52,15 +52,18 @@ fn timetable(rt: &(impl std::rt::Files + AllocGlobal), dir: &str, day: &Day) -> 
     read_day(rt.alloc(), &mut folder, dir, day, &options).ok()
 }
 
-// An edition of a timetable, by one worker.
-fn edition<R: Threads + Sync>(rt: &R, alloc: Global, table: Timetable) -> Option<Edition> {
-    build(rt, alloc, table, 1, &IdleGate).ok()
-}
-
 // What is found, and the microseconds of processor time that finding it took.
+#[derive(Clone, Copy)]
 struct Measured {
     found: Found,
     micros: u128,
+}
+
+// Why nothing is measured.
+#[derive(Clone, Copy)]
+enum Unmeasured {
+    NoTimetable,
+    Memory,
 }
 
 // What was found since a moment.
@@ -68,12 +71,12 @@ fn measured_since(
     rt: &impl CpuClock,
     since: Watch,
     found: Result<Found, Memory>,
-) -> Option<Measured> {
+) -> Result<Measured, Unmeasured> {
     let micros = since.micros(rt);
-    Some(Measured {
-        found: found.ok()?,
-        micros,
-    })
+    match found {
+        Ok(found) => Ok(Measured { found, micros }),
+        Err(Memory) => Err(Unmeasured::Memory),
+    }
 }
 
 fn asked(alloc: Global, edition: &Edition, asking: Asking, count: u32) -> Result<Found, Memory> {
@@ -97,37 +100,121 @@ fn stored<R: Wait>(
     }
 }
 
-fn found<R: Threads + Wait + Sync + CpuClock>(
+// Asks over a timetable alone.
+fn measured_rounds(
+    rt: &impl CpuClock,
+    alloc: Global,
+    table: &Timetable,
+    count: u32,
+) -> Result<Measured, Unmeasured> {
+    let since = Watch::start(rt);
+    measured_since(rt, since, by_rounds(alloc, table, count))
+}
+
+// Asks over the edition of the mirror.
+fn measured_arrivals<R: Threads + Sync + CpuClock>(
+    rt: &R,
+    alloc: Global,
+    table: &Timetable,
+    count: u32,
+) -> Result<Measured, Unmeasured> {
+    match mirrored(rt, alloc, table) {
+        Ok(mirrored) => {
+            let since = Watch::start(rt);
+            let found = by_arrivals(alloc, &mirrored, table, count);
+            let measured = measured_since(rt, since, found);
+            drop(mirrored);
+            measured
+        }
+        Err(Memory) => Err(Unmeasured::Memory),
+    }
+}
+
+// Asks over the edition, by one worker.
+fn measured_asking<R: Threads + Sync + CpuClock>(
     rt: &R,
     alloc: Global,
     table: Timetable,
-    words: &Words,
-) -> Option<Measured> {
-    match words.method {
-        Method::Plain => {
+    asking: Asking,
+    count: u32,
+) -> Result<Measured, Unmeasured> {
+    match build(rt, alloc, table, 1, &IdleGate) {
+        Ok(edition) => {
             let since = Watch::start(rt);
-            measured_since(rt, since, by_rounds(alloc, &table, words.count))
+            let measured = measured_since(rt, since, asked(alloc, &edition, asking, count));
+            drop(edition);
+            measured
+        }
+        Err(Memory) => Err(Unmeasured::Memory),
+    }
+}
+
+// Goes through stores of the edition, by one worker.
+fn measured_storing<R: Threads + Wait + Sync + CpuClock>(
+    rt: &R,
+    alloc: Global,
+    table: Timetable,
+    storing: Storing,
+    count: u32,
+) -> Result<Measured, Unmeasured> {
+    match build(rt, alloc, table, 1, &IdleGate) {
+        Ok(edition) => {
+            let since = Watch::start(rt);
+            measured_since(rt, since, stored(rt, alloc, edition, storing, count))
+        }
+        Err(Memory) => Err(Unmeasured::Memory),
+    }
+}
+
+// What is measured over a timetable.
+fn measured_over<R: Threads + Wait + Sync + CpuClock>(
+    rt: &R,
+    alloc: Global,
+    table: Timetable,
+    method: Method,
+    count: u32,
+) -> Result<Measured, Unmeasured> {
+    match method {
+        Method::Plain => {
+            let measured = measured_rounds(rt, alloc, &table, count);
+            drop(table);
+            measured
         }
         Method::Latest => {
-            let Ok(mirrored) = mirrored(rt, alloc, &table) else {
-                return None;
-            };
-            let since = Watch::start(rt);
-            measured_since(
-                rt,
-                since,
-                by_arrivals(alloc, &mirrored, &table, words.count),
-            )
+            let measured = measured_arrivals(rt, alloc, &table, count);
+            drop(table);
+            measured
         }
-        Method::OverEdition(asking) => {
-            let edition = edition(rt, alloc, table)?;
-            let since = Watch::start(rt);
-            measured_since(rt, since, asked(alloc, &edition, asking, words.count))
+        Method::OverEdition(asking) => measured_asking(rt, alloc, table, asking, count),
+        Method::OverStore(storing) => measured_storing(rt, alloc, table, storing, count),
+    }
+}
+
+fn measure<R: std::rt::Files + AllocGlobal + Threads + Wait + Sync + CpuClock>(
+    rt: &R,
+    words: &Words,
+) -> Result<Measured, Unmeasured> {
+    match timetable(rt, words.dir.as_str(), &words.day) {
+        Some(table) => measured_over(rt, rt.alloc(), table, words.method, words.count),
+        None => Err(Unmeasured::NoTimetable),
+    }
+}
+
+// Writes what was measured, and says with which number to end.
+fn write(rt: &(impl Print + Eprint), measured: Result<Measured, Unmeasured>) -> ExitCode {
+    match measured {
+        Ok(Measured { found, micros }) => {
+            let _ = println!(rt; "choices {} arrivals {}", found.choices, found.arrivals);
+            let _ = eprintln!(rt; "processor microseconds {micros}");
+            ExitCode::from(0)
         }
-        Method::OverStore(storing) => {
-            let edition = edition(rt, alloc, table)?;
-            let since = Watch::start(rt);
-            measured_since(rt, since, stored(rt, alloc, edition, storing, words.count))
+        Err(Unmeasured::NoTimetable) => {
+            let _ = eprintln!(rt; "query_bench: the feed has no timetable of that day");
+            ExitCode::from(3)
+        }
+        Err(Unmeasured::Memory) => {
+            let _ = eprintln!(rt; "query_bench: out of memory");
+            ExitCode::from(6)
         }
     }
 }
@@ -139,15 +226,7 @@ fn main(rt: HostRuntime) -> ExitCode {
         );
         return ExitCode::from(2);
     };
-    let Some(table) = timetable(&rt, words.dir.as_str(), &words.day) else {
-        let _ = eprintln!(rt; "query_bench: the feed has no timetable of that day");
-        return ExitCode::from(3);
-    };
-    let Some(Measured { found, micros }) = found(&rt, rt.alloc(), table, &words) else {
-        let _ = eprintln!(rt; "query_bench: out of memory");
-        return ExitCode::from(6);
-    };
-    let _ = println!(rt; "choices {} arrivals {}", found.choices, found.arrivals);
-    let _ = eprintln!(rt; "processor microseconds {micros}");
-    ExitCode::from(0)
+    let measured = measure(&rt, &words);
+    drop(words);
+    write(&rt, measured)
 }

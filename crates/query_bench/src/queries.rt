@@ -49,16 +49,20 @@ impl Found {
         }
     }
 
-    fn add_choices(&mut self, choices: &[Choice]) {
+    fn of_choices(choices: &[Choice]) -> Found {
+        let mut found = Found::NOTHING;
         for choice in choices {
-            self.add_time(choice.value.arrive);
+            found.add_time(choice.value.arrive);
         }
+        found
     }
 
-    fn add_offers(&mut self, offers: &[Offer]) {
+    fn of_offers(offers: &[Offer]) -> Found {
+        let mut found = Found::NOTHING;
         for offer in offers {
-            self.add_time(offer.slot.arrive);
+            found.add_time(offer.slot.arrive);
         }
+        found
     }
 }
 
@@ -97,39 +101,106 @@ fn window(alloc: Global, table: &Timetable, draw: &mut Draw) -> Result<Window, M
     })
 }
 
-/// What so many profiles of 24 hours find.
-pub fn by_profiles(alloc: Global, edition: &Edition, count: u32) -> Result<Found, Memory> {
-    let table = edition.table();
-    let mut desk = Desk::new(alloc);
+// What a profile of 24 hours between two stops finds.
+fn by_profile(
+    alloc: Global,
+    edition: &Edition,
+    desk: &mut Desk,
+    draw: &mut Draw,
+) -> Result<Found, Memory>
+    requires { 0 < length edition.now.table.stops }
+{
     desk.make_room(edition)?;
+    let window = window(alloc, edition.table(), draw)?;
+    let offers = best_offers(alloc, edition, &window, desk);
+    drop(window);
+    let offers = offers?;
+    let found = Found::of_offers(offers.as_slice());
+    drop(offers);
+    Ok(found)
+}
+
+// What so many profiles find with one desk.
+fn profiles_with(
+    alloc: Global,
+    edition: &Edition,
+    desk: &mut Desk,
+    count: u32,
+) -> Result<Found, Memory> {
     let mut draw = Draw::new(1);
     let mut found = Found::NOTHING;
-    if table.stop_count() == 0 {
+    if edition.table().stop_count() == 0 {
         return Ok(found);
     }
     for _turn in 0..count {
-        let window = window(alloc, table, &mut draw)?;
-        let slots = best_offers(alloc, edition, &window, &mut desk)?;
-        found.add_offers(slots.as_slice());
+        found.add(by_profile(alloc, edition, desk, &mut draw)?);
+    }
+    Ok(found)
+}
+
+/// What so many profiles of 24 hours find.
+pub fn by_profiles(alloc: Global, edition: &Edition, count: u32) -> Result<Found, Memory> {
+    let mut desk = Desk::new(alloc);
+    let found = profiles_with(alloc, edition, &mut desk, count);
+    drop(desk);
+    found
+}
+
+// What a query between two stops finds by a search.
+fn by_one_search(
+    alloc: Global,
+    edition: &Edition,
+    desk: &mut Desk,
+    draw: &mut Draw,
+) -> Result<Found, Memory>
+    requires { 0 < length edition.now.table.stops }
+{
+    desk.make_room(edition)?;
+    let query = query(alloc, edition.table(), draw)?;
+    let choices = best_choices(alloc, edition, &query, desk);
+    drop(query);
+    let choices = choices?;
+    let found = Found::of_choices(choices.as_slice());
+    drop(choices);
+    Ok(found)
+}
+
+// What so many queries find by a search with one desk.
+fn searches_with(
+    alloc: Global,
+    edition: &Edition,
+    desk: &mut Desk,
+    count: u32,
+) -> Result<Found, Memory> {
+    let mut draw = Draw::new(1);
+    let mut found = Found::NOTHING;
+    if edition.table().stop_count() == 0 {
+        return Ok(found);
+    }
+    for _turn in 0..count {
+        found.add(by_one_search(alloc, edition, desk, &mut draw)?);
     }
     Ok(found)
 }
 
 /// What so many queries find by a search over the kept transfers.
 pub fn by_search(alloc: Global, edition: &Edition, count: u32) -> Result<Found, Memory> {
-    let table = edition.table();
     let mut desk = Desk::new(alloc);
-    desk.make_room(edition)?;
-    let mut draw = Draw::new(1);
-    let mut found = Found::NOTHING;
-    if table.stop_count() == 0 {
-        return Ok(found);
-    }
-    for _turn in 0..count {
-        let query = query(alloc, table, &mut draw)?;
-        let choices = best_choices(alloc, edition, &query, &mut desk)?;
-        found.add_choices(choices.as_slice());
-    }
+    let found = searches_with(alloc, edition, &mut desk, count);
+    drop(desk);
+    found
+}
+
+// What a query between two stops finds round by round.
+fn by_round(alloc: Global, table: &Timetable, draw: &mut Draw) -> Result<Found, Memory>
+    requires { 0 < length table.now.stops }
+{
+    let query = query(alloc, table, draw)?;
+    let choices = plain_ask(alloc, table, &query);
+    drop(query);
+    let choices = choices?;
+    let found = Found::of_choices(choices.as_slice());
+    drop(choices);
     Ok(found)
 }
 
@@ -141,9 +212,7 @@ pub fn by_rounds(alloc: Global, table: &Timetable, count: u32) -> Result<Found, 
         return Ok(found);
     }
     for _turn in 0..count {
-        let query = query(alloc, table, &mut draw)?;
-        let choices = plain_ask(alloc, table, &query)?;
-        found.add_choices(choices.as_slice());
+        found.add(by_round(alloc, table, &mut draw)?);
     }
     Ok(found)
 }

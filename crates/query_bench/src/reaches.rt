@@ -46,6 +46,15 @@ fn reach(
     reach_on::<Brand>(alloc, edition, desk, from, leave, Blank::new(1))
 }
 
+// The count of values to all stops, and the sum of their arrivals.
+fn found_in(lists: &[Vec<Value>]) -> Found {
+    let mut found = Found::NOTHING;
+    for values in lists {
+        found.add_values(values.as_slice());
+    }
+    found
+}
+
 // What is found from a stop at a time.
 fn found_from(
     alloc: Global,
@@ -58,17 +67,20 @@ fn found_from(
     requires leave { leave ≤ℤ pos 359999 }
 {
     let from = [StopNo(stop)];
-    let mut found = Found::NOTHING;
-    for values in &reach(alloc, edition, desk, from.as_slice(), leave)? {
-        found.add_values(values.as_slice());
-    }
+    let lists = reach(alloc, edition, desk, from.as_slice(), leave)?;
+    let found = found_in(lists.as_slice());
+    drop(lists);
     Ok(found)
 }
 
-/// What is found from so many stops to every stop, at random times of the day.
-pub fn by_reach(alloc: Global, edition: &Edition, count: u32) -> Result<Found, Memory> {
+// What is found from so many stops with one desk.
+fn reaches_with(
+    alloc: Global,
+    edition: &Edition,
+    desk: &mut Desk,
+    count: u32,
+) -> Result<Found, Memory> {
     let stops = edition.table().stop_count();
-    let mut desk = Desk::new(alloc);
     let mut draw = Draw::new(1);
     let mut found = Found::NOTHING;
     if stops == 0 {
@@ -77,7 +89,15 @@ pub fn by_reach(alloc: Global, edition: &Edition, count: u32) -> Result<Found, M
     for _turn in 0..count {
         let from = draw.below(stops);
         let leave = draw.below(86_400) as i32;
-        found.add(found_from(alloc, edition, &mut desk, from, leave)?);
+        found.add(found_from(alloc, edition, desk, from, leave)?);
     }
     Ok(found)
+}
+
+/// What is found from so many stops to every stop, at random times of the day.
+pub fn by_reach(alloc: Global, edition: &Edition, count: u32) -> Result<Found, Memory> {
+    let mut desk = Desk::new(alloc);
+    let found = reaches_with(alloc, edition, &mut desk, count);
+    drop(desk);
+    found
 }

@@ -1,5 +1,0 @@
-use Rattle.segment_queue.specs.Queue.{Fits}
-use Rattle.query_bench.proofs.queries.by_profiles.Given as goal
-
-abbrev pub invariant-loop-turn : goal.invariant-loop-turn
-invariant-loop-turn l = Fits l.edition.table l.desk
