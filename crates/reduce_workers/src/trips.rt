@@ -12,7 +12,7 @@ use line_split::Lines;
 use std::alloc::Global;
 use tb_base::{Memory, Timetable, Transfer, TripNo};
 use transfer_make::add_event;
-use transfer_reduce::{Labels, Tried, begin_trip, reduce_event};
+use transfer_reduce::{Labels, TRIED, Tried, begin_trip, reduce_event};
 use uturn_cut::cut_by;
 
 // What the reduction makes of one trip, or of its events from the last one down.
@@ -32,7 +32,7 @@ impl TripReduced {
         lines: &Lines,
         calls: &C,
         labels: &mut Labels,
-        tried: &mut [Tried],
+        tried: &mut [Tried; TRIED],
         trip: TripNo,
         at: usize,
         found: &mut Vec<Transfer>,
@@ -40,7 +40,6 @@ impl TripReduced {
         requires lines { lines.now.table ≡ table.now }
         requires calls { C.table calls.now ≡ table.now }
         requires labels { labels.old.table ≡ table.now }
-        requires room { 1024 ≤ length tried.old }
         requires tried { AreTried table.now labels.old.times tried.old }
         requires trip { trip < length table.now.trips }
         requires at { at < length (events_of table.now trip) }

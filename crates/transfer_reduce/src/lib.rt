@@ -28,4 +28,4 @@ mod tried;
 
 pub use labels::Labels;
 pub use reduction::{begin_trip, reduce, reduce_event};
-pub use tried::Tried;
+pub use tried::{TRIED, Tried};

@@ -97,12 +97,11 @@ pub(crate) fn offer_hop<C: Calls>(
     table: &Timetable,
     calls: &C,
     labels: &mut Labels,
-    tried: &mut [Tried],
+    tried: &mut [Tried; TRIED],
     row: &Transfer,
 ) -> bool
     requires table { C.table calls.now ≡ table.now }
     requires labels { labels.old.table ≡ table.now }
-    requires room { 1024 ≤ length tried.old }
     requires tried { AreTried table.now labels.old.times tried.old }
     ensures labels { labels.new.table ≡ table.now }
     ensures tried { AreTried table.now labels.new.times tried.new }

@@ -35,13 +35,12 @@ fn take_row<C: Calls>(
     table: &Timetable,
     calls: &C,
     labels: &mut Labels,
-    tried: &mut [Tried],
+    tried: &mut [Tried; TRIED],
     rows: &mut [Transfer],
     done: Progress,
 ) -> Progress
     requires table { C.table calls.now ≡ table.now }
     requires labels { labels.old.table ≡ table.now }
-    requires room { 1024 ≤ length tried.old }
     requires tried { AreTried table.now labels.old.times tried.old }
     requires taken { done.taken < length rows.old }
     requires kept { done.kept ≤ done.taken }
@@ -85,13 +84,12 @@ fn take_rows<C: Calls>(
     table: &Timetable,
     calls: &C,
     labels: &mut Labels,
-    tried: &mut [Tried],
+    tried: &mut [Tried; TRIED],
     rows: &mut [Transfer],
     done: Progress,
 ) -> Progress
     requires table { C.table calls.now ≡ table.now }
     requires labels { labels.old.table ≡ table.now }
-    requires room { 1024 ≤ length tried.old }
     requires tried { AreTried table.now labels.old.times tried.old }
     requires taken { done.taken ≤ length rows.old }
     requires kept { done.kept ≤ done.taken }
@@ -118,14 +116,13 @@ fn take_event<C: Calls>(
     table: &Timetable,
     calls: &C,
     labels: &mut Labels,
-    tried: &mut [Tried],
+    tried: &mut [Tried; TRIED],
     trip: TripNo,
     rows: &mut [Transfer],
     done: Progress,
 ) -> Progress
     requires table { C.table calls.now ≡ table.now }
     requires labels { labels.old.table ≡ table.now }
-    requires room { 1024 ≤ length tried.old }
     requires tried { AreTried table.now labels.old.times tried.old }
     requires inside { done.at < length (events_of table.now trip) }
     requires taken { done.taken ≤ length rows.old }
@@ -154,7 +151,6 @@ fn take_event<C: Calls>(
 pub fn begin_trip(table: &Timetable, labels: &mut Labels) -> [Tried; TRIED]
     requires { labels.old.table ≡ table.now }
     ensures labels { labels.new.table ≡ table.now }
-    ensures room { 1024 ≤ length result }
     ensures tried { AreTried table.now labels.new.times result }
     ensures reduced { (lines : List (List ℕ)) (t : ℕ) →
         IsReducedTo table.now lines t (length (events_of table.now t)) [] labels.new.times }
@@ -171,14 +167,13 @@ pub fn reduce_event<C: Calls>(
     table: &Timetable,
     calls: &C,
     labels: &mut Labels,
-    tried: &mut [Tried],
+    tried: &mut [Tried; TRIED],
     trip: TripNo,
     at: usize,
     rows: &mut Vec<Transfer>,
 )
     requires table { C.table calls.now ≡ table.now }
     requires labels { labels.old.table ≡ table.now }
-    requires room { 1024 ≤ length tried.old }
     requires tried { AreTried table.now labels.old.times tried.old }
     requires inside { at < length (events_of table.now trip) }
     ensures labels { labels.new.table ≡ table.now }

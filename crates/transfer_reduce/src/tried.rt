@@ -8,7 +8,7 @@ use flat_calls::Calls;
 use tb_base::{Transfer, TripNo};
 
 /// How many tried trips are remembered, each in the place of the one before with the same remainder.
-pub(crate) const TRIED: usize = 1024;
+pub const TRIED: usize = 1024;
 
 /// A trip and an index of it. All that alighting behind the index brings has been offered.
 #[derive(Clone, Copy, Debug, PartialEq, Eq)]

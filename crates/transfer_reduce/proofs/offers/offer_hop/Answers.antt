@@ -1,4 +1,4 @@
-use Rattle.std.proofs.Common.{◌%◌, ◌<◌, ◌≤◌, subst, arith, inl, length, get_or}
+use Rattle.std.proofs.Common.{rules, ◌%◌, ◌<◌, ◌≤◌, subst, inl, length, get_or}
 use Rattle.std.proofs.lemmas.List.Elements.{All-set}
 use Rattle.tb_base.specs.TimetableData.{TimetableData, events_of}
 use Rattle.transfer_reduce.specs.Reached.{AreReached}
@@ -12,7 +12,7 @@ returns-clause-sooner g c =
     let old = c.args.labels.now.times in
     let r = c.args.row.now in
     let end = c.untried_end-end.result in
-    let place : c.index-place.result % 1024 < length c.args.tried.now = omega (arith, c.requires.room) in
+    let place : c.index-place.result % 1024 < length c.args.tried.now = search rules in
     let one = c.requires.tried (c.index-place.result % 1024) c.index-tried-place.result place in
     let inside = subst (λ (U : TimetableData). end ≤ length (events_of U r.to_trip)) c.requires.table c.untried_end-end.ensures.inside in
     let rest = subst (λ (U : TimetableData). IsTried U old (get_or c.args.tried.now (c.index-place.result % 1024) c.index-tried-place.result) → AreReached U old r.to_trip end (length (events_of U r.to_trip))) c.requires.table (c.untried_end-end.ensures.rest old) one in
@@ -25,7 +25,7 @@ returns-clause-shown g c =
     let old = c.args.labels.now.times in
     let r = c.args.row.now in
     let end = c.untried_end-end.result in
-    let place : c.index-place.result % 1024 < length c.args.tried.now = omega (arith, c.requires.room) in
+    let place : c.index-place.result % 1024 < length c.args.tried.now = search rules in
     let one = c.requires.tried (c.index-place.result % 1024) c.index-tried-place.result place in
     let inside = subst (λ (U : TimetableData). end ≤ length (events_of U r.to_trip)) c.requires.table c.untried_end-end.ensures.inside in
     let rest = subst (λ (U : TimetableData). IsTried U old (get_or c.args.tried.now (c.index-place.result % 1024) c.index-tried-place.result) → AreReached U old r.to_trip end (length (events_of U r.to_trip))) c.requires.table (c.untried_end-end.ensures.rest old) one in
@@ -40,7 +40,7 @@ returns-clause-tried g c =
     let r = c.args.row.now in
     let end = c.untried_end-end.result in
     let tried = c.args.tried.now in
-    let place : c.index-place.result % 1024 < length c.args.tried.now = omega (arith, c.requires.room) in
+    let place : c.index-place.result % 1024 < length c.args.tried.now = search rules in
     let one = c.requires.tried (c.index-place.result % 1024) c.index-tried-place.result place in
     let inside = subst (λ (U : TimetableData). end ≤ length (events_of U r.to_trip)) c.requires.table c.untried_end-end.ensures.inside in
     let rest = subst (λ (U : TimetableData). IsTried U old (get_or c.args.tried.now (c.index-place.result % 1024) c.index-tried-place.result) → AreReached U old r.to_trip end (length (events_of U r.to_trip))) c.requires.table (c.untried_end-end.ensures.rest old) one in
