@@ -2,19 +2,15 @@
 //! several days are published.
 //!
 //! `route` of `router_cli` does all that the program does. `main` hands in the words of the command
-//! line, the machine's files, standard input and standard output, writes how the program ended to
-//! standard error, and ends with the number of that.
+//! line, the machine's files, standard input and standard output, and ends as `end` of `router_cli`
+//! says: a line on standard error, and the number of how it ended.
 #![tactic(auto)]
 
-ghost use Rattle.std.specs.Prelude.{◌≡◌};
-ghost use Rattle.std.specs.Process.{exit_status};
-ghost use Rattle.router_cli.specs.Outcome.{status_code};
-
-use router_cli::{Status, route, status_text};
+use router_cli::{Status, end, route};
+use std::env;
 use std::io::ErrorKind;
 use std::process::ExitCode;
 use std::rt::Env;
-use std::{env, str};
 use tb_base::IdleGate;
 use tb_io::{HostFolder, InSource, OutSink};
 
@@ -32,18 +28,6 @@ fn words_of(rt: &(impl Env + AllocGlobal)) -> Result<Vec<String>, Status> {
         }
     }
     Ok(words)
-}
-
-// Writes how the program ended to standard error, and gives the number to end with.
-fn end(rt: &(impl Eprint + AllocGlobal), status: Status) -> ExitCode
-    ensures { exit_status result ≡ status_code status }
-{
-    if let Ok(line) = status_text(rt.alloc(), &status) {
-        if let Ok(text) = str::from_utf8(line.as_slice()) {
-            let _ = eprint!(rt; "{text}");
-        }
-    }
-    ExitCode::from(status.code())
 }
 
 fn main(rt: HostRuntime) -> ExitCode {

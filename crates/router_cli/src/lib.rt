@@ -23,4 +23,4 @@ mod verdicts;
 mod verifying;
 
 pub use program::route;
-pub use status::{Status, status_text};
+pub use status::{Status, end, status_text};

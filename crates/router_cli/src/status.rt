@@ -1,6 +1,7 @@
 //! How the program ends.
 ghost use Rattle.std.specs.Prelude.{◌≡◌, ◌++◌, IfOk, codes};
 ghost use Rattle.std.specs.Fmt.{decimal};
+ghost use Rattle.std.specs.Process.{exit_status};
 ghost use Rattle.router_cli.specs.Outcome.{journey_fault_text, late_fault_text, script_fault_text, status_code, status_text};
 
 use answer_text::fault_text;
@@ -9,6 +10,8 @@ use journey_read::JourneyFault;
 use lane_serve::ScriptFault;
 use late_edit::LateFault;
 use std::alloc::Global;
+use std::process::ExitCode;
+use std::str;
 use tb_base::Memory;
 
 const USAGE: &[u8] =
@@ -72,6 +75,19 @@ pub fn status_text(alloc: Global, status: &Status) -> Result<Vec<u8>, Memory>
         Status::LateRefused(fault) => late_refusal_text(alloc, *fault),
         Status::JourneyRefused(fault) => journey_refusal_text(alloc, *fault),
     }
+}
+
+/// Writes how the program ended to standard error, and gives the number to end with. Where there is
+/// no memory for the line, or standard error fails, nothing is said.
+pub fn end(rt: &(impl Eprint + AllocGlobal), status: Status) -> ExitCode
+    ensures { exit_status result ≡ status_code status }
+{
+    if let Ok(line) = status_text(rt.alloc(), &status) {
+        if let Ok(text) = str::from_utf8(line.as_slice()) {
+            let _ = eprint!(rt; "{text}");
+        }
+    }
+    ExitCode::from(status.code())
 }
 
 /// These bytes, as a text.
