@@ -75,8 +75,8 @@ abbrev pub IsDone : NetData → DeskData → Option Hit → ℕ → ℕ → Type
 IsDone N D best n i =
     IsFollowed N D n i ⊎ ArrivesBy best (arrival_at N.table (segment_of D.segments n).trip i)
 
--- Index i of segment n is outdone: before it a segment, in a round that is no later, has boarded a
--- trip that is no later and from which there are more trips on its line.
+-- Index i of segment n is outdone: a segment of no later round has boarded, before that index, a
+-- trip that is no later and from which more trips stand on its line.
 pub record IsOutdone (N : NetData) (segments : List Segment) (n i : ℕ) : Type 0 where
   pub by : ℕ
   pub within : by < length segments

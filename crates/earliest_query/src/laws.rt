@@ -13,9 +13,9 @@ ghost use Rattle.segment_queue.specs.declared.desk.Segment.{Segment};
 ghost use Rattle.earliest_query.specs.Parts.{ArePartsOf};
 ghost use Rattle.earliest_query.specs.Sweeping.{IsSweptTo};
 
-/// A search over a sufficient set, of whose segments parts go on from everywhere, as those of one
-/// without targets do, finds for every stop each best value with rides: by alighting at an event of
-/// a segment that was entered in the round of so many rides.
+/// Where parts of the segments of a search over a sufficient set go on from everywhere, as for a
+/// query without targets, the search finds for every stop each best value with rides: by alighting
+/// at an event of a segment that was entered in the round of so many rides.
 pub fn best_values_at_every_stop()
     ensures { (N : NetData) (from : List ℕ) (leave : ℤ) (segments : List Segment) →
         (parts : List RoundSegment) → ArePartsOf (round_segments segments) parts →

@@ -1,22 +1,23 @@
 -- How the lines of a timetable are laid out, for each thing that is looked up.
-use Rattle.std.specs.Prelude.{◌≡◌, ℕ, ◌+◌, ◌-◌, ◌*◌, ◌<◌, ◌≤◌, ◌^◌, List, [], length, map, filter, flat_map, take, drop, ℤ, All, true, slice_index_or}
+use Rattle.std.specs.Prelude.{◌≡◌, ℕ, ◌+◌, ◌-◌, ◌*◌, ◌<◌, ◌≤◌, ◌^◌, List, [], Option, length, map, filter, flat_map, take, drop, ℤ, All, true, slice_index_or}
 use Rattle.std.specs.List.{range_with_len}
 use Rattle.tb_base.specs.TimetableData.{TimetableData, departure_at}
 use Rattle.tb_base.specs.Lines.{AreLines}
 use Rattle.tb_base.specs.Transfers.{numbers_below}
 use Rattle.line_split.specs.declared.lines.Berth.{Berth}
 use Rattle.line_split.specs.declared.boardings.Boarding.{Boarding}
-use Rattle.line_split.specs.LinesOf.{IsBerth, IsRestOfLine, StandsAt, berths_at, is_boarded, line_events}
+use Rattle.line_split.specs.LinesOf.{IsBerth, IsRestOfLine, StandsAt, berths_at, is_boarded, line_events, trip_before}
 
 -- The trips of each line; for each trip its line and its place in it; all trips, line after line,
--- and for each trip where its line from it on begins and ends there; for each stop where lines
--- call, and where they may be boarded; and the departures, line after line and within a line index
--- after index, with the place where each line's begin.
+-- and for each trip where its line from it on begins and ends there, and the trip just before it;
+-- for each stop where lines call, and where they may be boarded; and the departures, line after
+-- line and within a line index after index, with the place where each line's begin.
 pub record LinesLayout : Type 0 where
   pub lines : List (List ℕ)
   pub places : List (ℕ × ℕ)
   pub in_order : List ℕ
   pub runs : List (ℕ × ℕ)
+  pub before : List (Option ℕ)
   pub berths : List (List Berth)
   pub boardings : List (List Boarding)
   pub starts : List ℕ
@@ -73,6 +74,7 @@ pub record AreLaidOut (T : TimetableData) (L : LinesLayout) : Type 0 where
   pub counted : length L.runs ≡ length T.trips
   pub runs : (t : ℕ) → t < length T.trips →
       IsRunFrom L.lines L.in_order t (slice_index_or L.runs t (0, 0))
+  pub before : L.before ≡ map (trip_before L.lines) L.places
   pub stops : length L.berths ≡ length T.stops
   pub berths : (q : ℕ) → q < length T.stops →
       slice_index_or L.berths q [] ≡ berths_at T L.lines q

@@ -1,5 +1,5 @@
 -- What is looked up in the lines of a timetable.
-use Rattle.std.specs.Prelude.{◌≡◌, ℕ, ◌<◌, ◌==◌, Bool, List, [], length, map, filter, flat_map, drop, Some, slice_get, slice_index_or}
+use Rattle.std.specs.Prelude.{◌≡◌, ℕ, ◌<◌, ◌==◌, Bool, List, [], length, map, filter, flat_map, drop, zero, suc, None, Option, Some, slice_get, slice_index_or}
 use Rattle.tb_base.specs.declared.table.Event.{Event}
 use Rattle.tb_base.specs.TimetableData.{TimetableData, events_of, stop_at}
 use Rattle.tb_base.specs.Transfers.{may_be_boarded, numbers_below}
@@ -35,6 +35,21 @@ is_boarded T lines b =
 -- trip t stands on this line at this place
 abbrev pub StandsAt : List (List ℕ) → ℕ → ℕ × ℕ → Type 0
 StandsAt lines t place = slice_get (slice_index_or lines place.0 []) place.1 ≡ Some t
+
+-- the trip just before a place of a line, where there is one
+abbrev pub before_in : List ℕ → ℕ → Option ℕ
+before_in line zero = None
+before_in line (suc k) = slice_get line k
+
+-- the same, where the line and the place are told together
+abbrev pub trip_before : List (List ℕ) → ℕ × ℕ → Option ℕ
+trip_before lines place = before_in (slice_index_or lines place.0 []) place.1
+
+-- this is the trip just before t on the line of t, where there is one
+pub record IsBefore (lines : List (List ℕ)) (t : ℕ) (before : Option ℕ) : Type 0 where
+  pub place : ℕ × ℕ
+  pub stands : StandsAt lines t place
+  pub is : before ≡ trip_before lines place
 
 -- these are the trips of a line from trip t on, which is the first of them
 pub record IsRestOfLine (lines : List (List ℕ)) (t : ℕ) (trips : List ℕ) : Type 0 where

@@ -5,12 +5,13 @@
 //! (`Lines::soundness`), and finds in them without taking memory: the line of a trip and its place
 //! there, the trips of a line, all or from one on, where lines call at a stop, which of them may be
 //! boarded there, and the first trip of a line that departs at an index no earlier than a time, by
-//! one binary search along a run of departures, which a boarding knows.
+//! one search along a run of departures, which a boarding knows.
 #![tactic(auto)]
 
 ghost use Rattle.std.specs.Prelude.{◌≡◌, IfOk};
 ghost use Rattle.tb_base.specs.Lines.{AreLines};
 
+mod before;
 mod berths;
 mod boardings;
 mod departures;
@@ -24,6 +25,7 @@ mod order;
 mod place;
 mod places;
 
+use before::befores_of;
 use berths::berths_of;
 pub use boardings::Boarding;
 use boardings::boardings_of;
@@ -48,6 +50,7 @@ pub fn split(alloc: Global, table: &Timetable) -> Result<Lines, Memory>
     let lines = place_trips(alloc, table, order.as_slice())?;
     let places = places_of(alloc, table.trip_count(), &lines)?;
     let (in_order, runs) = onward_of(alloc, &lines, places.as_slice())?;
+    let before = befores_of(alloc, &lines, places.as_slice())?;
     let berths = berths_of(alloc, table, &lines)?;
     let (starts, departures) = departures_of(alloc, table, &lines)?;
     let boardings = boardings_of(
@@ -59,7 +62,7 @@ pub fn split(alloc: Global, table: &Timetable) -> Result<Lines, Memory>
         departures.as_slice(),
     )?;
     let split = Lines::new(
-        table, lines, places, in_order, runs, berths, boardings, starts, departures,
+        table, lines, places, in_order, runs, before, berths, boardings, starts, departures,
     );
     split.soundness();
     Ok(split)

@@ -24,6 +24,7 @@ pub struct Lines {
     places: Vec<(LineNo, u32)>,
     in_order: Vec<TripNo>,
     runs: Vec<(u32, u32)>,
+    before: Vec<Option<TripNo>>,
     berths: Nested<Berth>,
     boardings: Nested<Boarding>,
     starts: Vec<usize>,
@@ -43,6 +44,7 @@ impl Model for Lines {
       places = l.places.items;
       in_order = l.in_order.items;
       runs = l.runs.items;
+      before = l.before.items;
       berths = l.berths;
       boardings = l.boardings;
       starts = l.starts.items;
@@ -56,7 +58,7 @@ impl Lines {
     ghost use Rattle.tb_base.specs.TimetableData.{TimetableData};
     ghost use Rattle.tb_base.specs.Transfers.{earliest_trip, may_be_boarded};
     ghost use Rattle.line_split.specs.Layout.{AreBoardings, AreLaidOut, IsBoarding, departures_at};
-    ghost use Rattle.line_split.specs.LinesOf.{IsRestOfLine, StandsAt, berths_at, line_events};
+    ghost use Rattle.line_split.specs.LinesOf.{IsBefore, IsRestOfLine, StandsAt, berths_at, line_events};
 
     // The lines with these parts.
     pub(crate) fn new(
@@ -65,6 +67,7 @@ impl Lines {
         places: Vec<(LineNo, u32)>,
         in_order: Vec<TripNo>,
         runs: Vec<(u32, u32)>,
+        before: Vec<Option<TripNo>>,
         berths: Nested<Berth>,
         boardings: Nested<Boarding>,
         starts: Vec<usize>,
@@ -75,6 +78,7 @@ impl Lines {
           places = places.items;
           in_order = in_order.items;
           runs = runs.items;
+          before = before.items;
           berths = berths;
           boardings = boardings;
           starts = starts.items;
@@ -88,6 +92,7 @@ impl Lines {
             places,
             in_order,
             runs,
+            before,
             berths,
             boardings,
             starts,
@@ -127,6 +132,14 @@ impl Lines {
         let (from, to) = self.runs[trip.index()];
         let in_order = self.in_order.as_slice();
         &in_order[from as usize..to as usize]
+    }
+
+    /// The trip just before on a trip's line, where there is one.
+    pub fn before(&self, trip: TripNo) -> Option<TripNo>
+        requires { trip < length self.now.table.trips }
+        ensures { IsBefore self.now.lines trip result }
+    {
+        self.before[trip.index()]
     }
 
     /// The trips of a line, in order.

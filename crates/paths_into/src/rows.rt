@@ -90,7 +90,7 @@ impl PathsInto {
         self.rows[stop.index()].as_slice()
     }
 
-    /// The rows.
+    /// One list a stop, by its number.
     pub fn into_rows(self) -> Vec<Vec<Path>>
         ensures { map (λ v. v.items) result.items ≡ self }
     {

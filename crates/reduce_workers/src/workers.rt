@@ -51,8 +51,8 @@ fn reduce_drawn<G: Gate>(
 /// it is done with it. The kept transfers and the counts are the same for every number of workers,
 /// whoever draws which piece. Where no thread can be started the caller does that worker's part
 /// itself. The lines are those of the timetable. Takes memory for the kept transfers, eight bytes an
-/// event, and for each worker one label a stop, the footpaths, and the candidates of one event besides. Refused
-/// only for want of memory.
+/// event, and for each worker one word a stop, the footpaths by the stop that they lead to, and the
+/// candidates of one event besides. Refused only for want of memory.
 pub fn reduce_all<G: Gate, R: Threads + Sync>(
     rt: &R,
     alloc: Global,

@@ -1,10 +1,11 @@
 -- What a view finds in lines is what a scan shows.
 use Rattle.std.proofs.Common.{◌≡◌, ◌≢◌, ◌∙◌, ℕ, ℤ, zero, suc, ◌<◌, ◌≤◌, inl, inr, ◌==◌, List, [], ◌∷◌, ◌++◌, Bool, true, false, cond, length, map, take, drop, get_or, refl, sym, ap, subst, arith, Option, Some, None, length-append, add-one}
-use Rattle.std.specs.Prelude.{All, filter, flat_map, fold, slice_get, sum_by}
+use Rattle.std.specs.Prelude.{All, MatchOption, filter, flat_map, fold, slice_get, sum_by}
 use Rattle.std.specs.List.{concat}
 use Rattle.std.specs.Option.{option_map}
 use Rattle.std.proofs.lemmas.Grind.{flat_map-append}
-use Rattle.std.proofs.lemmas.List.{get_or-map, length-map, length_push, take_all, take_more}
+use Rattle.std.proofs.lemmas.List.{get_or-map, get_or_default, length-map, length_push, take_all, take_more}
+use Rattle.std.proofs.lemmas.Option.{slice_get_read, slice_get_within}
 use Rattle.std.proofs.lemmas.Simd.{map-map}
 use Rattle.std.proofs.lemmas.List.Elements.{All-cons, All-head, All-nil, All-tail}
 use Rattle.std.proofs.lemmas.List.Sums.{sum_by-append, sum_by-cons}
@@ -14,7 +15,7 @@ use Rattle.tb_base.specs.Transfers.{earliest_trip, line_from, may_be_boarded, nu
 use Rattle.tb_base.proofs.Ordered.{Member, AllPairs-tail, Contains-from_Member}
 use Rattle.tb_base.proofs.Members.{Member-concat_at, Member-filter_back, Member-flat_map_back, Member-from_slice_get, Member-map_back, Member-numbers_below, Member-numbers_below_back}
 use Rattle.line_split.specs.declared.lines.Berth.{Berth}
-use Rattle.line_split.specs.LinesOf.{berths_at, calls_at, line_events}
+use Rattle.line_split.specs.LinesOf.{IsBefore, before_in, berths_at, calls_at, line_events}
 use Rattle.segment_queue.specs.Scans.{IsFirst, LineIndex, StandsBefore, boarding_hop, first_trip, indices_at, line_indices_at, no_line_index, trips_from}
 use Rattle.segment_queue.proofs.Distinct.{AreDistinct, before_member, has_member, in_one_part, member_or_not, of_member, pairs_left, pairs_right, same_or_other}
 use Rattle.segment_queue.proofs.LineParts.{line_from-other, line_from-same, member_lines, trips_from-here, trips_from-past}
@@ -157,6 +158,21 @@ drop_step (x ∷ xs) (suc k) v is = drop_step xs k v is
 -- who stands at the place before stands before
 pub stands_before : (lines : List (List ℕ)) (v t l k : ℕ) → AreDistinct (concat lines) → slice_get (get_or lines l []) (suc k) ≡ Some t → slice_get (get_or lines l []) k ≡ Some v → StandsBefore lines v t
 stands_before lines v t l k distinct is before = trips_from-drop lines v l k distinct before ∙ drop_step (get_or lines l []) k v before ∙ ap (λ ys. v ∷ ys) (sym (trips_from-drop lines t l (suc k) distinct is))
+
+-- the trip just before one on its line
+pub found_before : (lines : List (List ℕ)) (t n : ℕ) (o : Option ℕ) → AreDistinct (concat lines) → All (λ u. u < n) (concat lines) → IsBefore lines t o → MatchOption o (IsFirst lines t) (λ v. (v < n) × StandsBefore lines v t)
+found_before lines t n o distinct all h = by_place h.place.1 o h.stands h.is
+  where
+    row : List ℕ
+    row = get_or lines h.place.0 []
+
+    by_place : (k : ℕ) (o : Option ℕ) → slice_get row k ≡ Some t → o ≡ before_in row k → MatchOption o (IsFirst lines t) (λ v. (v < n) × StandsBefore lines v t)
+    by_place zero None stands e = is_first lines t h.place.0 zero distinct stands refl
+    by_place zero (Some v) stands e = cc
+    by_place (suc k) None stands e =
+        let inside : k < length row = omega (arith, slice_get_within row (suc k) t stands) in
+        let there : slice_get row k ≡ Some (get_or row k 0) = slice_get_read row (length row) k (get_or row k 0) refl inside (get_or_default row k 0 (get_or row k 0) inside) in cc
+    by_place (suc k) (Some v) stands e = (of_member (λ u. u < n) (concat lines) v all (Member-concat_at lines h.place.0 k v (sym e)), stands_before lines v t h.place.0 k distinct stands (sym e))
 
 -- the trips from one on are of the lines
 pub trips_from-inside : (lines : List (List ℕ)) (t n : ℕ) → All (λ u. u < n) (concat lines) → All (λ u. u < n) (trips_from lines t)

@@ -44,8 +44,9 @@ impl Desk {
         ahead
     }
 
-    /// At each so many segments of a round, which begins at a number, reads the first event that the next of them cover
-    /// ahead, and what clips them: of the segments from number `n` up to another.
+    /// Before segment `n` of a round is looked at: at the first segment of each stretch of 512, counted from where the round
+    /// begins, reads ahead what clips each segment of the stretch and the first event that it covers, up to number `to`. At any
+    /// other segment it does nothing.
     pub fn read_segments_ahead<S: Scan>(&mut self, scan: &S, begin: u32, n: u32, to: u32)
         requires step { IsInStep (S.net scan.now) self.old }
         requires begin { begin ≤ n }
@@ -62,7 +63,8 @@ impl Desk {
         self.ahead.join(events);
     }
 
-    /// At each so many notes reads the first of the hops from the events that are noted next ahead, from note `k` on.
+    /// Before note `k` is followed: at the first note of each stretch of 512 reads ahead the first hop of each note of the
+    /// stretch. At any other note it does nothing.
     pub fn read_notes_ahead<S: Scan>(&mut self, scan: &S, k: usize)
         ensures { self.new ≡ self.old }
     {

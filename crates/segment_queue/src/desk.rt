@@ -13,7 +13,7 @@ use std::marker::Model;
 use tb_base::{Memory, Query, StopNo, TripNo, Value};
 use transfer_pack::ReadAhead;
 
-/// A part of a trip: boarded at `board`, and looked at up to `end`. It was hopped onto from the segment with the first
+/// A part of a trip: boarded at `board`, and looked at no further than `end`. It was hopped onto from the segment with the first
 /// number of `parent`, at the second number, an index of that segment's trip; without a parent it is a first ride.
 #[derive(Clone, Copy, Debug, PartialEq, Eq)]
 pub struct Segment {
@@ -284,7 +284,8 @@ impl Desk {
     }
 
     /// Up to which index a segment has to be looked at. Where the trip just before on its line has been entered, whoever
-    /// sits in that is there as early: what is behind its mark is left out.
+    /// sits in that is there as early: what is behind its mark is left out. That has no more rides only as long as no segment
+    /// of a later round was entered.
     pub fn clipped_end<S: Scan>(&self, scan: &S, segment: &Segment) -> u32
         requires trip { segment.now.trip < length (S.net scan.now).table.trips }
         requires room { length (S.net scan.now).table.trips ≤ length self.now.marks }

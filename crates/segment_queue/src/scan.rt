@@ -111,9 +111,9 @@ pub trait Scan {
 }
 
 /// The looks of a search at a network: who boards a line, and an event of a trip. Each is a step on
-/// a counter of the ledger `L`, and there is no other way to look at a time: `hops_from` only shows once more the hops of an
-/// event that was looked at. So a search over any `L` counts all its looks where its caller counts, since no counter that it
-/// makes is of this ledger.
+/// a counter of the ledger `L`, and there is no other way to see a time: `hops_from` shows hops alone, and that they are those
+/// of an event only the look says that gave the `Seen`. So a search over any `L` counts all its looks where its caller counts,
+/// since no counter that it makes is of this ledger.
 pub trait Look<L: Ledger>: Scan {
     /// Who boards the line at the line index with this number at the stop, no earlier than the time. It is a step.
     fn boarding(&self, p: StopNo, berth: u32, time: Sec, steps: &mut Steps<L>) -> Option<Hop>

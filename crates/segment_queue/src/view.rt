@@ -100,11 +100,7 @@ impl<'a> View<'a> {
     {
         let lines = self.lines;
         lines.soundness();
-        let (line, place) = lines.of(trip);
-        if place == 0 {
-            return None;
-        }
-        Some(lines.trips(line)[place as usize - 1])
+        lines.before(trip)
     }
 
     /// Event `at` of a trip, for as long as the set is lent. It is a step.

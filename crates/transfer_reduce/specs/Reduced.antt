@@ -34,7 +34,7 @@ rows_below T lines t n =
     flat_map (λ j. map (row_of t j) (candidates_without_u_turns T lines t j)) (numbers_down n)
 
 -- From the last event of trip t down to event i these are kept. The alternatives there have been
--- looked at, and by the times one is where they bring one.
+-- looked at, and the times show where they bring one, and when.
 pub record IsReducedTo (T : TimetableData) (lines : List (List ℕ)) (t i : ℕ)
     (kept : List Transfer) (times : List (Option ℤ)) : Type 0 where
   pub earlier : List (List Event)
@@ -45,7 +45,7 @@ pub record IsReducedTo (T : TimetableData) (lines : List (List ℕ)) (t i : ℕ)
 
 -- Before these rows some are kept. Of the rows the first ones are kept; from a place on they are
 -- those of some hops of event i, and of the events below n. The alternatives until then have been
--- looked at, and by the times one is where they bring one.
+-- looked at, and the times show where they bring one, and when.
 pub record Reduces (T : TimetableData) (lines : List (List ℕ)) (t : ℕ)
     (before rows : List Transfer) (times : List (Option ℤ)) (n i taken kept : ℕ) : Type 0 where
   pub hops : List Hop

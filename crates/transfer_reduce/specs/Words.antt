@@ -7,7 +7,7 @@ abbrev pub time_in : ℕ → ℕ → Option ℤ
 time_in floor word = if nat_lt word (floor + 446400)
     then Some (pos (word - floor) +ℤ negsuc 86399) else None
 
--- no word lies below the floor, and to none more than a word can hold is added by a walk
+-- a word lies no lower than the floor, and leaves room for the seconds of a walk
 pub record IsWord (floor word : ℕ) : Type 0 where
   pub low : floor ≤ word
   pub high : word ≤ 4294880895

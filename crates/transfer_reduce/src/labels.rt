@@ -1,5 +1,5 @@
 //! For each stop the earliest arrival that was offered there, and who can walk there.
-ghost use Rattle.std.specs.Prelude.{◌≡◌, ◌<◌, ◌↔◌, ◌⊎◌, ◌≤ℤ◌, ℕ, ℤ, pos, negsuc, true, false, IfOk, None, length, slice_index_or};
+ghost use Rattle.std.specs.Prelude.{◌≡◌, ◌<◌, ◌↔◌, ◌⊎◌, ◌≤ℤ◌, ℕ, ℤ, pos, negsuc, true, false, IfOk, None, length, replicate, slice_index_or};
 ghost use Rattle.transfer_reduce.specs.Reached.{IsBy, IsReached};
 
 use super::times::Times;
@@ -33,7 +33,9 @@ impl Labels {
     /// Labels for the stops of a timetable, with no time at any. Takes memory by the number of stops
     /// and footpaths. Refused only for want of memory.
     pub fn new(alloc: Global, table: &Timetable) -> Result<Labels, Memory>
-        ensures { IfOk result (λ labels. labels.table ≡ table.now) }
+        ensures table { IfOk result (λ labels. labels.table ≡ table.now) }
+        ensures times { IfOk result
+            (λ labels. labels.times ≡ replicate (length table.now.stops) None) }
     {
         table.soundness();
         Ok(Labels {

@@ -92,7 +92,7 @@ fn lower_all<C: Calls>(
 }
 
 /// Offers what a hop brings: whether it is sooner at some stop where one may alight. What was
-/// offered when the trip was tried is passed over. Nothing is written where nothing is sooner.
+/// offered when the trip was tried is passed over. No label falls where nothing is sooner.
 pub(crate) fn offer_hop<C: Calls>(
     table: &Timetable,
     calls: &C,

@@ -138,8 +138,8 @@ fn take_event<C: Calls>(
         ++ rows_below table.now lines trip n →
         IsReducedTo table.now lines trip (done.at + 1) (before ++ take done.kept rows.old)
         labels.old.times →
-        IsReducedTo table.now lines trip done.at (before ++ take result.kept rows.new) labels.new.times
-        × (drop result.taken rows.new ≡ rows_below table.now lines trip n) }
+        IsReducedTo table.now lines trip done.at (before ++ take result.kept rows.new)
+        labels.new.times × (drop result.taken rows.new ≡ rows_below table.now lines trip n) }
 {
     table.soundness();
     offer_stay(table, calls, labels, trip, done.at);

@@ -1,9 +1,9 @@
-use Rattle.std.proofs.Common.{◌≡◌, ◌∙◌, ◌<◌, sym, ap, arith, length, subst, fold, get_or, []}
+use Rattle.std.proofs.Common.{◌≡◌, ◌∙◌, ◌<◌, sym, ap, arith, length, map, subst, fold, get_or, []}
 use Rattle.std.specs.Prelude.{All}
 use Rattle.std.specs.List.{concat}
 use Rattle.std.proofs.lemmas.List.Concat.{concat_is}
 use Rattle.tb_base.specs.Lines.{AreLines, place_trip}
-use Rattle.line_split.specs.LinesOf.{StandsAt}
+use Rattle.line_split.specs.LinesOf.{StandsAt, trip_before}
 use Rattle.line_split.proofs.LineLaws.{lines_divide}
 use Rattle.line_split.proofs.Counts.{rows-all, all_stand, placed-total}
 use Rattle.line_split.proofs.split.Goals as goal
@@ -50,6 +50,7 @@ new-split-requires c =
       places = all_stand T c.in_ok-lines.lines c.in_ok-places.places.items (lines_divide T c.in_ok-lines.lines are) c.in_ok-places.ensures.places;
       counted = c.in_ok-in_order.ensures.length ∙ ap length c.as_slice-2.ensures.value ∙ c.in_ok-places.ensures.length ∙ c.trip_count.ensures;
       runs = λ t inside. c.in_ok-in_order.ensures.runs t (omega (arith, inside, ap length c.as_slice-2.ensures.value, c.in_ok-places.ensures.length, c.trip_count.ensures));
+      before = c.in_ok-before.ensures ∙ ap (map (trip_before c.in_ok-lines.lines)) c.as_slice-3.ensures.value;
       stops = c.in_ok-berths.ensures.length;
       berths = c.in_ok-berths.ensures.berths;
       boarded = c.in_ok-boardings.ensures.length;
@@ -57,3 +58,12 @@ new-split-requires c =
       starts = c.in_ok-starts.ensures.starts;
       departures = c.in_ok-starts.ensures.departures;
     }
+
+pub befores_of-requires : goal.befores_of-requires
+befores_of-requires c =
+    let T = c.args.table.now in
+    let placed : c.in_ok-lines.lines ≡ fold (place_trip c.args.table.now) [] c.in_ok-order.order.items = c.in_ok-lines.ensures.placed ∙ ap (fold (place_trip T) []) c.as_slice.ensures.value in
+    let are : AreLines T c.in_ok-lines.lines = record { order = c.in_ok-order.order.items; in_order = c.in_ok-order.ensures.order; placed = placed } in
+    let stand = all_stand T c.in_ok-lines.lines c.in_ok-places.places.items (lines_divide T c.in_ok-lines.lines are) c.in_ok-places.ensures.places in
+    λ t inside. subst (λ ps. StandsAt c.in_ok-lines.lines t (get_or ps t (0, 0))) (sym c.as_slice-3.ensures.value)
+    (stand t (omega (arith, inside, ap length c.as_slice-3.ensures.value, c.in_ok-places.ensures.length, c.trip_count.ensures)))

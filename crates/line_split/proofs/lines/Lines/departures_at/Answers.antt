@@ -17,7 +17,7 @@ index-requires-3 c =
 pub run-requires : goal.run-requires
 run-requires c =
     let s = c.self.inside in
-    let layout : LinesLayout = record { lines = s.lines; places = s.places.items; in_order = s.in_order.items; runs = s.runs.items; berths = s.berths; boardings = s.boardings; starts = s.starts.items; departures = s.departures.items } in
+    let layout : LinesLayout = record { lines = s.lines; places = s.places.items; in_order = s.in_order.items; runs = s.runs.items; before = s.before.items; berths = s.berths; boardings = s.boardings; starts = s.starts.items; departures = s.departures.items } in
     let line : c.args.line < length c.self.inside.lines = rw (← c.self.view_is) at c.requires.line in
     let at : c.args.at < length (line_events c.self.inside.table.value (get_or c.self.inside.lines c.args.line [])) = rw (← c.self.view_is) at c.requires.at in
     let start = c.index-3.ensures ∙ ap (λ i. get_or s.starts.items i c.index-3.result.now) c.index-2.ensures in
@@ -28,7 +28,7 @@ run-requires c =
 pub returns : goal.returns
 returns c =
     let s = c.self.inside in
-    let layout : LinesLayout = record { lines = s.lines; places = s.places.items; in_order = s.in_order.items; runs = s.runs.items; berths = s.berths; boardings = s.boardings; starts = s.starts.items; departures = s.departures.items } in
+    let layout : LinesLayout = record { lines = s.lines; places = s.places.items; in_order = s.in_order.items; runs = s.runs.items; before = s.before.items; berths = s.berths; boardings = s.boardings; starts = s.starts.items; departures = s.departures.items } in
     let line : c.args.line < length c.self.inside.lines = rw (← c.self.view_is) at c.requires.line in
     let at : c.args.at < length (line_events c.self.inside.table.value (get_or c.self.inside.lines c.args.line [])) = rw (← c.self.view_is) at c.requires.at in
     let start = c.index-3.ensures ∙ ap (λ i. get_or s.starts.items i c.index-3.result.now) c.index-2.ensures in
