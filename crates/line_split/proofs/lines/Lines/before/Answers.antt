@@ -1,4 +1,4 @@
-use Rattle.std.proofs.Common.{◌≡◌, ◌∙◌, ◌<◌, ap, length, get_or, subst, sym}
+use Rattle.std.proofs.Common.{◌∙◌, ◌<◌, ap, length, get_or, subst, sym}
 use Rattle.std.proofs.lemmas.List.{get_or-map}
 use Rattle.line_split.specs.LinesOf.{trip_before}
 use Rattle.line_split.proofs.lines.Lines.before.Goals as goal

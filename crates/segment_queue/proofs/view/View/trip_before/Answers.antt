@@ -1,4 +1,4 @@
-use Rattle.std.proofs.Common.{◌≡◌, ◌<◌, length, subst}
+use Rattle.std.proofs.Common.{◌<◌, length, subst}
 use Rattle.std.specs.Prelude.{MatchOption}
 use Rattle.tb_base.specs.TimetableData.{TimetableData}
 use Rattle.segment_queue.specs.Scans.{IsFirst, StandsBefore}
