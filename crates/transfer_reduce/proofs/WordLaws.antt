@@ -1,10 +1,11 @@
 -- What words above a floor are seen as.
-use Rattle.std.proofs.Common.{◌≡◌, ◌≢◌, ◌∙◌, sym, ap, subst, refl, ℕ, ◌+◌, ◌-◌, ◌<◌, ◌≤◌, ◌⊎◌, inl, inr, Bool, true, false, cond, List, [], ◌∷◌, ◌++◌, length, map, take, replicate, get_or, set, ℤ, pos, negsuc, ◌+ℤ◌, ◌≤ℤ◌, Some, None, arith, get_or-set_same, get_or-set_other, length-set}
+use Rattle.std.proofs.Common.{◌≡◌, ◌≢◌, ◌∙◌, sym, ap, subst, refl, ℕ, ◌+◌, ◌-◌, ◌<◌, ◌≤◌, ◌⊎◌, inl, inr, Bool, true, false, cond, List, [], ◌∷◌, ◌++◌, length, map, take, replicate, get_or, set, ℤ, pos, negsuc, ◌+ℤ◌, ◌≤ℤ◌, Some, None, arith, get_or-set_same, get_or-set_other, length-set, min}
 use Rattle.std.specs.Prelude.{All, IsSomeAnd, nat_lt}
-use Rattle.std.proofs.lemmas.Bool.{cases_eq}
+use Rattle.std.proofs.lemmas.Bool.{cases_eq, cases_lt}
 use Rattle.std.proofs.lemmas.Bool.Decides.{nat_tests}
 use Rattle.std.proofs.lemmas.Int.{ints}
-use Rattle.std.proofs.lemmas.List.{get_or-map, length-replicate, map-set, take_all}
+use Rattle.std.proofs.lemmas.List.{get_or-map, length-replicate, map-set, set-get_or, take_all}
+use Rattle.std.proofs.Math.Nat.{min-eq_left, min-eq_right}
 use Rattle.std.proofs.lemmas.List.Elements.{All-head, All-replicate, All-tail}
 use Rattle.transfer_reduce.specs.Reached.{IsBy}
 use Rattle.transfer_reduce.specs.Words.{time_in}
@@ -93,6 +94,19 @@ module _ (f : ℕ) (ws : List ℕ) (stop w : ℕ) (time : ℤ) (inside : stop < 
       back (inr h) =
           subst (λ o. IsSomeAnd o (λ t. t ≤ℤ x)) (sym (ap (λ q. get_or (map (time_in f) ws) q None) (sym h.0) ∙ at_stop ws inside))
           (sooner f w (get_or ws stop 0) time x (all stop 0 inside) less high is h.1)
+
+  -- so the lesser of both may stand there
+  pub lesser_written : (v : ℕ) → v ≡ min w (get_or ws stop 0) → (p : ℕ) (x : ℤ) → (IsBy (map (time_in f) (set ws stop v)) p x → IsBy (map (time_in f) ws) p x ⊎ ((stop ≡ p) × (time ≤ℤ x)))
+      × (IsBy (map (time_in f) ws) p x ⊎ ((stop ≡ p) × (time ≤ℤ x)) → IsBy (map (time_in f) (set ws stop v)) p x)
+  lesser_written v e p x = elim (cases_lt (get_or ws stop 0) w) [
+    | inl h ↦
+        let same : set ws stop v ≡ ws = ap (set ws stop) (e ∙ min-eq_right (omega (arith, h))) ∙ set-get_or ws stop 0 in
+        subst (λ vs. (IsBy (map (time_in f) vs) p x → IsBy (map (time_in f) ws) p x ⊎ ((stop ≡ p) × (time ≤ℤ x))) × (IsBy (map (time_in f) ws) p x ⊎ ((stop ≡ p) × (time ≤ℤ x)) → IsBy (map (time_in f) vs) p x)) (sym same)
+        (not_lowered (omega (arith, h)) p x)
+    | inr h ↦
+        subst (λ n. (IsBy (map (time_in f) (set ws stop n)) p x → IsBy (map (time_in f) ws) p x ⊎ ((stop ≡ p) × (time ≤ℤ x))) × (IsBy (map (time_in f) ws) p x ⊎ ((stop ≡ p) × (time ≤ℤ x)) → IsBy (map (time_in f) (set ws stop n)) p x)) (sym (e ∙ min-eq_left h))
+        (lowered h p x)
+  ]
 
 -- words that no trip has written have no time
 unwritten : (f n : ℕ) → f + 446400 ≤ 4294880895 → map (time_in f) (replicate n 4294880895) ≡ replicate n None

@@ -112,8 +112,7 @@ impl Times {
             IsBy self.new p x ↔ (IsBy self.old p x ⊎ ((stop ≡ p) × (time ≤ℤ x))) }
     {
         let word = word_of(self.floor, time);
-        if word < self.words[stop.index()] {
-            self.words[stop.index()] = word;
-        }
+        let before = self.words[stop.index()];
+        self.words[stop.index()] = word.min(before);
     }
 }

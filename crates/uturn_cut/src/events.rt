@@ -65,18 +65,20 @@ fn stop_at<C: Calls>(calls: &C, trip: TripNo, at: usize) -> StopNo
     }
 }
 
-/// Whether a transfer is a U-turn, if the calls are those of the timetable. Of the other trip more
-/// than its next stop is looked at only where the trip called there before.
+/// Whether a transfer is a U-turn, if the calls are those of the timetable. More than the two stops is
+/// looked at only where they are the same.
 pub(crate) fn is_u_turn<C: Calls>(table: &Timetable, calls: &C, row: &Transfer) -> bool
     ensures { C.table calls.now ≡ table.now → result ≡ is_u_turn_row table.now row.now }
 {
     if row.at == 0 {
         return false;
     }
-    let before = event_at(table, row.trip, row.at as usize - 1);
-    if before.stop.index() != stop_at(calls, row.to_trip, row.to_at as usize + 1).index() {
+    let at = row.at as usize - 1;
+    let next = row.to_at as usize + 1;
+    if stop_at(calls, row.trip, at).index() != stop_at(calls, row.to_trip, next).index() {
         return false;
     }
-    let after = event_at(table, row.to_trip, row.to_at as usize + 1);
+    let before = event_at(table, row.trip, at);
+    let after = event_at(table, row.to_trip, next);
     before.alight && after.board && can_change(table, &before, &after)
 }
