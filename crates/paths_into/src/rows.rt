@@ -82,12 +82,19 @@ impl PathsInto {
         Ok(rows)
     }
 
-    /// The footpaths that lead to a stop.
-    pub fn at(&self, stop: StopNo) -> &[Path]
+    // How many stops there are.
+    pub(crate) fn len(&self) -> usize
+        ensures { result ≡ length self.now }
+    {
+        self.rows.len()
+    }
+
+    // The footpaths that lead to a stop.
+    pub(crate) fn row(&self, stop: usize) -> &[Path]
         requires { stop < length self.now }
         ensures { result.now ≡ slice_index_or self.now stop [] }
     {
-        self.rows[stop.index()].as_slice()
+        self.rows[stop].as_slice()
     }
 
     /// One list a stop, by its number.

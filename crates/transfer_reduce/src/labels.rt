@@ -3,7 +3,7 @@ ghost use Rattle.std.specs.Prelude.{◌≡◌, ◌<◌, ◌↔◌, ◌⊎◌, �
 ghost use Rattle.transfer_reduce.specs.Reached.{IsBy, IsReached};
 
 use super::times::Times;
-use paths_into::PathsInto;
+use paths_into::PackedPaths;
 use std::alloc::Global;
 use std::marker::Model;
 use std::snapshot::Snapshot;
@@ -15,7 +15,7 @@ use tb_base::{Memory, Sec, StopNo, Timetable};
 #[derive(Drop)]
 pub struct Labels {
     table: Snapshot<Timetable>,
-    into: PathsInto,
+    into: PackedPaths,
     times: Times,
 }
 
@@ -40,7 +40,7 @@ impl Labels {
         table.soundness();
         Ok(Labels {
             table: Snapshot::of(table),
-            into: PathsInto::of(alloc, table)?,
+            into: PackedPaths::of(alloc, table)?,
             times: Times::new(alloc, table.stop_count())?,
         })
     }
