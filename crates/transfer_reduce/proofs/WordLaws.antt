@@ -58,7 +58,7 @@ module _ (f : ℕ) (ws : List ℕ) (stop w : ℕ) (time : ℤ) (inside : stop < 
   at_stop vs below = get_or-map (time_in f) vs stop 0 None below
 
   -- a word that is less is written
-  pub lowered : w ≤ get_or ws stop 0 → (p : ℕ) (x : ℤ) → (IsBy (map (time_in f) (set ws stop w)) p x → IsBy (map (time_in f) ws) p x ⊎ ((stop ≡ p) × (time ≤ℤ x)))
+  lowered : w ≤ get_or ws stop 0 → (p : ℕ) (x : ℤ) → (IsBy (map (time_in f) (set ws stop w)) p x → IsBy (map (time_in f) ws) p x ⊎ ((stop ≡ p) × (time ≤ℤ x)))
       × (IsBy (map (time_in f) ws) p x ⊎ ((stop ≡ p) × (time ≤ℤ x)) → IsBy (map (time_in f) (set ws stop w)) p x)
   lowered less p x = by_case (cases_eq p stop)
     where
@@ -85,7 +85,7 @@ module _ (f : ℕ) (ws : List ℕ) (stop w : ℕ) (time : ℤ) (inside : stop < 
           back (inr h) = absurd (apart (sym h.0))
 
   -- and beside one that isn't greater none
-  pub not_lowered : get_or ws stop 0 ≤ w → (p : ℕ) (x : ℤ) → (IsBy (map (time_in f) ws) p x → IsBy (map (time_in f) ws) p x ⊎ ((stop ≡ p) × (time ≤ℤ x)))
+  not_lowered : get_or ws stop 0 ≤ w → (p : ℕ) (x : ℤ) → (IsBy (map (time_in f) ws) p x → IsBy (map (time_in f) ws) p x ⊎ ((stop ≡ p) × (time ≤ℤ x)))
       × (IsBy (map (time_in f) ws) p x ⊎ ((stop ≡ p) × (time ≤ℤ x)) → IsBy (map (time_in f) ws) p x)
   not_lowered less p x = (λ h. inl h, back)
     where
