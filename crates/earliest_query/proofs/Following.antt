@@ -1,6 +1,8 @@
 -- A hop of the set is followed.
-use Rattle.std.proofs.Common.{◌≡◌, ℕ, zero, suc, ◌+◌, ◌<◌, List, [], ◌∷◌, length, get_or, refl, sym, ap, subst, arith, Option, Some}
-use Rattle.std.specs.Prelude.{Contains}
+use Rattle.std.proofs.Common.{◌≡◌, ℕ, zero, suc, ◌+◌, ◌<◌, ◌≤◌, ◌⊎◌, inl, inr, List, [], ◌∷◌, length, get_or, refl, sym, ap, subst, arith, Option, Some}
+use Rattle.std.specs.Prelude.{Contains, flat_map}
+use Rattle.std.specs.List.{range_with_len}
+use Rattle.std.proofs.lemmas.List.Elements.{Contains-append_cases, Contains-append_left, Contains-append_right}
 use Rattle.tb_base.specs.Network.{NetData}
 use Rattle.tb_base.specs.declared.transfer.Hop.{Hop}
 use Rattle.tb_base.specs.TimetableData.{TimetableData, event_at, events_of, no_event, no_trip}
@@ -64,3 +66,29 @@ pub sound_event : (T : TimetableData) (t i : ℕ) → IsSound T → t < length T
 sound_event T t i sound trip event =
     let s : IsSoundTrip (length T.stops) (get_or T.trips t no_trip) = sound.trip t no_trip trip in
     s.events i no_event event
+
+-- each hop of one of the lists is in all of them
+pub in_all : (f : ℕ → List Hop) (a n i : ℕ) (h : Hop) → a ≤ i → i < a + n → Contains (f i) h → Contains (flat_map f (range_with_len a n)) h
+in_all f a zero i h low high one = absurd (omega (arith, low, high))
+in_all f a (suc n) i h low high one = elim (first_or_behind a i low) [
+  | inl e ↦ Contains-append_left (f a) (flat_map f (range_with_len (a + 1) n)) h (subst (λ k. Contains (f k) h) e one)
+  | inr behind ↦ Contains-append_right (f a) (flat_map f (range_with_len (a + 1) n)) h (in_all f (a + 1) n i h behind (omega (arith, high)) one)
+]
+  where
+    first_or_behind : (a i : ℕ) → a ≤ i → (i ≡ a) ⊎ (a + 1 ≤ i)
+    first_or_behind a i h = grind arith
+
+-- a number from one of the lists that a hop is in
+pub record IsInOne (f : ℕ → List Hop) (a n : ℕ) (h : Hop) : Type 0 where
+  pub at : ℕ
+  pub low : a ≤ at
+  pub high : at < a + n
+  pub one : Contains (f at) h
+
+-- each hop of all lists is in one of them
+pub in_one : (f : ℕ → List Hop) (a n : ℕ) (h : Hop) → Contains (flat_map f (range_with_len a n)) h → IsInOne f a n h
+in_one f a zero h some = absurd (omega (arith, some.1))
+in_one f a (suc n) h some = elim (Contains-append_cases (f a) (flat_map f (range_with_len (a + 1) n)) h some) [
+  | inl here ↦ record { at = a; low = omega arith; high = omega arith; one = here }
+  | inr behind ↦ (let r : IsInOne f (a + 1) n h = in_one f (a + 1) n h behind in record { at = r.at; low = omega (arith, r.low); high = omega (arith, r.high); one = r.one })
+]

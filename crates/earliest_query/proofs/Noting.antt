@@ -1,22 +1,21 @@
 -- Events are weighed, and noted to go on from.
-use Rattle.std.proofs.Common.{◌≡◌, ◌∙◌, ℕ, suc, ◌+◌, ◌<◌, ◌≤◌, ◌⊎◌, inl, inr, List, [], ◌∷◌, length, Bool, refl, sym, ap, subst, arith, Option, None, Some, ℤ}
-use Rattle.std.specs.Prelude.{All, Contains, min, slice_index_or, unwrap_or}
+use Rattle.std.proofs.Common.{◌≡◌, ◌∙◌, ℕ, suc, ◌+◌, ◌<◌, ◌≤◌, ◌⊎◌, inl, inr, List, [], length, Bool, refl, sym, ap, subst, arith, Option, None, Some, ℤ}
+use Rattle.std.specs.Prelude.{All, Contains, IfSome, MatchOption, min, slice_index_or, unwrap_or}
 use Rattle.std.proofs.lemmas.List.{append-nil}
-use Rattle.std.proofs.lemmas.List.Elements.{All-push, Contains-push, Contains-append_left}
+use Rattle.std.proofs.lemmas.List.Elements.{All-nil, All-push}
 use Rattle.tb_base.specs.Network.{NetData}
-use Rattle.tb_base.specs.TimetableData.{arrival_at, event_at, stop_at}
+use Rattle.tb_base.specs.TimetableData.{TimetableData, arrival_at, event_at, events_of, stop_at}
 use Rattle.tb_base.specs.BestValues.{QueryData}
 use Rattle.tb_base.specs.Soundness.{IsSound}
 use Rattle.segment_queue.specs.declared.desk.Segment.{Segment}
 use Rattle.segment_queue.specs.declared.desk.Hit.{Hit}
 use Rattle.segment_queue.specs.declared.notes.Note.{Note}
 use Rattle.segment_queue.specs.declared.seen.Seen.{Seen}
-use Rattle.tb_base.specs.declared.transfer.Hop.{Hop}
 use Rattle.segment_queue.specs.Queue.{DeskData, IsClipped, IsInStep, IsSoundSegment, last_index, mark_of}
-use Rattle.segment_queue.specs.Scans.{seen_at, trips_from}
+use Rattle.segment_queue.specs.Scans.{AreEvents, seen_arr, seen_first, seen_last, seen_trip, trips_from}
 use Rattle.segment_queue.specs.Traced.{no_segment, round_of, segment_of}
 use Rattle.earliest_query.specs.Choices.{ArrivesBy, IsWeighed}
-use Rattle.earliest_query.specs.Noted.{IsLeft, IsNotedDown, IsSoundNote, IsWeighedOff}
+use Rattle.earliest_query.specs.Noted.{IsLeft, IsNoted, IsSeenBehind, IsSoundNote, IsWeighedOff, notes_of}
 use Rattle.earliest_query.specs.UnderWay.{Covers, Extends, IsBounded, IsImproved, IsOutdone, IsQueue, trips_left}
 use Rattle.earliest_query.proofs.LineBoarding.{no_later-trans}
 use Rattle.segment_queue.proofs.LineParts.{itself, of_lines, trips_no_later}
@@ -56,23 +55,98 @@ pub notes-extends : (D : DeskData) (notes : List Note) (round : ℕ) → Extends
 notes-extends D notes round = record { more = []; segments = sym (append-nil D.segments); rounds = λ n h k. absurd (omega (arith, h, k)); hits = refl }
 
 -- a note stays sound while the queue grows
-pub sound_note-kept : (shown : Seen → List Hop) (N : NetData) (D E : DeskData) (joined round : ℕ) (note : Note) → Extends D E joined → IsSoundNote shown N D.segments round note → IsSoundNote shown N E.segments round note
-sound_note-kept shown N D E joined round note e s =
+pub sound_note-kept : (N : NetData) (D E : DeskData) (joined round : ℕ) (note : Note) → Extends D E joined → IsSoundNote N D.segments round note → IsSoundNote N E.segments round note
+sound_note-kept N D E joined round note e s =
     let same : segment_of E.segments note.segment ≡ segment_of D.segments note.segment = extends-segment D E joined e note.segment s.inside in
     record {
       inside = omega (arith, s.inside, extends-long D E joined e);
       this_round = extends-round D E joined e note.segment s.inside ∙ s.this_round;
-      onward = omega (arith, s.onward, ap (λ (r : Segment). r.board) same);
+      trip = s.trip ∙ ap (λ (r : Segment). r.trip) (sym same);
+      first = s.first ∙ ap (λ (r : Segment). suc r.board) (sym same);
+      order = s.order;
       within = omega (arith, s.within, ap (λ (r : Segment). r.end) same);
-      arr = s.arr ∙ ap (λ (r : Segment). arrival_at N.table r.trip (seen_at note.seen)) (sym same);
-      shows = s.shows ∙ ap (λ (r : Segment). N.hops r.trip (seen_at note.seen)) (sym same);
+      arr = s.arr ∙ ap (λ (r : Segment). arrival_at N.table r.trip (seen_first note.seen)) (sym same);
     }
+
+-- a note is of events of the timetable
+pub note_events : (N : NetData) (segments : List Segment) (round : ℕ) (note : Note) → All (IsSoundSegment N.table) segments → IsSoundNote N segments round note → AreEvents N.table note.seen
+note_events N segments round note all s =
+    let whole : IsSoundSegment N.table (segment_of segments note.segment) = all note.segment no_segment s.inside in
+    record {
+      trip = omega (arith, s.trip, whole.trip);
+      order = s.order;
+      within = omega (arith, s.within, whole.within, ap (λ t. length (events_of N.table t)) s.trip);
+    }
+
+-- what has been seen of a segment, up to this index
+pub record IsSeenUpTo (T : TimetableData) (s : Segment) (w : Seen) (at : ℕ) : Type 0 where
+  pub trip : seen_trip w ≡ s.trip
+  pub first : seen_first w ≡ suc s.board
+  pub last : seen_last w ≡ at
+  pub order : s.board < at
+  pub arr : seen_arr w ≡ arrival_at T s.trip (seen_first w)
+
+abbrev pub IsSeenTo : TimetableData → Segment → Option Seen → ℕ → Type 0
+IsSeenTo T s None at = at ≡ s.board
+IsSeenTo T s (Some w) at = IsSeenUpTo T s w at
+
+-- an index of the segment that was looked at by itself
+pub record IsSeenAt (T : TimetableData) (s : Segment) (w : Seen) (at : ℕ) : Type 0 where
+  pub trip : seen_trip w ≡ s.trip
+  pub first : seen_first w ≡ at
+  pub last : seen_last w ≡ at
+  pub arr : seen_arr w ≡ arrival_at T s.trip at
+
+pub seen_behind : (T : TimetableData) (s : Segment) (seen : Option Seen) (next : Seen) (at : ℕ) → IsSeenTo T s seen at → IsSeenAt T s next (at + 1) → IfSome seen (λ w. IsSeenBehind w next)
+seen_behind T s None next at to here = tt
+seen_behind T s (Some w) next at to here = record { trip = here.trip ∙ sym to.trip; behind = omega (arith, here.first, to.last) }
+
+pub seen_more : (T : TimetableData) (s : Segment) (seen : Option Seen) (next result : Seen) (at : ℕ) → IsSeenTo T s seen at → IsSeenAt T s next (at + 1) → seen_trip result ≡ seen_trip next → seen_last result ≡ seen_last next
+    → MatchOption seen ((seen_first result ≡ seen_first next) × (seen_arr result ≡ seen_arr next)) (λ w. (seen_first result ≡ seen_first w) × (seen_arr result ≡ seen_arr w))
+    → IsSeenUpTo T s result (at + 1)
+seen_more T s None next result at to here trip last first = record {
+  trip = trip ∙ here.trip;
+  first = omega (arith, first.0, here.first, to);
+  last = last ∙ here.last;
+  order = omega (arith, to);
+  arr = first.1 ∙ here.arr ∙ ap (λ k. arrival_at T s.trip k) (sym (first.0 ∙ here.first));
+}
+seen_more T s (Some w) next result at to here trip last first = record {
+  trip = trip ∙ here.trip;
+  first = first.0 ∙ to.first;
+  last = last ∙ here.last;
+  order = omega (arith, to.order);
+  arr = first.1 ∙ to.arr ∙ ap (λ k. arrival_at T s.trip k) (sym first.0);
+}
+
+-- what has been seen of segment n is noted
+pub seen_noted : (T : TimetableData) (s : Segment) (seen : Option Seen) (n at i : ℕ) → IsSeenTo T s seen at → s.board < i → i ≤ at → IsNoted (notes_of n seen) n i
+seen_noted T s None n at i to above below = absurd (omega (arith, to, above, below))
+seen_noted T s (Some w) n at i to above below = record {
+  by = record { segment = n; seen = w };
+  one = (0, omega arith, refl);
+  of = record { segment = refl; from = omega (arith, to.first, above); to = omega (arith, to.last, below) };
+}
+
+-- and the note of it is sound
+pub seen_sound : (N : NetData) (segments : List Segment) (s : Segment) (seen : Option Seen) (n at round : ℕ) → segment_of segments n ≡ s → n < length segments → round_of segments n ≡ round → at ≤ s.end → IsSeenTo N.table s seen at → All (IsSoundNote N segments round) (notes_of n seen)
+seen_sound N segments s None n at round is inside is_round within to = All-nil (IsSoundNote N segments round)
+seen_sound N segments s (Some w) n at round is inside is_round within to =
+    All-push (IsSoundNote N segments round) [] (record { segment = n; seen = w }) (All-nil (IsSoundNote N segments round)) (record {
+      inside = inside;
+      this_round = is_round;
+      trip = to.trip ∙ ap (λ (r : Segment). r.trip) (sym is);
+      first = to.first ∙ ap (λ (r : Segment). suc r.board) (sym is);
+      order = omega (arith, to.first, to.last, to.order);
+      within = omega (arith, to.last, within, ap (λ (r : Segment). r.end) is);
+      arr = to.arr ∙ ap (λ (r : Segment). arrival_at N.table r.trip (seen_first w)) (sym is);
+    })
 
 -- what is left stays left, with a better hit and more notes too
 pub left-kept : (N : NetData) (Q : QueryData) (D : DeskData) (round n i : ℕ) (a b : Option Hit) (before after : List Note) → n < length D.segments → ((note : Note) → Contains before note → Contains after note) → IsImproved N.table Q D round a b
     → IsLeft N D a before n i → IsLeft N D b after n i
 left-kept N Q D round n i a b before after inside more improved (inl done) = inl (done-kept N Q D D (suc round) round n i a b (extends-refl D (suc round)) inside improved done)
-left-kept N Q D round n i a b before after inside more improved (inr noted) = inr (record { by = noted.by; one = more noted.by noted.one; segment = noted.segment; at = noted.at })
+left-kept N Q D round n i a b before after inside more improved (inr noted) = inr (record { by = noted.by; one = more noted.by noted.one; of = noted.of })
 
 -- an event of segment n of a desk D is weighed, by which the best so far became the result
 pub record IsWeighedAt (N : NetData) (Q : QueryData) (D : DeskData) (n at round : ℕ) (best result : Option Hit) : Type 0 where
@@ -90,15 +164,12 @@ pub record IsWeighedAt (N : NetData) (Q : QueryData) (D : DeskData) (n at round 
   pub alight_is : alight ≡ (event_at N.table segment.trip at).alight
   pub weighed : IsWeighed N.table Q stop arr alight n at round best result
 
--- what has been noted of segment n, up to this index, since these notes
-pub record IsNotedTo (shown : Seen → List Hop) (N : NetData) (Q : QueryData) (D : DeskData) (n round : ℕ) (so_far : Option Hit) (before notes : List Note) (best : Option Hit) (at : ℕ) : Type 0 where
-  pub sound : All (IsSoundNote shown N D.segments round) notes
-  pub kept : (note : Note) → Contains before note → Contains notes note
-  pub left : (i : ℕ) → (segment_of D.segments n).board < i → i ≤ at → IsLeft N D best notes n i
+-- what has been weighed of segment n, up to this index
+pub record IsWeighedTo (N : NetData) (Q : QueryData) (D : DeskData) (n round : ℕ) (so_far best : Option Hit) (at : ℕ) : Type 0 where
   pub bounded : (i : ℕ) → (segment_of D.segments n).board < i → i ≤ at → IsBounded N.table Q D best n i
   pub improved : IsImproved N.table Q D round so_far best
 
-module _ (shown : Seen → List Hop) (N : NetData) (Q : QueryData) (D : DeskData) (n done round : ℕ) (so_far best result : Option Hit) (before notes : List Note) (to : IsNotedTo shown N Q D n round so_far before notes best done) (w : IsWeighedAt N Q D n (done + 1) round best result) where
+module _ (N : NetData) (Q : QueryData) (D : DeskData) (n done round : ℕ) (so_far best result : Option Hit) (to : IsWeighedTo N Q D n round so_far best done) (w : IsWeighedAt N Q D n (done + 1) round best result) where
   covers : Covers D n (done + 1)
   covers = record { onward = omega (arith, w.onward, ap (λ (s : Segment). s.board) w.is); within = omega (arith, w.within, ap (λ (s : Segment). s.end) w.is) }
 
@@ -118,37 +189,14 @@ module _ (shown : Seen → List Hop) (N : NetData) (Q : QueryData) (D : DeskData
   before_or_here : (i : ℕ) → i ≤ (done + 1) → (i ≤ done) ⊎ ((done + 1) ≡ i)
   before_or_here i h = grind arith
 
-  -- it is noted, where there are hops from it
-  module _ (note : Note) (after : List Note) (sound_here : IsSoundNote shown N D.segments round note) (of_n : note.segment ≡ n) (of_at : seen_at note.seen ≡ done + 1) (hops : ℕ) (hops_are : hops ≡ length (N.hops (segment_of D.segments n).trip (done + 1))) (noted : IsNotedDown hops note notes after) where
-    more : (other : Note) → Contains notes other → Contains after other
-    more other h = elim noted [
-      | inl e ↦ subst (λ xs. Contains xs other) (sym e.1) h
-      | inr e ↦ subst (λ xs. Contains xs other) (sym e) (Contains-append_left notes (note ∷ []) other h)
-    ]
-
-    left_here : IsLeft N D result after n (done + 1)
-    left_here = elim noted [
-      | inl e ↦ inl (inl (λ h in_set. absurd (omega (arith, in_set.1, hops_are, e.0))))
-      | inr e ↦ inr (record { by = note; one = subst (λ xs. Contains xs note) (sym e) (Contains-push notes note); segment = of_n; at = of_at })
-    ]
-
-    pub noted_on : IsNotedTo shown N Q D n round so_far before after result (done + 1)
-    noted_on = record {
-      sound = elim noted [
-        | inl e ↦ subst (All (IsSoundNote shown N D.segments round)) (sym e.1) to.sound
-        | inr e ↦ subst (All (IsSoundNote shown N D.segments round)) (sym e) (All-push (IsSoundNote shown N D.segments round) notes note to.sound sound_here)
-      ];
-      kept = λ other h. more other (to.kept other h);
-      left = λ i above below. elim (before_or_here i below) [
-        | inl earlier ↦ left-kept N Q D round n i best result notes after w.inside more better (to.left i above earlier)
-        | inr e ↦ subst (λ m. IsLeft N D result after n m) e left_here
-      ];
-      bounded = λ i above below. elim (before_or_here i below) [
-        | inl earlier ↦ bounded-improved N.table Q D D round best result n i better (to.bounded i above earlier)
-        | inr e ↦ subst (λ m. IsBounded N.table Q D result n m) e (weighed_bounded N.table Q D D (suc round) n (done + 1) round best result (extends-refl D (suc round)) w.inside covers w.is_round here)
-      ];
-      improved = improved_now;
-    }
+  pub weighed_on : IsWeighedTo N Q D n round so_far result (done + 1)
+  weighed_on = record {
+    bounded = λ i above below. elim (before_or_here i below) [
+      | inl earlier ↦ bounded-improved N.table Q D D round best result n i better (to.bounded i above earlier)
+      | inr e ↦ subst (λ m. IsBounded N.table Q D result n m) e (weighed_bounded N.table Q D D (suc round) n (done + 1) round best result (extends-refl D (suc round)) w.inside covers w.is_round here)
+    ];
+    improved = improved_now;
+  }
 
   -- one gets there no earlier than the best so far arrives: so it is with all that follow
   module _ (sound : IsSound N.table) (whole : IsSoundSegment N.table (segment_of D.segments n)) (late : ArrivesBy result w.arr) where
@@ -161,9 +209,9 @@ module _ (shown : Seen → List Hop) (N : NetData) (Q : QueryData) (D : DeskData
     late_from : (i : ℕ) → Covers D n i → (done + 1) ≤ i → ArrivesBy result (arrival_at N.table (segment_of D.segments n).trip i)
     late_from i c from = arrives_by-later result _ _ (arrives_on N.table (segment_of D.segments n).trip (done + 1) i sound whole.trip from (omega (arith, c.within, whole.within))) late_here
 
-    pub left_late : (i : ℕ) → Covers D n i → IsLeft N D result notes n i
-    left_late i c = elim (before_or_from i) [
-      | inl earlier ↦ left-kept N Q D round n i best result notes notes w.inside (λ note h. h) better (to.left i c.onward earlier)
+    pub left_late : (notes : List Note) → ((i : ℕ) → (segment_of D.segments n).board < i → i ≤ done → IsNoted notes n i) → (i : ℕ) → Covers D n i → IsLeft N D result notes n i
+    left_late notes noted i c = elim (before_or_from i) [
+      | inl earlier ↦ inr (noted i c.onward earlier)
       | inr from ↦ inl (inr (late_from i c from))
     ]
 

@@ -35,25 +35,4 @@ impl<S: Scan> Search<'_, S> {
         scan.soundness();
         let _entered = desk.reach(scan, hop.trip, hop.at, parent);
     }
-
-    // Follows the hops from an index that a segment covers.
-    pub(crate) fn follow(&self, desk: &mut Desk, hops: &[Hop], segment: u32, at: u32)
-        requires queue { IsQueue (S.net self.now.scan.now) self.now.query.now desk.old
-            (suc (round_of desk.old.segments segment)) }
-        requires segment { segment < length desk.old.segments }
-        requires covers { Covers desk.old segment at }
-        requires hops { hops.now
-            ≡ (S.net self.now.scan.now).hops (segment_of desk.old.segments segment).trip at }
-        requires sufficient { AreSufficient (S.net self.now.scan.now).table
-            (S.net self.now.scan.now).hops }
-        ensures queue { IsQueue (S.net self.now.scan.now) self.now.query.now desk.new
-            (suc (round_of desk.old.segments segment)) }
-        ensures extends { Extends desk.old desk.new (suc (round_of desk.old.segments segment)) }
-        ensures followed { IsFollowed (S.net self.now.scan.now) desk.new segment at }
-        ensures notes { desk.new.notes ≡ desk.old.notes }
-    {
-        for hop in hops {
-            self.enter(desk, *hop, Some((segment, at)));
-        }
-    }
 }

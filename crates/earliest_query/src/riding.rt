@@ -1,19 +1,19 @@
-ghost use Rattle.std.specs.Prelude.{◌≡◌, ◌+◌, ◌<◌, ◌≤◌, ◌⊎◌, ℕ, suc, Option, Some, All, Contains, IsTrue, ◌↔◌, MatchBool, length, pos, ◌≤ℤ◌};
+ghost use Rattle.std.specs.Prelude.{◌≡◌, ◌+◌, ◌<◌, ◌≤◌, ◌⊎◌, ◌++◌, ℕ, suc, Option, Some, All, Contains, IfSome, IsTrue, ◌↔◌, MatchBool, MatchOption, length, pos, slice_get, ◌≤ℤ◌};
 ghost use Rattle.tb_base.specs.Sufficiency.{AreSufficient};
 ghost use Rattle.tb_base.specs.Walking.{walk};
 ghost use Rattle.segment_queue.specs.Queue.{covered_indices};
-ghost use Rattle.segment_queue.specs.Scans.{seen_at};
+ghost use Rattle.segment_queue.specs.Scans.{hops_seen, seen_arr, seen_first, seen_last, seen_trip};
 ghost use Rattle.segment_queue.specs.Traced.{round_of, segment_of};
 ghost use Rattle.segment_queue.specs.declared.notes.Note.{Note};
 ghost use Rattle.earliest_query.specs.Choices.{ArrivesBy, IsWeighed, alighting_hit, earlier_hit};
-ghost use Rattle.earliest_query.specs.Noted.{IsNotedDown, IsSoundNote, IsWeighedOff};
-ghost use Rattle.earliest_query.specs.UnderWay.{Covers, Extends, IsDealtWith, IsDone, IsImproved, IsOutdone, IsQueue, covered_before};
+ghost use Rattle.earliest_query.specs.Noted.{IsOf, IsSeenBehind, IsSoundNote, IsWeighedOff, notes_of};
+ghost use Rattle.earliest_query.specs.UnderWay.{Covers, Extends, IsDealtWith, IsDone, IsImproved, IsOutdone, IsQueue, IsReachedBy, covered_before};
 
 use super::search::Search;
 use super::walks::{nearest, targets};
-use segment_queue::{Desk, Hit, LastLeg, Look, Note, Scan, Steps, Visit};
+use segment_queue::{Desk, Hit, LastLeg, Look, Note, Scan, Seen, Steps, Visit};
 use std::sync::ledger::Ledger;
-use tb_base::{Path, StopNo, Value};
+use tb_base::{Hop, Path, StopNo, Value};
 
 // Whether one may alight at an event, and it is reached before the best hit so far arrives.
 fn may_improve(best: &Option<Hit>, visit: &Visit<'_>) -> bool
@@ -36,31 +36,38 @@ pub(crate) fn is_late(best: &Option<Hit>, visit: &Visit<'_>) -> bool
     }
 }
 
-// Whether the best hit arrives no later than an event that was noted is reached.
+// Whether the best hit arrives no later than the first of the events that were noted is reached.
 fn is_noted_late(best: &Option<Hit>, note: &Note) -> bool
-    ensures { IsTrue result ↔ ArrivesBy best.now note.now.arr }
+    ensures { IsTrue result ↔ ArrivesBy best.now (seen_arr note.now.seen) }
 {
     match best {
-        Some(hit) => hit.value.arrive <= note.arr,
+        Some(hit) => hit.value.arrive <= note.seen.arr(),
         None => false,
     }
 }
 
-// Notes an event of a segment, to go on from, where there are hops from it.
-fn note_down(desk: &mut Desk, segment: u32, visit: &Visit<'_>)
-    requires { length desk.old.notes < desk.old.note_room }
-    ensures rest { desk.new ≡ record desk.old { notes = desk.new.notes } }
-    ensures noted { IsNotedDown (length visit.now.out.now)
-        (record { segment = segment; arr = visit.now.arr; seen = visit.now.seen })
-        desk.old.notes desk.new.notes }
+// What has been seen of a trip, with the event behind it.
+fn seen_on(seen: Option<Seen>, next: &Seen) -> Seen
+    requires { IfSome seen (λ s. IsSeenBehind s next.now) }
+    ensures trip { seen_trip result ≡ seen_trip next.now }
+    ensures last { seen_last result ≡ seen_last next.now }
+    ensures first { MatchOption seen
+        ((seen_first result ≡ seen_first next.now) × (seen_arr result ≡ seen_arr next.now))
+        (λ s. (seen_first result ≡ seen_first s) × (seen_arr result ≡ seen_arr s)) }
 {
-    if visit.out.len() > 0 {
-        let note = Note {
-            segment,
-            arr: visit.arr,
-            seen: visit.seen,
-        };
-        desk.add_note(note);
+    match seen {
+        Some(seen) => seen.and(next),
+        None => *next,
+    }
+}
+
+// Notes what was seen of a segment, to go on from.
+fn note_down(desk: &mut Desk, segment: u32, seen: Option<Seen>)
+    requires { length desk.old.notes < desk.old.note_room }
+    ensures { desk.new ≡ record desk.old { notes = desk.old.notes ++ notes_of segment seen } }
+{
+    if let Some(seen) = seen {
+        desk.add_note(Note { segment, seen });
     }
 }
 
@@ -136,9 +143,54 @@ impl<S: Scan> Search<'_, S> {
         }
     }
 
-    // Looks at the indices that a segment covers one by one, weighs to alight there, and notes them to
-    // go on from. It ends where one gets no earlier than the best hit so far arrives, and where the
-    // trip before on the line has been entered, in which one is there as early with no more rides.
+    // Looks at the indices that a segment covers one by one, and weighs to alight there. It ends where
+    // one gets no earlier than the best hit so far arrives, and where the trip before on the line has
+    // been entered, in which one is there as early with no more rides. Answers what it has seen
+    // before, too.
+    fn weigh_events<L: Ledger>(
+        &self,
+        desk: &Desk,
+        n: u32,
+        round: u32,
+        so_far: Option<Hit>,
+        steps: &mut Steps<L>,
+    ) -> (Option<Hit>, Option<Seen>)
+    where
+        S: Look<L>,
+        requires queue { IsQueue (S.net self.now.scan.now) self.now.query.now desk.now round }
+        requires segment { n < length desk.now.segments }
+        requires round { round_of desk.now.segments n ≡ round }
+        ensures seen { All (IsSoundNote (S.net self.now.scan.now) desk.now.segments round)
+            (notes_of n result.1) }
+        ensures weighed { (i : ℕ) → Covers desk.now n i →
+            IsWeighedOff (S.net self.now.scan.now) self.now.query.now desk.now result.0
+            (notes_of n result.1) n i
+            ⊎ IsOutdone (S.net self.now.scan.now) desk.now.segments n i }
+        ensures improved { IsImproved (S.net self.now.scan.now).table self.now.query.now desk.now
+            round so_far result.0 }
+        ensures steps { steps.new ≤ steps.old + covered_indices (segment_of desk.now.segments n) }
+    {
+        let scan = self.scan;
+        scan.soundness();
+        let Some(segment) = desk.segment(n) else {
+            return (so_far, None);
+        };
+        let end = desk.clipped_end(scan, &segment);
+        let mut best = so_far;
+        let mut seen = None;
+        for before in segment.board..end {
+            let at = before + 1;
+            let visit = scan.visit(segment.trip, at, steps);
+            best = self.weigh(best, &visit, n, at, round);
+            if is_late(&best, &visit) {
+                return (best, seen);
+            }
+            seen = Some(seen_on(seen, &visit.seen));
+        }
+        (best, seen)
+    }
+
+    // Weighs a segment, and notes what was seen of it to go on from.
     fn weigh_segment<L: Ledger>(
         &self,
         desk: &mut Desk,
@@ -154,11 +206,11 @@ impl<S: Scan> Search<'_, S> {
         requires round { round_of desk.old.segments n ≡ round }
         requires room { length desk.old.notes + covered_indices (segment_of desk.old.segments n)
             ≤ desk.old.note_room }
-        requires notes { All (IsSoundNote (S.shown self.now.scan.now) (S.net self.now.scan.now)
-            desk.old.segments round) desk.old.notes }
+        requires notes { All (IsSoundNote (S.net self.now.scan.now) desk.old.segments round)
+            desk.old.notes }
         ensures rest { desk.new ≡ record desk.old { notes = desk.new.notes } }
-        ensures notes { All (IsSoundNote (S.shown self.now.scan.now) (S.net self.now.scan.now)
-            desk.old.segments round) desk.new.notes }
+        ensures notes { All (IsSoundNote (S.net self.now.scan.now) desk.old.segments round)
+            desk.new.notes }
         ensures kept { (note : Note) → Contains desk.old.notes note → Contains desk.new.notes note }
         ensures weighed { (i : ℕ) → Covers desk.old n i →
             IsWeighedOff (S.net self.now.scan.now) self.now.query.now desk.old result
@@ -170,22 +222,8 @@ impl<S: Scan> Search<'_, S> {
             ≤ length desk.old.notes + covered_indices (segment_of desk.old.segments n) }
         ensures steps { steps.new ≤ steps.old + covered_indices (segment_of desk.old.segments n) }
     {
-        let scan = self.scan;
-        scan.soundness();
-        let Some(segment) = desk.segment(n) else {
-            return so_far;
-        };
-        let end = desk.clipped_end(scan, &segment);
-        let mut best = so_far;
-        for before in segment.board..end {
-            let at = before + 1;
-            let visit = scan.visit(segment.trip, at, steps);
-            best = self.weigh(best, &visit, n, at, round);
-            if is_late(&best, &visit) {
-                return best;
-            }
-            note_down(desk, n, &visit);
-        }
+        let (best, seen) = self.weigh_events(desk, n, round, so_far, steps);
+        note_down(desk, n, seen);
         best
     }
 
@@ -206,8 +244,8 @@ impl<S: Scan> Search<'_, S> {
         requires to { to ≤ length desk.old.segments }
         requires rounds { (n : ℕ) → from ≤ n → n < to → round_of desk.old.segments n ≡ round }
         ensures rest { desk.new ≡ record desk.old { notes = desk.new.notes } }
-        ensures notes { All (IsSoundNote (S.shown self.now.scan.now) (S.net self.now.scan.now)
-            desk.old.segments round) desk.new.notes }
+        ensures notes { All (IsSoundNote (S.net self.now.scan.now) desk.old.segments round)
+            desk.new.notes }
         ensures weighed { (n i : ℕ) → from ≤ n → n < to → Covers desk.old n i →
             IsWeighedOff (S.net self.now.scan.now) self.now.query.now desk.old result
             desk.new.notes n i
@@ -226,40 +264,67 @@ impl<S: Scan> Search<'_, S> {
         best
     }
 
-    // Follows the hops from an event that was noted, unless one gets there no earlier than the best
-    // hit arrives.
-    fn follow_note(&self, desk: &mut Desk, best: &Option<Hit>, note: &Note, round: u32)
+    // Follows the hop with this place among those from the events that were noted.
+    fn follow_hop(&self, desk: &mut Desk, hop: Hop, note: &Note, place: usize, round: u32)
         requires queue { IsQueue (S.net self.now.scan.now) self.now.query.now desk.old (suc round) }
-        requires note { IsSoundNote (S.shown self.now.scan.now) (S.net self.now.scan.now)
-            desk.old.segments round note.now }
+        requires note { IsSoundNote (S.net self.now.scan.now) desk.old.segments round note.now }
+        requires hop { slice_get (hops_seen (S.net self.now.scan.now).hops note.now.seen) place
+            ≡ Some hop }
         requires sufficient { AreSufficient (S.net self.now.scan.now).table
             (S.net self.now.scan.now).hops }
         ensures queue { IsQueue (S.net self.now.scan.now) self.now.query.now desk.new (suc round) }
         ensures extends { Extends desk.old desk.new (suc round) }
         ensures notes { desk.new.notes ≡ desk.old.notes }
-        ensures done { IsDone (S.net self.now.scan.now) desk.new best.now note.now.segment
-            (seen_at note.now.seen) }
+        ensures reached { IsReachedBy (S.net self.now.scan.now).table desk.new
+            (length desk.new.segments) (suc round) hop.trip hop.at }
     {
+        let scan = self.scan;
+        scan.soundness();
+        if desk.is_passed(scan, hop.trip, hop.at) {
+            return;
+        }
+        let at = scan.event_of(&note.seen, place);
+        self.enter(desk, hop, Some((note.segment, at)));
+    }
+
+    // Follows the hops from the events that were noted, unless one gets to the first no earlier than
+    // the best hit arrives.
+    fn follow_note(&self, desk: &mut Desk, best: &Option<Hit>, note: &Note, round: u32)
+        requires queue { IsQueue (S.net self.now.scan.now) self.now.query.now desk.old (suc round) }
+        requires note { IsSoundNote (S.net self.now.scan.now) desk.old.segments round note.now }
+        requires sufficient { AreSufficient (S.net self.now.scan.now).table
+            (S.net self.now.scan.now).hops }
+        ensures queue { IsQueue (S.net self.now.scan.now) self.now.query.now desk.new (suc round) }
+        ensures extends { Extends desk.old desk.new (suc round) }
+        ensures notes { desk.new.notes ≡ desk.old.notes }
+        ensures done { (i : ℕ) → IsOf note.now note.now.segment i →
+            IsDone (S.net self.now.scan.now) desk.new best.now note.now.segment i }
+    {
+        let scan = self.scan;
+        scan.soundness();
         if is_noted_late(best, note) {
             return;
         }
-        let scan = self.scan;
-        let hops = scan.hops_from(note.seen);
-        self.follow(desk, hops, note.segment, note.seen.at());
+        let hops = scan.hops_from(&note.seen);
+        for place in 0..hops.len() {
+            self.follow_hop(desk, hops[place], note, place, round);
+        }
     }
 
     // Follows the hops from all events that were noted.
     fn follow_notes(&self, desk: &mut Desk, best: &Option<Hit>, round: u32)
         requires queue { IsQueue (S.net self.now.scan.now) self.now.query.now desk.old (suc round) }
-        requires notes { All (IsSoundNote (S.shown self.now.scan.now) (S.net self.now.scan.now)
-            desk.old.segments round) desk.old.notes }
+        requires notes { All (IsSoundNote (S.net self.now.scan.now) desk.old.segments round)
+            desk.old.notes }
         requires sufficient { AreSufficient (S.net self.now.scan.now).table
             (S.net self.now.scan.now).hops }
         ensures queue { IsQueue (S.net self.now.scan.now) self.now.query.now desk.new (suc round) }
         ensures extends { Extends desk.old desk.new (suc round) }
-        ensures done { (note : Note) → Contains desk.old.notes note →
-            IsDone (S.net self.now.scan.now) desk.new best.now note.segment (seen_at note.seen) }
+        ensures done { (note : Note) (i : ℕ) → Contains desk.old.notes note →
+            IsOf note note.segment i →
+            IsDone (S.net self.now.scan.now) desk.new best.now note.segment i }
     {
+        self.scan.soundness();
         for k in 0..desk.note_count() {
             desk.read_notes_ahead(self.scan, k);
             let note = desk.note(k);

@@ -7,10 +7,7 @@ use Rattle.tb_base.specs.Soundness.{IsSound}
 use Rattle.tb_base.specs.Sufficiency.{AreSufficient}
 use Rattle.tb_base.specs.TimetableData.{TimetableData}
 use Rattle.tb_base.specs.Transfers.{kept_hops, transfers_of}
-use Rattle.tb_base.specs.declared.transfer.Hop.{Hop}
 use Rattle.transfer_pack.specs.Packed.{PackedHops, packed}
-use Rattle.segment_queue.specs.declared.seen.Seen.{Seen}
-use Rattle.segment_queue.specs.Scans.{shown_in}
 
 -- a timetable, lines, a set of hops, and how many hops there are in all
 pub record EditionData : Type 0 where
@@ -22,10 +19,6 @@ pub record EditionData : Type 0 where
 -- its network
 abbrev pub net_of : EditionData → NetData
 net_of e = record { table = e.table; lines = e.lines; hops = packed e.set }
-
--- the hops from an event of it that has been looked at
-abbrev pub shown_of : EditionData → Seen → List Hop
-shown_of e = shown_in e.set
 
 -- how many transfers are kept, those of all trips
 abbrev pub kept_count : TimetableData → List (List ℕ) → ℕ

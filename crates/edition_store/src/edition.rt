@@ -2,7 +2,7 @@ ghost use Rattle.std.specs.Prelude.{◌≡◌, ℕ, IfOk};
 ghost use Rattle.tb_base.specs.Sufficiency.{AreSufficient};
 ghost use Rattle.tb_base.specs.Transfers.{kept_hops};
 ghost use Rattle.transfer_pack.specs.Packed.{packed};
-ghost use Rattle.edition_store.specs.Editions.{EditionData, IsEdition, kept_count, net_of, shown_of};
+ghost use Rattle.edition_store.specs.Editions.{EditionData, IsEdition, kept_count, net_of};
 
 use line_split::Lines;
 use segment_queue::{Look, Scan, Seen, Shape, Steps, View, Visit, WalkGroups};
@@ -151,8 +151,6 @@ impl Edition {
 impl Scan for Edition {
     ghost net = { net_of };
 
-    ghost shown = { shown_of };
-
     fn soundness(&self) {
         self.view().soundness();
     }
@@ -189,16 +187,20 @@ impl Scan for Edition {
         self.view().trip_before(trip)
     }
 
-    fn hops_from(&self, seen: Seen) -> &[Hop] {
-        self.view().hops_seen(seen)
+    fn hops_from(&self, seen: &Seen) -> &[Hop] {
+        self.view().hops_of(seen)
+    }
+
+    fn event_of(&self, seen: &Seen, place: usize) -> u32 {
+        self.view().event_of(seen, place)
     }
 
     fn read_event_ahead(&self, trip: TripNo, at: u32, ahead: &mut ReadAhead) {
         self.view().read_event_ahead(trip, at, ahead);
     }
 
-    fn read_hop_ahead(&self, seen: Seen, ahead: &mut ReadAhead) {
-        self.view().read_hop_ahead(seen, ahead);
+    fn read_hops_ahead(&self, seen: &Seen, ahead: &mut ReadAhead) {
+        self.view().read_hops_ahead(seen, ahead);
     }
 }
 

@@ -1,13 +1,13 @@
 -- What a search sees of lines: the trips from one on, the line indices at a stop, and who boards
 -- there.
-use Rattle.std.specs.Prelude.{◌≡◌, ℕ, ◌==◌, Contains, List, [], ◌∷◌, Option, None, length, map, filter, flat_map, slice_index_or, if◌then◌else◌, ℤ}
+use Rattle.std.specs.Prelude.{◌≡◌, ℕ, ◌<◌, ◌≤◌, ◌==◌, Contains, List, [], ◌∷◌, Option, None, length, map, filter, flat_map, slice_index_or, if◌then◌else◌, ℤ}
 use Rattle.std.specs.List.{list_any}
 use Rattle.std.specs.Option.{option_map}
 use Rattle.tb_base.specs.declared.transfer.Hop.{Hop}
 use Rattle.tb_base.specs.TimetableData.{TimetableData, events_of, stop_at}
 use Rattle.tb_base.specs.Transfers.{line_from, earliest_trip, may_be_boarded, numbers_below}
 use Rattle.segment_queue.specs.declared.seen.Seen.{Seen}
-use Rattle.transfer_pack.specs.Packed.{PackedHops, hops_in}
+use Rattle.transfer_pack.specs.Packed.{hops_over}
 
 -- the part of its line from trip t on
 abbrev pub trips_from : List (List ℕ) → ℕ → List ℕ
@@ -46,13 +46,31 @@ indices_at T p line =
 abbrev pub line_indices_at : TimetableData → List (List ℕ) → ℕ → List LineIndex
 line_indices_at T lines p = flat_map (indices_at T p) lines
 
--- the index in its trip of an event that has been looked at
-abbrev pub seen_at : Seen → ℕ
-seen_at s = s.at
+-- the trip of the events that have been looked at
+abbrev pub seen_trip : Seen → ℕ
+seen_trip s = s.trip
 
--- the hops from there, which a set has where they stand
-abbrev pub shown_in : PackedHops → Seen → List Hop
-shown_in set s = hops_in set s.run
+-- the index of the first of them
+abbrev pub seen_first : Seen → ℕ
+seen_first s = s.first
+
+-- the index of the last of them
+abbrev pub seen_last : Seen → ℕ
+seen_last s = s.last
+
+-- when the first of them arrives
+abbrev pub seen_arr : Seen → ℤ
+seen_arr s = s.arr
+
+-- they are events of the timetable
+pub record AreEvents (T : TimetableData) (s : Seen) : Type 0 where
+  pub trip : seen_trip s < length T.trips
+  pub order : seen_first s ≤ seen_last s
+  pub within : seen_last s < length (events_of T (seen_trip s))
+
+-- the hops from them, one event behind the other
+abbrev pub hops_seen : (ℕ → ℕ → List Hop) → Seen → List Hop
+hops_seen hops s = hops_over hops (seen_trip s) (seen_first s) (seen_last s)
 
 -- who boards there no earlier than the time: the line's first trip in time, where boarding is
 -- allowed and it isn't the last index

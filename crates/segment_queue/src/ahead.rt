@@ -1,5 +1,6 @@
-ghost use Rattle.std.specs.Prelude.{◌≡◌, ◌≤◌, length};
+ghost use Rattle.std.specs.Prelude.{◌≡◌, ◌≤◌, All, length};
 ghost use Rattle.segment_queue.specs.Queue.{IsInStep};
+ghost use Rattle.segment_queue.specs.Scans.{AreEvents};
 
 use super::desk::Desk;
 use super::notes::Note;
@@ -7,13 +8,15 @@ use super::scan::Scan;
 use transfer_pack::ReadAhead;
 
 // How many segments, or notes, are read ahead at a time: so few that what was read is still at hand when it is looked at.
-const STRETCH: u32 = 512;
+const STRETCH: u32 = 128;
 
-// Reads the first of the hops from each of these events ahead.
-fn read_hops<S: Scan>(scan: &S, notes: &[Note]) -> ReadAhead {
+// Reads the first and the last of the hops from the events of each of these notes ahead.
+fn read_hops<S: Scan>(scan: &S, notes: &[Note]) -> ReadAhead
+    requires { All (λ note. AreEvents (S.net scan.now).table note.seen) notes.now }
+{
     let mut ahead = ReadAhead::new();
     for note in notes {
-        scan.read_hop_ahead(note.seen, &mut ahead);
+        scan.read_hops_ahead(&note.seen, &mut ahead);
     }
     ahead
 }
@@ -44,7 +47,7 @@ impl Desk {
         ahead
     }
 
-    /// Before segment `n` of a round is looked at: at the first segment of each stretch of 512, counted from where the round
+    /// Before segment `n` of a round is looked at: at the first segment of each stretch of 128, counted from where the round
     /// begins, reads ahead what clips each segment of the stretch and the first event that it covers, up to number `to`. At any
     /// other segment it does nothing.
     pub fn read_segments_ahead<S: Scan>(&mut self, scan: &S, begin: u32, n: u32, to: u32)
@@ -63,9 +66,10 @@ impl Desk {
         self.ahead.join(events);
     }
 
-    /// Before note `k` is followed: at the first note of each stretch of 512 reads ahead the first hop of each note of the
-    /// stretch. At any other note it does nothing.
+    /// Before note `k` is followed: at the first note of each stretch of 128 reads ahead the first and the last hop of each note
+    /// of the stretch. At any other note it does nothing.
     pub fn read_notes_ahead<S: Scan>(&mut self, scan: &S, k: usize)
+        requires { All (λ note. AreEvents (S.net scan.now).table note.seen) self.old.notes }
         ensures { self.new ≡ self.old }
     {
         if k % STRETCH as usize != 0 {

@@ -221,6 +221,18 @@ impl Desk {
         self.enter(scan, trip, at, parent)
     }
 
+    /// Whether a trip has been reached at an index or before: then to enter it there changes nothing. It may say no
+    /// although it has.
+    #[inline(always)]
+    pub fn is_passed<S: Scan>(&self, scan: &S, trip: TripNo, at: u32) -> bool
+        requires step { IsInStep (S.net scan.now) self.now }
+        requires trip { trip < length (S.net scan.now).table.trips }
+        ensures { IsTrue result → mark_of (S.net scan.now).table self.now.marks trip ≤ at }
+    {
+        scan.soundness();
+        self.marks.is_passed(trip, at)
+    }
+
     // Enters a trip at an index, as `reach` does: most hops lead to a trip that was passed, and don't come here.
     #[inline(never)]
     fn enter<S: Scan>(

@@ -2,14 +2,11 @@ ghost use Rattle.std.specs.Prelude.{◌≡◌, ◌<◌, ◌++◌, ◌∷◌, [],
 
 use super::desk::{Desk, push_within};
 use super::seen::Seen;
-use tb_base::Sec;
 
-/// An event that a segment covers, to go on from later: the number of the segment, when it arrives, and the event, which has
-/// been looked at.
+/// Events that a segment covers, to go on from later: the number of the segment, and the events, which have been looked at.
 #[derive(Clone, Copy)]
 pub struct Note {
     pub segment: u32,
-    pub arr: Sec,
     pub seen: Seen,
 }
 

@@ -1,9 +1,9 @@
-ghost use Rattle.std.specs.Prelude.{◌≡◌, ◌+◌, ◌<◌, ◌≤◌, ◌∷◌, [], ℕ, All, AllPairs, IfSome, IsTrue, MatchOption, Some, length, slice_get, slice_index_or};
+ghost use Rattle.std.specs.Prelude.{◌≡◌, ◌+◌, ◌<◌, ◌≤◌, ◌∷◌, [], ℕ, All, Contains, AllPairs, IfSome, IsTrue, MatchOption, Some, length, slice_get, slice_index_or};
 ghost use Rattle.tb_base.specs.Lines.{AreDividedInto};
 ghost use Rattle.tb_base.specs.Soundness.{IsSound, IsSoundPath};
 ghost use Rattle.tb_base.specs.Walking.{walk};
 ghost use Rattle.tb_base.specs.TimetableData.{arrival_at, event_at, event_total, events_of, stop_at};
-ghost use Rattle.segment_queue.specs.Scans.{IsFirst, StandsBefore, boarding_hop, line_indices_at, no_line_index, seen_at, trips_from};
+ghost use Rattle.segment_queue.specs.Scans.{AreEvents, IsFirst, StandsBefore, boarding_hop, hops_seen, line_indices_at, no_line_index, seen_arr, seen_first, seen_last, seen_trip, trips_from};
 ghost use Rattle.segment_queue.specs.WalkGroups.{AreWalkGroups};
 
 use super::seen::Seen;
@@ -34,16 +34,11 @@ pub struct Visit<'a> {
 
 /// What a search looks at: the network of a day. No call takes memory.
 pub trait Scan {
-    ghost use Rattle.std.specs.Prelude.{List};
     ghost use Rattle.tb_base.specs.Network.{NetData};
     ghost use Rattle.tb_base.specs.declared.transfer.Hop.{Hop};
-    ghost use Rattle.segment_queue.specs.declared.seen.Seen.{Seen};
 
     /// The network: a timetable, its lines, and for each event the hops by which a search goes on.
     ghost net: { Self → NetData };
-
-    /// The hops by which a search goes on from what a look showed.
-    ghost shown: { Self → Seen → List Hop };
 
     /// The timetable is sound, and the lines are its trips, each once.
     fn soundness(&self)
@@ -97,22 +92,34 @@ pub trait Scan {
             (λ v. (v < length (net self.now).table.trips)
             × StandsBefore (net self.now).lines v trip) };
 
-    /// The hops from an event that has been looked at. It is no further step.
-    fn hops_from(&self, seen: Seen) -> &[Hop]
-        ensures { result.now ≡ shown self.now seen };
+    /// The hops from events that have been looked at, one event behind the other. It is no further step.
+    fn hops_from(&self, seen: &Seen) -> &[Hop]
+        requires { AreEvents (net self.now).table seen.now }
+        ensures { result.now ≡ hops_seen (net self.now).hops seen.now };
+
+    /// From which of the events that have been looked at the hop is that has this place among theirs. It is no further step.
+    fn event_of(&self, seen: &Seen, place: usize) -> u32
+        requires events { AreEvents (net self.now).table seen.now }
+        requires place { place < length (hops_seen (net self.now).hops seen.now) }
+        ensures first { seen_first seen.now ≤ result }
+        ensures last { result ≤ seen_last seen.now }
+        ensures hop { (h : Hop) →
+            slice_get (hops_seen (net self.now).hops seen.now) place ≡ Some h →
+            Contains ((net self.now).hops (seen_trip seen.now) result) h };
 
     /// Reads event `at` of a trip ahead. It shows nothing of the event, so it is no look.
     fn read_event_ahead(&self, trip: TripNo, at: u32, ahead: &mut ReadAhead)
         requires trip { trip < length (net self.now).table.trips }
         requires at { at < length (events_of (net self.now).table trip) };
 
-    /// Reads the first of the hops from an event that has been looked at ahead. It shows nothing of it.
-    fn read_hop_ahead(&self, seen: Seen, ahead: &mut ReadAhead);
+    /// Reads the first and the last of the hops from events that have been looked at ahead. It shows nothing of them.
+    fn read_hops_ahead(&self, seen: &Seen, ahead: &mut ReadAhead)
+        requires { AreEvents (net self.now).table seen.now };
 }
 
 /// The looks of a search at a network: who boards a line, and an event of a trip. Each is a step on
-/// a counter of the ledger `L`, and there is no other way to see a time: `hops_from` shows hops alone, and that they are those
-/// of an event only the look says that gave the `Seen`. So a search over any `L` counts all its looks where its caller counts,
+/// a counter of the ledger `L`, and there is no other way to see a time: `hops_from` shows hops alone, and only
+/// those from events that have been looked at, of which looks gave the `Seen`. So a search over any `L` counts all its looks where its caller counts,
 /// since no counter that it makes is of this ledger.
 pub trait Look<L: Ledger>: Scan {
     /// Who boards the line at the line index with this number at the stop, no earlier than the time. It is a step.
@@ -133,7 +140,9 @@ pub trait Look<L: Ledger>: Scan {
         ensures arr { result.arr ≡ arrival_at (Self.net self.now).table trip at }
         ensures alight { result.alight ≡ (event_at (Self.net self.now).table trip at).alight }
         ensures out { result.out.now ≡ (Self.net self.now).hops trip at }
-        ensures at { seen_at result.seen ≡ at }
-        ensures shown { Self.shown self.now result.seen ≡ (Self.net self.now).hops trip at }
+        ensures trip { seen_trip result.seen ≡ trip }
+        ensures first { seen_first result.seen ≡ at }
+        ensures last { seen_last result.seen ≡ at }
+        ensures seen { seen_arr result.seen ≡ arrival_at (Self.net self.now).table trip at }
         ensures step { steps.new ≡ steps.old + 1 };
 }

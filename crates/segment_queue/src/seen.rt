@@ -1,22 +1,41 @@
-ghost use Rattle.std.specs.Prelude.{◌≡◌};
-ghost use Rattle.segment_queue.specs.Scans.{seen_at};
+ghost use Rattle.std.specs.Prelude.{◌≡◌, ◌+◌};
+ghost use Rattle.segment_queue.specs.Scans.{seen_arr, seen_first, seen_last, seen_trip};
 
-use transfer_pack::HopRun;
+use tb_base::{Sec, TripNo};
 
-/// An event that has been looked at: an index of a trip, and where the hops from there stand. Only a look gives one, and
-/// whoever has it may read those hops again, at the network where it was looked at. It doesn't show its trip, nor where
-/// they stand.
+/// Events of a trip that have been looked at, one behind the other: from index `first` to index `last`, and when the first
+/// arrives. Only looks give one, and whoever has it may read the hops from those events again, at the network where they were
+/// looked at.
 #[derive(Clone, Copy)]
 pub struct Seen {
-    pub(crate) at: u32,
-    pub(crate) run: HopRun,
+    pub(crate) trip: TripNo,
+    pub(crate) first: u32,
+    pub(crate) last: u32,
+    pub(crate) arr: Sec,
 }
 
 impl Seen {
-    /// Its index in the trip.
-    pub fn at(self) -> u32
-        ensures { result ≡ seen_at self }
+    /// When the first of the events arrives.
+    pub fn arr(&self) -> Sec
+        ensures { result ≡ seen_arr self.now }
     {
-        self.at
+        self.arr
+    }
+
+    /// These events, and those just behind them.
+    pub fn and(&self, next: &Seen) -> Seen
+        requires trip { seen_trip next.now ≡ seen_trip self.now }
+        requires behind { seen_first next.now ≡ seen_last self.now + 1 }
+        ensures trip { seen_trip result ≡ seen_trip self.now }
+        ensures first { seen_first result ≡ seen_first self.now }
+        ensures last { seen_last result ≡ seen_last next.now }
+        ensures arr { seen_arr result ≡ seen_arr self.now }
+    {
+        Seen {
+            trip: self.trip,
+            first: self.first,
+            last: next.last,
+            arr: self.arr,
+        }
     }
 }

@@ -1,7 +1,7 @@
 ghost use Rattle.std.specs.Prelude.{◌≡◌, ◌<◌, ◌+◌, ◌≤◌, ℕ, Some, All, AllPairs, IfSome, IsTrue, MatchOption, ◌↔◌, length, slice_get, slice_index_or};
 ghost use Rattle.tb_base.specs.Soundness.{IsSoundPath};
 ghost use Rattle.tb_base.specs.TimetableData.{arrival_at, event_at, events_of, stop_at};
-ghost use Rattle.segment_queue.specs.Scans.{IsFirst, StandsBefore, seen_at, shown_in, trips_from};
+ghost use Rattle.segment_queue.specs.Scans.{AreEvents, IsFirst, StandsBefore, hops_seen, seen_arr, seen_first, seen_last, seen_trip, trips_from};
 ghost use Rattle.segment_queue.specs.WalkGroups.{AreWalkGroups};
 ghost use Rattle.transfer_pack.specs.Packed.{packed};
 
@@ -111,8 +111,10 @@ impl<'a> View<'a> {
         ensures arr { result.arr ≡ arrival_at self.now.0 trip at }
         ensures alight { result.alight ≡ (event_at self.now.0 trip at).alight }
         ensures out { result.out.now ≡ packed self.now.2 trip at }
-        ensures at { seen_at result.seen ≡ at }
-        ensures shown { shown_in self.now.2 result.seen ≡ packed self.now.2 trip at }
+        ensures trip { seen_trip result.seen ≡ trip }
+        ensures first { seen_first result.seen ≡ at }
+        ensures last { seen_last result.seen ≡ at }
+        ensures seen { seen_arr result.seen ≡ arrival_at self.now.0 trip at }
         ensures step { steps.new ≡ steps.old + 1 }
     {
         steps.tick();
@@ -124,28 +126,28 @@ impl<'a> View<'a> {
             alight: call.alight,
             out: set.out(trip, at),
             seen: Seen {
-                at,
-                run: set.run(trip, at),
+                trip,
+                first: at,
+                last: at,
+                arr: call.arr,
             },
         }
     }
 
-    /// The hops from an event that has been looked at, for as long as the set is lent.
-    pub fn hops_seen(&self, seen: Seen) -> &'a [Hop]
-        ensures { result.now ≡ shown_in self.now.2 seen }
+    /// The hops from events that have been looked at, for as long as the set is lent.
+    pub fn hops_of(&self, seen: &Seen) -> &'a [Hop]
+        requires { AreEvents self.now.0 seen.now }
+        ensures { result.now ≡ hops_seen (packed self.now.2) seen.now }
     {
         let set = self.set;
-        set.hops_in(seen.run)
+        set.hops_over(seen.trip, seen.first, seen.last)
     }
 }
 
 impl<'a> Scan for View<'a> {
     ghost use Rattle.transfer_pack.specs.Packed.{packed};
-    ghost use Rattle.segment_queue.specs.Scans.{shown_in};
 
     ghost net = { λ v. record { table = v.0; lines = v.1.lines; hops = packed v.2 } };
-
-    ghost shown = { λ v. shown_in v.2 };
 
     fn soundness(&self) {
         let lines = self.lines;
@@ -200,8 +202,13 @@ impl<'a> Scan for View<'a> {
         self.trip_before(trip)
     }
 
-    fn hops_from(&self, seen: Seen) -> &[Hop] {
-        self.hops_seen(seen)
+    fn hops_from(&self, seen: &Seen) -> &[Hop] {
+        self.hops_of(seen)
+    }
+
+    fn event_of(&self, seen: &Seen, place: usize) -> u32 {
+        let set = self.set;
+        set.event_of(seen.trip, seen.first, seen.last, place)
     }
 
     fn read_event_ahead(&self, trip: TripNo, at: u32, ahead: &mut ReadAhead) {
@@ -209,9 +216,9 @@ impl<'a> Scan for View<'a> {
         set.read_call_ahead(trip, at, ahead);
     }
 
-    fn read_hop_ahead(&self, seen: Seen, ahead: &mut ReadAhead) {
+    fn read_hops_ahead(&self, seen: &Seen, ahead: &mut ReadAhead) {
         let set = self.set;
-        set.read_hop_ahead(seen.run, ahead);
+        set.read_hops_ahead(seen.trip, seen.first, seen.last, ahead);
     }
 }
 

@@ -13,7 +13,7 @@ use Rattle.tb_base.specs.TimetableData.{TripData, TimetableData, event_at, event
 use Rattle.tb_base.specs.OutSets.{AreRowsOf, hops_at, row_of}
 use Rattle.tb_base.specs.Transfers.{numbers_below}
 use Rattle.tb_base.proofs.Listing.{from_events, hop_of}
-use Rattle.transfer_pack.specs.Packed.{AreBounds, FitsRuns, PackedHops, hops_in, packed, runs_in}
+use Rattle.transfer_pack.specs.Packed.{AreBounds, FitsRuns, PackedHops, packed, runs_in}
 use Rattle.transfer_pack.specs.declared.call.Call.{Call}
 use Rattle.transfer_pack.specs.declared.set.Spot.{Spot}
 use Rattle.transfer_pack.specs.Calls.{call_of, no_call}
@@ -208,18 +208,6 @@ spot_run hops spots k s r are inside =
   where
     next : (k : ℕ) → k + 1 ≡ suc k
     next k = omega arith
-
--- where the hops of an event stand
-pub run_found : (S : PackedHops) (spots : List Spot) (t i n : ℕ) (s r : Spot) → AreBounds (ends_in spots) (length S.hops) → S.runs ≡ runs_in S.hops (ends_in spots) → i < length (events_of S.table t) → n ≡ get_or S.starts t 0 + i → n + 1 < length spots → s ≡ get_or spots n s → r ≡ get_or spots (n + 1) r
-    → hops_in S (record { from = s.end; to = r.end }) ≡ packed S t i
-run_found S spots t i n s r are runs_are there is inside s_is r_is =
-    let test : nat_lt i (length (events_of S.table t)) ≡ true = grind (arith, nat_tests, there) in
-    ap (λ (x : Spot). take (r.end - x.end) (drop x.end S.hops)) s_is
-    ∙ ap (λ (x : Spot). take (x.end - (get_or spots n s).end) (drop (get_or spots n s).end S.hops)) r_is
-    ∙ sym (spot_run S.hops spots n s r are inside).run
-    ∙ ap (λ xs. get_or xs n []) (sym runs_are)
-    ∙ ap (λ k. get_or S.runs k []) is
-    ∙ ap (λ b. cond b (get_or S.runs (get_or S.starts t 0 + i) []) []) (sym test)
 
 -- the spot behind an event's
 pub spot_inside : (hops : List Hop) (spots : List Spot) (S : PackedHops) (n : ℕ) → AreBounds (ends_in spots) (length hops) → S.runs ≡ runs_in hops (ends_in spots) → n < length S.runs → n + 1 < length spots

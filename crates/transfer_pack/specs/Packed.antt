@@ -1,8 +1,8 @@
 -- Lists of hops one behind the other in one list.
-use Rattle.std.specs.Prelude.{◌≡◌, ℕ, suc, ◌+◌, ◌-◌, ◌<◌, ◌≤◌, List, [], ◌∷◌, length, take, drop, slice_index_or, nat_lt, if◌then◌else◌}
+use Rattle.std.specs.Prelude.{◌≡◌, ℕ, suc, ◌+◌, ◌-◌, ◌<◌, ◌≤◌, List, [], ◌∷◌, flat_map, length, take, drop, slice_index_or, nat_lt, if◌then◌else◌}
+use Rattle.std.specs.List.{range_with_len}
 use Rattle.tb_base.specs.declared.transfer.Hop.{Hop}
 use Rattle.tb_base.specs.TimetableData.{TimetableData, events_of}
-use Rattle.transfer_pack.specs.declared.run.HopRun.{HopRun}
 
 -- the runs of hops between each bound and the next
 abbrev pub runs_in : List Hop → List ℕ → List (List Hop)
@@ -17,11 +17,13 @@ AreBounds (a ∷ []) end = a ≡ end
 AreBounds (a ∷ b ∷ bounds) end = (a ≤ b) × AreBounds (b ∷ bounds) end
 
 -- the hops of all events of a timetable, one behind the other, and one list an event, trip after
--- trip, and the number of each trip's first list, and of the list behind the last
+-- trip, and the number of each trip's first list, and of the list behind the last; and where each
+-- list begins among all hops, and where the last ends
 pub record PackedHops : Type 0 where
   pub table : TimetableData
   pub starts : List ℕ
   pub hops : List Hop
+  pub bounds : List ℕ
   pub runs : List (List Hop)
 
 -- each event of the timetable has a list: those of a trip stand before those of the next
@@ -38,6 +40,10 @@ packed S t i =
     then slice_index_or S.runs (slice_index_or S.starts t 0 + i) []
     else []
 
--- the hops that stand there
-abbrev pub hops_in : PackedHops → HopRun → List Hop
-hops_in S r = take (r.to - r.from) (drop r.from S.hops)
+-- where the hops from event i of trip t begin among all hops
+abbrev pub begin_of : PackedHops → ℕ → ℕ → ℕ
+begin_of S t i = slice_index_or S.bounds (slice_index_or S.starts t 0 + i) 0
+
+-- the hops from events `first` to `last` of trip t, one event behind the other
+abbrev pub hops_over : (ℕ → ℕ → List Hop) → ℕ → ℕ → ℕ → List Hop
+hops_over hops t first last = flat_map (hops t) (range_with_len first (suc last - first))

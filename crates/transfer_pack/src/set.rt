@@ -1,13 +1,13 @@
-ghost use Rattle.std.specs.Prelude.{◌≡◌, ◌+◌, ◌<◌, ◌++◌, ◌∷◌, ◌-◌, ◌≤◌, [], ℕ, List, All, IfOk, OnOk, length, map, slice_index_or, take, drop};
+ghost use Rattle.std.specs.Prelude.{◌≡◌, suc, Contains, Some, slice_get, ◌+◌, ◌<◌, ◌++◌, ◌∷◌, ◌-◌, ◌≤◌, [], ℕ, List, All, IfOk, OnOk, length, map, slice_index_or, take, drop};
 ghost use Rattle.tb_base.specs.OutSets.{AreRowsOf, hops_at, row_of};
 ghost use Rattle.tb_base.specs.Transfers.{numbers_below};
+ghost use Rattle.tb_base.specs.declared.transfer.Hop.{Hop};
 ghost use Rattle.transfer_pack.specs.Calls.{call_of};
-ghost use Rattle.transfer_pack.specs.Packed.{AreBounds, hops_in, packed, runs_in};
+ghost use Rattle.transfer_pack.specs.Packed.{AreBounds, begin_of, hops_over, packed, runs_in};
 ghost use Rattle.transfer_pack.specs.Spots.{calls_in, ends_in, spot_call};
 
 use super::ahead::ReadAhead;
 use super::call::Call;
-use super::run::HopRun;
 use std::alloc::Global;
 use std::marker::Model;
 use std::snapshot::Snapshot;
@@ -83,6 +83,7 @@ impl Model for Set {
       table = s.table.value;
       starts = s.starts.items;
       hops = s.hops.items;
+      bounds = ends_in s.spots.items;
       runs = runs_in s.hops.items (ends_in s.spots.items);
     } };
 
@@ -91,6 +92,7 @@ impl Model for Set {
           table = s.table.value;
           starts = s.starts.items;
           hops = s.hops.items;
+          bounds = ends_in s.spots.items;
           runs = runs_in s.hops.items (ends_in s.spots.items);
         })
         × AreCalls s.table.value s.starts.items (calls_in s.spots.items) };
@@ -236,26 +238,57 @@ impl Set {
         self.spots[event + 1].call()
     }
 
-    /// Where the hops from an event stand.
-    pub fn run(&self, trip: TripNo, at: u32) -> HopRun
+    // Where the hops from an event begin among all hops.
+    fn begin_of(&self, trip: TripNo, at: u32) -> u32
         requires trip { trip < length self.now.table.trips }
         requires at { at < length (events_of self.now.table trip) }
-        ensures { hops_in self.now result ≡ packed self.now trip at }
+        ensures { result ≡ begin_of self.now trip at }
     {
-        let event = self.event(trip, at);
-        HopRun {
-            from: self.spots[event].end,
-            to: self.spots[event + 1].end,
-        }
+        self.spots[self.event(trip, at)].end
     }
 
-    /// The hops that stand there.
-    pub fn hops_in(&self, place: HopRun) -> &[Hop]
-        ensures { result.now ≡ hops_in self.now place }
+    // Where they end, and those from the next event begin.
+    fn end_of(&self, trip: TripNo, at: u32) -> u32
+        requires trip { trip < length self.now.table.trips }
+        requires at { at < length (events_of self.now.table trip) }
+        ensures { result ≡ begin_of self.now trip (suc at) }
     {
-        let to = (place.to as usize).min(self.hops.len());
-        let from = (place.from as usize).min(to);
+        self.spots[self.event(trip, at) + 1].end
+    }
+
+    /// The hops from the events of a trip from `first` to `last`, one event behind the other.
+    pub fn hops_over(&self, trip: TripNo, first: u32, last: u32) -> &[Hop]
+        requires trip { trip < length self.now.table.trips }
+        requires order { first ≤ last }
+        requires last { last < length (events_of self.now.table trip) }
+        ensures { result.now ≡ hops_over (packed self.now) trip first last }
+    {
+        let from = self.begin_of(trip, first) as usize;
+        let to = self.end_of(trip, last) as usize;
         run(self.hops.as_slice(), from, to)
+    }
+
+    /// From which of the events of a trip from `first` to `last` the hop is that has this place among
+    /// theirs.
+    pub fn event_of(&self, trip: TripNo, first: u32, last: u32, place: usize) -> u32
+        requires trip { trip < length self.now.table.trips }
+        requires order { first ≤ last }
+        requires last { last < length (events_of self.now.table trip) }
+        requires place { place < length (hops_over (packed self.now) trip first last) }
+        ensures first { first ≤ result }
+        ensures last { result ≤ last }
+        ensures hop { (h : Hop) →
+            slice_get (hops_over (packed self.now) trip first last) place ≡ Some h →
+            Contains (packed self.now trip result) h }
+    {
+        let _hops = &self.hops;
+        let from = self.begin_of(trip, first) as usize;
+        for at in first..last {
+            if place < self.end_of(trip, at) as usize - from {
+                return at;
+            }
+        }
+        last
     }
 
     /// Reads an event ahead.
@@ -266,11 +299,21 @@ impl Set {
         ahead.take(self.call(trip, at).stop.0);
     }
 
-    /// Reads the first of the hops that stand there ahead.
-    pub fn read_hop_ahead(&self, place: HopRun, ahead: &mut ReadAhead) {
-        if let Some(hop) = self.hops.get(place.from as usize) {
+    // Reads a hop ahead, where there is one with this number.
+    fn read_hop_ahead(&self, number: u32, ahead: &mut ReadAhead) {
+        if let Some(hop) = self.hops.get(number as usize) {
             ahead.take(hop.at);
         }
+    }
+
+    /// Reads the first and the last of the hops from the events of a trip from `first` to `last` ahead.
+    pub fn read_hops_ahead(&self, trip: TripNo, first: u32, last: u32, ahead: &mut ReadAhead)
+        requires trip { trip < length self.now.table.trips }
+        requires order { first ≤ last }
+        requires last { last < length (events_of self.now.table trip) }
+    {
+        self.read_hop_ahead(self.begin_of(trip, first), ahead);
+        self.read_hop_ahead(self.end_of(trip, last).saturating_sub(1), ahead);
     }
 }
 

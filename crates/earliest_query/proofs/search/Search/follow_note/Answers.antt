@@ -1,20 +1,94 @@
-use Rattle.std.proofs.Common.{◌∙◌, suc, sym, ap, subst, arith}
+use Rattle.std.proofs.Common.{◌≡◌, ◌∙◌, ℕ, suc, ◌+◌, ◌-◌, ◌<◌, ◌⊎◌, inl, inr, length, get_or, refl, sym, ap, subst, arith, Some}
+use Rattle.std.specs.Prelude.{Contains, slice_get}
+use Rattle.std.proofs.lemmas.Option.{slice_get-get_or}
 use Rattle.tb_base.specs.Network.{NetData}
-use Rattle.segment_queue.specs.Traced.{segment_of}
-use Rattle.earliest_query.specs.UnderWay.{IsQueue}
+use Rattle.tb_base.specs.declared.transfer.Hop.{Hop}
+use Rattle.segment_queue.specs.declared.desk.Segment.{Segment}
+use Rattle.segment_queue.specs.declared.notes.Note.{Note}
+use Rattle.segment_queue.specs.Queue.{DeskData}
+use Rattle.segment_queue.specs.Scans.{seen_first, seen_last, seen_trip}
+use Rattle.segment_queue.specs.Traced.{no_segment, segment_of}
+use Rattle.earliest_query.specs.Choices.{ArrivesBy}
+use Rattle.earliest_query.specs.UnderWay.{Extends, IsReachedBy}
+use Rattle.earliest_query.proofs.Following.{get_or-inside, in_all}
+use Rattle.earliest_query.proofs.Growing.{extends-long, extends-reached, extends-refl, extends-round, extends-segment, extends-trans}
+use Rattle.earliest_query.proofs.Lateness.{arrives_by-later, arrives_on}
+use Rattle.earliest_query.proofs.Noting.{note_events, sound_note-kept}
 use Rattle.earliest_query.proofs.search.Search.follow_note.Goals as goal
 
-pub follow-requires-clause-queue : goal.follow-requires-clause-queue
-follow-requires-clause-queue g c =
-    subst (λ r. IsQueue (g.S.Scan.net c.args.self.now.scan.now) c.args.self.now.query.now c.args.desk.now (suc r)) (sym c.requires.note.this_round) c.requires.queue
-
-pub follow-requires-clause-segment : goal.follow-requires-clause-segment
-follow-requires-clause-segment g c = c.requires.note.inside
-
-pub follow-requires-clause-covers : goal.follow-requires-clause-covers
-follow-requires-clause-covers g c = record { onward = omega (arith, c.requires.note.onward, c.at.ensures); within = omega (arith, c.requires.note.within, c.at.ensures) }
-
-pub follow-requires-clause-hops : goal.follow-requires-clause-hops
-follow-requires-clause-hops g c =
+pub returns-then-is_noted_late : goal.returns-then-is_noted_late
+returns-then-is_noted_late g c =
     let N : NetData = g.S.Scan.net c.args.self.now.scan.now in
-    c.hops_from-hops.ensures ∙ c.requires.note.shows ∙ ap (λ k. N.hops (segment_of c.args.desk.now.segments c.args.note.now.segment).trip k) (sym c.at.ensures)
+    let D : DeskData = c.args.desk.now in
+    let note : Note = c.args.note.now in
+    let whole = c.requires.queue.step.segments note.segment no_segment c.requires.note.inside in
+    let late = subst (ArrivesBy c.args.best.now) c.requires.note.arr (c.if-is_noted_late.ensures.0 refl) in
+    record {
+      queue = c.requires.queue;
+      extends = extends-refl D (suc c.args.round);
+      notes = refl;
+      done = λ i of. inr (arrives_by-later c.args.best.now _ _ (arrives_on N.table (segment_of D.segments note.segment).trip (seen_first note.seen) i c.soundness.ensures.sound whole.trip of.from (omega (arith, of.to, c.requires.note.within, whole.within))) late);
+    }
+
+pub hops_from-hops-requires : goal.hops_from-hops-requires
+hops_from-hops-requires g c = note_events (g.S.Scan.net c.args.self.now.scan.now) c.args.desk.now.segments c.args.round c.args.note.now c.requires.queue.step.segments c.requires.note
+
+pub loop-place-init : goal.loop-place-init
+loop-place-init g c = record {
+  queue = c.requires.queue;
+  extends = extends-refl c.args.desk.now (suc c.args.round);
+  notes = refl;
+  reached = λ k d below. absurd (omega (arith, below));
+}
+
+pub follow_hop-requires-clause-queue : goal.follow_hop-requires-clause-queue
+follow_hop-requires-clause-queue g c = c.loop-place.invariant.queue
+
+pub follow_hop-requires-clause-note : goal.follow_hop-requires-clause-note
+follow_hop-requires-clause-note g c = sound_note-kept (g.S.Scan.net c.args.self.now.scan.now) c.args.desk.now c.loop-place.desk (suc c.args.round) c.args.round c.args.note.now c.loop-place.invariant.extends c.requires.note
+
+pub follow_hop-requires-clause-hop : goal.follow_hop-requires-clause-hop
+follow_hop-requires-clause-hop g c =
+    let hop : Hop = c.index-hops-place.result in
+    let place : ℕ = c.loop-place.place in
+    subst (λ hs. slice_get hs place ≡ Some hop) c.hops_from-hops.ensures (slice_get-get_or c.hops_from-hops.result.now place hop c.loop-place-test.true ∙ ap Some (sym c.index-hops-place.is))
+
+below_or_at : (k i : ℕ) → k < i + 1 → (k < i) ⊎ (i ≡ k)
+below_or_at k i h = grind arith
+
+pub loop-place-preserved : goal.loop-place-preserved
+loop-place-preserved g c =
+    let N : NetData = g.S.Scan.net c.args.self.now.scan.now in
+    let top : ℕ = suc c.args.round in
+    let E : DeskData = c.loop-place.desk in
+    let F : DeskData = c.follow_hop.new.desk in
+    let hops = c.hops_from-hops.result.now in
+    let joined : Extends E F top = c.follow_hop.ensures.extends in
+    record {
+      queue = c.follow_hop.ensures.queue;
+      extends = extends-trans c.args.desk.now E F top c.loop-place.invariant.extends joined;
+      notes = c.follow_hop.ensures.notes ∙ c.loop-place.invariant.notes;
+      reached = λ k d below. elim (below_or_at k c.loop-place.place below) [
+        | inl before ↦ extends-reached N.table E F top (length E.segments) (length F.segments) top top (get_or hops k d).trip (get_or hops k d).at joined
+            (c.loop-place.invariant.reached k d before) (omega arith) (extends-long E F top joined) (omega arith)
+        | inr e ↦ subst (λ (h : Hop). IsReachedBy N.table F (length F.segments) top h.trip h.at)
+            (c.index-hops-place.is ∙ get_or-inside hops c.loop-place.place c.index-hops-place.result d c.loop-place-test.true ∙ ap (λ m. get_or hops m d) e) c.follow_hop.ensures.reached
+      ];
+    }
+
+pub returns-clause-done : goal.returns-clause-done
+returns-clause-done g c = λ i of. inl (λ h in_set.
+    let N : NetData = g.S.Scan.net c.args.self.now.scan.now in
+    let D : DeskData = c.args.desk.now in
+    let E : DeskData = c.loop-place.desk in
+    let note : Note = c.args.note.now in
+    let top : ℕ = suc c.args.round in
+    let before = c.loop-place.invariant in
+    let same : segment_of E.segments note.segment ≡ segment_of D.segments note.segment = extends-segment D E top before.extends note.segment c.requires.note.inside in
+    let here : Contains (N.hops (seen_trip note.seen) i) h
+    = subst (λ t. Contains (N.hops t i) h) (sym c.requires.note.trip) (subst (λ (s : Segment). Contains (N.hops s.trip i) h) same in_set) in
+    let found : Contains c.hops_from-hops.result.now h
+    = subst (λ hs. Contains hs h) (sym c.hops_from-hops.ensures) (in_all (N.hops (seen_trip note.seen)) (seen_first note.seen) (suc (seen_last note.seen) - seen_first note.seen) i h of.from (omega (arith, of.to, c.requires.note.order)) here) in
+    let reached : IsReachedBy N.table E (length E.segments) top h.trip h.at
+    = subst (λ (x : Hop). IsReachedBy N.table E (length E.segments) top x.trip x.at) found.2 (before.reached found.0 h (omega (arith, c.loop-place-test.false, found.1))) in
+    subst (λ r. IsReachedBy N.table E (length E.segments) r h.trip h.at) (ap suc (sym (extends-round D E top before.extends note.segment c.requires.note.inside ∙ c.requires.note.this_round))) reached)

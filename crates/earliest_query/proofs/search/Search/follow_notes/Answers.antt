@@ -1,15 +1,16 @@
 use Rattle.std.proofs.Common.{◌≡◌, ◌∙◌, ℕ, suc, ◌+◌, ◌<◌, ◌⊎◌, inl, inr, length, get_or, refl, sym, ap, subst, arith}
+use Rattle.std.specs.Prelude.{All}
 use Rattle.std.proofs.lemmas.Option.{get_or_from_slice_get, slice_get_within}
 use Rattle.tb_base.specs.Network.{NetData}
 use Rattle.tb_base.specs.BestValues.{QueryData}
 use Rattle.segment_queue.specs.declared.notes.Note.{Note}
 use Rattle.segment_queue.specs.Queue.{DeskData}
-use Rattle.segment_queue.specs.Scans.{seen_at}
-use Rattle.earliest_query.specs.Noted.{IsSoundNote}
+use Rattle.segment_queue.specs.Scans.{AreEvents}
+use Rattle.earliest_query.specs.Noted.{IsOf, IsSoundNote}
 use Rattle.earliest_query.specs.UnderWay.{Extends, IsDone, IsQueue}
 use Rattle.earliest_query.proofs.Growing.{extends-long, extends-refl, extends-trans}
 use Rattle.earliest_query.proofs.Lateness.{done-kept}
-use Rattle.earliest_query.proofs.Noting.{sound_note-kept}
+use Rattle.earliest_query.proofs.Noting.{note_events, sound_note-kept}
 use Rattle.earliest_query.proofs.search.Search.follow_notes.Goals as goal
 
 pub loop-k-init : goal.loop-k-init
@@ -17,8 +18,15 @@ loop-k-init g c = record {
   queue = c.requires.queue;
   extends = extends-refl c.args.desk.now (suc c.args.round);
   notes = refl;
-  done = λ j d below. absurd (omega (arith, below));
+  done = λ j d i below of. absurd (omega (arith, below));
 }
+
+pub read_notes_ahead-requires : goal.read_notes_ahead-requires
+read_notes_ahead-requires g c =
+    let N : NetData = g.S.Scan.net c.args.self.now.scan.now in
+    let D : DeskData = c.args.desk.now in
+    subst (All (λ (note : Note). AreEvents N.table note.seen)) (sym c.loop-k.invariant.notes)
+    (λ k d inside. note_events N D.segments c.args.round (get_or D.notes k d) c.requires.queue.step.segments (c.requires.notes k d inside))
 
 pub note-note-requires : goal.note-note-requires
 note-note-requires g c = omega (arith, c.loop-k-test.true, c.note_count-k-end.ensures, ap (λ (d : DeskData). length d.notes) c.read_notes_ahead.ensures, ap length c.loop-k.invariant.notes)
@@ -30,14 +38,13 @@ follow_note-requires-clause-queue g c =
 pub follow_note-requires-clause-note : goal.follow_note-requires-clause-note
 follow_note-requires-clause-note g c =
     let N : NetData = g.S.Scan.net c.args.self.now.scan.now in
-    let shown = g.S.Scan.shown c.args.self.now.scan.now in
     let D : DeskData = c.args.desk.now in
     let note : Note = c.note-note.result in
     let X : DeskData = c.read_notes_ahead.new.self in
     let notes : X.notes ≡ D.notes = ap (λ (d : DeskData). d.notes) c.read_notes_ahead.ensures ∙ c.loop-k.invariant.notes in
     let is : get_or D.notes c.loop-k.k note ≡ note = ap (λ ns. get_or ns c.loop-k.k note) (sym notes) ∙ get_or_from_slice_get X.notes c.loop-k.k note note c.note-note.ensures in
     let inside : c.loop-k.k < length D.notes = omega (arith, slice_get_within X.notes c.loop-k.k note c.note-note.ensures, ap length notes) in
-    sound_note-kept shown N D X (suc c.args.round) c.args.round note (subst (λ d. Extends D d (suc c.args.round)) (sym c.read_notes_ahead.ensures) c.loop-k.invariant.extends) (subst (IsSoundNote shown N D.segments c.args.round) is (c.requires.notes c.loop-k.k note inside))
+    sound_note-kept N D X (suc c.args.round) c.args.round note (subst (λ d. Extends D d (suc c.args.round)) (sym c.read_notes_ahead.ensures) c.loop-k.invariant.extends) (subst (IsSoundNote N D.segments c.args.round) is (c.requires.notes c.loop-k.k note inside))
 
 below_or_at : (k i : ℕ) → k < i + 1 → (k < i) ⊎ (i ≡ k)
 below_or_at k i h = grind arith
@@ -62,15 +69,15 @@ loop-k-preserved g c =
       queue = c.follow_note.ensures.queue;
       extends = extends-trans D E F top extends c.follow_note.ensures.extends;
       notes = c.follow_note.ensures.notes ∙ notes;
-      done = λ j d below. elim (below_or_at j k below) [
-        | inl earlier ↦ done-kept N Q E F top c.args.round (get_or D.notes j d).segment (seen_at (get_or D.notes j d).seen) best best c.follow_note.ensures.extends
-            (let sound = c.requires.notes j d (omega (arith, earlier, inside)) in omega (arith, sound.inside, extends-long D E top extends)) (inl refl) (subst (λ e. IsDone N e best (get_or D.notes j d).segment (seen_at (get_or D.notes j d).seen)) (sym same) (before.done j d earlier))
+      done = λ j d i below of. elim (below_or_at j k below) [
+        | inl earlier ↦ done-kept N Q E F top c.args.round (get_or D.notes j d).segment i best best c.follow_note.ensures.extends
+            (let sound = c.requires.notes j d (omega (arith, earlier, inside)) in omega (arith, sound.inside, extends-long D E top extends)) (inl refl) (subst (λ e. IsDone N e best (get_or D.notes j d).segment i) (sym same) (before.done j d i earlier of))
         | inr e ↦ (let is : note ≡ get_or D.notes j d = sym (get_or_from_slice_get E.notes k note d c.note-note.ensures) ∙ ap (λ ns. get_or ns k d) notes ∙ ap (λ m. get_or D.notes m d) e in
-            subst (λ (x : Note). IsDone N F best x.segment (seen_at x.seen)) is c.follow_note.ensures.done)
+            subst (λ (x : Note). IsOf x x.segment i → IsDone N F best x.segment i) is (c.follow_note.ensures.done i) of)
       ];
     }
 
 pub returns-clause-done : goal.returns-clause-done
-returns-clause-done g c = λ note h.
+returns-clause-done g c = λ note i h of.
     let D : DeskData = c.args.desk.now in
-    subst (λ (x : Note). IsDone (g.S.Scan.net c.args.self.now.scan.now) c.loop-k.desk c.args.best.now x.segment (seen_at x.seen)) h.2 (c.loop-k.invariant.done h.0 note (omega (arith, h.1, c.loop-k-test.false, c.note_count-k-end.ensures)))
+    subst (λ (x : Note). IsOf x x.segment i → IsDone (g.S.Scan.net c.args.self.now.scan.now) c.loop-k.desk c.args.best.now x.segment i) h.2 (c.loop-k.invariant.done h.0 note i (omega (arith, h.1, c.loop-k-test.false, c.note_count-k-end.ensures))) of

@@ -1,6 +1,6 @@
 use Rattle.std.proofs.Common.{◌≡◌, ℕ, suc, ◌<◌, get_or}
 use Rattle.segment_queue.specs.declared.notes.Note.{Note}
-use Rattle.segment_queue.specs.Scans.{seen_at}
+use Rattle.earliest_query.specs.Noted.{IsOf}
 use Rattle.earliest_query.specs.UnderWay.{Extends, IsDone, IsQueue}
 use Rattle.earliest_query.proofs.search.Search.follow_notes.Given as goal
 
@@ -9,5 +9,5 @@ invariant-loop-k g l = record {
   queue : IsQueue (g.S.Scan.net l.self.scan.now) l.self.query.now l.desk (suc l.round);
   extends : Extends l.fn.desk l.desk (suc l.round);
   notes : l.desk.notes ≡ l.fn.desk.notes;
-  done : (j : ℕ) (d : Note) → j < l.k → IsDone (g.S.Scan.net l.self.scan.now) l.desk l.best (get_or l.fn.desk.notes j d).segment (seen_at (get_or l.fn.desk.notes j d).seen);
+  done : (j : ℕ) (d : Note) (i : ℕ) → j < l.k → IsOf (get_or l.fn.desk.notes j d) (get_or l.fn.desk.notes j d).segment i → IsDone (g.S.Scan.net l.self.scan.now) l.desk l.best (get_or l.fn.desk.notes j d).segment i;
 }

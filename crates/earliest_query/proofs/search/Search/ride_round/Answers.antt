@@ -19,7 +19,7 @@ follow_notes-requires-clause-queue g c =
 
 pub follow_notes-requires-clause-notes : goal.follow_notes-requires-clause-notes
 follow_notes-requires-clause-notes g c =
-    subst (λ (d : DeskData). All (IsSoundNote (g.S.Scan.shown c.args.self.now.scan.now) (g.S.Scan.net c.args.self.now.scan.now) d.segments c.args.round) c.weigh_round-best.new.desk.notes) (sym c.weigh_round-best.ensures.rest) c.weigh_round-best.ensures.notes
+    subst (λ (d : DeskData). All (IsSoundNote (g.S.Scan.net c.args.self.now.scan.now) d.segments c.args.round) c.weigh_round-best.new.desk.notes) (sym c.weigh_round-best.ensures.rest) c.weigh_round-best.ensures.notes
 
 pub returns : goal.returns
 returns g c =
@@ -42,7 +42,7 @@ returns g c =
             | inl w ↦ inl (record {
               done = elim w.left [
                 | inl done ↦ done-kept N Q D F top c.args.round n i best best grown inside (inl refl) done
-                | inr noted ↦ subst (λ m. IsDone N F best m i) noted.segment (subst (λ k. IsDone N F best noted.by.segment k) noted.at (c.follow_notes.ensures.done noted.by noted.one))
+                | inr noted ↦ subst (λ m. IsDone N F best m i) noted.of.segment (c.follow_notes.ensures.done noted.by i noted.one (record { segment = refl; from = noted.of.from; to = noted.of.to }))
               ];
               bounded = bounded-same N.table Q D F best n i (sym (extends-segment D F top grown n inside)) w.bounded;
             })

@@ -25,7 +25,7 @@ loop-n-init g c =
     let none = ap (λ (d : DeskData). d.notes) emptied in
     record {
       rest = emptied ∙ ap (λ ns. record c.args.desk.now { notes = ns }) (sym none);
-      sound = subst (All (IsSoundNote (g.S.Scan.shown c.args.self.now.scan.now) (g.S.Scan.net c.args.self.now.scan.now) c.args.desk.now.segments c.args.round)) (sym none) (All-nil (IsSoundNote (g.S.Scan.shown c.args.self.now.scan.now) (g.S.Scan.net c.args.self.now.scan.now) c.args.desk.now.segments c.args.round));
+      sound = subst (All (IsSoundNote (g.S.Scan.net c.args.self.now.scan.now) c.args.desk.now.segments c.args.round)) (sym none) (All-nil (IsSoundNote (g.S.Scan.net c.args.self.now.scan.now) c.args.desk.now.segments c.args.round));
       weighed = λ n i from below covers. absurd (omega (arith, from, below));
       improved = inl refl;
       few = omega (arith, ap length none);
@@ -62,7 +62,7 @@ weigh_segment-best-requires-clause-room g c =
 
 pub weigh_segment-best-requires-clause-notes : goal.weigh_segment-best-requires-clause-notes
 weigh_segment-best-requires-clause-notes g c =
-    subst (λ (d : DeskData). All (IsSoundNote (g.S.Scan.shown c.args.self.now.scan.now) (g.S.Scan.net c.args.self.now.scan.now) d.segments c.args.round) c.read_segments_ahead.new.self.notes) (sym (c.read_segments_ahead.ensures ∙ c.loop-n.invariant.rest)) (subst (All (IsSoundNote (g.S.Scan.shown c.args.self.now.scan.now) (g.S.Scan.net c.args.self.now.scan.now) c.args.desk.now.segments c.args.round)) (sym (ap (λ (d : DeskData). d.notes) c.read_segments_ahead.ensures)) c.loop-n.invariant.sound)
+    subst (λ (d : DeskData). All (IsSoundNote (g.S.Scan.net c.args.self.now.scan.now) d.segments c.args.round) c.read_segments_ahead.new.self.notes) (sym (c.read_segments_ahead.ensures ∙ c.loop-n.invariant.rest)) (subst (All (IsSoundNote (g.S.Scan.net c.args.self.now.scan.now) c.args.desk.now.segments c.args.round)) (sym (ap (λ (d : DeskData). d.notes) c.read_segments_ahead.ensures)) c.loop-n.invariant.sound)
 
 pub loop-n-preserved : goal.loop-n-preserved
 loop-n-preserved g c =
@@ -86,7 +86,7 @@ loop-n-preserved g c =
     let covered = ap (λ (d : DeskData). covered_indices (segment_of d.segments k)) rest in
     record {
       rest = told.rest ∙ ap (λ (d : DeskData). record d { notes = F.notes }) rest;
-      sound = subst (λ (d : DeskData). All (IsSoundNote (g.S.Scan.shown c.args.self.now.scan.now) N d.segments c.args.round) F.notes) rest told.notes;
+      sound = subst (λ (d : DeskData). All (IsSoundNote N d.segments c.args.round) F.notes) rest told.notes;
       weighed = weighed_one_more N Q D E.notes F.notes c.args.from k c.args.round c.args.so_far c.loop-n.best result inside told.kept improved weighed_before weighed;
       improved = improved_one_weighed N Q D E.notes F.notes c.args.from k c.args.round c.args.so_far c.loop-n.best result inside told.kept improved before.improved;
       few = omega (arith, before.few, told.few, ap length notes, covered, sum_by_more covered_indices D.segments k no_segment inside);

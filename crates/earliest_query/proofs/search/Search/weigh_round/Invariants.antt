@@ -7,7 +7,7 @@ use Rattle.earliest_query.proofs.search.Search.weigh_round.Given as goal
 abbrev pub invariant-loop-n : goal.invariant-loop-n
 invariant-loop-n g l = record {
   rest : l.desk ≡ record l.fn.desk { notes = l.desk.notes };
-  sound : All (IsSoundNote (g.S.Scan.shown l.self.scan.now) (g.S.Scan.net l.self.scan.now) l.fn.desk.segments l.round) l.desk.notes;
+  sound : All (IsSoundNote (g.S.Scan.net l.self.scan.now) l.fn.desk.segments l.round) l.desk.notes;
   weighed : (n i : ℕ) → l.from ≤ n → n < l.n → Covers l.fn.desk n i → IsWeighedOff (g.S.Scan.net l.self.scan.now) l.self.query.now l.fn.desk l.best l.desk.notes n i ⊎ IsOutdone (g.S.Scan.net l.self.scan.now) l.fn.desk.segments n i;
   improved : IsImproved (g.S.Scan.net l.self.scan.now).table l.self.query.now l.fn.desk l.round l.initial.best l.best;
   few : length l.desk.notes + covered_before l.fn.desk.segments l.from ≤ covered_before l.fn.desk.segments l.n;

@@ -31,5 +31,5 @@ loop-t-preserved c =
 
 pub returns-clause-hops : goal.returns-clause-hops
 returns-clause-hops c =
-    packed_all c.args.table.now (map (λ row. row.items) c.args.rows.now) (record { table = c.of.result.value; starts = c.loop-t.starts.items; hops = c.loop-t.hops.items; runs = runs_in c.loop-t.hops.items (ends_in c.loop-t.spots.items) }) (calls_in c.loop-t.spots.items) c.of.ensures c.requires
+    packed_all c.args.table.now (map (λ row. row.items) c.args.rows.now) (record { table = c.of.result.value; starts = c.loop-t.starts.items; hops = c.loop-t.hops.items; bounds = ends_in c.loop-t.spots.items; runs = runs_in c.loop-t.hops.items (ends_in c.loop-t.spots.items) }) (calls_in c.loop-t.spots.items) c.of.ensures c.requires
     (subst (λ n. ArePacked c.args.table.now (map (λ row. row.items) c.args.rows.now) n c.loop-t.starts.items (runs_in c.loop-t.hops.items (ends_in c.loop-t.spots.items)) (calls_in c.loop-t.spots.items)) (rw (← c.trip_count-t-end.ensures) (omega (arith, c.loop-t-test.false, c.loop-t.auto.t-end))) c.loop-t.invariant.packed)

@@ -1,0 +1,129 @@
+use Rattle.std.proofs.Common.{◌≡◌, ℕ, suc, ◌-◌, ◌≤◌, length, refl, sym, ap, subst, arith, None, Some}
+use Rattle.std.specs.Prelude.{Contains, slice_get}
+use Rattle.std.proofs.lemmas.Option.{get_or_from_slice_get, slice_get_within}
+use Rattle.tb_base.specs.Network.{NetData}
+use Rattle.tb_base.specs.BestValues.{QueryData}
+use Rattle.tb_base.specs.declared.transfer.Hop.{Hop}
+use Rattle.segment_queue.specs.declared.notes.Note.{Note}
+use Rattle.segment_queue.specs.Queue.{DeskData}
+use Rattle.segment_queue.specs.Scans.{hops_seen, seen_first, seen_last, seen_trip}
+use Rattle.segment_queue.specs.Traced.{segment_of}
+use Rattle.earliest_query.specs.Noted.{IsSoundNote}
+use Rattle.earliest_query.specs.UnderWay.{Covers, Extends, IsQueue, IsReachedBy}
+use Rattle.earliest_query.proofs.Following.{IsInOne, hop_boards, hop_in_set, hop_not_last, hop_trip, in_one}
+use Rattle.earliest_query.proofs.Growing.{extends-refl}
+use Rattle.earliest_query.proofs.Noting.{note_events}
+use Rattle.earliest_query.proofs.OneMore.{reached_before}
+use Rattle.earliest_query.proofs.search.Search.follow_hop.Goals as goal
+
+-- an index that a note is of is one that its segment covers
+covers_of : (N : NetData) (D : DeskData) (round i : ℕ) (note : Note) → IsSoundNote N D.segments round note → seen_first note.seen ≤ i → i ≤ seen_last note.seen → Covers D note.segment i
+covers_of N D round i note s from to = record { onward = omega (arith, s.first, from); within = omega (arith, s.within, to) }
+
+-- the index from which a hop of a note is
+record IsFrom (N : NetData) (D : DeskData) (note : Note) (h : Hop) : Type 0 where
+  pub at : ℕ
+  pub covers : Covers D note.segment at
+  pub in_set : Contains (N.hops (segment_of D.segments note.segment).trip at) h
+
+from_some : (N : NetData) (D : DeskData) (round place : ℕ) (note : Note) (h : Hop) → IsSoundNote N D.segments round note → slice_get (hops_seen N.hops note.seen) place ≡ Some h → IsFrom N D note h
+from_some N D round place note h s got =
+    let r : IsInOne (N.hops (seen_trip note.seen)) (seen_first note.seen) (suc (seen_last note.seen) - seen_first note.seen) h
+    = in_one (N.hops (seen_trip note.seen)) (seen_first note.seen) (suc (seen_last note.seen) - seen_first note.seen) h
+    (place, slice_get_within (hops_seen N.hops note.seen) place h got, get_or_from_slice_get (hops_seen N.hops note.seen) place h h got) in
+    record {
+      at = r.at;
+      covers = covers_of N D round r.at note s r.low (omega (arith, r.high, s.order));
+      in_set = subst (λ t. Contains (N.hops t r.at) h) s.trip r.one;
+    }
+
+pub is_passed-requires-clause-step : goal.is_passed-requires-clause-step
+is_passed-requires-clause-step g c = c.requires.queue.step
+
+pub is_passed-requires-clause-trip : goal.is_passed-requires-clause-trip
+is_passed-requires-clause-trip g c =
+    let N : NetData = g.S.Scan.net c.args.self.now.scan.now in
+    let D : DeskData = c.args.desk.now in
+    let note : Note = c.args.note.now in
+    let f : IsFrom N D note c.args.hop = from_some N D c.args.round c.args.place note c.args.hop c.requires.note c.requires.hop in
+    hop_trip N.table N.hops D D (suc c.args.round) note.segment f.at c.args.hop c.requires.sufficient c.requires.note.inside f.covers (extends-refl D (suc c.args.round)) f.in_set
+
+pub returns-then-is_passed : goal.returns-then-is_passed
+returns-then-is_passed g c =
+    let N : NetData = g.S.Scan.net c.args.self.now.scan.now in
+    let Q : QueryData = c.args.self.now.query.now in
+    let D : DeskData = c.args.desk.now in
+    let note : Note = c.args.note.now in
+    let top : ℕ = suc c.args.round in
+    let f : IsFrom N D note c.args.hop = from_some N D c.args.round c.args.place note c.args.hop c.requires.note c.requires.hop in
+    let inside = hop_trip N.table N.hops D D top note.segment f.at c.args.hop c.requires.sufficient c.requires.note.inside f.covers (extends-refl D top) f.in_set in
+    let not_last = hop_not_last N.table N.hops D D top note.segment f.at c.args.hop c.requires.sufficient c.requires.note.inside f.covers (extends-refl D top) f.in_set in
+    record {
+      queue = c.requires.queue;
+      extends = extends-refl D top;
+      notes = refl;
+      reached = reached_before N Q D top c.args.hop.trip c.args.hop.at None c.soundness.ensures.divided inside c.requires.queue (c.if-is_passed.ensures refl) not_last;
+    }
+
+pub event_of-at-requires-clause-events : goal.event_of-at-requires-clause-events
+event_of-at-requires-clause-events g c = note_events (g.S.Scan.net c.args.self.now.scan.now) c.args.desk.now.segments c.args.round c.args.note.now c.requires.queue.step.segments c.requires.note
+
+pub event_of-at-requires-clause-place : goal.event_of-at-requires-clause-place
+event_of-at-requires-clause-place g c = slice_get_within (hops_seen (g.S.Scan.net c.args.self.now.scan.now).hops c.args.note.now.seen) c.args.place c.args.hop c.requires.hop
+
+pub enter-requires-clause-queue : goal.enter-requires-clause-queue
+enter-requires-clause-queue g c =
+    subst (λ r. IsQueue (g.S.Scan.net c.args.self.now.scan.now) c.args.self.now.query.now c.args.desk.now (suc r)) (sym c.requires.note.this_round) c.requires.queue
+
+-- the event that was found is one from which the hop is
+found : (N : NetData) (D : DeskData) (round at : ℕ) (note : Note) (h : Hop) → IsSoundNote N D.segments round note → seen_first note.seen ≤ at → at ≤ seen_last note.seen → Contains (N.hops (seen_trip note.seen) at) h → Covers D note.segment at × Contains (N.hops (segment_of D.segments note.segment).trip at) h
+found N D round at note h s from to one = (covers_of N D round at note s from to, subst (λ t. Contains (N.hops t at) h) s.trip one)
+
+pub enter-requires-clause-trip : goal.enter-requires-clause-trip
+enter-requires-clause-trip g c =
+    let N : NetData = g.S.Scan.net c.args.self.now.scan.now in
+    let D : DeskData = c.args.desk.now in
+    let note : Note = c.args.note.now in
+    let told = c.event_of-at.ensures in
+    let f = found N D c.args.round c.event_of-at.result note c.args.hop c.requires.note told.first told.last (told.hop c.args.hop c.requires.hop) in
+    hop_trip N.table N.hops D D (suc c.args.round) note.segment c.event_of-at.result c.args.hop c.requires.sufficient c.requires.note.inside f.0 (extends-refl D (suc c.args.round)) f.1
+
+pub enter-requires-clause-not_last : goal.enter-requires-clause-not_last
+enter-requires-clause-not_last g c =
+    let N : NetData = g.S.Scan.net c.args.self.now.scan.now in
+    let D : DeskData = c.args.desk.now in
+    let note : Note = c.args.note.now in
+    let told = c.event_of-at.ensures in
+    let f = found N D c.args.round c.event_of-at.result note c.args.hop c.requires.note told.first told.last (told.hop c.args.hop c.requires.hop) in
+    hop_not_last N.table N.hops D D (suc c.args.round) note.segment c.event_of-at.result c.args.hop c.requires.sufficient c.requires.note.inside f.0 (extends-refl D (suc c.args.round)) f.1
+
+pub enter-requires-clause-boards : goal.enter-requires-clause-boards
+enter-requires-clause-boards g c =
+    let N : NetData = g.S.Scan.net c.args.self.now.scan.now in
+    let D : DeskData = c.args.desk.now in
+    let note : Note = c.args.note.now in
+    let told = c.event_of-at.ensures in
+    let f = found N D c.args.round c.event_of-at.result note c.args.hop c.requires.note told.first told.last (told.hop c.args.hop c.requires.hop) in
+    hop_boards N.table N.hops D D (suc c.args.round) note.segment c.event_of-at.result c.args.hop c.requires.sufficient c.requires.note.inside f.0 (extends-refl D (suc c.args.round)) f.1
+
+pub enter-requires-clause-in_set : goal.enter-requires-clause-in_set
+enter-requires-clause-in_set g c =
+    let N : NetData = g.S.Scan.net c.args.self.now.scan.now in
+    let D : DeskData = c.args.desk.now in
+    let note : Note = c.args.note.now in
+    let told = c.event_of-at.ensures in
+    let f = found N D c.args.round c.event_of-at.result note c.args.hop c.requires.note told.first told.last (told.hop c.args.hop c.requires.hop) in
+    hop_in_set N.table N.hops D D (suc c.args.round) note.segment c.event_of-at.result c.args.hop c.requires.sufficient c.requires.note.inside f.0 (extends-refl D (suc c.args.round)) f.1
+
+pub returns : goal.returns
+returns g c =
+    let N : NetData = g.S.Scan.net c.args.self.now.scan.now in
+    let D : DeskData = c.args.desk.now in
+    let E : DeskData = c.enter.new.desk in
+    let same = ap suc c.requires.note.this_round in
+    record {
+      queue = subst (λ r. IsQueue N c.args.self.now.query.now E r) same c.enter.ensures.queue;
+      extends = subst (λ r. Extends D E r) same c.enter.ensures.extends;
+      notes = c.enter.ensures.notes;
+      reached = subst (λ r. IsReachedBy N.table E (length E.segments) r c.args.hop.trip c.args.hop.at) same c.enter.ensures.reached;
+    }
