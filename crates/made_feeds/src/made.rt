@@ -1,8 +1,8 @@
 //! Two feeds made by hand.
-use super::texts::{Feed, timetable};
+use super::reading::{Unread, timetable};
+use super::texts::Feed;
 use std::alloc::Global;
 use tb_base::Timetable;
-use trip_table::DayFault;
 
 // At B and at D no change is allowed but by the footpath.
 const TOWN: Feed<'static> = Feed {
@@ -70,13 +70,13 @@ D,F,2,720
 
 /// Four stops, A to D, with change times at A and C and a footpath from B to C; the station S of B
 /// and C; and four trips, T from A over B to C, U and W from C to D, and V from A past B to D.
-pub fn town(alloc: Global) -> Result<Timetable, DayFault> {
+pub fn town(alloc: Global) -> Result<Timetable, Unread> {
     timetable(alloc, TOWN)
 }
 
 /// Six stops, A to F, with footpaths from B to E and back and from D to F. A ring through B twice,
 /// three times a day, of which the last overtakes; a trip that is at C twice, where one may not
 /// alight at A nor board at E; one that is only reached on foot; and one back from D.
-pub fn ring(alloc: Global) -> Result<Timetable, DayFault> {
+pub fn ring(alloc: Global) -> Result<Timetable, Unread> {
     timetable(alloc, RING)
 }

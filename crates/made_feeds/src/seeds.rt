@@ -3,6 +3,20 @@ use gtfs_rows::number_of;
 use std::env;
 use std::rt::Env;
 
+/// The words of a program behind its name; none where they can't be had.
+pub fn words_of(rt: &(impl Env + AllocGlobal)) -> Option<Vec<String>> {
+    let Ok(args) = env::args(rt) else {
+        return None;
+    };
+    let mut words: Vec<String> = Vec::new(rt.alloc());
+    for word in args.skip(1) {
+        if words.push(word).is_err() {
+            return None;
+        }
+    }
+    Some(words)
+}
+
 /// How many feeds, and the seed of the first; each further one has the next seed.
 #[derive(Clone, Copy)]
 pub struct Seeds {
@@ -22,6 +36,19 @@ impl Seeds {
         let first = match args.next() {
             Some(seed) => number_of(seed.as_bytes())?,
             None => 1,
+        };
+        Some(Seeds {
+            count: number_of(count.as_bytes())?,
+            first,
+        })
+    }
+
+    /// What a text says that is `COUNT` or `COUNT:SEED`; the first seed is 1 where none is given.
+    /// None where it doesn't say numbers.
+    pub fn of_text(text: &str) -> Option<Seeds> {
+        let (count, first) = match text.split_once(':') {
+            Some((count, seed)) => (count, number_of(seed.as_bytes())?),
+            None => (text, 1),
         };
         Some(Seeds {
             count: number_of(count.as_bytes())?,

@@ -1,17 +1,12 @@
-//! Feeds as texts, and their timetables.
-ghost use Rattle.std.specs.Prelude.{◌≡◌, ◌≤◌, IfSome};
-
-use service_day::day_of;
+//! Feeds as texts.
 use std::alloc::{AllocError, Global};
-use tb_base::{Memory, Timetable};
-use tb_io::MemFolder;
-use trip_table::{DayFault, Options, read_day};
+use tb_base::Memory;
 
 /// The files of a folder by their paths.
 pub type Files = Vec<(String, Vec<u8>)>;
 
-// The folder that the files stand in.
-const FOLDER: &str = "made";
+/// The folder that the files stand in.
+pub const FOLDER: &str = "made";
 
 // The day that the service S runs on: 2 March 2026.
 const DATES: &str = "service_id,date,exception_type\nS,20260302,1\n";
@@ -63,28 +58,4 @@ pub fn files_of_two_days(
     let mut files = files_on(alloc, DATES_OF_TWO_DAYS, feed)?;
     files.push(file(alloc, "frequencies.txt", frequencies)?)?;
     Ok(files)
-}
-
-/// The timetable of a feed's files, or what is wrong with the feed. The seconds of the options are
-/// at most a day.
-pub fn timetable_of(alloc: Global, files: Files, options: &Options) -> Result<Timetable, DayFault>
-    requires change { options.now.change ≤ 86400 }
-    requires station { IfSome options.now.station (λ secs. secs ≤ 86400) }
-{
-    let mut folder = MemFolder::new(files, Vec::new(alloc));
-    let Ok(day) = day_of(b"20260302".as_slice()) else {
-        unreachable!()
-    };
-    read_day(alloc, &mut folder, FOLDER, &day, options)
-}
-
-/// The timetable of a feed, or what is wrong with the feed. A stop of which transfers.txt doesn't
-/// speak takes no time to change at, and a station makes no footpath.
-pub fn timetable(alloc: Global, feed: Feed<'_>) -> Result<Timetable, DayFault> {
-    let options = Options {
-        change: 0,
-        station: None,
-        close: false,
-    };
-    timetable_of(alloc, files(alloc, feed)?, &options)
 }

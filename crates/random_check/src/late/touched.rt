@@ -1,6 +1,6 @@
 //! The trips that a change of times touches, counted one by one as they are defined.
-use super::editions::events_of;
-use super::tally::{Difference, Refused, held};
+use super::parts::events_of;
+use crate::refused::{Difference, Refused, held};
 use edition_store::Edition;
 use std::alloc::Global;
 use tb_base::{Event, Memory, Transfer, TripNo};

@@ -1,5 +1,5 @@
 //! Two editions, part by part.
-use super::tally::{Difference, Refused, held};
+use crate::refused::{Difference, Refused, held};
 use edition_store::Edition;
 use line_split::Lines;
 use tb_base::{Event, Hop, LineNo, OutSet, Timetable, Trip, TripNo};

@@ -1,20 +1,21 @@
 //! Feeds with trips by frequency and trips of the day before, each held against the same trips
 //! written out a day later.
-ghost use Rattle.std.specs.Prelude.{◌<◌, ◌≤◌, IfSome, length};
+ghost use Rattle.std.specs.Prelude.{◌<◌, ◌≤◌, length};
 
 use super::profiles::offers_of;
 use super::queries::searched;
 use super::questions::{query, window};
-use super::tally::{Difference, Refused, Tally, TwinTally, held};
-use super::trial::{edition_of, some_options, try_all};
+use super::tally::{Tally, TwinTally};
+use super::trial::try_all;
+use crate::building::edition_of;
+use crate::refused::{Difference, Refused, held};
 use edition_store::Edition;
-use made_feeds::{DAY, Draw, twin_feed, written_out_feed};
+use made_feeds::{DAY, Draw, Reading, twin_feed, written_out_feed};
 use plain_rounds::plain_ask;
 use segment_queue::Desk;
 use std::alloc::Global;
 use std::thread::Threads;
 use tb_base::{Choice, Memory, Offer, Sec, Slot, Timetable, TripNo, Value};
-use trip_table::Options;
 
 // How many times are asked between each two stops.
 const TIMES: u32 = 3;
@@ -299,21 +300,18 @@ fn compare_twins<R: Threads + Sync>(
     Ok(tally)
 }
 
-// Compares all over the given feed of a seed, read by these options.
+// Compares all over the given feed of a seed, read in this way.
 fn try_given<R: Threads + Sync>(
     rt: &R,
     alloc: Global,
     given: &Edition,
-    options: &Options,
+    reading: Reading,
     desk: &mut Desk,
     draw: &mut Draw,
     seed: u64,
-) -> Result<Tally, Refused>
-    requires change { options.now.change ≤ 86400 }
-    requires station { IfSome options.now.station (λ secs. secs ≤ 86400) }
-{
+) -> Result<Tally, Refused> {
     let files = written_out_feed(alloc, &mut Draw::new(seed))?;
-    match edition_of(rt, alloc, files, options) {
+    match edition_of(rt, alloc, files, reading) {
         Ok(edition) => {
             let editions = Editions {
                 given,
@@ -337,10 +335,10 @@ pub fn try_twins<R: Threads + Sync>(
     let seed = seed as u64 + OTHER;
     let mut draw = Draw::new(seed);
     let files = twin_feed(alloc, &mut draw)?;
-    let options = some_options(&mut draw);
-    match edition_of(rt, alloc, files, &options) {
+    let reading = Reading::drawn(&mut draw);
+    match edition_of(rt, alloc, files, reading) {
         Ok(given) => {
-            let compared = try_given(rt, alloc, &given, &options, desk, &mut draw, seed);
+            let compared = try_given(rt, alloc, &given, reading, desk, &mut draw, seed);
             drop(given);
             compared
         }

@@ -1,5 +1,5 @@
 //! Feeds that look random, one after another, and what is compared over each.
-ghost use Rattle.std.specs.Prelude.{◌<◌, ◌≤◌, IfSome, length};
+ghost use Rattle.std.specs.Prelude.{◌<◌, length};
 ghost use Rattle.mirror_table.specs.Mirror.{IsMirror};
 
 use super::arriving::{compare_departures, mirrored};
@@ -8,18 +8,15 @@ use super::hops::compare_hops;
 use super::profiles::compare_slots;
 use super::queries::compare_values;
 use super::reaching::compare_reach;
-use super::tally::{Refused, Tally, refusal};
-use edition_build::build;
+use super::tally::Tally;
+use crate::building::edition_of;
+use crate::refused::Refused;
 use edition_store::Edition;
-use made_feeds::{Draw, Files, small_feed, timetable_of};
+use made_feeds::{Draw, Reading, small_feed};
 use segment_queue::Desk;
 use std::alloc::Global;
 use std::thread::Threads;
-use tb_base::{IdleGate, Memory, Timetable};
-use trip_table::Options;
-
-// How many workers reduce the transfers of a feed.
-const WORKERS: u32 = 2;
+use tb_base::Memory;
 
 // How much is asked over each feed.
 const QUERIES: u32 = 60;
@@ -32,42 +29,6 @@ const ORIGINS: u32 = 6;
 
 // The seconds of a window are at most as many.
 const WINDOW: u32 = 900;
-
-/// Options by which a feed that looks random is read: its footpaths are closed.
-pub fn some_options(draw: &mut Draw) -> Options
-    ensures change { result.change ≤ 86400 }
-    ensures station { IfSome result.station (λ secs. secs ≤ 86400) }
-{
-    Options {
-        change: draw.below(2) * 60,
-        station: if draw.one_in(2) { Some(120) } else { None },
-        close: true,
-    }
-}
-
-// The edition of a timetable.
-fn built<R: Threads + Sync>(rt: &R, alloc: Global, table: Timetable) -> Result<Edition, Refused> {
-    match build(rt, alloc, table, WORKERS, &IdleGate) {
-        Ok(edition) => Ok(edition),
-        Err(Memory) => Err(Refused::Memory),
-    }
-}
-
-/// The edition of a feed's files.
-pub fn edition_of<R: Threads + Sync>(
-    rt: &R,
-    alloc: Global,
-    files: Files,
-    options: &Options,
-) -> Result<Edition, Refused>
-    requires change { options.now.change ≤ 86400 }
-    requires station { IfSome options.now.station (λ secs. secs ≤ 86400) }
-{
-    match timetable_of(alloc, files, options) {
-        Ok(table) => built(rt, alloc, table),
-        Err(fault) => Err(refusal(fault)),
-    }
-}
 
 // Compares for a query.
 fn try_query(
@@ -254,8 +215,8 @@ pub fn try_seed<R: Threads + Sync>(
 ) -> Result<Tally, Refused> {
     let mut draw = Draw::new(seed as u64);
     let files = small_feed(alloc, &mut draw)?;
-    let options = some_options(&mut draw);
-    match edition_of(rt, alloc, files, &options) {
+    let reading = Reading::drawn(&mut draw);
+    match edition_of(rt, alloc, files, reading) {
         Ok(edition) => {
             let compared = try_all(rt, alloc, &edition, desk, &mut draw);
             drop(edition);

@@ -1,7 +1,7 @@
 //! The packed set of an edition's hops, and the plain one.
 ghost use Rattle.std.specs.Prelude.{◌≡◌, ◌<◌, IfOk, length};
 
-use super::tally::{Difference, Refused, held};
+use crate::refused::{Difference, Refused, held};
 use edition_store::Edition;
 use reduce_workers::reduce_all;
 use std::alloc::Global;

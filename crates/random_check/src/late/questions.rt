@@ -1,25 +1,19 @@
 //! The answers over two editions.
-ghost use Rattle.std.specs.Prelude.{◌<◌, ◌≤ℤ◌, pos, All, IfOk, IsTrue, length};
-ghost use Rattle.tb_base.specs.BestValues.{QueryData};
+ghost use Rattle.std.specs.Prelude.{◌<◌, ◌≤ℤ◌, pos, All, IsTrue, length};
 
 use super::drawn::{Question, some_question};
-use super::tally::{Difference, Refused, Tally, held};
+use super::tally::Tally;
+use crate::answers::queries::{are_right, have_same_values, searched};
+use crate::answers::questions::query;
+use crate::refused::{Difference, Refused, held};
 use edition_store::Edition;
-use journey_read::{Claimed, Verdict, judge};
 use made_feeds::Draw;
-use query_gate::uncounted::best_choices;
 use segment_queue::Desk;
 use std::alloc::Global;
-use tb_base::{Choice, Memory, Place, Query, Timetable};
+use tb_base::{Choice, Memory, Query, Timetable};
 
 // How much is asked over two editions.
 const QUESTIONS: u32 = 12;
-
-// The last second of a query.
-const LAST: i32 = 359_999;
-
-// Legs are numbered below this.
-const MOST_LEGS: u64 = 4_294_967_296;
 
 // Whether a timetable has the stops of a question.
 fn has_stops(table: &Timetable, question: &Question) -> bool
@@ -27,76 +21,6 @@ fn has_stops(table: &Timetable, question: &Question) -> bool
     ensures to { IsTrue result → question.now.to < length table.now.stops }
 {
     question.from.0 < table.stop_count() && question.to.0 < table.stop_count()
-}
-
-// The query of a question between stops of a timetable.
-fn query_of(alloc: Global, table: &Timetable, question: &Question) -> Result<Query, Memory>
-    requires from { question.now.from < length table.now.stops }
-    requires to { question.now.to < length table.now.stops }
-    ensures origins { IfOk result
-        (λ query. All (λ p. p < length table.now.stops) (QueryData.from query)) }
-    ensures targets { IfOk result
-        (λ query. All (λ p. p < length table.now.stops) (QueryData.to query)) }
-    ensures time { IfOk result (λ query. QueryData.leave query ≤ℤ pos 359999) }
-{
-    Ok(Query {
-        from: table.place_stops(alloc, Place::Stop(question.from))?,
-        to: table.place_stops(alloc, Place::Stop(question.to))?,
-        leave: question.leave.min(LAST),
-    })
-}
-
-// Whether a choice is a journey with its value.
-fn is_right(
-    alloc: Global,
-    table: &Timetable,
-    query: &Query,
-    choice: &Choice,
-) -> Result<bool, Memory>
-    requires origins { All (λ p. p < length table.now.stops) query.now.from }
-    requires time { query.now.leave ≤ℤ pos 359999 }
-{
-    let claimed = Claimed {
-        value: choice.value,
-        legs: Vec::from_slice(alloc, choice.legs.as_slice())?,
-    };
-    let right = (claimed.legs.len() as u64) < MOST_LEGS
-        && judge(table, query, &claimed) == Verdict::Yes;
-    drop(claimed);
-    Ok(right)
-}
-
-// Whether each choice is a journey with its value.
-fn are_right(
-    alloc: Global,
-    table: &Timetable,
-    query: &Query,
-    choices: &[Choice],
-) -> Result<bool, Memory>
-    requires origins { All (λ p. p < length table.now.stops) query.now.from }
-    requires time { query.now.leave ≤ℤ pos 359999 }
-{
-    for choice in choices {
-        if !is_right(alloc, table, query, choice)? {
-            return Ok(false);
-        }
-    }
-    Ok(true)
-}
-
-// The choices of a query over an edition.
-fn searched(
-    alloc: Global,
-    edition: &Edition,
-    desk: &mut Desk,
-    query: &Query,
-) -> Result<Vec<Choice>, Memory>
-    requires origins { All (λ p. p < length edition.now.table.stops) query.now.from }
-    requires targets { All (λ p. p < length edition.now.table.stops) query.now.to }
-    requires time { query.now.leave ≤ℤ pos 359999 }
-{
-    desk.make_room(edition)?;
-    best_choices(alloc, edition, query, desk)
 }
 
 // The choices of a query over an edition, each of which is a journey with its value.
@@ -131,19 +55,10 @@ fn choices_of(
     if !has_stops(table, question) {
         return Ok(Vec::new(alloc));
     }
-    let query = query_of(alloc, table, question)?;
+    let query = query(alloc, table, question.from.0, question.to.0, question.leave)?;
     let choices = right_choices(alloc, edition, desk, &query);
     drop(query);
     choices
-}
-
-// Whether the choices have the same values in the same order.
-fn have_same_values(one: &[Choice], other: &[Choice]) -> bool {
-    one.len() == other.len()
-        && one
-            .iter()
-            .zip(other.iter())
-            .all(|(c, d)| c.value == d.value)
 }
 
 // Whether a question has these values over an edition, in the same order.

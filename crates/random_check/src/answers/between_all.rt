@@ -8,9 +8,11 @@ use super::profiles::compare_slots;
 use super::queries::compare_values;
 use super::questions::{SECONDS, arrival, one_stop, query, window};
 use super::reaching::compare_reach;
-use super::tally::{Refused, Tally};
+use super::tally::Tally;
+use crate::refused::{MadeFeed, Refused};
 use edition_build::build;
 use edition_store::Edition;
+use made_feeds::{Unread, ring, town};
 use segment_queue::Desk;
 use std::alloc::Global;
 use std::thread::Threads;
@@ -188,8 +190,8 @@ fn try_edition<R: Threads + Sync>(
     }
 }
 
-/// Compares all over a timetable, between all of its stops, in windows that begin at a time.
-pub fn try_between_all<R: Threads + Sync>(
+// Compares all over a timetable, between all of its stops, in windows that begin at a time.
+fn try_between_all<R: Threads + Sync>(
     rt: &R,
     alloc: Global,
     table: Timetable,
@@ -203,5 +205,35 @@ pub fn try_between_all<R: Threads + Sync>(
             compared
         }
         Err(Memory) => Err(Refused::Memory),
+    }
+}
+
+impl MadeFeed {
+    fn timetable(self, alloc: Global) -> Result<Timetable, Unread> {
+        match self {
+            MadeFeed::Town => town(alloc),
+            MadeFeed::Ring => ring(alloc),
+        }
+    }
+
+    // When the windows begin that are asked for.
+    fn first_time(self) -> Sec {
+        match self {
+            MadeFeed::Town => 28_700,
+            MadeFeed::Ring => 30_000,
+        }
+    }
+}
+
+/// Compares all over a feed that is made by hand, between all of its stops.
+pub fn try_made<R: Threads + Sync>(
+    rt: &R,
+    alloc: Global,
+    feed: MadeFeed,
+    desk: &mut Desk,
+) -> Result<Tally, Refused> {
+    match feed.timetable(alloc) {
+        Ok(table) => try_between_all(rt, alloc, table, feed.first_time(), desk),
+        Err(unread) => Err(Refused::from(unread)),
     }
 }

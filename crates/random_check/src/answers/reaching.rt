@@ -1,7 +1,8 @@
 //! The best values to every stop, asked at once and one by one.
 ghost use Rattle.std.specs.Prelude.{◌≡◌, ◌<◌, ◌≤ℤ◌, All, length, pos};
 
-use super::tally::{Difference, Refused, Tally, held};
+use super::tally::Tally;
+use crate::refused::{Difference, Refused, held};
 use edition_store::Edition;
 use plain_rounds::plain_ask;
 use reach_all::reach_all;

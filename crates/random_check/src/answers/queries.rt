@@ -2,7 +2,8 @@
 ghost use Rattle.std.specs.Prelude.{◌<◌, ◌≤◌, ◌≤ℤ◌, pos, All, IfOk, length};
 
 use super::claims::{claim, judged_claims, verdict_on};
-use super::tally::{Difference, Refused, Tally, held};
+use super::tally::Tally;
+use crate::refused::{Difference, Refused, held};
 use edition_store::Edition;
 use journey_read::Verdict;
 use plain_rounds::plain_ask;
@@ -11,8 +12,8 @@ use segment_queue::Desk;
 use std::alloc::Global;
 use tb_base::{Choice, Memory, Query, Timetable};
 
-// Whether the choices have the same values in the same order.
-fn have_same_values(one: &[Choice], other: &[Choice]) -> bool {
+/// Whether the choices have the same values in the same order.
+pub fn have_same_values(one: &[Choice], other: &[Choice]) -> bool {
     one.len() == other.len()
         && one
             .iter()
@@ -34,8 +35,8 @@ fn is_right(
     Ok(verdict_on(table, query, &claimed) == Some(Verdict::Yes))
 }
 
-// Whether each choice is a journey with its value.
-fn are_right(
+/// Whether each choice is a journey with its value.
+pub fn are_right(
     alloc: Global,
     table: &Timetable,
     query: &Query,

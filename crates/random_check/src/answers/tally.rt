@@ -1,7 +1,4 @@
-//! What was compared, and why a comparison ends early.
-use std::alloc::AllocError;
-use tb_base::Memory;
-use trip_table::DayFault;
+//! What was compared of answers.
 
 /// What was compared of feeds with trips by frequency and trips of the day before, and the same
 /// trips written out, by numbers.
@@ -100,58 +97,47 @@ impl Tally {
     }
 }
 
-/// What differs.
-#[derive(Clone, Copy, Debug)]
-pub enum Difference {
-    /// The hops of an event.
-    Hops,
-    /// The best values of a query, or the legs of a choice break a rule.
-    Values,
-    /// The verdict on a claim.
-    Claims,
-    /// The slots of a window.
-    Slots,
-    /// The latest departures by a time, or the legs of one don't arrive by then.
-    Departures,
-    /// The best values to a stop.
-    Reach,
-    /// The best values or slots over trips that are written out.
-    WrittenOut,
-}
-
-/// Why a comparison ends early: something differs, a feed has no timetable, or memory was wanting.
-#[derive(Clone, Copy, Debug)]
-pub enum Refused {
-    Differs(Difference),
-    NoTimetable,
-    Memory,
-}
-
-impl From<Memory> for Refused {
-    fn from(_memory: Memory) -> Refused {
-        Refused::Memory
+impl TwinTally {
+    // Writes it.
+    fn write(self, rt: &impl Print) {
+        let TwinTally {
+            feeds,
+            by_frequency,
+            day_before,
+            queries,
+            values,
+            windows,
+            slots,
+        } = self;
+        let _ = println!(rt;
+            "written out {feeds} trips by frequency {by_frequency} of the day before {day_before}"
+        );
+        let _ = println!(rt; "queries a day later {queries} values {values}");
+        let _ = println!(rt; "windows a day later {windows} slots {slots}");
     }
 }
 
-impl From<AllocError> for Refused {
-    fn from(_refused: AllocError) -> Refused {
-        Refused::Memory
-    }
-}
-
-/// Why a feed without a timetable ends a comparison.
-pub fn refusal(fault: DayFault) -> Refused {
-    match fault {
-        DayFault::Memory => Refused::Memory,
-        _ => Refused::NoTimetable,
-    }
-}
-
-/// Nothing, where a comparison finds no difference.
-pub fn held(same: bool, difference: Difference) -> Result<(), Refused> {
-    if same {
-        Ok(())
-    } else {
-        Err(Refused::Differs(difference))
+impl Tally {
+    /// Writes it.
+    pub fn write(self, rt: &impl Print) {
+        let Tally {
+            feeds,
+            queries,
+            values,
+            claims,
+            windows,
+            slots,
+            arrivals,
+            departures,
+            reached,
+            twins,
+        } = self;
+        let _ = println!(rt; "feeds {feeds}");
+        let _ = println!(rt; "queries {queries} values {values} other claims {claims}");
+        let _ = println!(rt; "windows {windows} slots {slots}");
+        let _ = println!(rt; "times to arrive by {arrivals} latest departures {departures}");
+        let _ = println!(rt; "stops reached {reached}");
+        twins.write(rt);
+        let _ = println!(rt; "no difference");
     }
 }

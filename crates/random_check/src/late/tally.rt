@@ -1,8 +1,6 @@
-//! What was compared, and why a comparison ends early.
+//! What was compared of amended editions.
+use crate::refused::{Difference, Refused};
 use late_times::LateFault;
-use std::alloc::AllocError;
-use tb_base::{Memory, Timetable};
-use trip_table::DayFault;
 
 /// Lists of lates that are refused, by their first fault.
 #[derive(Clone, Copy)]
@@ -29,43 +27,6 @@ pub struct Tally {
     /// Queries, and the best values of all of them.
     pub queries: u64,
     pub values: u64,
-}
-
-/// What differs.
-#[derive(Clone, Copy, Debug)]
-pub enum Difference {
-    /// The first fault of a list, or that it has one.
-    Fault,
-    /// The trips and their times.
-    Trips,
-    /// The lines.
-    Lines,
-    /// The number of kept transfers, or those of an event.
-    Transfers,
-    /// The number of touched trips.
-    Touched,
-    /// The best values of a query, or the legs of a choice break a rule.
-    Values,
-}
-
-/// Why a comparison ends early: something differs, a feed has no timetable, or memory was wanting.
-#[derive(Clone, Copy, Debug)]
-pub enum Refused {
-    Differs(Difference),
-    NoTimetable,
-    Memory,
-}
-
-impl From<Memory> for Refused {
-    fn from(_memory: Memory) -> Refused {
-        Refused::Memory
-    }
-}
-
-impl From<AllocError> for Refused {
-    fn from(_refused: AllocError) -> Refused {
-        Refused::Memory
-    }
 }
 
 impl Tally {
@@ -119,27 +80,36 @@ impl Faults {
     }
 }
 
-// Why a feed without a timetable ends a comparison.
-fn refusal(fault: DayFault) -> Refused {
-    match fault {
-        DayFault::Memory => Refused::Memory,
-        _ => Refused::NoTimetable,
+impl Faults {
+    // Writes it.
+    fn write(&self, rt: &impl Print) {
+        let trips = self.unknown_trips;
+        let times = self.times_run_back;
+        let range = self.out_of_range;
+        let events = self.bad_events;
+        let _ = println!(rt; "refused: trips {trips} times {times} range {range} events {events}");
     }
 }
 
-/// The timetable of a feed, where it has one.
-pub fn read(table: Result<Timetable, DayFault>) -> Result<Timetable, Refused> {
-    match table {
-        Ok(table) => Ok(table),
-        Err(fault) => Err(refusal(fault)),
-    }
-}
-
-/// Nothing, where a comparison finds no difference.
-pub fn held(same: bool, difference: Difference) -> Result<(), Refused> {
-    if same {
-        Ok(())
-    } else {
-        Err(Refused::Differs(difference))
+impl Tally {
+    /// Writes it.
+    pub fn write(&self, rt: &impl Print) {
+        let Tally {
+            feeds,
+            lists,
+            amended,
+            unmoved,
+            touched,
+            transfers,
+            queries,
+            values,
+            ..
+        } = self;
+        let _ = println!(rt; "feeds {feeds} lists of lates {lists}");
+        self.refused.write(rt);
+        let _ = println!(rt; "amended {amended} with no other times {unmoved}");
+        let _ = println!(rt; "touched {touched} transfers {transfers}");
+        let _ = println!(rt; "queries {queries} values {values}");
+        let _ = println!(rt; "no difference");
     }
 }

@@ -1,22 +1,19 @@
 //! A feed that looks random, lates of its trips, and what is compared over each list of them.
-use super::answers::compare_answers;
 use super::drawn::some_lates;
-use super::editions::compare_editions;
-use super::tally::{Difference, Refused, Tally, held, read};
+use super::parts::compare_editions;
+use super::questions::compare_answers;
+use super::tally::Tally;
 use super::touched::compare_touched;
-use edition_build::build;
+use crate::building::{built, edition_of};
+use crate::refused::{Difference, Refused, held};
 use edition_store::Edition;
 use late_edit::{Amended, amend};
 use late_times::{Late, LateFault, amended};
-use made_feeds::{Draw, Files, small_feed, timetable_of};
+use made_feeds::{Draw, Files, Reading, small_feed};
 use segment_queue::Desk;
 use std::alloc::Global;
 use std::thread::Threads;
-use tb_base::{IdleGate, Memory, Timetable};
-use trip_table::Options;
-
-// How many workers reduce the transfers of a feed.
-const WORKERS: u32 = 2;
+use tb_base::Memory;
 
 // How many lists of lates are tried over each feed.
 const LISTS: u32 = 8;
@@ -32,18 +29,6 @@ fn add_day_before(files: &mut Files) -> Result<(), Memory> {
         }
     }
     Ok(())
-}
-
-// The timetable of a feed.
-fn timetable(alloc: Global, draw: &mut Draw) -> Result<Timetable, Refused> {
-    let mut files = small_feed(alloc, draw)?;
-    add_day_before(&mut files)?;
-    let options = Options {
-        change: draw.below(2) * 60,
-        station: if draw.one_in(2) { Some(120) } else { None },
-        close: true,
-    };
-    read(timetable_of(alloc, files, &options))
 }
 
 // Why a list of lates that is refused for nothing else ends a comparison.
@@ -62,7 +47,7 @@ fn built_anew<R: Threads + Sync>(
     lates: &[Late],
 ) -> Result<Edition, Refused> {
     match amended(alloc, old.table(), lates) {
-        Ok(table) => Ok(build(rt, alloc, table, WORKERS, &IdleGate)?),
+        Ok(table) => built(rt, alloc, table),
         Err(fault) => Err(refusal(fault)),
     }
 }
@@ -229,8 +214,9 @@ fn try_beside<R: Threads + Sync>(
 
 // The edition of a feed.
 fn edition<R: Threads + Sync>(rt: &R, alloc: Global, draw: &mut Draw) -> Result<Edition, Refused> {
-    let table = timetable(alloc, draw)?;
-    Ok(build(rt, alloc, table, WORKERS, &IdleGate)?)
+    let mut files = small_feed(alloc, draw)?;
+    add_day_before(&mut files)?;
+    edition_of(rt, alloc, files, Reading::drawn(draw))
 }
 
 /// Compares over the feed of a seed. In the end its edition is still the one of its timetable.

@@ -7,7 +7,8 @@ ghost use Rattle.tb_base.specs.Profiles.{WindowData};
 
 use super::claims::{claim, verdict_on};
 use super::profiles::offers_of;
-use super::tally::{Difference, Refused, Tally, held};
+use super::tally::Tally;
+use crate::refused::{Difference, Refused, held};
 use arrive_by::{Arrival, Departure, latest, mirror};
 use edition_build::build;
 use edition_store::Edition;

@@ -1,7 +1,8 @@
 //! The profile of a window, and the best values asked at each of its seconds.
 ghost use Rattle.std.specs.Prelude.{◌≡◌, ◌<◌, ◌≤◌, ◌≤ℤ◌, pos, All, length};
 
-use super::tally::{Difference, Refused, Tally, held};
+use super::tally::Tally;
+use crate::refused::{Difference, Refused, held};
 use edition_store::Edition;
 use plain_rounds::plain_ask;
 use query_gate::uncounted::best_offers;
