@@ -1,8 +1,8 @@
 //! What a case says.
-use super::broken::Broken;
 use super::feeds;
 use super::feeds::Files;
 use super::question::{Asked, Question, byte_of};
+use super::untried::Untried;
 use gtfs_rows::number_of;
 use std::alloc::{AllocError, Global};
 use std::rt;
@@ -54,7 +54,7 @@ impl Case {
         rt: &R,
         alloc: Global,
         name: &str,
-    ) -> Result<bool, Broken> {
+    ) -> Result<bool, Untried> {
         self.folder = String::from_str(alloc, name)?;
         let count = feeds::add_feed(rt, alloc, name, &mut self.given)?;
         Ok(count > 0)
@@ -67,7 +67,7 @@ impl Case {
     }
 
     /// A file of the feed isn't there.
-    pub fn take_away(&mut self, alloc: Global, name: &str) -> Result<bool, Broken> {
+    pub fn take_away(&mut self, alloc: Global, name: &str) -> Result<bool, Untried> {
         let path = self.path(alloc, name)?;
         let count = self.given.len();
         self.given.retain(|file| file.0.as_str() != path.as_str());
@@ -75,7 +75,7 @@ impl Case {
     }
 
     /// A file in place of the feed's begins. It is one that a feed can have.
-    pub fn begin_file(&mut self, alloc: Global, name: &str) -> Result<bool, Broken> {
+    pub fn begin_file(&mut self, alloc: Global, name: &str) -> Result<bool, Untried> {
         if self.folder.is_empty() || !feeds::is_file(name) {
             return Ok(false);
         }
@@ -85,14 +85,14 @@ impl Case {
     }
 
     /// A file at a path of its own begins.
-    pub fn begin_beside(&mut self, alloc: Global, path: &str) -> Result<bool, Broken> {
+    pub fn begin_beside(&mut self, alloc: Global, path: &str) -> Result<bool, Untried> {
         let path = String::from_str(alloc, path)?;
         self.changed.push((path, Vec::new(alloc)))?;
         Ok(true)
     }
 
     /// More of that file.
-    pub fn add_text(&mut self, text: &str, end: &str) -> Result<bool, Broken> {
+    pub fn add_text(&mut self, text: &str, end: &str) -> Result<bool, Untried> {
         let Some(file) = self.changed.last_mut() else {
             return Ok(false);
         };
@@ -102,7 +102,7 @@ impl Case {
     }
 
     /// A byte of it, by its number.
-    pub fn add_byte(&mut self, number: &str) -> Result<bool, Broken> {
+    pub fn add_byte(&mut self, number: &str) -> Result<bool, Untried> {
         match (self.changed.last_mut(), byte_of(number)) {
             (Some(file), Some(byte)) => {
                 file.1.push(byte)?;
@@ -113,7 +113,7 @@ impl Case {
     }
 
     /// So many lines of it, by a number and the text of a line.
-    pub fn add_rows(&mut self, alloc: Global, rows: &str) -> Result<bool, Broken> {
+    pub fn add_rows(&mut self, alloc: Global, rows: &str) -> Result<bool, Untried> {
         let Some((count, text)) = rows.split_once(' ') else {
             return Ok(false);
         };
@@ -131,7 +131,7 @@ impl Case {
     }
 
     /// A file of the feed that has no end, in place of all its files.
-    pub fn set_endless(&mut self, alloc: Global, name: &str) -> Result<bool, Broken> {
+    pub fn set_endless(&mut self, alloc: Global, name: &str) -> Result<bool, Untried> {
         if self.folder.is_empty() || !feeds::is_file(name) {
             return Ok(false);
         }
@@ -148,7 +148,7 @@ impl Case {
     }
 
     /// A question.
-    pub fn ask(&mut self, alloc: Global, asked: Asked, words: &str) -> Result<bool, Broken> {
+    pub fn ask(&mut self, alloc: Global, asked: Asked, words: &str) -> Result<bool, Untried> {
         self.questions.push(Question::new(alloc, asked, words)?)?;
         Ok(true)
     }

@@ -1,7 +1,7 @@
 //! Feeds of the machine's folder `feeds`.
 ghost use Rattle.std.specs.Prelude.{◌≡◌};
 
-use super::broken::Broken;
+use super::untried::Untried;
 use std::alloc::{AllocError, Global};
 use std::rt;
 use tb_io::{HostFolder, take_file};
@@ -33,11 +33,11 @@ pub fn host_file<R: rt::Files>(
     rt: &R,
     alloc: Global,
     path: &str,
-) -> Result<Option<Vec<u8>>, Broken> {
+) -> Result<Option<Vec<u8>>, Untried> {
     let mut folder = HostFolder::new(rt);
     match take_file(alloc, &mut folder, path, MOST) {
         Ok(taken) => Ok(taken),
-        Err(_) => Err(Broken::NoFile),
+        Err(_) => Err(Untried::NoFile),
     }
 }
 
@@ -47,7 +47,7 @@ pub fn add_feed<R: rt::Files>(
     alloc: Global,
     name: &str,
     files: &mut Files,
-) -> Result<usize, Broken> {
+) -> Result<usize, Untried> {
     let mut count: usize = 0;
     for file in NAMES {
         let path = format!(in alloc; "feeds/{name}/{file}")?;

@@ -56,8 +56,8 @@ pub struct Trouble {
 }
 
 impl Trouble {
-    // No call fails, and there is room for each answer of a case.
-    const NONE: Trouble = Trouble {
+    /// No call fails, and there is room for each answer of a case.
+    pub const NONE: Trouble = Trouble {
         folder: None,
         input: None,
         output: None,
@@ -97,8 +97,8 @@ pub struct Question {
     pub want: Wanted,
 }
 
-// The words of a line, with one space between two.
-fn words_of(alloc: Global, line: &str) -> Result<Vec<String>, AllocError> {
+/// The words of a line, with one space between two.
+pub fn words_of(alloc: Global, line: &str) -> Result<Vec<String>, AllocError> {
     let mut words = Vec::new(alloc);
     if line.is_empty() {
         return Ok(words);

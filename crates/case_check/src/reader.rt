@@ -1,8 +1,8 @@
 //! Cases from a text.
-use super::broken::Broken;
 use super::case::Case;
 use super::line::{Line, line_of};
 use super::question::{Asked, Question};
+use super::untried::Untried;
 use std::alloc::Global;
 use std::rt::Files;
 
@@ -12,7 +12,7 @@ fn add_setting<R: Files>(
     alloc: Global,
     case: &mut Case,
     line: Line<'_>,
-) -> Result<bool, Broken> {
+) -> Result<bool, Untried> {
     match line {
         Line::Feed(name) => case.add_feed(rt, alloc, name),
         Line::Without(name) => case.take_away(alloc, name),
@@ -27,7 +27,7 @@ fn add_setting<R: Files>(
     }
 }
 
-fn add_question(alloc: Global, case: &mut Case, line: Line<'_>) -> Result<bool, Broken> {
+fn add_question(alloc: Global, case: &mut Case, line: Line<'_>) -> Result<bool, Untried> {
     match line {
         Line::Nothing => Ok(true),
         Line::Words(words) => case.ask(alloc, Asked::Program, words),
@@ -40,7 +40,7 @@ fn add_question(alloc: Global, case: &mut Case, line: Line<'_>) -> Result<bool, 
 }
 
 // What a line says of a question.
-fn add_answer(alloc: Global, question: &mut Question, line: Line<'_>) -> Result<bool, Broken> {
+fn add_answer(alloc: Global, question: &mut Question, line: Line<'_>) -> Result<bool, Untried> {
     match line {
         Line::Script(_) | Line::Scripts(_) | Line::Piece(_) | Line::Octet(_) => {
             add_script(alloc, question, line)
@@ -63,7 +63,7 @@ fn add_answer(alloc: Global, question: &mut Question, line: Line<'_>) -> Result<
 }
 
 // What a line says of the script of a question.
-fn add_script(alloc: Global, question: &mut Question, line: Line<'_>) -> Result<bool, Broken> {
+fn add_script(alloc: Global, question: &mut Question, line: Line<'_>) -> Result<bool, Untried> {
     match line {
         Line::Script(text) => Ok(question.add_script(text, "\n")?),
         Line::Scripts(lines) => Ok(question.add_scripts(alloc, lines)?),
@@ -93,7 +93,7 @@ fn add_trouble(question: &mut Question, line: Line<'_>) -> bool {
     }
 }
 
-fn add_out(alloc: Global, question: &mut Question, text: &str, end: &str) -> Result<bool, Broken> {
+fn add_out(alloc: Global, question: &mut Question, text: &str, end: &str) -> Result<bool, Untried> {
     question.want_out(alloc, text, end)?;
     Ok(true)
 }
@@ -112,7 +112,7 @@ fn add_line<R: Files>(
     alloc: Global,
     cases: &mut Vec<Case>,
     text: &str,
-) -> Result<bool, Broken> {
+) -> Result<bool, Untried> {
     let Some(line) = line_of(text) else {
         return Ok(false);
     };
@@ -130,19 +130,35 @@ fn add_line<R: Files>(
     }
 }
 
-/// The cases of a text, with the files of the feeds that they name. There is at least one, each
-/// asks something, and what it says of files comes before what it asks.
-pub fn cases_of<R: Files>(rt: &R, alloc: Global, text: &str) -> Result<Vec<Case>, Broken> {
-    let mut cases = Vec::new(alloc);
+// Adds what all lines of a text say to the cases.
+fn add_lines<R: Files>(
+    rt: &R,
+    alloc: Global,
+    cases: &mut Vec<Case>,
+    text: &str,
+) -> Result<(), Untried> {
     let mut number: usize = 0;
     for line in text.split('\n') {
         number = number.saturating_add(1);
-        if !add_line(rt, alloc, &mut cases, line)? {
-            return Err(Broken::BadLine(number));
+        if !add_line(rt, alloc, cases, line)? {
+            return Err(Untried::BadLine(number));
         }
     }
     if !ends_asked(cases.as_slice()) {
-        return Err(Broken::BadLine(number));
+        return Err(Untried::BadLine(number));
     }
-    Ok(cases)
+    Ok(())
+}
+
+/// The cases of a text, with the files of the feeds that they name. There is at least one, each
+/// asks something, and what it says of files comes before what it asks.
+pub fn cases_of<R: Files>(rt: &R, alloc: Global, text: &str) -> Result<Vec<Case>, Untried> {
+    let mut cases = Vec::new(alloc);
+    match add_lines(rt, alloc, &mut cases, text) {
+        Ok(()) => Ok(cases),
+        Err(untried) => {
+            drop(cases);
+            Err(untried)
+        }
+    }
 }

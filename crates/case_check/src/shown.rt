@@ -1,7 +1,7 @@
 //! What a case asks of the timetable of a day that no command of the program shows.
 ghost use Rattle.std.specs.Prelude.{◌<◌, ◌≤◌, IfSome, length};
 
-use super::feeds::Files;
+use super::ending::{Ending, ending_of};
 use gtfs_rows::number_of;
 use router_cli::Status;
 use service_day::day_of;
@@ -119,28 +119,41 @@ fn paths_text(alloc: Global, table: &Timetable, mostly: u32) -> Result<Vec<u8>, 
     Ok(text)
 }
 
-/// Whether the timetable of a day can be had, and its change times and footpaths: `DIR DATE change
+// What is shown of the timetable of a day, where it can be had.
+fn shown_of(
+    alloc: Global,
+    read: Result<Timetable, DayFault>,
+    mostly: u32,
+) -> Result<Ending, Memory> {
+    match read {
+        Ok(table) => {
+            let text = paths_text(alloc, &table, mostly);
+            drop(table);
+            ending_of(alloc, &Status::Done, text?.as_slice())
+        }
+        Err(DayFault::Feed(fault)) => ending_of(alloc, &Status::FeedRefused(fault), &[]),
+        Err(DayFault::ReadFault) => ending_of(alloc, &Status::ReadFault, &[]),
+        Err(DayFault::Memory) => Err(Memory),
+    }
+}
+
+/// The change times and footpaths of the timetable of a day, or why there is none: `DIR DATE change
 /// SECONDS station SECONDS close`, the last three where they are wanted.
 pub fn shown_paths(
     alloc: Global,
-    files: Files,
+    folder: &mut MemFolder,
     words: &[String],
-) -> Result<(Status, Vec<u8>), Memory> {
+) -> Result<Ending, Memory> {
     let (Some(dir), Some(date)) = (words.first(), words.get(1)) else {
-        return Ok((Status::Usage, Vec::new(alloc)));
+        return ending_of(alloc, &Status::Usage, &[]);
     };
     let Ok(day) = day_of(date.as_bytes()) else {
-        return Ok((Status::Usage, Vec::new(alloc)));
+        return ending_of(alloc, &Status::Usage, &[]);
     };
     if !are_options(words) {
-        return Ok((Status::Usage, Vec::new(alloc)));
+        return ending_of(alloc, &Status::Usage, &[]);
     }
     let options = options_of(words);
-    let mut folder = MemFolder::new(files, Vec::new(alloc));
-    match read_day(alloc, &mut folder, dir.as_str(), &day, &options) {
-        Ok(table) => Ok((Status::Done, paths_text(alloc, &table, options.change)?)),
-        Err(DayFault::Feed(fault)) => Ok((Status::FeedRefused(fault), Vec::new(alloc))),
-        Err(DayFault::ReadFault) => Ok((Status::ReadFault, Vec::new(alloc))),
-        Err(DayFault::Memory) => Err(Memory),
-    }
+    let read = read_day(alloc, folder, dir.as_str(), &day, &options);
+    shown_of(alloc, read, options.change)
 }

@@ -1,18 +1,16 @@
 //! A case, tried.
-ghost use Rattle.std.specs.Prelude.{◌≡◌, ◌<◌, ◌-◌, ◌^◌, IfOk};
-
-use super::broken::Broken;
 use super::case::Case;
+use super::ending::{Ending, ending_over, ending_over_files};
 use super::endless::Endless;
 use super::question::{Asked, Outside, Question, Trouble, Turns, Wanted};
 use super::shown::shown_paths;
-use router_cli::{Status, route, status_text};
+use super::untried::Untried;
 use std::alloc::Global;
 use std::sync::Wait;
 use std::thread::Threads;
 use std::{fmt, str};
-use tb_base::{IdleGate, Memory};
-use tb_io::{Folder, MemFolder, MemSink, MemSource, Sink};
+use tb_base::Memory;
+use tb_io::MemFolder;
 
 /// What was tried.
 #[derive(Clone, Copy)]
@@ -57,66 +55,6 @@ impl fmt::Display for Tally {
     }
 }
 
-// The number of a call that fails, as objects in memory take it.
-fn fails(alloc: Global, number: Option<u32>) -> Result<Vec<u64>, Memory> {
-    let mut fails = Vec::new(alloc);
-    if let Some(number) = number {
-        fails.push(number as u64)?;
-    }
-    Ok(fails)
-}
-
-// How a run of the program ended: its number, and the bytes on standard output and on standard
-// error.
-#[derive(Drop)]
-struct Ending {
-    code: u8,
-    out: Vec<u8>,
-    err: Vec<u8>,
-}
-
-// How the program ends over a folder.
-fn status_over<R: Threads + Wait + Sync, F: Folder + Send, K: Sink>(
-    rt: &R,
-    alloc: Global,
-    words: &[String],
-    folder: &mut F,
-    script: MemSource,
-    sink: &mut K,
-) -> Status
-    requires folder { F.faults folder.old < 2 ^ 64 - 1 }
-    requires script { script.calls.faults < 2 ^ 64 - 1 }
-    requires sink { K.faults sink.old < 2 ^ 64 - 1 }
-{
-    let mut script = script;
-    route(rt, alloc, words, folder, &mut script, sink, &IdleGate)
-}
-
-// The script of a question.
-fn script_of(alloc: Global, question: &Question, trouble: Trouble) -> Result<MemSource, Memory>
-    ensures { IfOk result (λ source. source.calls.faults ≡ 0) }
-{
-    let bytes = question.script.as_slice().to_vec(alloc)?;
-    let source = MemSource::new(bytes, fails(alloc, trouble.input)?);
-    Ok(source.with_piece(trouble.piece()))
-}
-
-// Where the answer is written.
-fn sink_of(alloc: Global, trouble: Trouble) -> Result<MemSink, Memory>
-    ensures { IfOk result (λ sink. sink.calls.faults ≡ 0) }
-{
-    let sink = MemSink::new(alloc, trouble.room as usize, fails(alloc, trouble.output)?)?;
-    Ok(sink.with_piece(trouble.piece()))
-}
-
-// The folder of the files of a case.
-fn folder_of(alloc: Global, case: &Case, trouble: Trouble) -> Result<MemFolder, Memory>
-    ensures { IfOk result (λ folder. folder.calls.faults ≡ 0) }
-{
-    let folder = MemFolder::new(case.files(alloc)?, fails(alloc, trouble.folder)?);
-    Ok(folder.with_piece(trouble.piece()))
-}
-
 // How the program ends over the files of a case, with such trouble outside.
 fn program_ending<R: Threads + Wait + Sync>(
     rt: &R,
@@ -126,34 +64,23 @@ fn program_ending<R: Threads + Wait + Sync>(
     trouble: Trouble,
 ) -> Result<Ending, Memory> {
     let words = question.words.as_slice();
-    let script = script_of(alloc, question, trouble)?;
-    let mut sink = sink_of(alloc, trouble)?;
-    let status = match case.endless() {
-        Some(path) => status_over(rt, alloc, words, &mut Endless { path }, script, &mut sink),
-        None => {
-            let mut files = folder_of(alloc, case, trouble)?;
-            status_over(rt, alloc, words, &mut files, script, &mut sink)
-        }
-    };
-    Ok(Ending {
-        code: status.code(),
-        out: sink.bytes().to_vec(alloc)?,
-        err: status_text(alloc, &status)?,
-    })
+    let script = question.script.as_slice();
+    match case.endless() {
+        Some(path) => ending_over(rt, alloc, words, &mut Endless { path }, script, trouble),
+        None => ending_over_files(rt, alloc, words, case.files(alloc)?, script, trouble),
+    }
 }
 
 // How the change times and footpaths of a day are shown.
 fn paths_ending(alloc: Global, case: &Case, words: &[String]) -> Result<Ending, Memory> {
-    let (status, out) = shown_paths(alloc, case.files(alloc)?, words)?;
-    Ok(Ending {
-        code: status.code(),
-        out,
-        err: status_text(alloc, &status)?,
-    })
+    let mut folder = MemFolder::new(case.files(alloc)?, Vec::new(alloc));
+    let ending = shown_paths(alloc, &mut folder, words);
+    drop(folder);
+    ending
 }
 
 // How a question ends.
-fn ending_of<R: Threads + Wait + Sync>(
+fn question_ending<R: Threads + Wait + Sync>(
     rt: &R,
     alloc: Global,
     case: &Case,
@@ -261,7 +188,7 @@ fn bad_ending<R: Threads + Wait + Sync>(
     question: &Question,
 ) -> Result<Option<Ending>, Memory> {
     let Some(turns) = question.turns else {
-        let came = ending_of(rt, alloc, case, question)?;
+        let came = question_ending(rt, alloc, case, question)?;
         let is_right = is_same(&came, &question.want);
         return Ok(if is_right { None } else { Some(came) });
     };
@@ -300,7 +227,7 @@ pub fn try_case<R: Threads + Wait + Sync + Print>(
     alloc: Global,
     case: &Case,
     tally: &mut Tally,
-) -> Result<(), Broken> {
+) -> Result<(), Untried> {
     let title = case.title.as_str();
     let mut differs = false;
     for question in &case.questions {

@@ -25,24 +25,6 @@ pub struct Seeds {
 }
 
 impl Seeds {
-    /// What the words of a program say that are `COUNT [SEED]`; the first seed is 1 where none is
-    /// given. None where they don't say a number.
-    pub fn of_words(rt: &(impl Env + AllocGlobal)) -> Option<Seeds> {
-        let Ok(args) = env::args(rt) else {
-            return None;
-        };
-        let mut args = args.skip(1);
-        let count = args.next()?;
-        let first = match args.next() {
-            Some(seed) => number_of(seed.as_bytes())?,
-            None => 1,
-        };
-        Some(Seeds {
-            count: number_of(count.as_bytes())?,
-            first,
-        })
-    }
-
     /// What a text says that is `COUNT` or `COUNT:SEED`; the first seed is 1 where none is given.
     /// None where it doesn't say numbers.
     pub fn of_text(text: &str) -> Option<Seeds> {

@@ -1,8 +1,9 @@
 //! Feeds that look random, of which one file is broken, and what is asked over each.
 ghost use Rattle.std.specs.Prelude.{◌<◌};
 
-use super::asking::{Ending, asked};
+use super::asking::asked;
 use super::breaks::{Break, Broken, broken_files, some_broken};
+use crate::ending::Ending;
 use made_feeds::{Draw, small_feed};
 use std::alloc::{AllocError, Global};
 use std::sync::Wait;

@@ -1,0 +1,76 @@
+//! What the program answers over files of which one is broken.
+use crate::ending::{Ending, ending_over_files};
+use crate::feeds::add_copies;
+use crate::question::{Trouble, words_of};
+use std::alloc::Global;
+use std::str;
+use std::sync::Wait;
+use std::thread::Threads;
+use tb_base::Memory;
+
+// There is room for each answer.
+const ROOMY: Trouble = Trouble {
+    room: 200_000,
+    ..Trouble::NONE
+};
+
+// Bytes as text.
+fn text_of(bytes: &[u8]) -> &str {
+    str::from_utf8(bytes).unwrap_or("")
+}
+
+impl Ending {
+    /// Whether it is an answer, or names a fault of the feed and writes nothing.
+    pub fn is_sound(&self) -> bool {
+        let err = text_of(self.err.as_slice());
+        match self.code {
+            0 => text_of(self.out.as_slice()).ends_with('\n') && err.is_empty(),
+            3 => self.out.is_empty() && err.starts_with("router: feed refused: "),
+            _ => false,
+        }
+    }
+
+    /// Whether it is an answer.
+    pub fn is_answer(&self) -> bool {
+        self.code == 0
+    }
+
+    /// Whether another one has the same number and the same fault.
+    pub fn has_status_of(&self, other: &Ending) -> bool {
+        self.code == other.code && self.err.as_slice() == other.err.as_slice()
+    }
+
+    /// Whether another one shows the same values, whatever journeys it shows.
+    pub fn has_values_of(&self, other: &Ending) -> bool {
+        let lines = text_of(self.out.as_slice()).lines();
+        let others = text_of(other.out.as_slice()).lines();
+        lines
+            .filter(|line| !line.starts_with(' '))
+            .eq(others.filter(|line| !line.starts_with(' ')))
+    }
+}
+
+// How the program ends over copies of files.
+fn ending_over_copies<R: Threads + Wait + Sync>(
+    rt: &R,
+    alloc: Global,
+    words: &[String],
+    files: &[(String, Vec<u8>)],
+) -> Result<Ending, Memory> {
+    let mut copies = Vec::new(alloc);
+    add_copies(alloc, files, &mut copies)?;
+    ending_over_files(rt, alloc, words, copies, b"".as_slice(), ROOMY)
+}
+
+/// How the program ends over files, with the words of a line and no script.
+pub fn asked<R: Threads + Wait + Sync>(
+    rt: &R,
+    alloc: Global,
+    files: &[(String, Vec<u8>)],
+    line: &str,
+) -> Result<Ending, Memory> {
+    let words = words_of(alloc, line)?;
+    let ending = ending_over_copies(rt, alloc, words.as_slice(), files);
+    drop(words);
+    ending
+}

@@ -1,0 +1,148 @@
+//! How the program ends over files in memory. `route` is called in one function, since whatever calls
+//! it is proved over all that its contract names.
+ghost use Rattle.std.specs.Prelude.{◌≡◌, ◌<◌, ◌-◌, ◌^◌, IfOk};
+
+use super::feeds::Files;
+use super::question::Trouble;
+use router_cli::{Status, route, status_text};
+use std::alloc::Global;
+use std::sync::Wait;
+use std::thread::Threads;
+use tb_base::{IdleGate, Memory};
+use tb_io::{Folder, MemFolder, MemSink, MemSource, Sink, Source};
+
+/// How a run of the program ended: its number, and the bytes on standard output and on standard
+/// error.
+#[derive(Drop)]
+pub struct Ending {
+    pub code: u8,
+    pub out: Vec<u8>,
+    pub err: Vec<u8>,
+}
+
+/// How a run ended with a status, and what it wrote.
+pub fn ending_of(alloc: Global, status: &Status, out: &[u8]) -> Result<Ending, Memory> {
+    Ok(Ending {
+        code: status.code(),
+        out: out.to_vec(alloc)?,
+        err: status_text(alloc, status)?,
+    })
+}
+
+// The number of a call that fails, as objects in memory take it.
+fn fails(alloc: Global, number: Option<u32>) -> Result<Vec<u64>, Memory> {
+    let mut fails = Vec::new(alloc);
+    if let Some(number) = number {
+        fails.push(number as u64)?;
+    }
+    Ok(fails)
+}
+
+// A script.
+fn script_of(alloc: Global, bytes: &[u8], trouble: Trouble) -> Result<MemSource, Memory>
+    ensures { IfOk result (λ source. source.calls.faults ≡ 0) }
+{
+    let source = MemSource::new(bytes.to_vec(alloc)?, fails(alloc, trouble.input)?);
+    Ok(source.with_piece(trouble.piece()))
+}
+
+// Where the answer is written.
+fn sink_of(alloc: Global, trouble: Trouble) -> Result<MemSink, Memory>
+    ensures { IfOk result (λ sink. sink.calls.faults ≡ 0) }
+{
+    let sink = MemSink::new(alloc, trouble.room as usize, fails(alloc, trouble.output)?)?;
+    Ok(sink.with_piece(trouble.piece()))
+}
+
+// A folder of files.
+fn folder_of(alloc: Global, files: Files, trouble: Trouble) -> Result<MemFolder, Memory>
+    ensures { IfOk result (λ folder. folder.calls.faults ≡ 0) }
+{
+    let folder = MemFolder::new(files, fails(alloc, trouble.folder)?);
+    Ok(folder.with_piece(trouble.piece()))
+}
+
+// The status of the program over a folder.
+fn status_over<R: Threads + Wait + Sync, F: Folder + Send, S: Source, K: Sink>(
+    rt: &R,
+    alloc: Global,
+    words: &[String],
+    folder: &mut F,
+    script: &mut S,
+    sink: &mut K,
+) -> Status
+    requires folder { F.faults folder.old < 2 ^ 64 - 1 }
+    requires script { S.faults script.old < 2 ^ 64 - 1 }
+    requires sink { K.faults sink.old < 2 ^ 64 - 1 }
+{
+    route(rt, alloc, words, folder, script, sink, &IdleGate)
+}
+
+// How the program ends over a folder and a script, with a sink in which nothing is.
+fn ending_into<R: Threads + Wait + Sync, F: Folder + Send>(
+    rt: &R,
+    alloc: Global,
+    words: &[String],
+    folder: &mut F,
+    script: &mut MemSource,
+    sink: &mut MemSink,
+) -> Result<Ending, Memory>
+    requires folder { F.faults folder.old < 2 ^ 64 - 1 }
+    requires script { script.old.calls.faults < 2 ^ 64 - 1 }
+    requires sink { sink.old.calls.faults < 2 ^ 64 - 1 }
+{
+    let status = status_over(rt, alloc, words, folder, script, sink);
+    let ending = ending_of(alloc, &status, sink.bytes());
+    drop(status);
+    ending
+}
+
+// The same with a sink of its own.
+fn ending_with<R: Threads + Wait + Sync, F: Folder + Send>(
+    rt: &R,
+    alloc: Global,
+    words: &[String],
+    folder: &mut F,
+    script: &mut MemSource,
+    trouble: Trouble,
+) -> Result<Ending, Memory>
+    requires folder { F.faults folder.old < 2 ^ 64 - 1 }
+    requires script { script.old.calls.faults < 2 ^ 64 - 1 }
+{
+    let mut sink = sink_of(alloc, trouble)?;
+    let ending = ending_into(rt, alloc, words, folder, script, &mut sink);
+    drop(sink);
+    ending
+}
+
+/// How the program ends over a folder and a script, with such trouble outside.
+pub fn ending_over<R: Threads + Wait + Sync, F: Folder + Send>(
+    rt: &R,
+    alloc: Global,
+    words: &[String],
+    folder: &mut F,
+    script: &[u8],
+    trouble: Trouble,
+) -> Result<Ending, Memory>
+    requires { F.faults folder.old < 2 ^ 64 - 1 }
+{
+    let mut script = script_of(alloc, script, trouble)?;
+    let ending = ending_with(rt, alloc, words, folder, &mut script, trouble);
+    drop(script);
+    ending
+}
+
+/// How the program ends over files and a script, with such trouble outside.
+pub fn ending_over_files<R: Threads + Wait + Sync>(
+    rt: &R,
+    alloc: Global,
+    words: &[String],
+    files: Files,
+    script: &[u8],
+    trouble: Trouble,
+) -> Result<Ending, Memory> {
+    let mut folder = folder_of(alloc, files, trouble)?;
+    let ending = ending_over(rt, alloc, words, &mut folder, script, trouble);
+    drop(folder);
+    ending
+}
