@@ -1,0 +1,6 @@
+mod files;
+mod journeys;
+mod lanes;
+mod marks;
+mod stores;
+mod workers;

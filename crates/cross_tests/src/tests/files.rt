@@ -1,0 +1,5 @@
+//! Files, output and scripts.
+mod breaking;
+mod machine;
+mod pieces;
+mod streams;

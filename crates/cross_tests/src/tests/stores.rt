@@ -1,0 +1,5 @@
+//! Editions that are published while others ask.
+mod asking;
+mod beside;
+mod days;
+mod profiling;

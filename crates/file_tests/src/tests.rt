@@ -1,4 +1,0 @@
-mod breaking;
-mod files;
-mod pieces;
-mod streams;

@@ -1,3 +1,0 @@
-mod meeting;
-mod runs;
-mod texts;

@@ -1,4 +1,0 @@
-mod asking;
-mod beside;
-mod days;
-mod profiling;
