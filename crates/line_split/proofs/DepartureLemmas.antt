@@ -1,10 +1,9 @@
 -- The departures of a line at an index are one run, and the first in time is found along it.
-use Rattle.std.proofs.Common.{◌≡◌, ◌∙◌, sym, ap, subst, refl, ℕ, zero, suc, ◌+◌, ◌*◌, ◌<◌, ◌≤◌, ◌⊎◌, inl, inr, true, false, cond, List, [], ◌∷◌, ◌++◌, length, map, get_or, take, drop, Some, ℤ, ◌≤ℤ◌, ◌<ℤ◌, arith, append_assoc, length-append}
-use Rattle.std.specs.Prelude.{AllPairs, flat_map, int_le, int_lt, pos, slice_get}
+use Rattle.std.proofs.Common.{◌≡◌, ◌∙◌, sym, ap, subst, refl, ℕ, zero, suc, ◌+◌, ◌-◌, ◌*◌, ◌<◌, ◌≤◌, ◌⊎◌, inl, inr, false, cond, List, [], ◌∷◌, ◌++◌, length, map, get_or, take, drop, Some, ℤ, ◌≤ℤ◌, ◌<ℤ◌, arith, append_assoc, length-append}
+use Rattle.std.specs.Prelude.{AllPairs, flat_map, int_le, pos, slice_get}
 use Rattle.std.specs.List.{AllWithin, range_with_len}
-use Rattle.std.specs.List.Sorted.{IsPartitionedBy}
 use Rattle.std.proofs.lemmas.Int.{ints}
-use Rattle.std.proofs.lemmas.List.{append-nil, get_or_default, length-map, take-append-drop, drop_more, take_at, drop_at, take_more, flat_map_more, get_or-map}
+use Rattle.std.proofs.lemmas.List.{append-nil, get_or_default, get_or-drop, get_or-take, length-drop, length-map, length-take-le, take-append-drop, drop_more, take_at, drop_at, take_more, flat_map_more, get_or-map}
 use Rattle.std.proofs.lemmas.List.FromFn.{get_or-map-range_with_len, map-range_with_len_more}
 use Rattle.std.proofs.lemmas.List.Concat.{flat_map-append}
 use Rattle.tb_base.specs.TimetableData.{TimetableData, departure_at}
@@ -14,7 +13,7 @@ use Rattle.tb_base.proofs.LineFacts.{MayFollow, no_later}
 use Rattle.line_split.specs.Layout.{AreLaidOut, LinesLayout, departures_at, line_departures}
 use Rattle.line_split.specs.LinesOf.{line_events}
 use Rattle.line_split.proofs.CallLemmas.{numbers_below-more}
-use Rattle.tb_base.proofs.NumberFacts.{below_or_last, lt-int_lt, int_lt-true, int_lt-false, le-int_le, zero_more}
+use Rattle.tb_base.proofs.NumberFacts.{below_or_last, le-int_le, zero_more}
 
 -- ---- a part of a list
 
@@ -79,24 +78,91 @@ run_of T lines l i start count departures h k s n e =
 
 -- ---- the first departure in time
 
-pub partitioned : (xs : List ℤ) (time : ℤ) → AllPairs (λ x y. x ≤ℤ y) xs → IsPartitionedBy (λ x. int_lt x time) xs
-partitioned xs time up i j d h k t = by_case (same_or_before i j h)
+-- up to a departure that is earlier, all are
+pub earlier_to : (xs : List ℤ) (time : ℤ) (p n : ℕ) → AllPairs (λ x y. x ≤ℤ y) xs → p < length xs → get_or xs p (pos 0) <ℤ time → n ≤ p + 1 → AllWithin (λ x. x <ℤ time) xs 0 n
+earlier_to xs time p n up inside is most k d low high = by_case (grind (arith, high, most))
   where
-    same_or_before : (i j : ℕ) → i ≤ j → (i < j) ⊎ (j ≡ i)
-    same_or_before i j h = grind arith
-
     below : (a b c : ℤ) → a ≤ℤ b → b <ℤ c → a <ℤ c
     below a b c g h = omega (arith, ints, g, h)
 
-    by_case : (i < j) ⊎ (j ≡ i) → int_lt (get_or xs i d) time ≡ true
-    by_case (inl before) = lt-int_lt (get_or xs i d) time (below (get_or xs i d) (get_or xs j d) time (up i j d before k) (int_lt-true (get_or xs j d) time t))
-    by_case (inr e) = subst (λ n. int_lt (get_or xs n d) time ≡ true) e t
+    last : get_or xs p d <ℤ time
+    last = subst (λ x. x <ℤ time) (get_or_default xs p (pos 0) d inside) is
 
-pub all_earlier : (xs : List ℤ) (time : ℤ) (n : ℕ) → AllWithin (λ x. int_lt x time ≡ true) xs 0 n → AllWithin (λ x. x <ℤ time) xs 0 n
-all_earlier xs time n h k d low high = int_lt-true (get_or xs k d) time (h k d low high)
+    by_case : (k < p) ⊎ (k ≡ p) → get_or xs k d <ℤ time
+    by_case (inl before) = below (get_or xs k d) (get_or xs p d) time (up k p d before inside) last
+    by_case (inr e) = subst (λ m. get_or xs m d <ℤ time) (sym e) last
 
-pub all_from : (xs : List ℤ) (time : ℤ) (n : ℕ) → AllWithin (λ x. int_lt x time ≡ false) xs n (length xs) → AllWithin (λ x. time ≤ℤ x) xs n (length xs)
-all_from xs time n h k d low high = int_lt-false (get_or xs k d) time (h k d low high)
+-- from a departure that isn't earlier on, none is
+pub later_from : (xs : List ℤ) (time : ℤ) (p n : ℕ) → AllPairs (λ x y. x ≤ℤ y) xs → p < length xs → time ≤ℤ get_or xs p (pos 0) → p ≤ n → AllWithin (λ x. time ≤ℤ x) xs n (length xs)
+later_from xs time p n up inside is least k d low high = by_case (grind (arith, low, least))
+  where
+    above : (a b c : ℤ) → a ≤ℤ b → b ≤ℤ c → a ≤ℤ c
+    above a b c g h = omega (arith, ints, g, h)
+
+    first : time ≤ℤ get_or xs p d
+    first = subst (λ x. time ≤ℤ x) (get_or_default xs p (pos 0) d inside) is
+
+    by_case : (p < k) ⊎ (k ≡ p) → time ≤ℤ get_or xs k d
+    by_case (inl behind) = above time (get_or xs p d) (get_or xs k d) first (up p k d behind high)
+    by_case (inr e) = subst (λ m. time ≤ℤ get_or xs m d) (sym e) first
+
+-- a part is halved: its first half is earlier
+pub halved_up : (xs : List ℤ) (time : ℤ) (from count half : ℕ) → AllPairs (λ x y. x ≤ℤ y) xs → 0 < half → half ≤ count → from + count ≤ length xs →
+    AllWithin (λ x. time ≤ℤ x) xs (from + count) (length xs) → get_or xs (from + half - 1) (pos 0) <ℤ time →
+    (from + half + (count - half) ≤ length xs) × AllWithin (λ x. x <ℤ time) xs 0 (from + half) × AllWithin (λ x. time ≤ℤ x) xs (from + half + (count - half)) (length xs)
+halved_up xs time from count half up some most within behind is = (
+  omega (arith, most, within),
+  earlier_to xs time (from + half - 1) (from + half) up (omega (arith, some, most, within)) is (omega (arith, some)),
+  λ k d low high. behind k d (omega (arith, low, most)) high,
+)
+
+-- or not all of its first half is
+pub halved_down : (xs : List ℤ) (time : ℤ) (from count half : ℕ) → AllPairs (λ x y. x ≤ℤ y) xs → 0 < half → half + half ≤ count → from + count ≤ length xs →
+    AllWithin (λ x. x <ℤ time) xs 0 from → time ≤ℤ get_or xs (from + half - 1) (pos 0) →
+    (from + (count - half) ≤ length xs) × AllWithin (λ x. x <ℤ time) xs 0 from × AllWithin (λ x. time ≤ℤ x) xs (from + (count - half)) (length xs)
+halved_down xs time from count half up some most within before is = (
+  omega (arith, most, within),
+  before,
+  later_from xs time (from + half - 1) (from + (count - half)) up (omega (arith, some, most, within)) is (omega (arith, some, most)),
+)
+
+-- the departures of a part, from a place on and so many
+part_at : (xs : List ℤ) (from count k : ℕ) (d : ℤ) → k < count → get_or (take count (drop from xs)) k d ≡ get_or xs (from + k) d
+part_at xs from count k d h = get_or-take count (drop from xs) k d h ∙ get_or-drop from xs k d
+
+pub part-length : (xs : List ℤ) (from count : ℕ) → from + count ≤ length xs → length (take count (drop from xs)) ≡ count
+part-length xs from count h = length-take-le count (drop from xs) (omega (arith, h, length-drop from xs))
+
+pub part_ascends : (xs : List ℤ) (from count : ℕ) → from + count ≤ length xs → AllPairs (λ x y. x ≤ℤ y) xs → AllPairs (λ x y. x ≤ℤ y) (take count (drop from xs))
+part_ascends xs from count within up j k d before below =
+    let inside : k < count = omega (arith, below, part-length xs from count within) in
+    rw (part_at xs from count j d (omega (arith, before, inside)), part_at xs from count k d inside) (up (from + j) (from + k) d (omega (arith, before)) (omega (arith, inside, within)))
+
+-- what is told of a part tells of all, where all before it are earlier
+pub earlier_in_all : (xs : List ℤ) (time : ℤ) (from count n : ℕ) → from + count ≤ length xs → AllWithin (λ x. x <ℤ time) xs 0 from → n ≤ count →
+    AllWithin (λ x. x <ℤ time) (take count (drop from xs)) 0 n → AllWithin (λ x. x <ℤ time) xs 0 (from + n)
+earlier_in_all xs time from count n within before most inside k d low high = by_case (grind (arith, high))
+  where
+    at : k ≡ from + (k - from) → k - from < n → get_or xs k d <ℤ time
+    at e h = subst (λ m. get_or xs m d <ℤ time) (sym e) (subst (λ x. x <ℤ time) (part_at xs from count (k - from) d (omega (arith, h, most))) (inside (k - from) d (omega arith) h))
+
+    by_case : (k < from) ⊎ (from ≤ k) → get_or xs k d <ℤ time
+    by_case (inl h) = before k d low h
+    by_case (inr h) = at (omega (arith, h)) (omega (arith, h, high))
+
+-- and where none behind it is
+pub later_in_all : (xs : List ℤ) (time : ℤ) (from count n : ℕ) → from + count ≤ length xs → AllWithin (λ x. time ≤ℤ x) xs (from + count) (length xs) →
+    AllWithin (λ x. time ≤ℤ x) (take count (drop from xs)) n (length (take count (drop from xs))) → AllWithin (λ x. time ≤ℤ x) xs (from + n) (length xs)
+later_in_all xs time from count n within behind inside k d low high = by_case (grind arith)
+  where
+    at : k ≡ from + (k - from) → k - from < count → n ≤ k - from → time ≤ℤ get_or xs k d
+    at e h g =
+        subst (λ m. time ≤ℤ get_or xs m d) (sym e)
+        (subst (λ x. time ≤ℤ x) (part_at xs from count (k - from) d h) (inside (k - from) d g (omega (arith, h, part-length xs from count within))))
+
+    by_case : (from + count ≤ k) ⊎ (k < from + count) → time ≤ℤ get_or xs k d
+    by_case (inl h) = behind k d h high
+    by_case (inr h) = at (omega (arith, low)) (omega (arith, low, h)) (omega (arith, low))
 
 pub earliest_at : (T : TimetableData) (line : List ℕ) (at : ℕ) (time : ℤ) (place : ℕ) → AllWithin (λ x. x <ℤ time) (departures_at T line at) 0 place →
     AllWithin (λ x. time ≤ℤ x) (departures_at T line at) place (length (departures_at T line at)) → earliest_trip T line at time ≡ slice_get line place

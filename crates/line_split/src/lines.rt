@@ -264,11 +264,11 @@ fn part(departures: &[Sec], start: usize, count: usize) -> &[Sec]
 }
 
 // How many departures are few: these are counted one by one.
-const FEW: usize = 64;
+const FEW: usize = 16;
 
 // How many of these departures are earlier than the time, counted without a branch for each.
 fn count_earlier(departures: &[Sec], time: Sec) -> u32
-    requires few { length departures.now ≤ 64 }
+    requires few { length departures.now ≤ 16 }
     requires order { AllPairs (λ x y. x ≤ℤ y) departures.now }
     ensures bound { result ≤ length departures.now }
     ensures earlier { AllWithin (λ x. x <ℤ time) departures.now 0 result }
@@ -283,6 +283,28 @@ fn count_earlier(departures: &[Sec], time: Sec) -> u32
     earlier
 }
 
+// A part of the departures, where it begins and how many they are: all before it are earlier than the time, and none behind
+// it is. It is halved, without a branch that hangs on a departure, until they are few.
+fn narrowed(departures: &[Sec], time: Sec) -> (usize, usize)
+    requires { AllPairs (λ x y. x ≤ℤ y) departures.now }
+    ensures within { result.0 + result.1 ≤ length departures.now }
+    ensures few { result.1 ≤ 16 }
+    ensures earlier { AllWithin (λ x. x <ℤ time) departures.now 0 result.0 }
+    ensures from { AllWithin (λ x. time ≤ℤ x) departures.now (result.0 + result.1)
+        (length departures.now) }
+{
+    let mut from = 0;
+    let mut count = departures.len();
+    while count > FEW {
+        let half = count / 2;
+        if departures[from + half - 1] < time {
+            from += half;
+        }
+        count -= half;
+    }
+    (from, count)
+}
+
 // The first place from which on no departure is earlier than the time.
 fn first_from(departures: &[Sec], time: Sec) -> usize
     requires { AllPairs (λ x y. x ≤ℤ y) departures.now }
@@ -290,8 +312,6 @@ fn first_from(departures: &[Sec], time: Sec) -> usize
     ensures earlier { AllWithin (λ x. x <ℤ time) departures.now 0 result }
     ensures from { AllWithin (λ x. time ≤ℤ x) departures.now result (length departures.now) }
 {
-    if departures.len() <= FEW {
-        return count_earlier(departures, time) as usize;
-    }
-    departures.partition_point(|departure| *departure < time)
+    let (from, count) = narrowed(departures, time);
+    from + count_earlier(part(departures, from, count), time) as usize
 }
