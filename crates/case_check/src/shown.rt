@@ -1,5 +1,5 @@
 //! What a case asks of the timetable of a day that no command of the program shows.
-ghost use Rattle.std.specs.Prelude.{◌<◌, ◌≤◌, IfSome, length};
+ghost use Rattle.std.specs.Prelude.{◌<◌, ◌≤◌, ◌-◌, ◌^◌, IfSome, length};
 
 use super::ending::{Ending, ending_of};
 use gtfs_rows::number_of;
@@ -143,7 +143,9 @@ pub fn shown_paths(
     alloc: Global,
     folder: &mut MemFolder,
     words: &[String],
-) -> Result<Ending, Memory> {
+) -> Result<Ending, Memory>
+    requires { folder.old.calls.faults < 2 ^ 64 - 1 }
+{
     let (Some(dir), Some(date)) = (words.first(), words.get(1)) else {
         return ending_of(alloc, &Status::Usage, &[]);
     };
