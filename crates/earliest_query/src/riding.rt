@@ -120,7 +120,31 @@ impl<S: Scan> Search<'_, S> {
         }
     }
 
+    // The best hit so far, or to alight at an event of a segment, where one may, and walk on to the
+    // nearest target where that is earlier. Few events come here.
+    #[inline(never)]
+    fn weigh_near(
+        &self,
+        best: Option<Hit>,
+        visit: &Visit<'_>,
+        entry: u32,
+        at: u32,
+        round: u32,
+    ) -> Option<Hit>
+        requires stop { visit.now.stop < length (S.net self.now.scan.now).table.stops }
+        requires arr { visit.now.arr ≤ℤ pos 359999 }
+        requires alight { IsTrue visit.now.alight }
+        ensures { IsWeighed (S.net self.now.scan.now).table self.now.query.now visit.now.stop
+            visit.now.arr visit.now.alight entry at round best result }
+    {
+        match nearest(self.scan, visit.stop, targets(self.query)) {
+            Some(path) => earlier(best, alighting(visit, path, entry, at, round)),
+            None => best,
+        }
+    }
+
     // The best hit so far, or to alight at an event of a segment where that is earlier.
+    #[inline(always)]
     pub(crate) fn weigh(
         &self,
         best: Option<Hit>,
@@ -137,10 +161,7 @@ impl<S: Scan> Search<'_, S> {
         if !may_improve(&best, visit) || !self.may_be_near(visit.stop) {
             return best;
         }
-        match nearest(self.scan, visit.stop, targets(self.query)) {
-            Some(path) => earlier(best, alighting(visit, path, entry, at, round)),
-            None => best,
-        }
+        self.weigh_near(best, visit, entry, at, round)
     }
 
     // Looks at the indices that a segment covers one by one, and weighs to alight there. It ends where
@@ -306,8 +327,8 @@ impl<S: Scan> Search<'_, S> {
             return;
         }
         let hops = scan.hops_from(&note.seen);
-        for place in 0..hops.len() {
-            self.follow_hop(desk, hops[place], note, place, round);
+        for place in 0..hops.count() {
+            self.follow_hop(desk, hops.at(place), note, place, round);
         }
     }
 

@@ -5,10 +5,12 @@ ghost use Rattle.segment_queue.specs.Queue.{Fits};
 ghost use Rattle.segment_queue.specs.Traced.{IsEntered, round_after, round_of, round_segments, segment_of};
 ghost use Rattle.earliest_query.specs.Sweeping.{IsSweptQueue};
 ghost use Rattle.earliest_query.specs.UnderWay.{Covers, Extends, IsFollowed, IsReachedBy};
+ghost use Rattle.transfer_pack.specs.Words.{lent};
 
 use super::search::Search;
 use segment_queue::{Desk, Levels, Scan, Segment};
 use tb_base::{Hop, Memory};
+use transfer_pack::Hops;
 
 impl<S: Scan> Search<'_, S> {
     // Enters the trip of a hop where it is boarded, as a ride for which there is a level.
@@ -64,7 +66,7 @@ impl<S: Scan> Search<'_, S> {
         desk: &mut Desk,
         levels: &mut Levels,
         level: usize,
-        hops: &[Hop],
+        hops: Hops<'_>,
         segment: u32,
         at: u32,
     ) -> Result<(), Memory>
@@ -74,7 +76,7 @@ impl<S: Scan> Search<'_, S> {
         requires segment { segment < length desk.old.segments }
         requires round { round_of desk.old.segments segment ≡ level }
         requires covers { Covers desk.old segment at }
-        requires hops { hops.now
+        requires hops { lent hops
             ≡ (S.net self.now.scan.now).hops (segment_of desk.old.segments segment).trip at }
         requires sufficient { AreSufficient (S.net self.now.scan.now).table
             (S.net self.now.scan.now).hops }
@@ -86,8 +88,8 @@ impl<S: Scan> Search<'_, S> {
         ensures still { Fits (S.net self.now.scan.now).table desk.old →
             Fits (S.net self.now.scan.now).table desk.new }
     {
-        for hop in hops {
-            self.enter_level(desk, levels, level, *hop, Some((segment, at)))?;
+        for place in 0..hops.count() {
+            self.enter_level(desk, levels, level, hops.at(place), Some((segment, at)))?;
         }
         Ok(())
     }

@@ -10,7 +10,7 @@ use std::alloc::Global;
 use std::marker::Model;
 use std::sync::ledger::Ledger;
 use tb_base::{Hop, Memory, Path, Sec, StopNo, Timetable, TripNo};
-use transfer_pack::{ReadAhead, Set};
+use transfer_pack::{Hops, ReadAhead, Set};
 
 /// The network of a day: a timetable, its lines, and the set of its kept transfers. It holds the
 /// groups of its stops too, which a search looks at.
@@ -187,7 +187,7 @@ impl Scan for Edition {
         self.view().trip_before(trip)
     }
 
-    fn hops_from(&self, seen: &Seen) -> &[Hop] {
+    fn hops_from(&self, seen: &Seen) -> Hops<'_> {
         self.view().hops_of(seen)
     }
 

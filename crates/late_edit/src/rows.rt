@@ -4,13 +4,15 @@ ghost use Rattle.tb_base.specs.Transfers.{kept_hops, transfers_of};
 ghost use Rattle.touched_trips.specs.Retimed.{IsRetimed};
 ghost use Rattle.touched_trips.specs.Touched.{is_touched};
 ghost use Rattle.late_edit.specs.Amending.{AreKeptRows, network_of};
+ghost use Rattle.transfer_pack.specs.Words.{lent};
 
 use edition_store::Edition;
 use line_split::Lines;
 use std::alloc::Global;
 use std::marker::Model;
-use tb_base::{Hop, Memory, OutSet, Timetable, Transfer, TripNo};
+use tb_base::{Memory, Timetable, Transfer, TripNo};
 use touched_trips::{Network, Retiming};
+use transfer_pack::Hops;
 use transfer_make::make;
 use transfer_reduce::{Labels, reduce};
 use uturn_cut::cut;
@@ -38,11 +40,12 @@ impl Model for Rows {
 }
 
 // Adds the transfers of a trip by the hops of one of its events.
-fn add_event(row: &mut Vec<Transfer>, trip: TripNo, at: u32, hops: &[Hop]) -> Result<(), Memory>
+fn add_event(row: &mut Vec<Transfer>, trip: TripNo, at: u32, hops: Hops<'_>) -> Result<(), Memory>
     ensures { OnOk result (row.new.items ≡ row.old.items
-        ++ map (λ h. record { trip = trip; at = at; to_trip = h.trip; to_at = h.at }) hops.now) }
+        ++ map (λ h. record { trip = trip; at = at; to_trip = h.trip; to_at = h.at }) (lent hops)) }
 {
-    for hop in hops {
+    for place in 0..hops.count() {
+        let hop = hops.at(place);
         row.push(Transfer {
             trip,
             at,

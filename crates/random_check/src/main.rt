@@ -12,6 +12,7 @@ mod answers;
 mod building;
 mod late;
 mod refused;
+mod same_hops;
 
 use made_feeds::{Seeds, words_of};
 use refused::{Ended, Refused};

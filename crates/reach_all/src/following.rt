@@ -5,10 +5,12 @@ ghost use Rattle.tb_base.specs.declared.transfer.Hop.{Hop};
 ghost use Rattle.segment_queue.specs.Traced.{IsEntered, round_after, round_of, round_segments, segment_of};
 ghost use Rattle.earliest_query.specs.UnderWay.{Covers, Extends, IsFollowed, IsQueue, IsReachedBy};
 ghost use Rattle.reach_all.specs.Spreading.{everywhere};
+ghost use Rattle.transfer_pack.specs.Words.{lent};
 
 use super::one_to_all::OneToAll;
 use segment_queue::{Desk, Scan};
 use tb_base::Hop;
+use transfer_pack::Hops;
 
 impl<S: Scan> OneToAll<'_, S> {
     // Enters the trip of a hop where it is boarded, in the round behind its parent.
@@ -40,13 +42,13 @@ impl<S: Scan> OneToAll<'_, S> {
     }
 
     // Follows the hops from an index that a segment covers.
-    pub(crate) fn follow(&self, desk: &mut Desk, hops: &[Hop], segment: u32, at: u32)
+    pub(crate) fn follow(&self, desk: &mut Desk, hops: Hops<'_>, segment: u32, at: u32)
         requires queue { IsQueue (S.net self.now.scan.now)
             (everywhere self.now.from.now self.now.leave)
             desk.old (suc (round_of desk.old.segments segment)) }
         requires segment { segment < length desk.old.segments }
         requires covers { Covers desk.old segment at }
-        requires hops { hops.now
+        requires hops { lent hops
             ≡ (S.net self.now.scan.now).hops (segment_of desk.old.segments segment).trip at }
         requires sufficient { AreSufficient (S.net self.now.scan.now).table
             (S.net self.now.scan.now).hops }
@@ -56,8 +58,8 @@ impl<S: Scan> OneToAll<'_, S> {
         ensures extends { Extends desk.old desk.new (suc (round_of desk.old.segments segment)) }
         ensures followed { IsFollowed (S.net self.now.scan.now) desk.new segment at }
     {
-        for hop in hops {
-            self.enter(desk, *hop, Some((segment, at)));
+        for place in 0..hops.count() {
+            self.enter(desk, hops.at(place), Some((segment, at)));
         }
     }
 }

@@ -5,12 +5,13 @@ ghost use Rattle.tb_base.specs.Walking.{walk};
 ghost use Rattle.tb_base.specs.TimetableData.{arrival_at, event_at, event_total, events_of, stop_at};
 ghost use Rattle.segment_queue.specs.Scans.{AreEvents, IsFirst, StandsBefore, boarding_hop, hops_seen, line_indices_at, no_line_index, seen_arr, seen_first, seen_last, seen_trip, trips_from};
 ghost use Rattle.segment_queue.specs.WalkGroups.{AreWalkGroups};
+ghost use Rattle.transfer_pack.specs.Words.{lent};
 
 use super::seen::Seen;
 use super::steps::Steps;
 use std::sync::ledger::Ledger;
 use tb_base::{Hop, Path, Sec, StopNo, TripNo};
-use transfer_pack::ReadAhead;
+use transfer_pack::{Hops, ReadAhead};
 
 /// How large a timetable is.
 #[derive(Clone, Copy, Debug, PartialEq, Eq)]
@@ -28,7 +29,7 @@ pub struct Visit<'a> {
     pub stop: StopNo,
     pub arr: Sec,
     pub alight: bool,
-    pub out: &'a [Hop],
+    pub out: Hops<'a>,
     pub seen: Seen,
 }
 
@@ -93,9 +94,9 @@ pub trait Scan {
             × StandsBefore (net self.now).lines v trip) };
 
     /// The hops from events that have been looked at, one event behind the other. It is no further step.
-    fn hops_from(&self, seen: &Seen) -> &[Hop]
+    fn hops_from(&self, seen: &Seen) -> Hops<'_>
         requires { AreEvents (net self.now).table seen.now }
-        ensures { result.now ≡ hops_seen (net self.now).hops seen.now };
+        ensures { lent result ≡ hops_seen (net self.now).hops seen.now };
 
     /// From which of the events that have been looked at the hop is that has this place among theirs. It is no further step.
     fn event_of(&self, seen: &Seen, place: usize) -> u32
@@ -139,7 +140,7 @@ pub trait Look<L: Ledger>: Scan {
         ensures stop { result.stop ≡ stop_at (Self.net self.now).table trip at }
         ensures arr { result.arr ≡ arrival_at (Self.net self.now).table trip at }
         ensures alight { result.alight ≡ (event_at (Self.net self.now).table trip at).alight }
-        ensures out { result.out.now ≡ (Self.net self.now).hops trip at }
+        ensures out { lent result.out ≡ (Self.net self.now).hops trip at }
         ensures trip { seen_trip result.seen ≡ trip }
         ensures first { seen_first result.seen ≡ at }
         ensures last { seen_last result.seen ≡ at }

@@ -4,6 +4,7 @@ ghost use Rattle.tb_base.specs.TimetableData.{arrival_at, event_at, events_of, s
 ghost use Rattle.segment_queue.specs.Scans.{AreEvents, IsFirst, StandsBefore, hops_seen, seen_arr, seen_first, seen_last, seen_trip, trips_from};
 ghost use Rattle.segment_queue.specs.WalkGroups.{AreWalkGroups};
 ghost use Rattle.transfer_pack.specs.Packed.{packed};
+ghost use Rattle.transfer_pack.specs.Words.{lent};
 
 use super::scan::{Look, Scan, Shape, Visit};
 use super::seen::Seen;
@@ -12,8 +13,8 @@ use super::walk_groups::WalkGroups;
 use line_split::Lines;
 use std::marker::Model;
 use std::sync::ledger::Ledger;
-use tb_base::{Hop, OutSet, Path, Sec, StopNo, Timetable, TripNo};
-use transfer_pack::{ReadAhead, Set};
+use tb_base::{Hop, Path, Sec, StopNo, Timetable, TripNo};
+use transfer_pack::{Hops, ReadAhead, Set};
 
 /// A timetable, its lines and a set of hops, as a search looks at them.
 #[derive(Drop)]
@@ -110,7 +111,7 @@ impl<'a> View<'a> {
         ensures stop { result.stop ≡ stop_at self.now.0 trip at }
         ensures arr { result.arr ≡ arrival_at self.now.0 trip at }
         ensures alight { result.alight ≡ (event_at self.now.0 trip at).alight }
-        ensures out { result.out.now ≡ packed self.now.2 trip at }
+        ensures out { lent result.out ≡ packed self.now.2 trip at }
         ensures trip { seen_trip result.seen ≡ trip }
         ensures first { seen_first result.seen ≡ at }
         ensures last { seen_last result.seen ≡ at }
@@ -135,9 +136,9 @@ impl<'a> View<'a> {
     }
 
     /// The hops from events that have been looked at, for as long as the set is lent.
-    pub fn hops_of(&self, seen: &Seen) -> &'a [Hop]
+    pub fn hops_of(&self, seen: &Seen) -> Hops<'a>
         requires { AreEvents self.now.0 seen.now }
-        ensures { result.now ≡ hops_seen (packed self.now.2) seen.now }
+        ensures { lent result ≡ hops_seen (packed self.now.2) seen.now }
     {
         let set = self.set;
         set.hops_over(seen.trip, seen.first, seen.last)
@@ -202,7 +203,7 @@ impl<'a> Scan for View<'a> {
         self.trip_before(trip)
     }
 
-    fn hops_from(&self, seen: &Seen) -> &[Hop] {
+    fn hops_from(&self, seen: &Seen) -> Hops<'_> {
         self.hops_of(seen)
     }
 

@@ -1,3 +1,4 @@
 pub mod Bounds
 pub mod Packing
 pub mod Stretches
+pub mod Words

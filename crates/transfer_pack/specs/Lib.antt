@@ -1,3 +1,4 @@
 pub mod Calls
 pub mod Packed
 pub mod Spots
+pub mod Words

@@ -2,16 +2,19 @@
 //! the other.
 //!
 //! `Set` holds the hops of all events in one vector, event after event, and in another for each
-//! event where its hops end, beside what a search reads of the event. To the layers above it is an
-//! `OutSet`: from each event the hops of its transfers, in their order, as the plain set of
-//! `tb_base` has them. `Set::call` gives the event, and `Set::hops_over` the hops of several events
-//! of a trip that follow one another, as one list.
+//! event where its hops end, beside what a search reads of the event. It stands for the same lists
+//! as the plain set of `tb_base`. `Set::out` lends the hops of an event, in their order,
+//! `Set::hops_over` those of several events of a trip that follow one another, as one list, and
+//! `Set::call` gives the event. A hop takes four bytes where all of a set's fit in that, and eight
+//! else; so hops are lent as `Hops`, and not as a slice.
 #![tactic(auto)]
 
 mod ahead;
 mod call;
+mod hops;
 mod set;
 
 pub use ahead::ReadAhead;
 pub use call::Call;
+pub use hops::Hops;
 pub use set::Set;

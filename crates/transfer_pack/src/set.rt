@@ -5,13 +5,15 @@ ghost use Rattle.tb_base.specs.declared.transfer.Hop.{Hop};
 ghost use Rattle.transfer_pack.specs.Calls.{call_of};
 ghost use Rattle.transfer_pack.specs.Packed.{AreBounds, begin_of, hops_over, packed, runs_in};
 ghost use Rattle.transfer_pack.specs.Spots.{calls_in, ends_in, spot_call};
+ghost use Rattle.transfer_pack.specs.Words.{lent};
 
 use super::ahead::ReadAhead;
 use super::call::Call;
+use super::hops::{HopList, Hops};
 use std::alloc::Global;
 use std::marker::Model;
 use std::snapshot::Snapshot;
-use tb_base::{Event, Hop, Memory, OutSet, Sec, StopNo, Timetable, Transfer, TripNo};
+use tb_base::{Event, Hop, Memory, Sec, StopNo, Timetable, Transfer, TripNo};
 
 // An event as a search reads it, in twelve bytes: twice the number of its stop, and one more where
 // one may alight there; its arrival; and where its hops end. They begin where those of the spot
@@ -69,7 +71,7 @@ pub struct Set {
     table: Snapshot<Timetable>,
     starts: Vec<u32>,
     spots: Vec<Spot>,
-    hops: Vec<Hop>,
+    hops: HopList,
 }
 
 impl Model for Set {
@@ -82,18 +84,18 @@ impl Model for Set {
     ghost view = { λ s. record {
       table = s.table.value;
       starts = s.starts.items;
-      hops = s.hops.items;
+      hops = s.hops;
       bounds = ends_in s.spots.items;
-      runs = runs_in s.hops.items (ends_in s.spots.items);
+      runs = runs_in s.hops (ends_in s.spots.items);
     } };
 
-    ghost invariant = { λ s. AreBounds (ends_in s.spots.items) (length s.hops.items)
+    ghost invariant = { λ s. AreBounds (ends_in s.spots.items) (length s.hops)
         × FitsRuns (record {
           table = s.table.value;
           starts = s.starts.items;
-          hops = s.hops.items;
+          hops = s.hops;
           bounds = ends_in s.spots.items;
-          runs = runs_in s.hops.items (ends_in s.spots.items);
+          runs = runs_in s.hops (ends_in s.spots.items);
         })
         × AreCalls s.table.value s.starts.items (calls_in s.spots.items) };
 }
@@ -109,16 +111,17 @@ fn number(count: usize) -> Result<u32, Memory>
 }
 
 // Adds the hops of a trip's transfers from one of its events.
-fn add_event(hops: &mut Vec<Hop>, row: &[Transfer], at: usize) -> Result<(), Memory>
-    ensures { OnOk result (hops.new.items ≡ hops.old.items ++ hops_at row.now at) }
+fn add_event(alloc: Global, hops: &mut HopList, row: &[Transfer], at: usize) -> Result<(), Memory>
+    ensures { OnOk result (hops.new ≡ hops.old ++ hops_at row.now at) }
 {
     for k in 0..row.len() {
         let transfer = row[k];
         if transfer.at as usize == at {
-            hops.push(Hop {
+            let hop = Hop {
                 trip: transfer.to_trip,
                 at: transfer.to_at,
-            })?;
+            };
+            hops.push(alloc, hop)?;
         }
     }
     Ok(())
@@ -126,22 +129,23 @@ fn add_event(hops: &mut Vec<Hop>, row: &[Transfer], at: usize) -> Result<(), Mem
 
 // Adds the events of a trip, each with the hops of the trip's transfers from there.
 fn add_trip(
-    hops: &mut Vec<Hop>,
+    alloc: Global,
+    hops: &mut HopList,
     spots: &mut Vec<Spot>,
     row: &[Transfer],
     events: &[Event],
 ) -> Result<(), Memory>
-    requires bounds { AreBounds (ends_in spots.old.items) (length hops.old.items) }
+    requires bounds { AreBounds (ends_in spots.old.items) (length hops.old) }
     requires stops { All (λ e. e.stop < 100000) events.now }
-    ensures bounds { OnOk result (AreBounds (ends_in spots.new.items) (length hops.new.items)) }
-    ensures runs { OnOk result (runs_in hops.new.items (ends_in spots.new.items)
-        ≡ runs_in hops.old.items (ends_in spots.old.items)
+    ensures bounds { OnOk result (AreBounds (ends_in spots.new.items) (length hops.new)) }
+    ensures runs { OnOk result (runs_in hops.new (ends_in spots.new.items)
+        ≡ runs_in hops.old (ends_in spots.old.items)
         ++ map (hops_at row.now) (numbers_below (length events.now))) }
     ensures calls { OnOk result (calls_in spots.new.items
         ≡ calls_in spots.old.items ++ map call_of events.now) }
 {
     for at in 0..events.len() {
-        add_event(hops, row, at)?;
+        add_event(alloc, hops, row, at)?;
         let end = number(hops.len())?;
         spots.push(Spot::of(&events[at], end))?;
     }
@@ -162,12 +166,18 @@ impl Set {
         table.soundness();
         let mut starts = Vec::new(alloc);
         let mut spots = Vec::new(alloc);
-        let mut hops = Vec::new(alloc);
+        let mut hops = HopList::new(alloc);
         spots.push(NO_SPOT)?;
         starts.push(0)?;
         for t in 0..table.trip_count() {
             let events = table.events(TripNo(t));
-            add_trip(&mut hops, &mut spots, rows[t as usize].as_slice(), events)?;
+            add_trip(
+                alloc,
+                &mut hops,
+                &mut spots,
+                rows[t as usize].as_slice(),
+                events,
+            )?;
             starts.push(number(spots.len() - 1)?)?;
         }
         Ok(Set {
@@ -179,22 +189,13 @@ impl Set {
     }
 }
 
-// The hops from one place up to another.
-fn run(hops: &[Hop], from: usize, to: usize) -> &[Hop]
-    requires from { from ≤ to }
-    requires to { to ≤ length hops.now }
-    ensures { result.now ≡ take (to - from) (drop from hops.now) }
-{
-    &hops[from..to]
-}
-
 // The run between the ends of a spot and of the next.
-fn run_behind<'a>(hops: &'a [Hop], spots: &[Spot], k: usize) -> &'a [Hop]
+fn run_behind<'a>(hops: &'a HopList, spots: &[Spot], k: usize) -> Hops<'a>
     requires bounds { AreBounds (ends_in spots.now) (length hops.now) }
     requires inside { k + 1 < length spots.now }
-    ensures { result.now ≡ slice_index_or (runs_in hops.now (ends_in spots.now)) k [] }
+    ensures { lent result ≡ slice_index_or (runs_in hops.now (ends_in spots.now)) k [] }
 {
-    run(hops, spots[k].end as usize, spots[k + 1].end as usize)
+    hops.run(spots[k].end as usize, spots[k + 1].end as usize)
 }
 
 impl Set {
@@ -210,14 +211,14 @@ impl Set {
         self.starts[trip.index()] as usize + at as usize
     }
 
-    // The hops from an event.
-    fn run_of(&self, trip: TripNo, at: u32) -> &[Hop]
+    /// The hops from event `at` of a trip. No memory is taken.
+    pub fn out(&self, trip: TripNo, at: u32) -> Hops<'_>
         requires trip { trip < length self.now.table.trips }
         requires at { at < length (events_of self.now.table trip) }
-        ensures { result.now ≡ packed self.now trip at }
+        ensures { lent result ≡ packed self.now trip at }
     {
         let event = self.event(trip, at);
-        run_behind(self.hops.as_slice(), self.spots.as_slice(), event)
+        run_behind(&self.hops, self.spots.as_slice(), event)
     }
 
     /// How many events a trip has.
@@ -257,15 +258,15 @@ impl Set {
     }
 
     /// The hops from the events of a trip from `first` to `last`, one event behind the other.
-    pub fn hops_over(&self, trip: TripNo, first: u32, last: u32) -> &[Hop]
+    pub fn hops_over(&self, trip: TripNo, first: u32, last: u32) -> Hops<'_>
         requires trip { trip < length self.now.table.trips }
         requires order { first ≤ last }
         requires last { last < length (events_of self.now.table trip) }
-        ensures { result.now ≡ hops_over (packed self.now) trip first last }
+        ensures { lent result ≡ hops_over (packed self.now) trip first last }
     {
         let from = self.begin_of(trip, first) as usize;
         let to = self.end_of(trip, last) as usize;
-        run(self.hops.as_slice(), from, to)
+        self.hops.run(from, to)
     }
 
     /// From which of the events of a trip from `first` to `last` the hop is that has this place among
@@ -299,32 +300,15 @@ impl Set {
         ahead.take(self.call(trip, at).stop.0);
     }
 
-    // Reads a hop ahead, where there is one with this number.
-    fn read_hop_ahead(&self, number: u32, ahead: &mut ReadAhead) {
-        if let Some(hop) = self.hops.get(number as usize) {
-            ahead.take(hop.at);
-        }
-    }
-
     /// Reads the first and the last of the hops from the events of a trip from `first` to `last` ahead.
     pub fn read_hops_ahead(&self, trip: TripNo, first: u32, last: u32, ahead: &mut ReadAhead)
         requires trip { trip < length self.now.table.trips }
         requires order { first ≤ last }
         requires last { last < length (events_of self.now.table trip) }
     {
-        self.read_hop_ahead(self.begin_of(trip, first), ahead);
-        self.read_hop_ahead(self.end_of(trip, last).saturating_sub(1), ahead);
-    }
-}
-
-impl OutSet for Set {
-    ghost use Rattle.transfer_pack.specs.Packed.{packed};
-
-    ghost table = { λ s. s.table };
-
-    ghost hops = { packed };
-
-    fn out(&self, trip: TripNo, at: u32) -> &[Hop] {
-        self.run_of(trip, at)
+        self.hops
+            .read_ahead(self.begin_of(trip, first) as usize, ahead);
+        let end = self.end_of(trip, last) as usize;
+        self.hops.read_ahead(end.saturating_sub(1), ahead);
     }
 }

@@ -2,12 +2,13 @@
 ghost use Rattle.std.specs.Prelude.{◌≡◌, ◌<◌, IfOk, length};
 
 use crate::refused::{Difference, Refused, held};
+use crate::same_hops::are_same;
 use edition_store::Edition;
 use reduce_workers::reduce_all;
 use std::alloc::Global;
 use std::thread::Threads;
 use tb_base::{IdleGate, Memory, OutSet, Rows, Timetable, TripNo};
-use transfer_pack::Set;
+use transfer_pack::{Hops, Set};
 
 // Whether both sets have the same hops, in the same order, from each event of a trip.
 fn same_from(plain: &Rows, packed: &Set, table: &Timetable, trip: TripNo) -> bool
@@ -17,7 +18,8 @@ fn same_from(plain: &Rows, packed: &Set, table: &Timetable, trip: TripNo) -> boo
 {
     table.soundness();
     for at in 0..table.trip(trip).events.len() {
-        if plain.out(trip, at as u32) != packed.out(trip, at as u32) {
+        let at = at as u32;
+        if !are_same(Hops::of(plain.out(trip, at)), packed.out(trip, at)) {
             return false;
         }
     }

@@ -1,8 +1,10 @@
 //! Two editions, part by part.
 use crate::refused::{Difference, Refused, held};
+use crate::same_hops::are_same;
 use edition_store::Edition;
 use line_split::Lines;
-use tb_base::{Event, Hop, LineNo, OutSet, Timetable, Trip, TripNo};
+use tb_base::{Event, LineNo, Timetable, Trip, TripNo};
+use transfer_pack::Hops;
 
 /// The events of a trip, none where there is no such trip.
 pub fn events_of(table: &Timetable, trip: TripNo) -> &[Event] {
@@ -23,13 +25,13 @@ fn trips_of(lines: &Lines, line: LineNo) -> &[TripNo] {
 }
 
 // The hops of an event of a trip, none where there is no such event.
-fn hops_of(edition: &Edition, trip: TripNo, at: usize) -> &[Hop] {
+fn hops_of(edition: &Edition, trip: TripNo, at: usize) -> Hops<'_> {
     let table = edition.table();
     table.soundness();
     if trip.0 < table.trip_count() && at < table.events(trip).len() {
         edition.set().out(trip, at as u32)
     } else {
-        &[]
+        Hops::of(&[])
     }
 }
 
@@ -69,7 +71,7 @@ fn same_lines(one: &Lines, other: &Lines) -> bool {
 // Whether two editions have the same hops, in the same order, from so many events of a trip.
 fn same_hops_from(one: &Edition, other: &Edition, trip: TripNo, events: usize) -> bool {
     for at in 0..events {
-        if hops_of(one, trip, at) != hops_of(other, trip, at) {
+        if !are_same(hops_of(one, trip, at), hops_of(other, trip, at)) {
             return false;
         }
     }

@@ -8,7 +8,7 @@ use Rattle.transfer_pack.proofs.set.add_trip.Given as goal
 
 abbrev pub invariant-loop-at : goal.invariant-loop-at
 invariant-loop-at l = record {
-  bounds : AreBounds (ends_in l.spots.items) (length l.hops.items);
-  runs : runs_in l.hops.items (ends_in l.spots.items) ≡ runs_in l.initial.hops.items (ends_in l.initial.spots.items) ++ map (hops_at l.row) (numbers_below l.at);
+  bounds : AreBounds (ends_in l.spots.items) (length l.hops);
+  runs : runs_in l.hops (ends_in l.spots.items) ≡ runs_in l.initial.hops (ends_in l.initial.spots.items) ++ map (hops_at l.row) (numbers_below l.at);
   calls : calls_in l.spots.items ≡ calls_in l.initial.spots.items ++ map call_of (take l.at l.events);
 }

@@ -1,11 +1,12 @@
 use Rattle.std.proofs.Common.{◌≡◌, ◌∙◌, ℕ, suc, ◌+◌, ◌-◌, ◌<◌, ◌⊎◌, inl, inr, length, get_or, refl, sym, ap, subst, arith, Some}
 use Rattle.std.specs.Prelude.{Contains, slice_get}
-use Rattle.std.proofs.lemmas.Option.{slice_get-get_or}
+use Rattle.std.proofs.lemmas.Option.{get_or_from_slice_get, slice_get_within}
 use Rattle.tb_base.specs.Network.{NetData}
 use Rattle.tb_base.specs.declared.transfer.Hop.{Hop}
 use Rattle.segment_queue.specs.declared.desk.Segment.{Segment}
 use Rattle.segment_queue.specs.declared.notes.Note.{Note}
 use Rattle.segment_queue.specs.Queue.{DeskData}
+use Rattle.transfer_pack.specs.Words.{lent}
 use Rattle.segment_queue.specs.Scans.{seen_first, seen_last, seen_trip}
 use Rattle.segment_queue.specs.Traced.{no_segment, segment_of}
 use Rattle.earliest_query.specs.Choices.{ArrivesBy}
@@ -49,9 +50,9 @@ follow_hop-requires-clause-note g c = sound_note-kept (g.S.Scan.net c.args.self.
 
 pub follow_hop-requires-clause-hop : goal.follow_hop-requires-clause-hop
 follow_hop-requires-clause-hop g c =
-    let hop : Hop = c.index-hops-place.result in
+    let hop : Hop = c.at.result in
     let place : ℕ = c.loop-place.place in
-    subst (λ hs. slice_get hs place ≡ Some hop) c.hops_from-hops.ensures (slice_get-get_or c.hops_from-hops.result.now place hop c.loop-place-test.true ∙ ap Some (sym c.index-hops-place.is))
+    subst (λ hs. slice_get hs place ≡ Some hop) c.hops_from-hops.ensures c.at.ensures
 
 below_or_at : (k i : ℕ) → k < i + 1 → (k < i) ⊎ (i ≡ k)
 below_or_at k i h = grind arith
@@ -62,7 +63,7 @@ loop-place-preserved g c =
     let top : ℕ = suc c.args.round in
     let E : DeskData = c.loop-place.desk in
     let F : DeskData = c.follow_hop.new.desk in
-    let hops = c.hops_from-hops.result.now in
+    let hops = (lent c.hops_from-hops.result) in
     let joined : Extends E F top = c.follow_hop.ensures.extends in
     record {
       queue = c.follow_hop.ensures.queue;
@@ -72,7 +73,7 @@ loop-place-preserved g c =
         | inl before ↦ extends-reached N.table E F top (length E.segments) (length F.segments) top top (get_or hops k d).trip (get_or hops k d).at joined
             (c.loop-place.invariant.reached k d before) (omega arith) (extends-long E F top joined) (omega arith)
         | inr e ↦ subst (λ (h : Hop). IsReachedBy N.table F (length F.segments) top h.trip h.at)
-            (c.index-hops-place.is ∙ get_or-inside hops c.loop-place.place c.index-hops-place.result d c.loop-place-test.true ∙ ap (λ m. get_or hops m d) e) c.follow_hop.ensures.reached
+            (sym (get_or_from_slice_get hops c.loop-place.place c.at.result c.at.result c.at.ensures) ∙ get_or-inside hops c.loop-place.place c.at.result d (slice_get_within (lent c.hops_from-hops.result) c.loop-place.place c.at.result c.at.ensures) ∙ ap (λ m. get_or hops m d) e) c.follow_hop.ensures.reached
       ];
     }
 
@@ -87,8 +88,8 @@ returns-clause-done g c = λ i of. inl (λ h in_set.
     let same : segment_of E.segments note.segment ≡ segment_of D.segments note.segment = extends-segment D E top before.extends note.segment c.requires.note.inside in
     let here : Contains (N.hops (seen_trip note.seen) i) h
     = subst (λ t. Contains (N.hops t i) h) (sym c.requires.note.trip) (subst (λ (s : Segment). Contains (N.hops s.trip i) h) same in_set) in
-    let found : Contains c.hops_from-hops.result.now h
+    let found : Contains (lent c.hops_from-hops.result) h
     = subst (λ hs. Contains hs h) (sym c.hops_from-hops.ensures) (in_all (N.hops (seen_trip note.seen)) (seen_first note.seen) (suc (seen_last note.seen) - seen_first note.seen) i h of.from (omega (arith, of.to, c.requires.note.order)) here) in
     let reached : IsReachedBy N.table E (length E.segments) top h.trip h.at
-    = subst (λ (x : Hop). IsReachedBy N.table E (length E.segments) top x.trip x.at) found.2 (before.reached found.0 h (omega (arith, c.loop-place-test.false, found.1))) in
+    = subst (λ (x : Hop). IsReachedBy N.table E (length E.segments) top x.trip x.at) found.2 (before.reached found.0 h (omega (arith, c.loop-place-test.false, c.count-place-end.ensures, found.1))) in
     subst (λ r. IsReachedBy N.table E (length E.segments) r h.trip h.at) (ap suc (sym (extends-round D E top before.extends note.segment c.requires.note.inside ∙ c.requires.note.this_round))) reached)

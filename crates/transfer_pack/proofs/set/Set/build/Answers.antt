@@ -13,17 +13,17 @@ pub loop-t-preserved : goal.loop-t-preserved
 loop-t-preserved c =
     let inside : c.loop-t.t < length c.args.table.now.trips = rw (← c.trip_count-t-end.ensures) c.loop-t-test.true in
     let row = row_is (λ v. v.items) c.args.rows.now c.loop-t.t _ c.index-rows-t.result c.as_slice.result.now c.requires.long inside c.index-rows-t.is c.as_slice.ensures.value in
-    let runs = runs_in c.loop-t.hops.items (ends_in c.loop-t.spots.items) in
-    let runs' = runs_in c.add_trip.new.hops.items (ends_in c.add_trip.new.spots.items) in
-    let counted : length c.loop-t.spots.items ≡ suc (length runs) = spots_counted c.loop-t.hops.items c.loop-t.spots.items c.loop-t.invariant.bounds in
-    let counted' : length c.add_trip.new.spots.items ≡ suc (length runs') = spots_counted c.add_trip.new.hops.items c.add_trip.new.spots.items c.in_ok-add_trip.ensures.bounds in
+    let runs = runs_in c.loop-t.hops (ends_in c.loop-t.spots.items) in
+    let runs' = runs_in c.add_trip.new.hops (ends_in c.add_trip.new.spots.items) in
+    let counted : length c.loop-t.spots.items ≡ suc (length runs) = spots_counted c.loop-t.hops c.loop-t.spots.items c.loop-t.invariant.bounds in
+    let counted' : length c.add_trip.new.spots.items ≡ suc (length runs') = spots_counted c.add_trip.new.hops c.add_trip.new.spots.items c.in_ok-add_trip.ensures.bounds in
     let long : c.len.result ≡ length c.add_trip.new.spots.items = grind (arith, common_steps) in
     let end : c.len.result - 1 ≡ length runs' = omega (arith, counted', long) in
     let next = trip_packed c.args.table.now (map (λ row. row.items) c.args.rows.now) c.loop-t.t c.loop-t.starts.items runs (calls_in c.loop-t.spots.items) c.as_slice.result.now c.events-events.result.now (c.len.result - 1)
     c.loop-t.invariant.packed (length-map c.loop-t.spots.items spot_call ∙ counted) row c.events-events.ensures (end ∙ ap length c.in_ok-add_trip.ensures.runs) in
     record {
       bounds = c.in_ok-add_trip.ensures.bounds;
-      packed = subst (λ ss. ArePacked c.args.table.now (map (λ row. row.items) c.args.rows.now) (c.loop-t.t + 1) ss (runs_in c.add_trip.new.hops.items (ends_in c.add_trip.new.spots.items)) (calls_in c.add_trip.new.spots.items))
+      packed = subst (λ ss. ArePacked c.args.table.now (map (λ row. row.items) c.args.rows.now) (c.loop-t.t + 1) ss (runs_in c.add_trip.new.hops (ends_in c.add_trip.new.spots.items)) (calls_in c.add_trip.new.spots.items))
           (sym (c.in_ok-push-3.ensures.items ∙ ap (λ n. c.loop-t.starts.items ++ n ∷ []) c.in_ok-number.ensures))
           (subst (λ rs. ArePacked c.args.table.now (map (λ row. row.items) c.args.rows.now) (c.loop-t.t + 1) (c.loop-t.starts.items ++ (c.len.result - 1) ∷ []) rs (calls_in c.add_trip.new.spots.items)) (sym c.in_ok-add_trip.ensures.runs)
           (subst (λ cs. ArePacked c.args.table.now (map (λ row. row.items) c.args.rows.now) (c.loop-t.t + 1) (c.loop-t.starts.items ++ (c.len.result - 1) ∷ []) (runs ++ map (hops_at c.as_slice.result.now) (numbers_below (length c.events-events.result.now))) cs) (sym c.in_ok-add_trip.ensures.calls) next));
@@ -31,5 +31,5 @@ loop-t-preserved c =
 
 pub returns-clause-hops : goal.returns-clause-hops
 returns-clause-hops c =
-    packed_all c.args.table.now (map (λ row. row.items) c.args.rows.now) (record { table = c.of.result.value; starts = c.loop-t.starts.items; hops = c.loop-t.hops.items; bounds = ends_in c.loop-t.spots.items; runs = runs_in c.loop-t.hops.items (ends_in c.loop-t.spots.items) }) (calls_in c.loop-t.spots.items) c.of.ensures c.requires
-    (subst (λ n. ArePacked c.args.table.now (map (λ row. row.items) c.args.rows.now) n c.loop-t.starts.items (runs_in c.loop-t.hops.items (ends_in c.loop-t.spots.items)) (calls_in c.loop-t.spots.items)) (rw (← c.trip_count-t-end.ensures) (omega (arith, c.loop-t-test.false, c.loop-t.auto.t-end))) c.loop-t.invariant.packed)
+    packed_all c.args.table.now (map (λ row. row.items) c.args.rows.now) (record { table = c.of.result.value; starts = c.loop-t.starts.items; hops = c.loop-t.hops; bounds = ends_in c.loop-t.spots.items; runs = runs_in c.loop-t.hops (ends_in c.loop-t.spots.items) }) (calls_in c.loop-t.spots.items) c.of.ensures c.requires
+    (subst (λ n. ArePacked c.args.table.now (map (λ row. row.items) c.args.rows.now) n c.loop-t.starts.items (runs_in c.loop-t.hops (ends_in c.loop-t.spots.items)) (calls_in c.loop-t.spots.items)) (rw (← c.trip_count-t-end.ensures) (omega (arith, c.loop-t-test.false, c.loop-t.auto.t-end))) c.loop-t.invariant.packed)

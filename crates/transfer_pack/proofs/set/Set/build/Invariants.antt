@@ -6,6 +6,6 @@ use Rattle.transfer_pack.proofs.set.Set.build.Given as goal
 
 abbrev pub invariant-loop-t : goal.invariant-loop-t
 invariant-loop-t l = record {
-  bounds : AreBounds (ends_in l.spots.items) (length l.hops.items);
-  packed : ArePacked l.table (map (λ row. row.items) l.rows) l.t l.starts.items (runs_in l.hops.items (ends_in l.spots.items)) (calls_in l.spots.items);
+  bounds : AreBounds (ends_in l.spots.items) (length l.hops);
+  packed : ArePacked l.table (map (λ row. row.items) l.rows) l.t l.starts.items (runs_in l.hops (ends_in l.spots.items)) (calls_in l.spots.items);
 }

@@ -8,12 +8,12 @@ use Rattle.transfer_pack.proofs.set.Set.end_of.Goals as goal
 
 pub overflow_add-event : goal.overflow_add-event
 overflow_add-event c =
-    let inside = spot_inside c.self.inside.hops.items c.self.inside.spots.items c.args.self.now c.event.result c.self.invariant.0 (ap (λ (S : PackedHops). S.runs) (sym c.self.view_is)) c.event.ensures.inside in
+    let inside = spot_inside c.self.inside.hops c.self.inside.spots.items c.args.self.now c.event.result c.self.invariant.0 (ap (λ (S : PackedHops). S.runs) (sym c.self.view_is)) c.event.ensures.inside in
     grind (arith, common_steps, inside)
 
 pub index-requires : goal.index-requires
 index-requires c =
-    let inside = spot_inside c.self.inside.hops.items c.self.inside.spots.items c.args.self.now c.event.result c.self.invariant.0 (ap (λ (S : PackedHops). S.runs) (sym c.self.view_is)) c.event.ensures.inside in
+    let inside = spot_inside c.self.inside.hops c.self.inside.spots.items c.args.self.now c.event.result c.self.invariant.0 (ap (λ (S : PackedHops). S.runs) (sym c.self.view_is)) c.event.ensures.inside in
     grind (arith, common_steps, inside)
 
 next : (n a i : ℕ) → n ≡ a + i → n + 1 ≡ a + suc i
@@ -22,7 +22,7 @@ next n a i e = omega (arith, e)
 pub returns : goal.returns
 returns c =
     let spots = c.self.inside.spots.items in
-    let inside = spot_inside c.self.inside.hops.items spots c.args.self.now c.event.result c.self.invariant.0 (ap (λ (S : PackedHops). S.runs) (sym c.self.view_is)) c.event.ensures.inside in
+    let inside = spot_inside c.self.inside.hops spots c.args.self.now c.event.result c.self.invariant.0 (ap (λ (S : PackedHops). S.runs) (sym c.self.view_is)) c.event.ensures.inside in
     ap (λ (s : Spot). s.end) c.index.ensures
     ∙ end_at spots (c.event.result + 1) c.index.result.now inside
     ∙ ap (λ k. get_or (ends_in spots) k 0) (next c.event.result (get_or c.args.self.now.starts c.args.trip 0) c.args.at c.event.ensures.number)

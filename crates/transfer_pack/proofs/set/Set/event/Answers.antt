@@ -13,5 +13,5 @@ start_inside S S' t i start n same fits is trip at there =
 pub overflow_add-result : goal.overflow_add-result
 overflow_add-result c =
     let inside = start_inside _ _ c.args.trip c.args.at c.index-2.result.now c.index.result c.self.view_is c.self.invariant.1 c.index.ensures c.requires.trip c.requires.at c.index-2.ensures in
-    let counted = spots_counted c.self.inside.hops.items c.self.inside.spots.items c.self.invariant.0 in
+    let counted = spots_counted c.self.inside.hops c.self.inside.spots.items c.self.invariant.0 in
     grind (arith, common_steps, inside, counted)
