@@ -13,10 +13,10 @@ use Rattle.tb_base.specs.Walking.{KeepsFootpathLaw, change, footpath_secs}
 use Rattle.tb_base.proofs.Members.{All-from_Member}
 use Rattle.tb_base.proofs.Walks.{leaving_sound}
 use Rattle.mirror_table.specs.Mirror.{IsMirror, mirror_trip}
-use Rattle.paths_into.specs.TurnedPaths.{turned_into}
+use Rattle.transfer_pack.specs.TurnedPaths.{turned_into}
 use Rattle.mirror_table.proofs.Back.{change_back}
-use Rattle.paths_into.proofs.Paths.{into_ascends, into_found, into_none}
-use Rattle.paths_into.proofs.Ways.{path_sound, row_ascends}
+use Rattle.transfer_pack.proofs.Paths.{into_ascends, into_found, into_none}
+use Rattle.transfer_pack.proofs.Ways.{path_sound, row_ascends}
 use Rattle.mirror_table.proofs.Trips.{events_in, sound_trips}
 
 -- how the mirror M of T is made

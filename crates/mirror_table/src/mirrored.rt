@@ -2,10 +2,10 @@ ghost use Rattle.std.specs.Prelude.{IfOk};
 ghost use Rattle.mirror_table.specs.Mirror.{IsMirror};
 
 use crate::turned_trips::mirrored_trips;
-use paths_into::PathsInto;
 use std::alloc::Global;
 use table_copies::{change_times, stations, stops};
 use tb_base::{Memory, Parts, Timetable};
+use transfer_pack::PathsInto;
 
 /// The mirror of a timetable: with the same stops, stations, change times, and names and numbers of
 /// trips, while trips and footpaths lead back and a time is the seconds from it until 273,599.

@@ -4,10 +4,10 @@ ghost use Rattle.reduce_workers.specs.Reductions.{piece_count, piece_reduced};
 
 use super::reduced::Reduced;
 use super::trips::reduce_from;
-use flat_calls::Calls;
 use line_split::Lines;
 use std::alloc::Global;
 use tb_base::{Memory, Timetable};
+use transfer_pack::Calls;
 use transfer_reduce::Labels;
 
 /// How many trips a piece has. Only the last piece may be shorter.

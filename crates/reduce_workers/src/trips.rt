@@ -7,11 +7,11 @@ ghost use Rattle.reduce_workers.specs.Reductions.{reduced, reduced_from};
 ghost use Rattle.reduce_workers.specs.Events.{IsDoneTo};
 
 use super::reduced::Reduced;
-use flat_calls::Calls;
 use line_split::Lines;
 use std::alloc::Global;
 use tb_base::{Memory, Timetable, Transfer, TripNo};
 use transfer_make::add_event;
+use transfer_pack::Calls;
 use transfer_reduce::{Labels, TRIED, Tried, begin_trip, reduce_event};
 use uturn_cut::cut_by;
 

@@ -10,12 +10,12 @@ use crate::pieces::{piece_count, reduce_piece_by};
 use crate::places::{Brought, collect, join_pieces, place};
 use crate::reduced::Reduced;
 use crate::seat::ClaimSeat;
-use flat_calls::FlatCalls;
 use line_split::Lines;
 use std::alloc::Global;
 use std::thread;
 use std::thread::Threads;
 use tb_base::{Gate, Memory, Timetable, Work};
+use transfer_pack::FlatCalls;
 use transfer_reduce::Labels;
 
 // Draws pieces and reduces them until none is left, with labels of its own. The gate is told of

@@ -1,4 +1,9 @@
 pub mod Bounds
+pub mod Ends
+pub mod Flattening
+pub mod PackedRows
 pub mod Packing
+pub mod Paths
 pub mod Stretches
+pub mod Ways
 pub mod Words

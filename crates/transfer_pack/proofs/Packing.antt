@@ -14,11 +14,13 @@ use Rattle.tb_base.specs.OutSets.{AreRowsOf, hops_at, row_of}
 use Rattle.tb_base.specs.Transfers.{numbers_below}
 use Rattle.tb_base.proofs.Listing.{from_events, hop_of}
 use Rattle.transfer_pack.specs.Packed.{AreBounds, FitsRuns, PackedHops, packed, runs_in}
-use Rattle.transfer_pack.specs.declared.call.Call.{Call}
+use Rattle.transfer_pack.specs.declared.calls.Call.{Call}
 use Rattle.transfer_pack.specs.declared.set.Spot.{Spot}
-use Rattle.transfer_pack.specs.Calls.{call_of, no_call}
-use Rattle.transfer_pack.specs.Spots.{AreCalls, calls_in, ends_in, spot_call}
+use Rattle.transfer_pack.specs.CallsOf.{call_of, no_call}
+use Rattle.transfer_pack.specs.PackedCalls.{spot_call}
+use Rattle.transfer_pack.specs.Spots.{AreCalls, calls_beside, ends_in}
 use Rattle.transfer_pack.proofs.Bounds.{IsRun, bounds_more, length-runs_in, run_at, runs_more}
+use Rattle.transfer_pack.proofs.Ends.{last_one}
 use Rattle.tb_base.proofs.Lists.{length-numbers_below}
 use Rattle.tb_base.proofs.NumberFacts.{below_or_last}
 
@@ -37,13 +39,6 @@ pub hops_elsewhere : (row : List Transfer) (k i : ℕ) (r : Transfer) → k < le
 hops_elsewhere row k i r inside at other =
     let test : (r.at == i) ≡ false = grind (arith, nat_tests, other) in
     hops_more row k i r inside at ∙ ap (λ b. hops_at (take k row) i ++ map hop_of (cond b (r ∷ []) [])) test ∙ append-nil (hops_at (take k row) i)
-
-at_end : {X : Type 0} (ys : List X) (y d : X) → get_or (ys ++ y ∷ []) (length ys) d ≡ y
-at_end [] y d = refl
-at_end (z ∷ ys) y d = at_end ys y d
-
-last_one : {X : Type 0} (xs : List X) (y d : X) (n : ℕ) → n ≡ length xs → get_or (xs ++ y ∷ []) n d ≡ y
-last_one xs y d n is = ap (λ m. get_or (xs ++ y ∷ []) m d) is ∙ at_end xs y d
 
 number_at : (n t d : ℕ) → t < n → get_or (numbers_below n) t d ≡ t
 number_at zero t d h = absurd (omega (arith, h))
@@ -160,14 +155,14 @@ packed_all T rows S calls same rows_of are t i = by_test (nat_lt i (length (even
 
 -- one event more
 pub event_packed : (row : List Transfer) (hops hops' : List Hop) (spots spots' : List Spot) (runs : List (List Hop)) (calls : List Call) (events : List Event) (e : Event) (s : Spot) (at : ℕ) → AreBounds (ends_in spots) (length hops)
-    → runs_in hops (ends_in spots) ≡ runs ++ map (hops_at row) (numbers_below at) → calls_in spots ≡ calls ++ map call_of (take at events) → at < length events → e ≡ get_or events at e
-    → hops' ≡ hops ++ hops_at row at → spots' ≡ spots ++ s ∷ [] → spot_call s ≡ call_of e → s.end ≡ length hops'
-    → AreBounds (ends_in spots') (length hops') × (runs_in hops' (ends_in spots') ≡ runs ++ map (hops_at row) (numbers_below (at + 1))) × (calls_in spots' ≡ calls ++ map call_of (take (at + 1) events))
+    → runs_in hops (ends_in spots) ≡ runs ++ map (hops_at row) (numbers_below at) → calls_beside spots ≡ calls ++ map call_of (take at events) → at < length events → e ≡ get_or events at e
+    → hops' ≡ hops ++ hops_at row at → spots' ≡ spots ++ s ∷ [] → spot_call s.packed ≡ call_of e → s.end ≡ length hops'
+    → AreBounds (ends_in spots') (length hops') × (runs_in hops' (ends_in spots') ≡ runs ++ map (hops_at row) (numbers_below (at + 1))) × (calls_beside spots' ≡ calls ++ map call_of (take (at + 1) events))
 event_packed row hops hops' spots spots' runs calls events e s at are so_far calls_are inside e_is is spots_is call_is end_is = (
   subst (λ bs. AreBounds bs (length hops')) (sym ends_are) (bounds_more (ends_in spots) (length hops) (length hops') are (omega (arith, ap length is, length-append hops (hops_at row at)))),
   ap (runs_in hops') ends_are ∙ ap (λ hs. runs_in hs (ends_in spots ++ length hs ∷ [])) is ∙ runs_more hops (hops_at row at) (ends_in spots) are ∙ ap (λ rs. rs ++ hops_at row at ∷ []) so_far
       ∙ append_assoc runs (map (hops_at row) (numbers_below at)) (hops_at row at ∷ []) ∙ ap (λ rs. runs ++ rs) (sym (map-append (hops_at row) (numbers_below at) (at ∷ [])) ∙ ap (λ n. map (hops_at row) (numbers_below n)) next),
-  ap calls_in spots_is ∙ map-append (spot_call) spots (s ∷ []) ∙ ap (λ c. calls_in spots ++ c ∷ []) call_is ∙ ap (λ cs. cs ++ call_of e ∷ []) calls_are
+  ap calls_beside spots_is ∙ map-append (λ (x : Spot). spot_call x.packed) spots (s ∷ []) ∙ ap (λ c. calls_beside spots ++ c ∷ []) call_is ∙ ap (λ cs. cs ++ call_of e ∷ []) calls_are
       ∙ append_assoc calls (map call_of (take at events)) (call_of e ∷ [])
       ∙ ap (λ cs. calls ++ cs) (sym (map-append call_of (take at events) (e ∷ [])) ∙ ap (λ x. map call_of (take at events ++ x ∷ [])) e_is ∙ ap (map call_of) (sym (take_more events at e inside))),
 )
@@ -188,7 +183,7 @@ end_at spots k s inside = sym (get_or-map (λ (x : Spot). x.end) spots k s 0 ins
 
 -- what stands for a spot that doesn't exist
 abbrev pub no_spot : Spot
-no_spot = record { stop_twice = 0; arr = pos 0; end = 0 }
+no_spot = record { packed = record { stop_twice = 0; arr = pos 0 }; end = 0 }
 
 -- the run of hops between the ends of two spots
 pub record IsSpotRun (hops : List Hop) (spots : List Spot) (k : ℕ) (s r : Spot) : Type 0 where
@@ -214,16 +209,16 @@ pub spot_inside : (hops : List Hop) (spots : List Spot) (S : PackedHops) (n : �
 spot_inside hops spots S n are same inside = omega (arith, inside, ap length same, spots_counted hops spots are)
 
 -- the call of a spot
-pub call_at : (spots : List Spot) (k : ℕ) (s : Spot) → k < length spots → s ≡ get_or spots k s → spot_call s ≡ get_or (calls_in spots) k no_call
-call_at spots k s inside is = ap spot_call is ∙ sym (get_or-map spot_call spots k s no_call inside)
+pub call_at : (spots : List Spot) (k : ℕ) (s : Spot) → k < length spots → s ≡ get_or spots k s → spot_call s.packed ≡ get_or (calls_beside spots) k no_call
+call_at spots k s inside is = ap (λ (x : Spot). spot_call x.packed) is ∙ sym (get_or-map (λ (x : Spot). spot_call x.packed) spots k s no_call inside)
 
 -- the call of an event stands one place on
-pub call_found : (S S' : PackedHops) (spots : List Spot) (t i n : ℕ) (s : Spot) → S' ≡ S → AreCalls S'.table S'.starts (calls_in spots) → t < length S.table.trips → i < length (events_of S.table t) → n ≡ get_or S.starts t 0 + i → n + 1 < length spots → s ≡ get_or spots (n + 1) s
-    → spot_call s ≡ call_of (event_at S.table t i)
+pub call_found : (S S' : PackedHops) (spots : List Spot) (t i n : ℕ) (s : Spot) → S' ≡ S → AreCalls S'.table S'.starts (calls_beside spots) → t < length S.table.trips → i < length (events_of S.table t) → n ≡ get_or S.starts t 0 + i → n + 1 < length spots → s ≡ get_or spots (n + 1) s
+    → spot_call s.packed ≡ call_of (event_at S.table t i)
 call_found S S' spots t i n s same are trip at is inside s_is =
     call_at spots (n + 1) s inside s_is
-    ∙ ap (λ k. get_or (calls_in spots) k no_call) (place n (get_or S.starts t 0) is)
-    ∙ subst (λ (x : PackedHops). AreCalls x.table x.starts (calls_in spots)) same are t i trip at
+    ∙ ap (λ k. get_or (calls_beside spots) k no_call) (place n (get_or S.starts t 0) is)
+    ∙ subst (λ (x : PackedHops). AreCalls x.table x.starts (calls_beside spots)) same are t i trip at
   where
     place : (n a : ℕ) → n ≡ a + i → n + 1 ≡ suc (a + i)
     place n a e = omega (arith, e)

@@ -2,66 +2,34 @@ ghost use Rattle.std.specs.Prelude.{◌≡◌, suc, Contains, Some, slice_get, �
 ghost use Rattle.tb_base.specs.OutSets.{AreRowsOf, hops_at, row_of};
 ghost use Rattle.tb_base.specs.Transfers.{numbers_below};
 ghost use Rattle.tb_base.specs.declared.transfer.Hop.{Hop};
-ghost use Rattle.transfer_pack.specs.Calls.{call_of};
+ghost use Rattle.transfer_pack.specs.CallsOf.{call_of};
 ghost use Rattle.transfer_pack.specs.Packed.{AreBounds, begin_of, hops_over, packed, runs_in};
-ghost use Rattle.transfer_pack.specs.Spots.{calls_in, ends_in, spot_call};
+ghost use Rattle.transfer_pack.specs.Spots.{calls_beside, ends_in};
 ghost use Rattle.transfer_pack.specs.Words.{lent};
 
 use super::ahead::ReadAhead;
-use super::call::Call;
+use super::calls::Call;
 use super::hops::{HopList, Hops};
+use super::numbers::number;
+use super::packed_call::{NO_PACKED_CALL, PackedCall};
 use std::alloc::Global;
 use std::marker::Model;
 use std::snapshot::Snapshot;
-use tb_base::{Event, Hop, Memory, Sec, StopNo, Timetable, Transfer, TripNo};
+use tb_base::{Event, Hop, Memory, Timetable, Transfer, TripNo};
 
-// An event as a search reads it, in twelve bytes: twice the number of its stop, and one more where
-// one may alight there; its arrival; and where its hops end. They begin where those of the spot
-// before end.
+// An event as a search reads it, in twelve bytes: its call, and where its hops end. They begin
+// where those of the spot before end.
 #[derive(Clone, Copy)]
 struct Spot {
-    stop_twice: u32,
-    arr: Sec,
+    packed: PackedCall,
     end: u32,
 }
 
 // What stands before the first event.
 const NO_SPOT: Spot = Spot {
-    stop_twice: 0,
-    arr: 0,
+    packed: NO_PACKED_CALL,
     end: 0,
 };
-
-impl Spot {
-    // The spot of an event whose hops end there.
-    fn of(event: &Event, end: u32) -> Spot
-        requires { event.now.stop < 100000 }
-        ensures call { spot_call result ≡ call_of event.now }
-        ensures end { result.end ≡ end }
-    {
-        let stop_twice = 2 * event.stop.0;
-        Spot {
-            stop_twice: if event.alight {
-                stop_twice + 1
-            } else {
-                stop_twice
-            },
-            arr: event.arr,
-            end,
-        }
-    }
-
-    // The event.
-    fn call(&self) -> Call
-        ensures { result ≡ spot_call self.now }
-    {
-        Call {
-            stop: StopNo(self.stop_twice / 2),
-            arr: self.arr,
-            alight: self.stop_twice % 2 == 1,
-        }
-    }
-}
 
 /// A set of transfers, and what a search reads of events: the hops of all events one behind the
 /// other, and for each event where its hops end, beside its stop and its arrival. It remembers for
@@ -77,7 +45,7 @@ pub struct Set {
 impl Model for Set {
     ghost use Rattle.std.specs.Prelude.{length};
     ghost use Rattle.transfer_pack.specs.Packed.{AreBounds, FitsRuns, PackedHops, runs_in};
-    ghost use Rattle.transfer_pack.specs.Spots.{AreCalls, calls_in, ends_in};
+    ghost use Rattle.transfer_pack.specs.Spots.{AreCalls, calls_beside, ends_in};
 
     ghost Value = { PackedHops };
 
@@ -97,17 +65,7 @@ impl Model for Set {
           bounds = ends_in s.spots.items;
           runs = runs_in s.hops (ends_in s.spots.items);
         })
-        × AreCalls s.table.value s.starts.items (calls_in s.spots.items) };
-}
-
-// A number that fits: more memory than there is would be needed else.
-fn number(count: usize) -> Result<u32, Memory>
-    ensures { IfOk result (λ n. n ≡ count) }
-{
-    if count > u32::MAX as usize {
-        return Err(Memory);
-    }
-    Ok(count as u32)
+        × AreCalls s.table.value s.starts.items (calls_beside s.spots.items) };
 }
 
 // Adds the hops of a trip's transfers from one of its events.
@@ -141,13 +99,14 @@ fn add_trip(
     ensures runs { OnOk result (runs_in hops.new (ends_in spots.new.items)
         ≡ runs_in hops.old (ends_in spots.old.items)
         ++ map (hops_at row.now) (numbers_below (length events.now))) }
-    ensures calls { OnOk result (calls_in spots.new.items
-        ≡ calls_in spots.old.items ++ map call_of events.now) }
+    ensures calls { OnOk result (calls_beside spots.new.items
+        ≡ calls_beside spots.old.items ++ map call_of events.now) }
 {
     for at in 0..events.len() {
         add_event(alloc, hops, row, at)?;
         let end = number(hops.len())?;
-        spots.push(Spot::of(&events[at], end))?;
+        let packed = PackedCall::of(&events[at]);
+        spots.push(Spot { packed, end })?;
     }
     Ok(())
 }
@@ -236,7 +195,7 @@ impl Set {
         ensures { result ≡ call_of (event_at self.now.table trip at) }
     {
         let event = self.event(trip, at);
-        self.spots[event + 1].call()
+        self.spots[event + 1].packed.call()
     }
 
     // Where the hops from an event begin among all hops.
@@ -269,8 +228,8 @@ impl Set {
         self.hops.run(from, to)
     }
 
-    /// From which of the events of a trip from `first` to `last` the hop is that has this place among
-    /// theirs.
+    /// From which of the events of a trip from `first` to `last` the hop is that has this place
+    /// among theirs.
     pub fn event_of(&self, trip: TripNo, first: u32, last: u32, place: usize) -> u32
         requires trip { trip < length self.now.table.trips }
         requires order { first ≤ last }
@@ -300,7 +259,8 @@ impl Set {
         ahead.take(self.call(trip, at).stop.0);
     }
 
-    /// Reads the first and the last of the hops from the events of a trip from `first` to `last` ahead.
+    /// Reads the first and the last of the hops from the events of a trip from `first` to `last`
+    /// ahead.
     pub fn read_hops_ahead(&self, trip: TripNo, first: u32, last: u32, ahead: &mut ReadAhead)
         requires trip { trip < length self.now.table.trips }
         requires order { first ≤ last }

@@ -1,8 +1,8 @@
 -- Arrivals along a trip, index by index.
 use Rattle.std.proofs.Common.{◌≡◌, ◌∙◌, sym, ap, subst, ℕ, ◌+◌, ◌<◌, ◌≤◌, ◌⊎◌, inl, inr, true, List, ℤ, ◌≤ℤ◌, Option, arith}
 use Rattle.std.specs.Prelude.{IsTrue}
-use Rattle.flat_calls.specs.declared.calls.Call.{Call}
-use Rattle.flat_calls.specs.CallsOf.{call_of}
+use Rattle.transfer_pack.specs.declared.calls.Call.{Call}
+use Rattle.transfer_pack.specs.CallsOf.{call_of}
 use Rattle.tb_base.specs.TimetableData.{TimetableData, event_at}
 use Rattle.tb_base.proofs.NumberFacts.{below_or_at}
 use Rattle.transfer_reduce.specs.Reached.{AreLowered, AreReached, IsAlighting, IsBy, IsReached}

@@ -11,8 +11,8 @@ use Rattle.tb_base.specs.Transfers.{is_sooner}
 use Rattle.tb_base.specs.Walking.{walk}
 use Rattle.tb_base.proofs.NumberFacts.{below_or_at, int_lt-false, int_lt-true}
 use Rattle.tb_laws.proofs.Triangles.{walk-same}
-use Rattle.paths_into.specs.TurnedPaths.{turned_into}
-use Rattle.paths_into.proofs.Ways.{path_way, way_path}
+use Rattle.transfer_pack.specs.TurnedPaths.{turned_into}
+use Rattle.transfer_pack.proofs.Ways.{path_way, way_path}
 use Rattle.transfer_reduce.specs.Reached.{IsReached}
 
 module _ (T : TimetableData) (times : List (Option ℤ)) (q : ℕ) (time : ℤ) where

@@ -11,7 +11,7 @@ use Rattle.tb_base.specs.declared.transfer.Hop.{Hop}
 use Rattle.tb_base.specs.declared.transfer.Transfer.{Transfer}
 use Rattle.tb_base.specs.Soundness.{IsSound, IsSoundTrip}
 use Rattle.tb_base.specs.TimetableData.{TripData, TimetableData, event_at, events_of, no_event, no_trip}
-use Rattle.flat_calls.specs.CallsOf.{IsSoundCall, call_of}
+use Rattle.transfer_pack.specs.CallsOf.{IsSoundCall, call_of}
 use Rattle.tb_base.specs.Transfers.{Alternative, alightings, alternatives_at, boarding_indexes, candidates_without_u_turns, hop_onto, improving_alternatives, is_improvement, is_sooner, is_u_turn, kept_alternatives, kept_hops, numbers_below, numbers_down, transfers_of}
 use Rattle.tb_base.specs.Walking.{walk}
 use Rattle.tb_base.proofs.Ordered.{Member}

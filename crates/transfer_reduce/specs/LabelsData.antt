@@ -3,7 +3,7 @@ use Rattle.std.specs.Prelude.{◌≡◌, ℕ, ◌<◌, List, [], length, ℤ, Op
 use Rattle.tb_base.specs.declared.table.Path.{Path}
 use Rattle.tb_base.specs.Soundness.{IsSound}
 use Rattle.tb_base.specs.TimetableData.{TimetableData}
-use Rattle.paths_into.specs.TurnedPaths.{turned_into}
+use Rattle.transfer_pack.specs.TurnedPaths.{turned_into}
 
 -- the timetable, and for each of its stops the earliest arrival that was offered there, if any was
 pub record LabelsData : Type 0 where

@@ -3,11 +3,11 @@ ghost use Rattle.std.specs.Prelude.{◌≡◌, ◌<◌, ◌↔◌, ◌⊎◌, �
 ghost use Rattle.transfer_reduce.specs.Reached.{IsBy, IsReached};
 
 use super::times::Times;
-use paths_into::PackedPaths;
 use std::alloc::Global;
 use std::marker::Model;
 use std::snapshot::Snapshot;
 use tb_base::{Memory, Sec, StopNo, Timetable};
+use transfer_pack::PackedPaths;
 
 /// For each stop of a timetable the earliest arrival that was offered there, if any was, and the
 /// footpaths that lead to it. They remember for contracts of which timetable they are; that takes no

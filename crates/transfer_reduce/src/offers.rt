@@ -1,7 +1,7 @@
 //! What alternatives offer at the stops.
 ghost use Rattle.std.specs.Prelude.{◌≡◌, ◌<◌, ◌≤◌, ◌+◌, ◌↔◌, ◌⊎◌, ◌≤ℤ◌, ℕ, ℤ, true, false, IsTrue, List, ◌∷◌, Some, length};
 ghost use Rattle.std.specs.List.{list_any};
-ghost use Rattle.flat_calls.specs.CallsOf.{IsSoundCall};
+ghost use Rattle.transfer_pack.specs.CallsOf.{IsSoundCall};
 ghost use Rattle.tb_base.specs.TimetableData.{event_at, events_of};
 ghost use Rattle.tb_base.specs.Transfers.{is_sooner};
 ghost use Rattle.tb_base.specs.Walking.{walk};
@@ -12,8 +12,8 @@ ghost use Rattle.transfer_reduce.specs.Tried.{AreTried};
 
 use super::labels::Labels;
 use super::tried::{TRIED, Tried, untried_end};
-use flat_calls::{Call, Calls};
 use tb_base::{Timetable, Transfer, TripNo};
+use transfer_pack::{Call, Calls};
 
 // Whether one may alight at a call, and is there sooner than by all that was offered.
 #[inline(always)]

@@ -9,8 +9,8 @@ ghost use Rattle.tb_base.specs.declared.transfer.Transfer.{Transfer};
 use super::labels::Labels;
 use super::offers::{offer_hop, offer_stay};
 use super::tried::{TRIED, Tried};
-use flat_calls::Calls;
 use tb_base::{Timetable, Transfer, TripNo};
+use transfer_pack::Calls;
 
 /// How far a reduction has come: it is at event `at`, with `taken` rows, of which `kept` are kept.
 #[derive(Clone, Copy, Debug, PartialEq, Eq)]

@@ -4,8 +4,8 @@ ghost use Rattle.tb_base.specs.TimetableData.{events_of};
 ghost use Rattle.transfer_reduce.specs.Reached.{AreReached};
 ghost use Rattle.transfer_reduce.specs.Tried.{IsTried};
 
-use flat_calls::Calls;
 use tb_base::{Transfer, TripNo};
+use transfer_pack::Calls;
 
 /// How many tried trips are remembered, each in the place of the one before with the same remainder.
 pub const TRIED: usize = 1024;

@@ -5,8 +5,8 @@ ghost use Rattle.tb_base.specs.TimetableData.{event_at, stop_at};
 ghost use Rattle.tb_base.specs.Walking.{change_time};
 ghost use Rattle.uturn_cut.specs.UTurns.{is_u_turn_row, can_change_within};
 
-use flat_calls::Calls;
 use tb_base::{Event, StopNo, Timetable, Transfer, TripNo};
+use transfer_pack::Calls;
 
 // An event of a trip. What stands for one that doesn't exist allows neither boarding nor alighting.
 fn event_at(table: &Timetable, trip: TripNo, at: usize) -> Event

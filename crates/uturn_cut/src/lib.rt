@@ -14,8 +14,8 @@ mod events;
 pub mod laws;
 
 use events::is_u_turn;
-use flat_calls::Calls;
 use tb_base::{Timetable, Transfer};
+use transfer_pack::Calls;
 
 /// Takes the U-turns out of some transfers; the others stay, in their order. Takes no memory.
 pub fn cut(table: &Timetable, rows: &mut Vec<Transfer>)

@@ -1,7 +1,7 @@
 use Rattle.std.proofs.Common.{◌≡◌, ◌∙◌, ◌<◌, ◌≤◌, ◌+◌, inl, inr, ap, sym, subst, refl, arith, length}
 use Rattle.tb_base.specs.TimetableData.{TimetableData, event_at, events_of}
-use Rattle.flat_calls.specs.declared.calls.Call.{Call}
-use Rattle.flat_calls.specs.CallsOf.{IsSoundCall, call_of}
+use Rattle.transfer_pack.specs.declared.calls.Call.{Call}
+use Rattle.transfer_pack.specs.CallsOf.{IsSoundCall, call_of}
 use Rattle.transfer_reduce.proofs.Alighting.{lowered_more, lowered_until, none_lowered}
 use Rattle.transfer_reduce.proofs.Steps.{sound_call}
 use Rattle.transfer_reduce.proofs.offers.lower_all.Goals as goal

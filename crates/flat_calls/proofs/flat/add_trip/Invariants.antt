@@ -1,7 +1,0 @@
-use Rattle.std.proofs.Common.{◌≡◌, ◌++◌, map, take}
-use Rattle.flat_calls.specs.CallsOf.{call_of}
-use Rattle.flat_calls.specs.Flat.{calls_in}
-use Rattle.flat_calls.proofs.flat.add_trip.Given as goal
-
-abbrev pub invariant-loop-event : goal.invariant-loop-event
-invariant-loop-event l = calls_in l.spots.items ≡ calls_in l.initial.spots.items ++ map call_of (take l.event-index l.events)

@@ -1,2 +1,0 @@
-pub mod CallsOf
-pub mod Flat

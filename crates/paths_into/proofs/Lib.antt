@@ -1,3 +1,0 @@
-pub mod Packing
-pub mod Paths
-pub mod Ways

@@ -1,5 +1,0 @@
-use Rattle.std.proofs.Common.{◌≡◌, map, replicate, []}
-use Rattle.paths_into.proofs.rows.PathsInto.new.Given as goal
-
-abbrev pub invariant-loop-stop : goal.invariant-loop-stop
-invariant-loop-stop l = map (λ v. v.items) l.rows.items ≡ replicate l._stop []
