@@ -12,8 +12,8 @@ use std::alloc::Global;
 use std::marker::Model;
 use tb_base::{Memory, Timetable, Transfer, TripNo};
 use touched_trips::{Network, Retiming};
-use transfer_pack::Hops;
 use transfer_make::make;
+use transfer_pack::Hops;
 use transfer_reduce::{Labels, reduce};
 use uturn_cut::cut;
 
