@@ -40,9 +40,9 @@ impl Model for Rows {
 }
 
 // Adds the transfers of a trip by the hops of one of its events.
-fn add_event(row: &mut Vec<Transfer>, trip: TripNo, at: u32, hops: Hops<'_>) -> Result<(), Memory>
+fn add_event(row: &mut Vec<Transfer>, trip: TripNo, at: u32, hops: &Hops<'_>) -> Result<(), Memory>
     ensures { OnOk result (row.new.items ≡ row.old.items
-        ++ map (λ h. record { trip = trip; at = at; to_trip = h.trip; to_at = h.at }) (lent hops)) }
+        ++ map (λ h. record { trip = trip; at = at; to_trip = h.trip; to_at = h.at }) (lent hops.now)) }
 {
     for place in 0..hops.count() {
         let hop = hops.at(place);
@@ -67,7 +67,7 @@ fn kept_row(alloc: Global, edition: &Edition, trip: TripNo) -> Result<Vec<Transf
     let set = edition.set();
     let mut row = Vec::new(alloc);
     for at in (0..events.len() as u32).rev() {
-        add_event(&mut row, trip, at, set.out(trip, at))?;
+        add_event(&mut row, trip, at, &set.out(trip, at))?;
     }
     Ok(row)
 }
