@@ -7,7 +7,7 @@ use Rattle.tb_base.specs.declared.transfer.Hop.{Hop}
 use Rattle.tb_base.specs.TimetableData.{TimetableData, events_of, stop_at}
 use Rattle.tb_base.specs.Transfers.{line_from, earliest_trip, may_be_boarded, numbers_below}
 use Rattle.segment_queue.specs.declared.seen.Seen.{Seen}
-use Rattle.transfer_pack.specs.Packed.{hops_over}
+use Rattle.transfer_pack.specs.Packed.{hops_before, hops_over}
 
 -- the part of its line from trip t on
 abbrev pub trips_from : List (List ℕ) → ℕ → List ℕ
@@ -71,6 +71,13 @@ pub record AreEvents (T : TimetableData) (s : Seen) : Type 0 where
 -- the hops from them, one event behind the other
 abbrev pub hops_seen : (ℕ → ℕ → List Hop) → Seen → List Hop
 hops_seen hops s = hops_over hops (seen_trip s) (seen_first s) (seen_last s)
+
+-- the hops from those of them before event i, and up to it
+abbrev pub hops_seen_before : (ℕ → ℕ → List Hop) → Seen → ℕ → List Hop
+hops_seen_before hops s i = hops_before hops (seen_trip s) (seen_first s) i
+
+abbrev pub hops_seen_to : (ℕ → ℕ → List Hop) → Seen → ℕ → List Hop
+hops_seen_to hops s i = hops_over hops (seen_trip s) (seen_first s) i
 
 -- who boards there no earlier than the time: the line's first trip in time, where boarding is
 -- allowed and it isn't the last index

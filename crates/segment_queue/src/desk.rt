@@ -1,4 +1,4 @@
-ghost use Rattle.std.specs.Prelude.{◌≡◌, ◌+◌, ◌<◌, ◌≤◌, ◌++◌, ◌∷◌, [], ℕ, List, None, Option, Some, IsTrue, ◌↔◌, MatchBool, OnErr, OnOk, length, replicate, slice_get, slice_index_or, unwrap_or, vec_capacity, vec_len};
+ghost use Rattle.std.specs.Prelude.{◌≡◌, ◌+◌, ◌<◌, ◌≤◌, ◌++◌, ◌∷◌, [], ℕ, List, None, Option, Some, IsSomeAnd, IsTrue, ◌↔◌, MatchBool, OnErr, OnOk, length, replicate, slice_get, slice_index_or, unwrap_or, vec_capacity, vec_len};
 ghost use Rattle.tb_base.specs.Lines.{AreDividedInto};
 ghost use Rattle.tb_base.specs.Network.{NetData};
 ghost use Rattle.tb_base.specs.TimetableData.{TimetableData, event_total, events_of};
@@ -221,13 +221,14 @@ impl Desk {
         self.enter(scan, trip, at, parent)
     }
 
-    /// Whether a trip has been reached at an index or before: then to enter it there changes nothing. It may say no
-    /// although it has.
+    /// Whether a trip has been reached at an index or before: then to enter it there changes nothing. Of a trip without a mark
+    /// it may say no although the index is its last.
     #[inline(always)]
     pub fn is_passed<S: Scan>(&self, scan: &S, trip: TripNo, at: u32) -> bool
         requires step { IsInStep (S.net scan.now) self.now }
         requires trip { trip < length (S.net scan.now).table.trips }
-        ensures { IsTrue result → mark_of (S.net scan.now).table self.now.marks trip ≤ at }
+        ensures { MatchBool result (mark_of (S.net scan.now).table self.now.marks trip ≤ at)
+            (IsSomeAnd (slice_index_or self.now.marks trip None) (λ m. m ≤ at) → ⊥) }
     {
         scan.soundness();
         self.marks.is_passed(trip, at)

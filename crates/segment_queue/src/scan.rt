@@ -1,9 +1,9 @@
-ghost use Rattle.std.specs.Prelude.{◌≡◌, ◌+◌, ◌<◌, ◌≤◌, ◌∷◌, [], ℕ, All, Contains, AllPairs, IfSome, IsTrue, MatchOption, Some, length, slice_get, slice_index_or};
+ghost use Rattle.std.specs.Prelude.{◌≡◌, ◌+◌, ◌<◌, ◌≤◌, ◌∷◌, [], ℕ, All, Contains, AllPairs, IsTrue, MatchOption, Some, length, slice_get, slice_index_or};
 ghost use Rattle.tb_base.specs.Lines.{AreDividedInto};
 ghost use Rattle.tb_base.specs.Soundness.{IsSound, IsSoundPath};
 ghost use Rattle.tb_base.specs.Walking.{walk};
 ghost use Rattle.tb_base.specs.TimetableData.{arrival_at, event_at, event_total, events_of, stop_at};
-ghost use Rattle.segment_queue.specs.Scans.{AreEvents, IsFirst, StandsBefore, boarding_hop, hops_seen, line_indices_at, no_line_index, seen_arr, seen_first, seen_last, seen_trip, trips_from};
+ghost use Rattle.segment_queue.specs.Scans.{AreEvents, IsFirst, StandsBefore, boarding_hop, hops_seen, hops_seen_before, hops_seen_to, line_indices_at, no_line_index, seen_arr, seen_first, seen_last, seen_trip, trips_from};
 ghost use Rattle.segment_queue.specs.WalkGroups.{AreWalkGroups};
 ghost use Rattle.transfer_pack.specs.Words.{lent};
 
@@ -98,12 +98,15 @@ pub trait Scan {
         requires { AreEvents (net self.now).table seen.now }
         ensures { lent result ≡ hops_seen (net self.now).hops seen.now };
 
-    /// From which of the events that have been looked at the hop is that has this place among theirs. It is no further step.
+    /// The event, of those that have been looked at, from which the hop at this place among all of
+    /// theirs is. It is no further step.
     fn event_of(&self, seen: &Seen, place: usize) -> u32
         requires events { AreEvents (net self.now).table seen.now }
         requires place { place < length (hops_seen (net self.now).hops seen.now) }
         ensures first { seen_first seen.now ≤ result }
         ensures last { result ≤ seen_last seen.now }
+        ensures begun { length (hops_seen_before (net self.now).hops seen.now result) ≤ place }
+        ensures ends { place < length (hops_seen_to (net self.now).hops seen.now result) }
         ensures hop { (h : Hop) →
             slice_get (hops_seen (net self.now).hops seen.now) place ≡ Some h →
             Contains ((net self.now).hops (seen_trip seen.now) result) h };

@@ -1,5 +1,5 @@
 -- The hops of several events of a trip that follow one another.
-use Rattle.std.proofs.Common.{◌≡◌, ◌∙◌, ℕ, zero, suc, ◌+◌, ◌-◌, ◌<◌, ◌≤◌, List, [], ◌∷◌, ◌++◌, length, true, cond, get_or, take, drop, refl, sym, ap, subst, arith}
+use Rattle.std.proofs.Common.{◌≡◌, ◌∙◌, ℕ, zero, suc, ◌+◌, ◌-◌, ◌<◌, ◌≤◌, ◌⊎◌, inl, inr, List, [], ◌∷◌, ◌++◌, length, true, cond, get_or, take, drop, refl, sym, ap, subst, arith}
 use Rattle.std.specs.Prelude.{Contains, flat_map, nat_lt, slice_get, Some}
 use Rattle.std.specs.List.{range_with_len}
 use Rattle.std.proofs.lemmas.Bool.Decides.{nat_tests}
@@ -8,7 +8,7 @@ use Rattle.std.proofs.lemmas.List.{append-nil, get_or-drop, get_or-take, length-
 use Rattle.std.proofs.lemmas.Option.{get_or_from_slice_get}
 use Rattle.tb_base.specs.declared.transfer.Hop.{Hop}
 use Rattle.tb_base.specs.TimetableData.{events_of}
-use Rattle.transfer_pack.specs.Packed.{AreBounds, FitsRuns, PackedHops, begin_of, hops_over, packed, runs_in}
+use Rattle.transfer_pack.specs.Packed.{AreBounds, FitsRuns, PackedHops, begin_of, hops_before, hops_over, packed, runs_in}
 use Rattle.transfer_pack.proofs.Bounds.{IsRun, length-runs_in, run_at}
 use Rattle.transfer_pack.proofs.Packing.{run_inside}
 
@@ -122,6 +122,23 @@ over_count S t first last o =
     let a : ℕ = begin_of S t first in
     let b : ℕ = begin_of S t (suc last) in
     ap length o.is ∙ length-take-le (b - a) (drop a S.hops) (omega (arith, length-drop a S.hops, o.within, o.order))
+
+-- how many there are before an event
+pub before_count : (S : PackedHops) (t first at : ℕ) → first ≤ at → (first < at → IsOver S t first (at - 1)) → length (hops_before (packed S) t first at) ≡ begin_of S t at - begin_of S t first
+before_count S t first at order o = elim (at_or_past first at order) [
+  | inl here ↦ subst (λ k. length (hops_before (packed S) t first k) ≡ begin_of S t k - begin_of S t first) here
+      (ap (λ n. length (flat_map (packed S t) (range_with_len first n))) (none_left first) ∙ nothing (begin_of S t first))
+  | inr past ↦ subst (λ k. length (hops_before (packed S) t first k) ≡ begin_of S t k - begin_of S t first) (omega (arith, past)) (over_count S t first (at - 1) (o past))
+]
+  where
+    at_or_past : (first at : ℕ) → first ≤ at → (first ≡ at) ⊎ (first < at)
+    at_or_past first at h = grind arith
+
+    none_left : (n : ℕ) → n - n ≡ 0
+    none_left n = omega arith
+
+    nothing : (b : ℕ) → 0 ≡ b - b
+    nothing b = omega arith
 
 -- A hop that stands between where the hops of an event begin and where they end is one of them.
 pub hop_found : (S : PackedHops) (t first last at place : ℕ) (h : Hop) → IsOver S t first last → IsOver S t at at → begin_of S t at ≤ begin_of S t first + place → begin_of S t first + place < begin_of S t (suc at) → begin_of S t (suc at) ≤ begin_of S t (suc last)

@@ -16,14 +16,16 @@ AreBounds [] end = ⊥
 AreBounds (a ∷ []) end = a ≡ end
 AreBounds (a ∷ b ∷ bounds) end = (a ≤ b) × AreBounds (b ∷ bounds) end
 
--- the hops of all events of a timetable, one behind the other, and one list an event, trip after
--- trip, and the number of each trip's first list, and of the list behind the last; and where each
--- list begins among all hops, and where the last ends
+-- the hops of all events of a timetable, one list an event, trip after trip
 pub record PackedHops : Type 0 where
   pub table : TimetableData
+  -- the number of each trip's first list, and of the list behind the last
   pub starts : List ℕ
+  -- all hops, one list behind the other
   pub hops : List Hop
+  -- where each list begins among them, and where the last ends
   pub bounds : List ℕ
+  -- the lists
   pub runs : List (List Hop)
 
 -- each event of the timetable has a list: those of a trip stand before those of the next
@@ -44,6 +46,10 @@ packed S t i =
 abbrev pub begin_of : PackedHops → ℕ → ℕ → ℕ
 begin_of S t i = slice_index_or S.bounds (slice_index_or S.starts t 0 + i) 0
 
+-- the hops from events of trip t from `first` on and before i, one event behind the other
+abbrev pub hops_before : (ℕ → ℕ → List Hop) → ℕ → ℕ → ℕ → List Hop
+hops_before hops t first i = flat_map (hops t) (range_with_len first (i - first))
+
 -- the hops from events `first` to `last` of trip t, one event behind the other
 abbrev pub hops_over : (ℕ → ℕ → List Hop) → ℕ → ℕ → ℕ → List Hop
-hops_over hops t first last = flat_map (hops t) (range_with_len first (suc last - first))
+hops_over hops t first last = hops_before hops t first (suc last)

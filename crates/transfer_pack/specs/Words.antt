@@ -14,7 +14,7 @@ pub record IsShort (h : Hop) : Type 0 where
 abbrev pub hop_in : ℕ → Hop
 hop_in word = record { trip = word / 1024; at = word % 1024 }
 
--- what holds hops has room for this one
+-- what holds hops has words that are wide enough for this one
 abbrev pub Takes : Held → Hop → Type 0
 Takes (Held.Short words) h = IsShort h
 Takes (Held.Long hops) h = ⊤
@@ -24,6 +24,7 @@ abbrev pub hops_lent : Lent → List Hop
 hops_lent (Lent.Short words) = map hop_in words.now
 hops_lent (Lent.Long hops) = hops.now
 
+-- the hops, in order
 abbrev pub lent : Hops → List Hop
 lent h = hops_lent h.hops
 

@@ -3,11 +3,11 @@ use std::marker::Model;
 /// What was read ahead, so that it is at hand when it is looked at. No call and no clause tells
 /// anything of it.
 ///
-/// What is read ahead decides nothing, so the processor waits for many reads at once. It is summed
-/// up so that no compiler leaves the reads out.
+/// What is read ahead decides nothing, so the processor waits for many reads at once. It is folded
+/// into one number so that no compiler leaves the reads out.
 #[derive(Drop)]
 pub struct ReadAhead {
-    sum: u32,
+    folded: u32,
 }
 
 impl Model for ReadAhead {
@@ -21,16 +21,16 @@ impl Model for ReadAhead {
 impl ReadAhead {
     /// Nothing yet.
     pub fn new() -> ReadAhead {
-        ReadAhead { sum: 0 }
+        ReadAhead { folded: 0 }
     }
 
     /// One number more that was read.
     pub fn take(&mut self, number: u32) {
-        self.sum ^= number;
+        self.folded ^= number;
     }
 
-    /// What was read besides.
+    /// What another has read.
     pub fn join(&mut self, other: ReadAhead) {
-        self.sum ^= other.sum;
+        self.folded ^= other.folded;
     }
 }

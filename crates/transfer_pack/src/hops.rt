@@ -147,8 +147,8 @@ fn lengthened(alloc: Global, words: &[u32]) -> Result<Vec<Hop>, Memory>
 }
 
 impl Held {
-    // Sees that there is room for a hop in what holds one.
-    fn make_room(&mut self, alloc: Global, hop: &Hop) -> Result<(), Memory>
+    // Goes over to two words a hop where one isn't enough for this one.
+    fn widen_for(&mut self, alloc: Global, hop: &Hop) -> Result<(), Memory>
         ensures takes { OnOk result (Takes self.new hop.now) }
         ensures hops { OnOk result (hops_held self.new ≡ hops_held self.old) }
     {
@@ -161,7 +161,7 @@ impl Held {
         Ok(())
     }
 
-    // Appends a hop that there is room for.
+    // Appends a hop that the words are wide enough for.
     fn push(&mut self, hop: &Hop) -> Result<(), Memory>
         requires { Takes self.old hop.now }
         ensures { OnOk result (hops_held self.new ≡ hops_held self.old ++ hop.now ∷ []) }
@@ -185,7 +185,7 @@ impl HopList {
     }
 
     // How many there are.
-    pub(crate) fn len(&self) -> usize
+    pub(crate) fn count(&self) -> usize
         ensures { result ≡ length self.now }
     {
         self.all().count()
@@ -221,7 +221,7 @@ impl HopList {
     pub(crate) fn push(&mut self, alloc: Global, hop: Hop) -> Result<(), Memory>
         ensures { OnOk result (self.new ≡ self.old ++ hop ∷ []) }
     {
-        self.hops.make_room(alloc, &hop)?;
+        self.hops.widen_for(alloc, &hop)?;
         self.hops.push(&hop)
     }
 

@@ -3,7 +3,7 @@ ghost use Rattle.std.specs.Prelude.{◌≡◌, IfOk};
 
 use tb_base::Memory;
 
-// A number that fits: more memory than there is would be needed else.
+// The count in four bytes. A greater one counts as want of memory.
 pub(crate) fn number(count: usize) -> Result<u32, Memory>
     ensures { IfOk result (λ n. n ≡ count) }
 {

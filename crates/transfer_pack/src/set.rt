@@ -3,7 +3,7 @@ ghost use Rattle.tb_base.specs.OutSets.{AreRowsOf, hops_at, row_of};
 ghost use Rattle.tb_base.specs.Transfers.{numbers_below};
 ghost use Rattle.tb_base.specs.declared.transfer.Hop.{Hop};
 ghost use Rattle.transfer_pack.specs.CallsOf.{call_of};
-ghost use Rattle.transfer_pack.specs.Packed.{AreBounds, begin_of, hops_over, packed, runs_in};
+ghost use Rattle.transfer_pack.specs.Packed.{AreBounds, begin_of, hops_before, hops_over, packed, runs_in};
 ghost use Rattle.transfer_pack.specs.Spots.{calls_beside, ends_in};
 ghost use Rattle.transfer_pack.specs.Words.{lent};
 
@@ -104,7 +104,7 @@ fn add_trip(
 {
     for at in 0..events.len() {
         add_event(alloc, hops, row, at)?;
-        let end = number(hops.len())?;
+        let end = number(hops.count())?;
         let packed = PackedCall::of(&events[at]);
         spots.push(Spot { packed, end })?;
     }
@@ -228,8 +228,8 @@ impl Set {
         self.hops.run(from, to)
     }
 
-    /// From which of the events of a trip from `first` to `last` the hop is that has this place
-    /// among theirs.
+    /// The event of a trip, of those from `first` to `last`, from which the hop at this place among
+    /// all of theirs is.
     pub fn event_of(&self, trip: TripNo, first: u32, last: u32, place: usize) -> u32
         requires trip { trip < length self.now.table.trips }
         requires order { first ≤ last }
@@ -237,6 +237,8 @@ impl Set {
         requires place { place < length (hops_over (packed self.now) trip first last) }
         ensures first { first ≤ result }
         ensures last { result ≤ last }
+        ensures begun { length (hops_before (packed self.now) trip first result) ≤ place }
+        ensures ends { place < length (hops_over (packed self.now) trip first result) }
         ensures hop { (h : Hop) →
             slice_get (hops_over (packed self.now) trip first last) place ≡ Some h →
             Contains (packed self.now trip result) h }
@@ -260,7 +262,7 @@ impl Set {
     }
 
     /// Reads the first and the last of the hops from the events of a trip from `first` to `last`
-    /// ahead.
+    /// ahead. Where these have none it reads hops of events beside them.
     pub fn read_hops_ahead(&self, trip: TripNo, first: u32, last: u32, ahead: &mut ReadAhead)
         requires trip { trip < length self.now.table.trips }
         requires order { first ≤ last }

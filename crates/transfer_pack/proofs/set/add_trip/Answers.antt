@@ -7,7 +7,7 @@ use Rattle.transfer_pack.proofs.set.add_trip.Goals as goal
 
 pub loop-at-preserved : goal.loop-at-preserved
 loop-at-preserved c =
-    let long : c.len.result ≡ length c.add_event.new.hops = grind (arith, common_steps) in
+    let long : c.count.result ≡ length c.add_event.new.hops = grind (arith, common_steps) in
     let packed = event_packed c.args.row.now c.loop-at.hops c.add_event.new.hops c.loop-at.spots.items c.push.new.self.items
     (runs_in c.args.hops.now (ends_in c.args.spots.now.items)) (calls_beside c.args.spots.now.items) c.args.events.now c.index-events-at.result (record { packed = c.of-packed.result; end = c.in_ok-end.end }) c.loop-at.at
     c.loop-at.invariant.bounds c.loop-at.invariant.runs c.loop-at.invariant.calls (grind (arith, common_steps)) c.index-events-at.is

@@ -62,7 +62,7 @@ returns-then-is_passed g c =
       queue = c.requires.queue;
       extends = extends-refl D top;
       notes = refl;
-      reached = reached_before N Q D top c.args.hop.trip c.args.hop.at None c.soundness.ensures.divided inside c.requires.queue (c.if-is_passed.ensures refl) not_last;
+      reached = reached_before N Q D top c.args.hop.trip c.args.hop.at None c.soundness.ensures.divided inside c.requires.queue c.if-is_passed.ensures not_last;
     }
 
 pub event_of-at-requires-clause-events : goal.event_of-at-requires-clause-events
