@@ -13,6 +13,7 @@ use Rattle.tb_base.specs.BestValues.{IsAttained, IsBest, IsStep, QueryData, valu
 use Rattle.tb_base.specs.Search.{IsCovered, IsFound, IsReached, RoundSegment, segment_at}
 use Rattle.tb_base.specs.Soundness.{IsSound}
 use Rattle.tb_base.specs.Sufficiency.{AreSufficient}
+use Rattle.tb_base.proofs.NumberFacts.{below_or_last}
 use Rattle.tb_base.proofs.Ordered.{Member, Member-from_Contains, Contains-from_Member, AllPairs-tail}
 use Rattle.segment_queue.proofs.Distinct.{before_member, pairs_from_head}
 use Rattle.earliest_query.proofs.LineBoarding.{member_map_back}
@@ -44,9 +45,6 @@ record BestOf (T : TimetableData) (origins : List ℕ) (stop n : ℕ) : Type 0 w
   pub nearest : (b s : ℕ) → b < n → walk T (slice_index origins b) stop ≡ Some s → secs ≤ s
   pub first : (b s : ℕ) → b < place → walk T (slice_index origins b) stop ≡ Some s → secs < s
 
-below_or_at : (k n : ℕ) → k < suc n → (k < n) ⊎ (n ≡ k)
-below_or_at k n h = grind arith
-
 at_most_or_less : (a b : ℕ) → (a ≤ b) ⊎ (b < a)
 at_most_or_less a b = grind arith
 
@@ -61,13 +59,13 @@ module _ (T : TimetableData) (origins : List ℕ) (stop : ℕ) where
   NoneOf n = (b s : ℕ) → b < n → walk T (slice_index origins b) stop ≡ Some s → ⊥
 
   one_more : (n : ℕ) (o : Option ℕ) → walk T (slice_index origins n) stop ≡ o → NoneOf n ⊎ BestOf T origins stop n → NoneOf (suc n) ⊎ BestOf T origins stop (suc n)
-  one_more n None is (inl none) = inl (λ b s h w. elim (below_or_at b n h) [ inl k ↦ none b s k w | inr e ↦ no_secs n b s e is w ])
+  one_more n None is (inl none) = inl (λ b s h w. elim (below_or_last b n h) [ inl k ↦ none b s k w | inr e ↦ no_secs n b s (sym e) is w ])
   one_more n None is (inr best) = inr (record {
     place = best.place;
     below = omega (arith, best.below);
     secs = best.secs;
     walks = best.walks;
-    nearest = λ b s h w. elim (below_or_at b n h) [ inl k ↦ best.nearest b s k w | inr e ↦ absurd (no_secs n b s e is w) ];
+    nearest = λ b s h w. elim (below_or_last b n h) [ inl k ↦ best.nearest b s k w | inr e ↦ absurd (no_secs n b s (sym e) is w) ];
     first = best.first;
   })
   one_more n (Some t) is (inl none) = inr (record {
@@ -75,7 +73,7 @@ module _ (T : TimetableData) (origins : List ℕ) (stop : ℕ) where
     below = omega arith;
     secs = t;
     walks = is;
-    nearest = λ b s h w. elim (below_or_at b n h) [ inl k ↦ absurd (none b s k w) | inr e ↦ omega (arith, same_secs n b t s e is w) ];
+    nearest = λ b s h w. elim (below_or_last b n h) [ inl k ↦ absurd (none b s k w) | inr e ↦ omega (arith, same_secs n b t s (sym e) is w) ];
     first = λ b s h w. absurd (none b s h w);
   })
   one_more n (Some t) is (inr best) =
@@ -85,7 +83,7 @@ module _ (T : TimetableData) (origins : List ℕ) (stop : ℕ) where
           below = omega (arith, best.below);
           secs = best.secs;
           walks = best.walks;
-          nearest = λ b s h w. elim (below_or_at b n h) [ inl k ↦ best.nearest b s k w | inr e ↦ omega (arith, keep, same_secs n b t s e is w) ];
+          nearest = λ b s h w. elim (below_or_last b n h) [ inl k ↦ best.nearest b s k w | inr e ↦ omega (arith, keep, same_secs n b t s (sym e) is w) ];
           first = best.first;
         })
         | inr less ↦ inr (record {
@@ -93,7 +91,7 @@ module _ (T : TimetableData) (origins : List ℕ) (stop : ℕ) where
           below = omega arith;
           secs = t;
           walks = is;
-          nearest = λ b s h w. elim (below_or_at b n h) [ inl k ↦ (let m = best.nearest b s k w in omega (arith, less, m)) | inr e ↦ omega (arith, same_secs n b t s e is w) ];
+          nearest = λ b s h w. elim (below_or_last b n h) [ inl k ↦ (let m = best.nearest b s k w in omega (arith, less, m)) | inr e ↦ omega (arith, same_secs n b t s (sym e) is w) ];
           first = λ b s h w. (let m = best.nearest b s h w in omega (arith, less, m));
         })
       ]

@@ -1,9 +1,10 @@
 -- One index of a segment that is ridden: to alight there has been weighed.
-use Rattle.std.proofs.Common.{◌≡◌, ◌∙◌, ℕ, suc, ◌<◌, ◌≤◌, ◌⊎◌, inl, inr, length, Bool, sym, ap, subst, arith, Option, ℤ}
+use Rattle.std.proofs.Common.{◌≡◌, ◌∙◌, ℕ, suc, ◌<◌, ◌≤◌, inl, inr, length, Bool, sym, ap, subst, arith, Option, ℤ}
 use Rattle.tb_base.specs.Network.{NetData}
 use Rattle.tb_base.specs.TimetableData.{arrival_at, event_at, stop_at}
 use Rattle.tb_base.specs.BestValues.{QueryData}
 use Rattle.tb_base.specs.Soundness.{IsSound}
+use Rattle.tb_base.proofs.NumberFacts.{less_or_same}
 use Rattle.segment_queue.specs.declared.desk.Segment.{Segment}
 use Rattle.segment_queue.specs.declared.desk.Hit.{Hit}
 use Rattle.segment_queue.specs.Queue.{DeskData, IsSoundSegment}
@@ -51,24 +52,21 @@ module _ (N : NetData) (Q : QueryData) (D E : DeskData) (n at round : ℕ) (so_f
   inside_grown : n < length E.segments
   inside_grown = omega (arith, looked.inside, extends-long D E (suc round) looked.extends)
 
-  before_or_here : (k i : ℕ) → k ≤ i → (k < i) ⊎ (i ≡ k)
-  before_or_here k i h = grind arith
-
   -- the N.hops from there have been followed, by which the desk has grown to F
   module _ (F : DeskData) (joined : Extends E F (suc round)) (here : IsFollowed N F n at) where
     pub extends_on : Extends D F (suc round)
     extends_on = extends-trans D E F (suc round) looked.extends joined
 
     pub followed_on : (i : ℕ) → (segment_of D.segments n).board < i → i ≤ at → IsDone N F result n i
-    followed_on i above below = elim (before_or_here i at below) [
+    followed_on i above below = elim (less_or_same i at below) [
       | inl earlier ↦ done-kept N Q E F (suc round) round n i best result joined inside_grown (better F extends_on) (looked.followed i above earlier)
-      | inr e ↦ inl (subst (λ m. IsFollowed N F n m) e here)
+      | inr e ↦ inl (subst (λ m. IsFollowed N F n m) (sym e) here)
     ]
 
     pub bounded_on : (i : ℕ) → (segment_of D.segments n).board < i → i ≤ at → IsBounded N.table Q D result n i
-    bounded_on i above below = elim (before_or_here i at below) [
+    bounded_on i above below = elim (less_or_same i at below) [
       | inl earlier ↦ bounded-improved N.table Q D F round best result n i (better F extends_on) (looked.bounded i above earlier)
-      | inr e ↦ subst (λ m. IsBounded N.table Q D result n m) e (weighed_bounded N.table Q D F (suc round) n at round best result extends_on looked.inside covers_looked looked.is_round weighed_here)
+      | inr e ↦ subst (λ m. IsBounded N.table Q D result n m) (sym e) (weighed_bounded N.table Q D F (suc round) n at round best result extends_on looked.inside covers_looked looked.is_round weighed_here)
     ]
 
     pub improved_on : IsImproved N.table Q F round so_far result

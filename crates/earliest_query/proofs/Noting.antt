@@ -21,6 +21,7 @@ use Rattle.earliest_query.proofs.LineBoarding.{no_later-trans}
 use Rattle.segment_queue.proofs.LineParts.{itself, of_lines, trips_no_later}
 use Rattle.segment_queue.proofs.Rounds.{board_of, trip_of}
 use Rattle.tb_base.specs.Lines.{AreDividedInto, IsTripNoLater}
+use Rattle.tb_base.proofs.NumberFacts.{below_or_at}
 use Rattle.tb_base.proofs.Ordered.{Member}
 use Rattle.earliest_query.proofs.Growing.{extends-long, extends-refl, extends-round, extends-segment}
 use Rattle.earliest_query.proofs.BestSoFar.{bounded-improved, bounded-same, covers-kept, improved-trans, new_hit-kept, weighed_as, weighed_bounded, weighed_improved}
@@ -276,22 +277,19 @@ module _ (N : NetData) (Q : QueryData) (D : DeskData) (notes after : List Note) 
   better_now : IsImproved N.table Q D round best result
   better_now = new_hit-kept N.table Q (record D { notes = notes }) D (suc round) round best result (notes-extends D notes (suc round)) improved
 
-  before_or_this : (n : ℕ) → n < k + 1 → (n < k) ⊎ (k ≡ n)
-  before_or_this n h = grind arith
-
-  covers_this : (n i : ℕ) → k ≡ n → Covers D n i → Covers (record D { notes = notes }) k i
-  covers_this n i e c = covers-kept D (record D { notes = notes }) k i refl (subst (λ m. Covers D m i) (sym e) c)
+  covers_this : (n i : ℕ) → n ≡ k → Covers D n i → Covers (record D { notes = notes }) k i
+  covers_this n i e c = covers-kept D (record D { notes = notes }) k i refl (subst (λ m. Covers D m i) e c)
 
   pub weighed_one_more : ((n i : ℕ) → from ≤ n → n < k → Covers D n i → IsWeighedOff N Q D best notes n i ⊎ IsOutdone N D.segments n i) → ((i : ℕ) → Covers (record D { notes = notes }) k i → IsWeighedOff N Q (record D { notes = notes }) result after k i ⊎ IsOutdone N D.segments k i)
       → (n i : ℕ) → from ≤ n → n < k + 1 → Covers D n i → IsWeighedOff N Q D result after n i ⊎ IsOutdone N D.segments n i
-  weighed_one_more before this n i above below c = elim (before_or_this n below) [
+  weighed_one_more before this n i above below c = elim (below_or_at n k below) [
     | inl earlier ↦ elim (before n i above earlier c) [
       | inl w ↦ inl (weighed_off-kept N Q D round n i best result notes after (omega (arith, earlier, inside)) kept better_now w)
       | inr o ↦ inr o
     ]
     | inr e ↦ elim (this i (covers_this n i e c)) [
-      | inl w ↦ inl (subst (λ m. IsWeighedOff N Q D result after m i) e (record { left = w.left; bounded = bounded-same N.table Q (record D { notes = notes }) D result k i refl w.bounded }))
-      | inr o ↦ inr (subst (λ m. IsOutdone N D.segments m i) e o)
+      | inl w ↦ inl (subst (λ m. IsWeighedOff N Q D result after m i) (sym e) (record { left = w.left; bounded = bounded-same N.table Q (record D { notes = notes }) D result k i refl w.bounded }))
+      | inr o ↦ inr (subst (λ m. IsOutdone N D.segments m i) (sym e) o)
     ]
   ]
 

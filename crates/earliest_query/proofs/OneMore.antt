@@ -7,6 +7,7 @@ use Rattle.tb_base.specs.TimetableData.{events_of}
 use Rattle.tb_base.specs.BestValues.{QueryData}
 use Rattle.tb_base.specs.Lines.{AreDividedInto, IsTripNoLater}
 use Rattle.tb_base.specs.Search.{RoundSegment, IsCovered, segment_at}
+use Rattle.tb_base.proofs.NumberFacts.{below_or_at}
 use Rattle.tb_base.proofs.LineFacts.{no_later}
 use Rattle.segment_queue.specs.declared.desk.Segment.{Segment}
 use Rattle.segment_queue.specs.Scans.{trips_from}
@@ -19,9 +20,6 @@ use Rattle.earliest_query.specs.UnderWay.{Extends, IsQueue, IsReachedAhead, IsRe
 use Rattle.earliest_query.proofs.Ahead.{left_behind}
 use Rattle.segment_queue.proofs.Rounds.{segment_at-last, segment_of-last, segment_of-kept, round_of-kept}
 use Rattle.earliest_query.proofs.Growing.{ahead-kept, entered-kept, extends-refl}
-
-below_or_last : (n k : ℕ) → n < k + 1 → (n < k) ⊎ (k ≡ n)
-below_or_last n k h = grind arith
 
 module _ (N : NetData) (Q : QueryData) (D : DeskData) (round trip at : ℕ) (parent : Option (ℕ × ℕ)) (divided : AreDividedInto N.table N.lines) (inside : trip < length N.table.trips) (queue : IsQueue N Q D round) where
   -- the index isn't below the trip's mark: a segment has reached the trip there
@@ -98,22 +96,22 @@ module _ (N : NetData) (Q : QueryData) (D : DeskData) (round trip at : ℕ) (par
 
     entered_all : (n : ℕ) → n < length all → IsEntered N.table Q all n (segment_of all n).parent (segment_of all n).trip (segment_of all n).board
     entered_all n h =
-        elim (below_or_last n (length D.segments) (omega (arith, h, longer))) [
+        elim (below_or_at n (length D.segments) (omega (arith, h, longer))) [
           | inl k ↦ subst (λ (s : Segment). IsEntered N.table Q all n s.parent s.trip s.board) (sym (segment_of-kept D.segments (new ∷ []) n k))
               (entered-kept N.table Q D.segments (new ∷ []) n (segment_of D.segments n).parent (segment_of D.segments n).trip (segment_of D.segments n).board (omega (arith, k)) (queue.entered n k))
-          | inr e ↦ subst (λ m. IsEntered N.table Q all m (segment_of all m).parent (segment_of all m).trip (segment_of all m).board) e
+          | inr e ↦ subst (λ m. IsEntered N.table Q all m (segment_of all m).parent (segment_of all m).trip (segment_of all m).board) (sym e)
               (subst (λ (s : Segment). IsEntered N.table Q all (length D.segments) s.parent s.trip s.board) (sym new_of) (entered-kept N.table Q D.segments (new ∷ []) (length D.segments) parent trip at (omega arith) boards))
         ]
 
     rounds_all : (n : ℕ) → n < length all → round_of all n ≤ round
     rounds_all n h =
-        elim (below_or_last n (length D.segments) (omega (arith, h, longer))) [
+        elim (below_or_at n (length D.segments) (omega (arith, h, longer))) [
           | inl k ↦ omega (arith, round_of-kept D.segments (new ∷ []) n k, queue.rounds n k)
-          | inr e ↦ subst (λ m. round_of all m ≤ round) e (omega (arith, new_round))
+          | inr e ↦ subst (λ m. round_of all m ≤ round) (sym e) (omega (arith, new_round))
         ]
 
     ends_all : (n : ℕ) → n < length all → (length (events_of N.table (segment_of all n).trip) ≤ suc (segment_of all n).end) ⊎ IsReachedAhead N all n (round_of all n) (segment_of all n).trip (segment_of all n).end
-    ends_all n h = by_place (below_or_last n (length D.segments) (omega (arith, h, longer)))
+    ends_all n h = by_place (below_or_at n (length D.segments) (omega (arith, h, longer)))
       where
         new_ends : (length (events_of N.table trip) ≤ suc (mark_of N.table D.marks trip)) ⊎ IsReachedAhead N all (length D.segments) round trip (mark_of N.table D.marks trip)
         new_ends =
@@ -122,7 +120,7 @@ module _ (N : NetData) (Q : QueryData) (D : DeskData) (round trip at : ℕ) (par
               | inr c ↦ inr (ahead-kept N D.segments (new ∷ []) (length D.segments) (length D.segments) round round trip (mark_of N.table D.marks trip) c (omega arith) (omega arith) (omega arith))
             ]
 
-        by_place : (n < length D.segments) ⊎ (length D.segments ≡ n) → Ends n (round_of all n) (segment_of all n)
+        by_place : (n < length D.segments) ⊎ (n ≡ length D.segments) → Ends n (round_of all n) (segment_of all n)
         by_place (inl k) =
             subst (λ (s : Segment). Ends n (round_of all n) s) (sym (segment_of-kept D.segments (new ∷ []) n k))
             (subst (λ r. Ends n r (segment_of D.segments n)) (sym (round_of-kept D.segments (new ∷ []) n k))
@@ -131,17 +129,17 @@ module _ (N : NetData) (Q : QueryData) (D : DeskData) (round trip at : ℕ) (par
               | inr c ↦ inr (ahead-kept N D.segments (new ∷ []) n n (round_of D.segments n) (round_of D.segments n) (segment_of D.segments n).trip (segment_of D.segments n).end c (omega (arith, k)) (omega arith) (omega arith))
             ]))
         by_place (inr e) =
-            subst (λ m. Ends m (round_of all m) (segment_of all m)) e
+            subst (λ m. Ends m (round_of all m) (segment_of all m)) (sym e)
             (subst (λ (s : Segment). Ends (length D.segments) (round_of all (length D.segments)) s) (sym new_of)
             (subst (λ r. Ends (length D.segments) r new) (sym new_round) new_ends))
 
     by_hops_all : UsesHops N.hops all
-    by_hops_all n p h is = by_place (below_or_last n (length D.segments) (omega (arith, h, longer)))
+    by_hops_all n p h is = by_place (below_or_at n (length D.segments) (omega (arith, h, longer)))
       where
         earlier_of : (o : Option (ℕ × ℕ)) (m t b : ℕ) (xs : List Segment) → o ≡ Some p → IsEntered N.table Q xs m o t b → p.0 < m
         earlier_of o m t b xs e entered = (subst (λ x. IsEntered N.table Q xs m x t b) e entered).earlier
 
-        by_place : (n < length D.segments) ⊎ (length D.segments ≡ n) → By p.1 (segment_of all n) (segment_of all p.0)
+        by_place : (n < length D.segments) ⊎ (n ≡ length D.segments) → By p.1 (segment_of all n) (segment_of all p.0)
         by_place (inl k) =
             let here : segment_of all n ≡ segment_of D.segments n = segment_of-kept D.segments (new ∷ []) n k in
             let is_old : (segment_of D.segments n).parent ≡ Some p = sym (ap (λ (s : Segment). s.parent) here) ∙ is in
@@ -149,7 +147,7 @@ module _ (N : NetData) (Q : QueryData) (D : DeskData) (round trip at : ℕ) (par
             subst (λ (s : Segment). By p.1 s (segment_of all p.0)) (sym here)
             (subst (λ (s : Segment). By p.1 (segment_of D.segments n) s) (sym (segment_of-kept D.segments (new ∷ []) p.0 (omega (arith, below_n, k)))) (queue.by_hops n p k is_old))
         by_place (inr e) =
-            let here : segment_of all n ≡ new = ap (segment_of all) (sym e) ∙ new_of in
+            let here : segment_of all n ≡ new = ap (segment_of all) e ∙ new_of in
             let is_new : parent ≡ Some p = sym (ap (λ (s : Segment). s.parent) here) ∙ is in
             let below_n : p.0 < length D.segments = earlier_of parent (length D.segments) trip at D.segments is_new boards in
             subst (λ (s : Segment). By p.1 s (segment_of all p.0)) (sym here)

@@ -6,6 +6,7 @@ use Rattle.tb_base.specs.TimetableData.{events_of}
 use Rattle.tb_base.specs.BestValues.{QueryData}
 use Rattle.tb_base.specs.Lines.{IsTripNoLater}
 use Rattle.tb_base.specs.Search.{IsCovered, RoundSegment, segment_at}
+use Rattle.tb_base.proofs.NumberFacts.{below_or_last}
 use Rattle.segment_queue.specs.declared.desk.Segment.{Segment}
 use Rattle.segment_queue.specs.Queue.{DeskData}
 use Rattle.segment_queue.specs.Traced.{no_segment, round_of, round_segments, segment_of}
@@ -127,9 +128,6 @@ module _ (N : NetData) (Q : QueryData) (D : DeskData) (rounds : ℕ) (ridden : I
         board = omega (arith, c.board, ap (λ (s : RoundSegment). s.board) same);
       }
 
-  below_or_at : (n k : ℕ) → n < suc k → (n < k) ⊎ (n ≡ k)
-  below_or_at n k h = grind arith
-
   same_or_not : (a b : ℕ) → (a ≡ b) ⊎ (a ≡ b → ⊥)
   same_or_not a b = by_order (three a b)
     where
@@ -234,12 +232,12 @@ module _ (N : NetData) (Q : QueryData) (D : DeskData) (rounds : ℕ) (ridden : I
     sorted_more = record {
       has = λ n there now'. elim now' [
         | inl more ↦ has_old n (s.has n there (inl more))
-        | inr (same, below) ↦ elim (below_or_at n k below) [
+        | inr (same, below) ↦ elim (below_or_last n k below) [
           | inl earlier ↦ has_old n (s.has n there (inr (same, earlier)))
           | inr e ↦ subst (HasPart Y) (sym e) has_new
         ]
       ];
-      parts = λ m h. elim (below_or_at m (length X) (omega (arith, h, long))) [
+      parts = λ m h. elim (below_or_last m (length X) (omega (arith, h, long))) [
         | inl old ↦ part_old m old (s.parts m old)
         | inr e ↦ subst (IsPartAt Y) (sym e) part_new
       ];
@@ -257,7 +255,7 @@ module _ (N : NetData) (Q : QueryData) (D : DeskData) (rounds : ℕ) (ridden : I
           record {
             has = λ n there now. elim now [
               | inl more ↦ t.1.has n there (inl more)
-              | inr (same, below) ↦ elim (below_or_at n k below) [
+              | inr (same, below) ↦ elim (below_or_last n k below) [
                 | inl earlier ↦ t.1.has n there (inr (same, earlier))
                 | inr e ↦ absurd (other (ap left (sym e) ∙ same))
               ]
@@ -271,7 +269,7 @@ module _ (N : NetData) (Q : QueryData) (D : DeskData) (rounds : ℕ) (ridden : I
   most_left zero = (0, λ n h. absurd (omega (arith, h)))
   most_left (suc k) =
       let b = most_left k in
-      (b.0 + left k, λ n h. elim (below_or_at n k h) [ inl below ↦ (let le = b.1 n below in omega (arith, le)) | inr e ↦ omega (arith, ap left e) ])
+      (b.0 + left k, λ n h. elim (below_or_last n k h) [ inl below ↦ (let le = b.1 n below in omega (arith, le)) | inr e ↦ omega (arith, ap left e) ])
 
   next_row : (p n : ℕ) → p < left n → n < length D.segments → ((suc p < left n) ⊎ ((left n ≡ suc p) × (n < length D.segments)))
   next_row p n more there = elim (less_or_next p (left n) more) [ inl less ↦ inl less | inr e ↦ inr (e, there) ]

@@ -8,6 +8,7 @@ use Rattle.tb_base.specs.TimetableData.{events_of}
 use Rattle.tb_base.specs.BestValues.{QueryData}
 use Rattle.tb_base.specs.Lines.{AreDividedInto}
 use Rattle.tb_base.specs.Search.{RoundSegment, IsCovered}
+use Rattle.tb_base.proofs.NumberFacts.{below_or_at}
 use Rattle.segment_queue.specs.declared.desk.Segment.{Segment}
 use Rattle.segment_queue.specs.Levels.{AreKept, EntersLevel, level_mark, level_segment}
 use Rattle.segment_queue.specs.Queue.{DeskData, IsFalling, IsSoundSegment}
@@ -17,9 +18,6 @@ use Rattle.earliest_query.specs.Sweeping.{IsSweptQueue}
 use Rattle.earliest_query.specs.UnderWay.{Extends, IsReachedBy}
 use Rattle.segment_queue.proofs.Rounds.{length-round_segments, round_of-kept, segment_at-last, segment_of-kept, segment_of-last}
 use Rattle.earliest_query.proofs.Growing.{covered-kept, entered-kept}
-
-below_or_last : (n k : ℕ) → n < k + 1 → (n < k) ⊎ (k ≡ n)
-below_or_last n k h = grind arith
 
 module _ (N : NetData) (Q : QueryData) (D : DeskData) (levels : List (List (Option ℕ))) (k trip at : ℕ) (parent : Option (ℕ × ℕ)) (divided : AreDividedInto N.table N.lines) (inside : trip < length N.table.trips) (level : k < length levels)
     (queue : IsSweptQueue N Q D levels) where
@@ -63,22 +61,22 @@ module _ (N : NetData) (Q : QueryData) (D : DeskData) (levels : List (List (Opti
 
     entered_all : (n : ℕ) → n < length all → IsEntered N.table Q all n (segment_of all n).parent (segment_of all n).trip (segment_of all n).board
     entered_all n h =
-        elim (below_or_last n (length D.segments) (omega (arith, h, longer))) [
+        elim (below_or_at n (length D.segments) (omega (arith, h, longer))) [
           | inl m ↦ subst (λ (s : Segment). IsEntered N.table Q all n s.parent s.trip s.board) (sym (segment_of-kept D.segments (new ∷ []) n m))
               (entered-kept N.table Q D.segments (new ∷ []) n (segment_of D.segments n).parent (segment_of D.segments n).trip (segment_of D.segments n).board (omega (arith, m)) (queue.entered n m))
-          | inr e ↦ subst (λ m. IsEntered N.table Q all m (segment_of all m).parent (segment_of all m).trip (segment_of all m).board) e
+          | inr e ↦ subst (λ m. IsEntered N.table Q all m (segment_of all m).parent (segment_of all m).trip (segment_of all m).board) (sym e)
               (subst (λ (s : Segment). IsEntered N.table Q all (length D.segments) s.parent s.trip s.board) (sym new_of) (entered-kept N.table Q D.segments (new ∷ []) (length D.segments) parent trip at (omega arith) boards))
         ]
 
     rounds_all : (n : ℕ) → n < length all → round_of all n ≤ length levels'
     rounds_all n h =
-        elim (below_or_last n (length D.segments) (omega (arith, h, longer))) [
+        elim (below_or_at n (length D.segments) (omega (arith, h, longer))) [
           | inl m ↦ omega (arith, round_of-kept D.segments (new ∷ []) n m, queue.rounds n m, enters.long)
-          | inr e ↦ subst (λ m. round_of all m ≤ length levels') e (omega (arith, new_round, level, enters.long))
+          | inr e ↦ subst (λ m. round_of all m ≤ length levels') (sym e) (omega (arith, new_round, level, enters.long))
         ]
 
     ends_all : (n : ℕ) → n < length all → Ends n (round_of all n) (segment_of all n)
-    ends_all n h = by_place (below_or_last n (length D.segments) (omega (arith, h, longer)))
+    ends_all n h = by_place (below_or_at n (length D.segments) (omega (arith, h, longer)))
       where
         new_ends : Ends (length D.segments) (suc k) new
         new_ends =
@@ -87,7 +85,7 @@ module _ (N : NetData) (Q : QueryData) (D : DeskData) (levels : List (List (Opti
               | inr c ↦ inr (covered-kept N.table D.segments (new ∷ []) (length (round_segments D.segments)) (length D.segments) (suc k) (suc k) trip (level_mark N.table levels k trip) c (omega (arith, long)) (omega (arith, long)) (omega arith))
             ]
 
-        by_place : (n < length D.segments) ⊎ (length D.segments ≡ n) → Ends n (round_of all n) (segment_of all n)
+        by_place : (n < length D.segments) ⊎ (n ≡ length D.segments) → Ends n (round_of all n) (segment_of all n)
         by_place (inl m) =
             subst (λ (s : Segment). Ends n (round_of all n) s) (sym (segment_of-kept D.segments (new ∷ []) n m))
             (subst (λ r. Ends n r (segment_of D.segments n)) (sym (round_of-kept D.segments (new ∷ []) n m))
@@ -96,17 +94,17 @@ module _ (N : NetData) (Q : QueryData) (D : DeskData) (levels : List (List (Opti
               | inr c ↦ inr (covered-kept N.table D.segments (new ∷ []) n n (round_of D.segments n) (round_of D.segments n) (segment_of D.segments n).trip (segment_of D.segments n).end c (omega (arith, m)) (omega arith) (omega arith))
             ]))
         by_place (inr e) =
-            subst (λ m. Ends m (round_of all m) (segment_of all m)) e
+            subst (λ m. Ends m (round_of all m) (segment_of all m)) (sym e)
             (subst (λ (s : Segment). Ends (length D.segments) (round_of all (length D.segments)) s) (sym new_of)
             (subst (λ r. Ends (length D.segments) r new) (sym new_round) new_ends))
 
     by_hops_all : UsesHops N.hops all
-    by_hops_all n p h from = by_place (below_or_last n (length D.segments) (omega (arith, h, longer)))
+    by_hops_all n p h from = by_place (below_or_at n (length D.segments) (omega (arith, h, longer)))
       where
         earlier_of : (o : Option (ℕ × ℕ)) (m t b : ℕ) (xs : List Segment) → o ≡ Some p → IsEntered N.table Q xs m o t b → p.0 < m
         earlier_of o m t b xs e entered = (subst (λ x. IsEntered N.table Q xs m x t b) e entered).earlier
 
-        by_place : (n < length D.segments) ⊎ (length D.segments ≡ n) → By p.1 (segment_of all n) (segment_of all p.0)
+        by_place : (n < length D.segments) ⊎ (n ≡ length D.segments) → By p.1 (segment_of all n) (segment_of all p.0)
         by_place (inl m) =
             let here : segment_of all n ≡ segment_of D.segments n = segment_of-kept D.segments (new ∷ []) n m in
             let is_old : (segment_of D.segments n).parent ≡ Some p = sym (ap (λ (s : Segment). s.parent) here) ∙ from in
@@ -114,7 +112,7 @@ module _ (N : NetData) (Q : QueryData) (D : DeskData) (levels : List (List (Opti
             subst (λ (s : Segment). By p.1 s (segment_of all p.0)) (sym here)
             (subst (λ (s : Segment). By p.1 (segment_of D.segments n) s) (sym (segment_of-kept D.segments (new ∷ []) p.0 (omega (arith, below_n, m)))) (queue.by_hops n p m is_old))
         by_place (inr e) =
-            let here : segment_of all n ≡ new = ap (segment_of all) (sym e) ∙ new_of in
+            let here : segment_of all n ≡ new = ap (segment_of all) e ∙ new_of in
             let is_new : parent ≡ Some p = sym (ap (λ (s : Segment). s.parent) here) ∙ from in
             let below_n : p.0 < length D.segments = earlier_of parent (length D.segments) trip at D.segments is_new boards in
             subst (λ (s : Segment). By p.1 s (segment_of all p.0)) (sym here)

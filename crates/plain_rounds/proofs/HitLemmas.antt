@@ -10,9 +10,9 @@ use Rattle.plain_rounds.specs.declared.labels.StopLabel.{StopLabel}
 use Rattle.plain_rounds.specs.declared.legs.Near.{Near}
 use Rattle.plain_rounds.specs.Hits.{IsEarliest, IsHitFrom, IsDueFrom}
 use Rattle.plain_rounds.specs.Shown.{IsNearest, IsNearestOf}
-use Rattle.plain_rounds.proofs.Least.{below_or_at, get_or-inside}
+use Rattle.plain_rounds.proofs.Least.{get_or-inside}
 use Rattle.plain_rounds.proofs.NearLemmas.{nearest-shown}
-use Rattle.tb_base.proofs.NumberFacts.{≤ℤ-trans}
+use Rattle.tb_base.proofs.NumberFacts.{below_or_at, ≤ℤ-trans}
 
 pub earliest-same : (P Q : TargetArrival → Type 0) (D E : ℤ → Type 0) → ((h : TargetArrival) → P h → Q h) → ((t : ℤ) → E t → D t) → (o : Option TargetArrival) → IsEarliest P D o → IsEarliest Q E o
 earliest-same P Q D E f g None h = λ t due. h t (g t due)

@@ -1,9 +1,10 @@
 -- The nearest of some stops, one more looked at.
 use Rattle.std.proofs.Common.{◌≡◌, ℕ, ◌<◌, ◌≤◌, ◌+◌, ◌⊎◌, inl, inr, List, length, get_or, refl, sym, ap, subst, ◌∙◌, arith, Option, None, Some}
 use Rattle.std.specs.Prelude.{IfSome, IsSome, MatchOption, Contains, unwrap_or}
+use Rattle.tb_base.proofs.NumberFacts.{below_or_at}
 use Rattle.plain_rounds.specs.declared.legs.Near.{Near}
 use Rattle.plain_rounds.specs.Shown.{IsAsNear, IsNearest, IsNearestOf}
-use Rattle.plain_rounds.proofs.Least.{below_or_at, get_or-inside}
+use Rattle.plain_rounds.proofs.Least.{get_or-inside}
 
 some_same : {m n : ℕ} → Some m ≡ Some n → m ≡ n
 some_same e = cc

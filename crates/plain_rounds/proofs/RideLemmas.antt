@@ -12,8 +12,7 @@ use Rattle.plain_rounds.specs.declared.arrivals.PlainRide.{PlainRide}
 use Rattle.plain_rounds.specs.declared.labels.StopLabel.{StopLabel}
 use Rattle.plain_rounds.specs.Labels.{IsNoLaterAt, IsLaterAt, label_at}
 use Rattle.plain_rounds.specs.Rounds.{ride_of, LetsBoard, NoneBoards, IsBoardable, IsAlong, IsLabelOf, IsLeftBehind, TakesRides}
-use Rattle.plain_rounds.proofs.Least.{below_or_at}
-use Rattle.tb_base.proofs.NumberFacts.{≤ℤ-same}
+use Rattle.tb_base.proofs.NumberFacts.{below_or_at, ≤ℤ-same}
 
 -- one more step at the end of the list
 slice_get-push : {X : Type 0} (xs : List X) (y x : X) (n : ℕ) → slice_get xs n ≡ Some x → slice_get (xs ++ y ∷ []) n ≡ Some x

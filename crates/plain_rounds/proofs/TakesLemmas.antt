@@ -1,9 +1,10 @@
 -- Labels that take one offer after another.
-use Rattle.std.proofs.Common.{◌≡◌, ℕ, ◌<◌, ◌+◌, ◌⊎◌, inl, inr, List, length, get_or, refl, sym, subst, ◌∙◌, arith, Option, Some}
+use Rattle.std.proofs.Common.{◌≡◌, ℕ, ◌<◌, ◌+◌, ◌⊎◌, inl, inr, List, length, get_or, sym, subst, ◌∙◌, arith, Option, Some}
 use Rattle.std.specs.Prelude.{Contains}
+use Rattle.tb_base.proofs.NumberFacts.{below_or_at}
 use Rattle.plain_rounds.specs.declared.labels.StopLabel.{StopLabel}
 use Rattle.plain_rounds.specs.Labels.{Takes, label_at}
-use Rattle.plain_rounds.proofs.Least.{below_or_at, get_or-inside}
+use Rattle.plain_rounds.proofs.Least.{get_or-inside}
 
 -- the same is offered
 pub Takes-same : (xs ys : List (Option StopLabel)) (P Q : ℕ → StopLabel → Type 0) → ((p : ℕ) (l : StopLabel) → P p l → Q p l) → ((p : ℕ) (l : StopLabel) → Q p l → P p l) → Takes xs ys P → Takes xs ys Q

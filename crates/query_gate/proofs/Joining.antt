@@ -9,7 +9,7 @@ use Rattle.std.proofs.lemmas.Bool.Decides.{nat_tests}
 use Rattle.std.proofs.lemmas.List.{get_or_default}
 use Rattle.std.proofs.lemmas.List.Elements.{All-cons, All-nil, Contains-append_left, Contains-get_or, Contains-push, Contains-push_cases}
 use Rattle.std.proofs.lemmas.List.Kept.{AllPairs-cons}
-use Rattle.plain_rounds.proofs.Least.{below_or_at}
+use Rattle.tb_base.proofs.NumberFacts.{below_or_at}
 use Rattle.query_gate.specs.Leaving.{HaveJoined}
 
 pub joined_none : (P : ℤ → Type 0) (times : List ℤ) → ((n : ℤ) → P n → ⊥) → HaveJoined P times times

@@ -1,13 +1,11 @@
-use Rattle.std.proofs.Common.{◌≡◌, ℕ, ◌+◌, ◌<◌, ◌⊎◌, inl, inr, subst, arith}
+use Rattle.std.proofs.Common.{◌+◌, inl, inr, sym, subst, arith}
+use Rattle.tb_base.proofs.NumberFacts.{below_or_at}
 use Rattle.earliest_query.specs.UnderWay.{AreBoarded}
 use Rattle.earliest_query.proofs.Growing.{extends-refl, extends-trans}
 use Rattle.earliest_query.proofs.FromOrigins.{are_boarded-kept}
 use Rattle.earliest_query.proofs.StopSums.{boards_bounded, boards_join, boards_none}
 use Rattle.earliest_query.proofs.search.Search.board_all.Goals as goal
 use Rattle.tb_base.specs.Network.{NetData}
-
-below_or_at : (k i : ℕ) → k < i + 1 → (k < i) ⊎ (i ≡ k)
-below_or_at k i h = grind arith
 
 pub loop-place-init : goal.loop-place-init
 loop-place-init g c = record {
@@ -28,7 +26,7 @@ loop-place-preserved g c =
       extends = extends-trans c.args.desk.now E F 1 c.loop-place.invariant.extends c.board_from.ensures.extends;
       boarded = λ place below. elim (below_or_at place c.loop-place.place below) [
         | inl before ↦ are_boarded-kept N.table Q E F place c.board_from.ensures.extends (c.loop-place.invariant.boarded place before)
-        | inr e ↦ subst (λ m. AreBoarded N.table Q F m) e c.board_from.ensures.boarded
+        | inr e ↦ subst (λ m. AreBoarded N.table Q F m) (sym e) c.board_from.ensures.boarded
       ];
       steps = boards_join N Q.from 0 c.loop-place.place (c.loop-place.place + 1) c.args.steps.now c.loop-place.steps c.board_from.new.steps (omega arith) (omega arith) c.loop-place.invariant.steps c.board_from.ensures.steps;
     }

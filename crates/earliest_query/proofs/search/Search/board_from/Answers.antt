@@ -1,4 +1,4 @@
-use Rattle.std.proofs.Common.{◌≡◌, ◌∙◌, ℕ, ◌+◌, ◌<◌, ◌⊎◌, inl, inr, length, get_or, sym, ap, subst, arith}
+use Rattle.std.proofs.Common.{◌≡◌, ◌∙◌, ℕ, ◌<◌, inl, inr, length, get_or, sym, ap, subst, arith}
 use Rattle.std.specs.Prelude.{Some}
 use Rattle.tb_base.specs.Network.{NetData}
 use Rattle.tb_base.specs.declared.table.Path.{Path}
@@ -6,6 +6,7 @@ use Rattle.tb_base.specs.TimetableData.{TimetableData}
 use Rattle.tb_base.specs.BestValues.{QueryData}
 use Rattle.tb_base.specs.Soundness.{IsSoundPath}
 use Rattle.tb_base.specs.Walking.{walk}
+use Rattle.tb_base.proofs.NumberFacts.{below_or_at}
 use Rattle.tb_laws.proofs.Triangles.{walk-same}
 use Rattle.segment_queue.specs.Queue.{DeskData}
 use Rattle.earliest_query.specs.Choices.{IsFirstChoice}
@@ -48,9 +49,6 @@ board_if_first-requires-in-loop-path-clause-walks g c =
     let sound = subst (IsSoundPath (length T.stops) o) (read f) (c.walks-path-items.ensures.sound k f c.loop-path-test.true) in
     subst (λ s. walk T s f.to ≡ Some f.secs) is (path_walk T o paths k f c.walks-path-items.ensures.paths c.walks-path-items.ensures.ascending c.loop-path-test.true read sound.away)
 
-below_or_at : (k i : ℕ) → k < i + 1 → (k < i) ⊎ (i ≡ k)
-below_or_at k i h = grind arith
-
 pub loop-path-preserved : goal.loop-path-preserved
 loop-path-preserved g c =
     let N : NetData = g.S.Scan.net c.args.self.now.scan.now in
@@ -74,7 +72,7 @@ loop-path-preserved g c =
       own = λ first. boarded-kept N.table Q E F own 0 more.extends (c.loop-path.invariant.own first);
       boarded = λ i d below. elim (below_or_at i k below) [
         | inl before ↦ λ first. boarded-kept N.table Q E F (get_or paths i d).to (get_or paths i d).secs more.extends (c.loop-path.invariant.boarded i d before first)
-        | inr e ↦ subst (λ (p : Path). IsFirstChoice N.table Q.from c.args.place p.to p.secs → IsBoarded N.table Q F p.to p.secs) (sym (read d) ∙ ap (λ m. get_or paths m d) e) more.boarded
+        | inr e ↦ subst (λ (p : Path). IsFirstChoice N.table Q.from c.args.place p.to p.secs → IsBoarded N.table Q F p.to p.secs) (sym (read d) ∙ ap (λ m. get_or paths m d) (sym e)) more.boarded
       ];
       steps = among_more N Q.from c.args.place own paths c.requires.place k f.secs c.args.steps.now c.loop-path.steps c.board_if_first-in-loop-path.new.steps f read sound.to
           (λ e. sound.away (e ∙ sym is)) (λ i d before. earlier_other paths k i d f c.walks-path-items.ensures.ascending before inside read) walks c.loop-path.invariant.steps more.steps;

@@ -1,7 +1,8 @@
-use Rattle.std.proofs.Common.{◌≡◌, ◌∙◌, ℕ, suc, ◌+◌, ◌<◌, ◌⊎◌, inl, inr, length, get_or, refl, sym, ap, subst, arith}
+use Rattle.std.proofs.Common.{◌≡◌, ◌∙◌, ℕ, suc, inl, inr, length, get_or, refl, sym, ap, subst, arith}
 use Rattle.std.proofs.lemmas.Option.{get_or_from_slice_get, slice_get_within}
 use Rattle.std.specs.Prelude.{Contains}
 use Rattle.tb_base.specs.declared.transfer.Hop.{Hop}
+use Rattle.tb_base.proofs.NumberFacts.{below_or_at}
 use Rattle.segment_queue.specs.declared.desk.Segment.{Segment}
 use Rattle.segment_queue.specs.Traced.{segment_of}
 use Rattle.earliest_query.specs.UnderWay.{Extends, IsReachedBy}
@@ -41,9 +42,6 @@ enter_level-requires-clause-in_set g c =
     hop_in_set (g.S.Scan.net c.args.self.now.scan.now).table (g.S.Scan.net c.args.self.now.scan.now).hops c.args.desk.now c.loop-place.desk (suc c.args.level) c.args.segment c.args.at c.at.result
     c.requires.sufficient c.requires.segment c.requires.covers c.loop-place.invariant.extends in_set
 
-below_or_at : (k i : ℕ) → k < i + 1 → (k < i) ⊎ (i ≡ k)
-below_or_at k i h = grind arith
-
 pub loop-place-init : goal.loop-place-init
 loop-place-init g c = record { queue = c.requires.queue; levels = refl; extends = extends-refl c.args.desk.now (suc c.args.level); still = λ fits. fits; reached = λ k d h. absurd (omega (arith, h)) }
 
@@ -61,7 +59,7 @@ loop-place-preserved g c =
         | inl before ↦ extends-reached T c.loop-place.desk c.enter_level.new.desk top (length c.loop-place.desk.segments) (length c.enter_level.new.desk.segments) top top (get_or (lent c.args.hops) k d).trip (get_or (lent c.args.hops) k d).at joined
             (c.loop-place.invariant.reached k d before) (omega arith) (extends-long c.loop-place.desk c.enter_level.new.desk top joined) (omega arith)
         | inr e ↦ subst (λ (h : Hop). IsReachedBy T c.enter_level.new.desk (length c.enter_level.new.desk.segments) top h.trip h.at)
-            ((sym (get_or_from_slice_get (lent c.args.hops) c.loop-place.place c.at.result c.at.result c.at.ensures)) ∙ get_or-inside (lent c.args.hops) c.loop-place.place c.at.result d (slice_get_within (lent c.args.hops) c.loop-place.place c.at.result c.at.ensures) ∙ ap (λ m. get_or (lent c.args.hops) m d) e) c.in_ok-enter_level.ensures.reached
+            ((sym (get_or_from_slice_get (lent c.args.hops) c.loop-place.place c.at.result c.at.result c.at.ensures)) ∙ get_or-inside (lent c.args.hops) c.loop-place.place c.at.result d (slice_get_within (lent c.args.hops) c.loop-place.place c.at.result c.at.ensures) ∙ ap (λ m. get_or (lent c.args.hops) m d) (sym e)) c.in_ok-enter_level.ensures.reached
       ];
     }
 

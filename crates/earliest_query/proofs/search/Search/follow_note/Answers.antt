@@ -1,8 +1,9 @@
-use Rattle.std.proofs.Common.{◌≡◌, ◌∙◌, ℕ, suc, ◌+◌, ◌-◌, ◌<◌, ◌⊎◌, inl, inr, length, get_or, refl, sym, ap, subst, arith, Some}
+use Rattle.std.proofs.Common.{◌≡◌, ◌∙◌, ℕ, suc, ◌-◌, inl, inr, length, get_or, refl, sym, ap, subst, arith, Some}
 use Rattle.std.specs.Prelude.{Contains, slice_get}
 use Rattle.std.proofs.lemmas.Option.{get_or_from_slice_get, slice_get_within}
 use Rattle.tb_base.specs.Network.{NetData}
 use Rattle.tb_base.specs.declared.transfer.Hop.{Hop}
+use Rattle.tb_base.proofs.NumberFacts.{below_or_at}
 use Rattle.segment_queue.specs.declared.desk.Segment.{Segment}
 use Rattle.segment_queue.specs.declared.notes.Note.{Note}
 use Rattle.segment_queue.specs.Queue.{DeskData}
@@ -54,9 +55,6 @@ follow_hop-requires-clause-hop g c =
     let place : ℕ = c.loop-place.place in
     subst (λ hs. slice_get hs place ≡ Some hop) c.hops_from-hops.ensures c.at.ensures
 
-below_or_at : (k i : ℕ) → k < i + 1 → (k < i) ⊎ (i ≡ k)
-below_or_at k i h = grind arith
-
 pub loop-place-preserved : goal.loop-place-preserved
 loop-place-preserved g c =
     let N : NetData = g.S.Scan.net c.args.self.now.scan.now in
@@ -73,7 +71,7 @@ loop-place-preserved g c =
         | inl before ↦ extends-reached N.table E F top (length E.segments) (length F.segments) top top (get_or hops k d).trip (get_or hops k d).at joined
             (c.loop-place.invariant.reached k d before) (omega arith) (extends-long E F top joined) (omega arith)
         | inr e ↦ subst (λ (h : Hop). IsReachedBy N.table F (length F.segments) top h.trip h.at)
-            (sym (get_or_from_slice_get hops c.loop-place.place c.at.result c.at.result c.at.ensures) ∙ get_or-inside hops c.loop-place.place c.at.result d (slice_get_within (lent c.hops_from-hops.result) c.loop-place.place c.at.result c.at.ensures) ∙ ap (λ m. get_or hops m d) e) c.follow_hop.ensures.reached
+            (sym (get_or_from_slice_get hops c.loop-place.place c.at.result c.at.result c.at.ensures) ∙ get_or-inside hops c.loop-place.place c.at.result d (slice_get_within (lent c.hops_from-hops.result) c.loop-place.place c.at.result c.at.ensures) ∙ ap (λ m. get_or hops m d) (sym e)) c.follow_hop.ensures.reached
       ];
     }
 

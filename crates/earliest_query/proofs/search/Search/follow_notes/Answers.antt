@@ -1,8 +1,9 @@
-use Rattle.std.proofs.Common.{◌≡◌, ◌∙◌, ℕ, suc, ◌+◌, ◌<◌, ◌⊎◌, inl, inr, length, get_or, refl, sym, ap, subst, arith}
+use Rattle.std.proofs.Common.{◌≡◌, ◌∙◌, ℕ, suc, ◌<◌, inl, inr, length, get_or, refl, sym, ap, subst, arith}
 use Rattle.std.specs.Prelude.{All}
 use Rattle.std.proofs.lemmas.Option.{get_or_from_slice_get, slice_get_within}
 use Rattle.tb_base.specs.Network.{NetData}
 use Rattle.tb_base.specs.BestValues.{QueryData}
+use Rattle.tb_base.proofs.NumberFacts.{below_or_at}
 use Rattle.segment_queue.specs.declared.notes.Note.{Note}
 use Rattle.segment_queue.specs.Queue.{DeskData}
 use Rattle.segment_queue.specs.Scans.{AreEvents}
@@ -46,9 +47,6 @@ follow_note-requires-clause-note g c =
     let inside : c.loop-k.k < length D.notes = omega (arith, slice_get_within X.notes c.loop-k.k note c.note-note.ensures, ap length notes) in
     sound_note-kept N D X (suc c.args.round) c.args.round note (subst (λ d. Extends D d (suc c.args.round)) (sym c.read_notes_ahead.ensures) c.loop-k.invariant.extends) (subst (IsSoundNote N D.segments c.args.round) is (c.requires.notes c.loop-k.k note inside))
 
-below_or_at : (k i : ℕ) → k < i + 1 → (k < i) ⊎ (i ≡ k)
-below_or_at k i h = grind arith
-
 pub loop-k-preserved : goal.loop-k-preserved
 loop-k-preserved g c =
     let N : NetData = g.S.Scan.net c.args.self.now.scan.now in
@@ -72,7 +70,7 @@ loop-k-preserved g c =
       done = λ j d i below of. elim (below_or_at j k below) [
         | inl earlier ↦ done-kept N Q E F top c.args.round (get_or D.notes j d).segment i best best c.follow_note.ensures.extends
             (let sound = c.requires.notes j d (omega (arith, earlier, inside)) in omega (arith, sound.inside, extends-long D E top extends)) (inl refl) (subst (λ e. IsDone N e best (get_or D.notes j d).segment i) (sym same) (before.done j d i earlier of))
-        | inr e ↦ (let is : note ≡ get_or D.notes j d = sym (get_or_from_slice_get E.notes k note d c.note-note.ensures) ∙ ap (λ ns. get_or ns k d) notes ∙ ap (λ m. get_or D.notes m d) e in
+        | inr e ↦ (let is : note ≡ get_or D.notes j d = sym (get_or_from_slice_get E.notes k note d c.note-note.ensures) ∙ ap (λ ns. get_or ns k d) notes ∙ ap (λ m. get_or D.notes m d) (sym e) in
             subst (λ (x : Note). IsOf x x.segment i → IsDone N F best x.segment i) is (c.follow_note.ensures.done i) of)
       ];
     }

@@ -1,8 +1,9 @@
-use Rattle.std.proofs.Common.{◌≡◌, ◌∙◌, ℕ, ◌+◌, ◌<◌, ◌⊎◌, inl, inr, length, get_or, sym, ap, subst, arith}
+use Rattle.std.proofs.Common.{◌≡◌, ◌∙◌, ℕ, inl, inr, length, get_or, sym, ap, subst, arith}
 use Rattle.tb_base.specs.declared.table.Path.{Path}
 use Rattle.tb_base.specs.TimetableData.{TimetableData}
 use Rattle.tb_base.specs.BestValues.{QueryData}
 use Rattle.tb_base.specs.Soundness.{IsSoundPath}
+use Rattle.tb_base.proofs.NumberFacts.{below_or_at}
 use Rattle.segment_queue.specs.Queue.{DeskData}
 use Rattle.earliest_query.specs.UnderWay.{IsBoarded}
 use Rattle.earliest_query.proofs.Growing.{extends-trans}
@@ -39,9 +40,6 @@ start_stop-requires-in-loop-path-clause-near g c =
 pub returns-in_err-start_stop-2-clause-still : goal.returns-in_err-start_stop-2-clause-still
 returns-in_err-start_stop-2-clause-still g c = λ h. c.in_err-start_stop-2.ensures.still (c.loop-path.invariant.still h)
 
-below_or_at : (k i : ℕ) → k < i + 1 → (k < i) ⊎ (i ≡ k)
-below_or_at k i h = grind arith
-
 pub loop-path-preserved : goal.loop-path-preserved
 loop-path-preserved g c =
     let T : TimetableData = (g.S.Scan.net c.args.self.now.scan.now).table in
@@ -59,7 +57,7 @@ loop-path-preserved g c =
       own = boarded-kept T Q E F c.args.origin 0 more.extends c.loop-path.invariant.own;
       boarded = λ i d below. elim (below_or_at i k below) [
         | inl before ↦ boarded-kept T Q E F (get_or paths i d).to (get_or paths i d).secs more.extends (c.loop-path.invariant.boarded i d before)
-        | inr e ↦ subst (λ (p : Path). IsBoarded T Q F p.to p.secs) (sym (read d) ∙ ap (λ m. get_or paths m d) e) more.boarded
+        | inr e ↦ subst (λ (p : Path). IsBoarded T Q F p.to p.secs) (sym (read d) ∙ ap (λ m. get_or paths m d) (sym e)) more.boarded
       ];
       still = λ h. more.still (c.loop-path.invariant.still h);
     }

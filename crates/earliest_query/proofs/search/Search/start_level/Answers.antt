@@ -1,15 +1,13 @@
-use Rattle.std.proofs.Common.{◌≡◌, ◌∙◌, ℕ, ◌+◌, ◌<◌, ◌⊎◌, inl, inr, length, get_or, refl, sym, ap, subst, arith}
+use Rattle.std.proofs.Common.{◌≡◌, ◌∙◌, ◌<◌, inl, inr, length, get_or, refl, sym, ap, subst, arith}
 use Rattle.tb_base.specs.BestValues.{QueryData}
 use Rattle.tb_base.specs.TimetableData.{TimetableData, stop_at}
+use Rattle.tb_base.proofs.NumberFacts.{below_or_at}
 use Rattle.segment_queue.specs.Queue.{DeskData}
 use Rattle.earliest_query.specs.Sweeping.{IsWalkedFrom}
 use Rattle.earliest_query.proofs.Following.{get_or-inside}
 use Rattle.earliest_query.proofs.FromOrigins.{boarded-kept}
 use Rattle.earliest_query.proofs.Growing.{extends-refl, extends-trans}
 use Rattle.earliest_query.proofs.search.Search.start_level.Goals as goal
-
-below_or_at : (k i : ℕ) → k < i + 1 → (k < i) ⊎ (i ≡ k)
-below_or_at k i h = grind arith
 
 pub loop-origin-init : goal.loop-origin-init
 loop-origin-init g c = record {
@@ -32,7 +30,7 @@ loop-origin-preserved g c =
       extends = extends-trans c.args.desk.now E F 1 c.loop-origin.invariant.extends more.extends;
       walked = λ i d below. elim (below_or_at i c.loop-origin.origin-index below) [
         | inl before ↦ λ stop secs walks. boarded-kept T Q E F stop secs more.extends (c.loop-origin.invariant.walked i d before stop secs walks)
-        | inr e ↦ subst (IsWalkedFrom T Q F) (sym (get_or-inside items c.loop-origin.origin-index d c.origin-item.result c.loop-origin-test.true ∙ sym c.origin-item.is) ∙ ap (λ m. get_or items m d) e) more.boarded
+        | inr e ↦ subst (IsWalkedFrom T Q F) (sym (get_or-inside items c.loop-origin.origin-index d c.origin-item.result c.loop-origin-test.true ∙ sym c.origin-item.is) ∙ ap (λ m. get_or items m d) (sym e)) more.boarded
       ];
       still = λ h. more.still (c.loop-origin.invariant.still h);
     }

@@ -1,8 +1,9 @@
-use Rattle.std.proofs.Common.{◌≡◌, ◌∙◌, ℕ, suc, ◌+◌, ◌<◌, ◌⊎◌, inl, inr, length, get_or, sym, ap, subst, arith}
+use Rattle.std.proofs.Common.{◌≡◌, ◌∙◌, ℕ, suc, inl, inr, length, get_or, sym, ap, subst, arith}
 use Rattle.std.proofs.lemmas.Option.{get_or_from_slice_get, slice_get_within}
 use Rattle.std.specs.Prelude.{Contains}
 use Rattle.tb_base.specs.Network.{NetData}
 use Rattle.tb_base.specs.declared.transfer.Hop.{Hop}
+use Rattle.tb_base.proofs.NumberFacts.{below_or_at}
 use Rattle.segment_queue.specs.declared.desk.Segment.{Segment}
 use Rattle.segment_queue.specs.Traced.{round_of, segment_of}
 use Rattle.earliest_query.specs.UnderWay.{Extends, IsQueue, IsReachedBy}
@@ -45,9 +46,6 @@ enter-requires-clause-in_set g c =
     hop_in_set (g.S.Scan.net c.args.self.now.scan.now).table (g.S.Scan.net c.args.self.now.scan.now).hops c.args.desk.now c.loop-place.desk (suc (round_of c.args.desk.now.segments c.args.segment)) c.args.segment c.args.at c.at.result
     c.requires.sufficient c.requires.segment c.requires.covers c.loop-place.invariant.extends in_set
 
-below_or_at : (k i : ℕ) → k < i + 1 → (k < i) ⊎ (i ≡ k)
-below_or_at k i h = grind arith
-
 pub loop-place-preserved : goal.loop-place-preserved
 loop-place-preserved g c =
     let N : NetData = g.S.Scan.net c.args.self.now.scan.now in
@@ -63,7 +61,7 @@ loop-place-preserved g c =
         | inl before ↦ extends-reached N.table c.loop-place.desk c.enter.new.desk top (length c.loop-place.desk.segments) (length c.enter.new.desk.segments) top top (get_or (lent c.args.hops) k d).trip (get_or (lent c.args.hops) k d).at joined
             (c.loop-place.invariant.reached k d before) (omega arith) (extends-long c.loop-place.desk c.enter.new.desk top joined) (omega arith)
         | inr e ↦ subst (λ (h : Hop). IsReachedBy N.table c.enter.new.desk (length c.enter.new.desk.segments) top h.trip h.at)
-            ((sym (get_or_from_slice_get (lent c.args.hops) c.loop-place.place c.at.result c.at.result c.at.ensures)) ∙ get_or-inside (lent c.args.hops) c.loop-place.place c.at.result d (slice_get_within (lent c.args.hops) c.loop-place.place c.at.result c.at.ensures) ∙ ap (λ m. get_or (lent c.args.hops) m d) e) here
+            ((sym (get_or_from_slice_get (lent c.args.hops) c.loop-place.place c.at.result c.at.result c.at.ensures)) ∙ get_or-inside (lent c.args.hops) c.loop-place.place c.at.result d (slice_get_within (lent c.args.hops) c.loop-place.place c.at.result c.at.ensures) ∙ ap (λ m. get_or (lent c.args.hops) m d) (sym e)) here
       ];
     }
 
