@@ -16,6 +16,7 @@ use Rattle.tb_base.proofs.Ordered.{Member, AllPairs-tail, Contains-from_Member}
 use Rattle.tb_base.proofs.Members.{Member-concat_at, Member-filter_back, Member-flat_map_back, Member-from_slice_get, Member-map_back, Member-numbers_below, Member-numbers_below_back}
 use Rattle.line_split.specs.declared.lines.Berth.{Berth}
 use Rattle.line_split.specs.LinesOf.{IsBefore, before_in, berths_at, calls_at, line_events}
+use Rattle.line_split.proofs.RunLemmas.{stands_inside}
 use Rattle.segment_queue.specs.Scans.{IsFirst, LineIndex, StandsBefore, boarding_hop, first_trip, indices_at, line_indices_at, no_line_index, trips_from}
 use Rattle.segment_queue.proofs.Distinct.{AreDistinct, before_member, has_member, in_one_part, member_or_not, of_member, pairs_left, pairs_right, same_or_other}
 use Rattle.segment_queue.proofs.LineParts.{line_from-other, line_from-same, member_lines, trips_from-here, trips_from-past}
@@ -139,16 +140,11 @@ trips_from-drop (line ∷ lines) t (suc l) k distinct is =
       | inr e ↦ trips_from-past line lines t e.1 ∙ trips_from-drop lines t l k (pairs_right (λ t u. t ≢ u) line (concat lines) distinct) is
     ]
 
-row_inside : (lines : List (List ℕ)) (l k t : ℕ) → slice_get (get_or lines l []) k ≡ Some t → l < length lines
-row_inside [] l k t is = cc
-row_inside (line ∷ lines) zero k t is = omega arith
-row_inside (line ∷ lines) (suc l) k t is = (let inside = row_inside lines l k t is in omega (arith, inside))
-
 -- who stands at place 0 is the first of the line
 pub is_first : (lines : List (List ℕ)) (t l k : ℕ) → AreDistinct (concat lines) → slice_get (get_or lines l []) k ≡ Some t → k ≡ 0 → IsFirst lines t
 is_first lines t l k distinct is first =
     Contains-from_Member (trips_from lines t) lines
-    (subst (λ row. Member row lines) (sym (trips_from-drop lines t l k distinct is ∙ ap (λ n. drop n (get_or lines l [])) first)) (member_at lines l [] (row_inside lines l k t is)))
+    (subst (λ row. Member row lines) (sym (trips_from-drop lines t l k distinct is ∙ ap (λ n. drop n (get_or lines l [])) first)) (member_at lines l [] (stands_inside lines l k t is)))
 
 drop_step : (xs : List ℕ) (k v : ℕ) → slice_get xs k ≡ Some v → drop k xs ≡ v ∷ drop (suc k) xs
 drop_step [] k v is = cc
