@@ -6,10 +6,10 @@ use Rattle.tb_base.specs.TimetableData.{TimetableData, events_of}
 use Rattle.tb_base.specs.Lines.{AreDividedInto, AreLines}
 use Rattle.tb_base.specs.Soundness.{IsSound}
 use Rattle.tb_base.specs.Transfers.{candidates, candidates_without_u_turns, transfers_of}
+use Rattle.tb_laws.specs.Rows.{row_of}
 use Rattle.line_split.specs.LinesData.{LinesData}
 use Rattle.uturn_cut.specs.UTurns.{is_u_turn_row}
 use Rattle.uturn_cut.proofs.Rows.{filter-map}
-use Rattle.transfer_reduce.specs.Reduced.{row_of}
 use Rattle.reduce_workers.specs.Reductions.{count_from}
 use Rattle.reduce_workers.specs.Events.{IsCountedTo, rows_under}
 use Rattle.reduce_workers.proofs.Counts.{generated_most, most, uncut_most}

@@ -4,7 +4,8 @@ use Rattle.tb_base.specs.declared.transfer.Hop.{Hop}
 use Rattle.tb_base.specs.declared.transfer.Transfer.{Transfer}
 use Rattle.tb_base.specs.TimetableData.{TimetableData}
 use Rattle.tb_base.specs.Transfers.{candidates, candidates_without_u_turns, numbers_down, transfers_of}
-use Rattle.transfer_reduce.specs.Reduced.{IsReducedTo, row_of}
+use Rattle.tb_laws.specs.Rows.{row_of}
+use Rattle.transfer_reduce.specs.Reduced.{IsReducedTo}
 
 -- the transfers of trip t by these hops of its events below i, from the last one down
 abbrev pub rows_under : ℕ → (ℕ → List Hop) → ℕ → List Transfer

@@ -16,11 +16,12 @@ use Rattle.tb_base.specs.Transfers.{candidates, boarding_indexes, earliest_trip,
 use Rattle.tb_base.specs.Walking.{change}
 use Rattle.tb_base.proofs.Ordered.{Member, Contains-from_Member}
 use Rattle.tb_laws.proofs.Triangles.{change-same, change-other}
+use Rattle.tb_laws.specs.Rows.{row_of}
 use Rattle.line_split.specs.declared.boardings.Boarding.{Boarding}
 use Rattle.line_split.specs.declared.lines.Berth.{Berth}
 use Rattle.line_split.specs.Layout.{AreBoardings, berth_of}
 use Rattle.line_split.specs.LinesOf.{berths_at, calls_at, is_boarded}
-use Rattle.transfer_make.specs.ByBerth.{hop_at, own_rows, row_by, row_of, rows_after, rows_at}
+use Rattle.transfer_make.specs.ByBerth.{hop_at, own_rows, row_by, rows_after, rows_at}
 use Rattle.transfer_make.proofs.Sparse.{flat_map-sparse, stops_between, targets, find-own, find-none, Member-from_at}
 use Rattle.tb_base.proofs.Lists.{map-flat_map, numbers_below-range}
 

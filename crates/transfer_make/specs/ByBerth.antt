@@ -30,10 +30,6 @@ hop_at T lines t i time b =
     (earliest_trip T line b.at time)
     else None
 
--- the transfer from t@i by a hop
-abbrev pub row_of : ℕ → ℕ → Hop → Transfer
-row_of t i h = record { trip = t; at = i; to_trip = h.trip; to_at = h.at }
-
 -- the transfer from t@i onto the line where it calls
 abbrev pub row_by : TimetableData → List (List ℕ) → ℕ → ℕ → ℤ → Berth → Option Transfer
 row_by T lines t i time b =

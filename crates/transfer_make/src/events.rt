@@ -3,7 +3,8 @@ ghost use Rattle.std.specs.Prelude.{◌≡◌, ◌<◌, ◌≤◌, ◌++◌, ℕ
 ghost use Rattle.std.specs.List.{AllWithin};
 ghost use Rattle.tb_base.specs.TimetableData.{events_of, stop_at, MayAlight};
 ghost use Rattle.tb_base.specs.Transfers.{candidates};
-ghost use Rattle.transfer_make.specs.ByBerth.{IsAlighting, own_rows, row_of, rows_at};
+ghost use Rattle.tb_laws.specs.Rows.{row_of};
+ghost use Rattle.transfer_make.specs.ByBerth.{IsAlighting, own_rows, rows_at};
 
 use super::alighting::Alighting;
 use super::hops::add_stop;

@@ -19,7 +19,8 @@ use Rattle.tb_base.proofs.Members.{Member-append}
 use Rattle.tb_base.proofs.NumberFacts.{≤ℤ-trans}
 use Rattle.tb_laws.proofs.TransferLaws.{kept_transfers}
 use Rattle.tb_laws.specs.Labels.{label}
-use Rattle.transfer_reduce.specs.Reduced.{HasRowAt, IsReducedTo, Reduces, alternative_row, hop_from, row_of, rows_below}
+use Rattle.tb_laws.specs.Rows.{row_of}
+use Rattle.transfer_reduce.specs.Reduced.{HasRowAt, IsReducedTo, Reduces, alternative_row, hop_from, rows_below}
 use Rattle.transfer_reduce.specs.Reached.{AreLowered, AreShown, hop_alightings}
 use Rattle.transfer_reduce.proofs.Improvement.{improves_is}
 use Rattle.transfer_reduce.proofs.Reaching.{nowhere, stay_not_shown, stay_shown, stops_inside}

@@ -6,6 +6,7 @@ use Rattle.tb_base.specs.declared.transfer.Hop.{Hop}
 use Rattle.tb_base.specs.declared.transfer.Transfer.{Transfer}
 use Rattle.tb_base.specs.TimetableData.{TimetableData}
 use Rattle.tb_base.specs.Transfers.{Alternative, alternatives_at, candidates_without_u_turns, improving_alternatives, kept_alternatives, numbers_down}
+use Rattle.tb_laws.specs.Rows.{row_of}
 use Rattle.transfer_reduce.specs.Reached.{AreShown}
 
 -- what stands for a transfer that isn't there
@@ -15,10 +16,6 @@ no_transfer = record { trip = 0; at = 0; to_trip = 0; to_at = 0 }
 -- row n is one of event i
 abbrev pub HasRowAt : List Transfer → ℕ → ℕ → Type 0
 HasRowAt rows i n = (n < length rows) × (Transfer.at (slice_index_or rows n no_transfer) ≡ i)
-
--- the transfer from t@i by a hop
-abbrev pub row_of : ℕ → ℕ → Hop → Transfer
-row_of t i h = record { trip = t; at = i; to_trip = h.trip; to_at = h.at }
 
 -- the transfer by an alternative of trip t, if it hops
 abbrev pub alternative_row : ℕ → Alternative → Option Transfer

@@ -2,8 +2,9 @@
 ghost use Rattle.std.specs.Prelude.{◌≡◌, ◌<◌, ◌≤◌, ◌+◌, ◌++◌, ◌↔◌, [], ℕ, IsTrue, List, drop, length, map, slice_index_or, slice_set, take};
 ghost use Rattle.tb_base.specs.TimetableData.{events_of};
 ghost use Rattle.tb_base.specs.Transfers.{candidates_without_u_turns, kept_hops, transfers_of};
+ghost use Rattle.tb_laws.specs.Rows.{row_of};
 ghost use Rattle.transfer_reduce.specs.Tried.{AreTried};
-ghost use Rattle.transfer_reduce.specs.Reduced.{HasRowAt, IsReducedTo, Reduces, row_of, rows_below};
+ghost use Rattle.transfer_reduce.specs.Reduced.{HasRowAt, IsReducedTo, Reduces, rows_below};
 ghost use Rattle.tb_base.specs.declared.transfer.Transfer.{Transfer};
 
 use super::labels::Labels;

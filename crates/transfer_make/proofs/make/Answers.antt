@@ -1,6 +1,6 @@
 use Rattle.std.proofs.Common.{◌≡◌, subst, arith, map, suc, ◌-◌, ◌++◌, flat_map}
 use Rattle.tb_base.specs.Transfers.{candidates, numbers_down, transfers_of}
-use Rattle.transfer_make.specs.ByBerth.{row_of}
+use Rattle.tb_laws.specs.Rows.{row_of}
 use Rattle.transfer_make.proofs.ByBerth.{events_more}
 use Rattle.transfer_make.proofs.make.Goals as goal
 

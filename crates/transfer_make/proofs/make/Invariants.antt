@@ -1,7 +1,7 @@
 use Rattle.std.proofs.Common.{◌≡◌, ◌≤◌, ◌++◌, length, map, flat_map}
 use Rattle.tb_base.specs.TimetableData.{events_of}
 use Rattle.tb_base.specs.Transfers.{candidates, transfers_of, numbers_down}
-use Rattle.transfer_make.specs.ByBerth.{row_of}
+use Rattle.tb_laws.specs.Rows.{row_of}
 use Rattle.transfer_make.proofs.make.Given as goal
 
 abbrev pub invariant-loop-at : goal.invariant-loop-at

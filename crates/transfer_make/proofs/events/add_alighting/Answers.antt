@@ -2,8 +2,9 @@ use Rattle.std.proofs.Common.{◌≡◌, ◌∙◌, ap, subst, map, ◌++◌, �
 use Rattle.tb_base.specs.TimetableData.{TimetableData}
 use Rattle.tb_base.specs.Transfers.{candidates}
 use Rattle.tb_laws.proofs.CandidateLaws.{stop_inside}
+use Rattle.tb_laws.specs.Rows.{row_of}
 use Rattle.line_split.proofs.RowLemmas.{on_ok_subst}
-use Rattle.transfer_make.specs.ByBerth.{row_of, rows_at}
+use Rattle.transfer_make.specs.ByBerth.{rows_at}
 use Rattle.transfer_make.proofs.ByBerth.{alighting_rows}
 use Rattle.transfer_make.proofs.events.add_alighting.Goals as goal
 

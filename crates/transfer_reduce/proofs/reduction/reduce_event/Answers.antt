@@ -1,7 +1,8 @@
 use Rattle.std.proofs.Common.{◌∙◌, ◌+◌, ◌≤◌, ◌++◌, sym, arith, subst, map, take, ap}
 use Rattle.std.proofs.lemmas.List.{append-nil, with_items_is}
 use Rattle.tb_base.specs.Transfers.{candidates_without_u_turns}
-use Rattle.transfer_reduce.specs.Reduced.{IsReducedTo, row_of}
+use Rattle.tb_laws.specs.Rows.{row_of}
+use Rattle.transfer_reduce.specs.Reduced.{IsReducedTo}
 use Rattle.transfer_reduce.proofs.reduction.reduce_event.Goals as goal
 
 pub returns-clause-reduced : goal.returns-clause-reduced

@@ -2,8 +2,9 @@ use Rattle.std.proofs.Common.{◌≡◌, ◌∙◌, ◌++◌, length, map, ap, s
 use Rattle.std.specs.Prelude.{filter, not}
 use Rattle.std.proofs.lemmas.Grind.{common_steps}
 use Rattle.tb_base.specs.Transfers.{candidates, candidates_without_u_turns}
+use Rattle.tb_laws.specs.Rows.{row_of}
 use Rattle.uturn_cut.specs.UTurns.{is_u_turn_row}
-use Rattle.transfer_reduce.specs.Reduced.{IsReducedTo, row_of}
+use Rattle.transfer_reduce.specs.Reduced.{IsReducedTo}
 use Rattle.reduce_workers.proofs.EventSteps.{counted_more, counted_most, event_cut, trip_generated, trip_uncut}
 use Rattle.reduce_workers.proofs.trips.TripReduced.add.Goals as goal
 
