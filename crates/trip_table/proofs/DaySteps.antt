@@ -8,10 +8,13 @@ use Rattle.gtfs_rows.specs.StopsFile.{StopData}
 use Rattle.gtfs_rows.specs.TransfersFile.{TransferData}
 use Rattle.gtfs_rows.specs.TripsFile as row
 use Rattle.gtfs_rows.specs.declared.fault.FeedFault.{FeedFault}
+use Rattle.gtfs_rows.specs.declared.fault.RowsFault.{RowsFault}
+use Rattle.gtfs_rows.specs.declared.fault.RowsFault.TheVariants as refusal
 use Rattle.footpaths.specs.declared.paths.Options.{Options}
 use Rattle.service_trips.specs.declared.frequency.TripFrequency.{TripFrequency}
 use Rattle.trip_table.specs.Feed.{Feed}
-use Rattle.trip_table.specs.Answers.{Gives, IsFault, IsRefused, feed_of}
+use Rattle.trip_table.specs.Answers.{Gives, IsFault, IsRefused, IsRowsFault, feed_of}
+use Rattle.trip_table.specs.OfRows.{day_fault}
 use Rattle.trip_table.specs.References.{Rows, rows_of, transfers_of, frequencies_of}
 use Rattle.trip_table.specs.Day.{DayParts, parts_on, parts_after_paths, parts_after_rows, given_footpaths, day_parts, IsTimetableOf, IsTimetableOfParts, Then}
 use Rattle.trip_table.specs.declared.day_fault.DayFault.{DayFault}
@@ -90,3 +93,9 @@ frequencies_are feed day close rows counted trips frequencies table are given ma
     let g : frequencies_of feed rows.trips ≡ Ok frequencies = subst (λ (ts : List row.TripData). frequencies_of feed ts ≡ Ok frequencies) are given in
     then_same close (parts_after_paths feed day rows counted) (parts_on rows frequencies day counted) table
     (ap (λ (r : Result (List TripFrequency) FeedFault). and_then r (λ frequencies. parts_on rows frequencies day counted)) g) made
+
+-- the same where nothing becomes of the parts
+pub frequencies_refused : (feed : Feed) (day : ℕ) (close : Bool) (rows : Rows) (counted : Result FootpathData FeedFault) (trips : List row.TripData) (frequencies : List TripFrequency) (f : RowsFault) → trips ≡ rows.trips
+    → frequencies_of feed trips ≡ Ok frequencies → IsRowsFault (Then (parts_on rows frequencies day counted) (IsTimetableOfParts close)) f → IsFault (Then (parts_after_paths feed day rows counted) (IsTimetableOfParts close)) (day_fault f)
+frequencies_refused feed day close rows counted trips frequencies (refusal.Feed g) are given made = frequencies_are feed day close rows counted trips frequencies (Err g) are given made
+frequencies_refused feed day close rows counted trips frequencies refusal.Memory are given made = tt

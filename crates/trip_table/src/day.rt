@@ -88,11 +88,7 @@ fn timetable_after_paths<F: Folder>(
         Ok(frequencies) => frequencies,
         Err(fault) => return Err(fault),
     };
-    match timetable_of(alloc, rows, &frequencies, told, day, close) {
-        Ok(table) => Ok(table),
-        Err(RowsFault::Feed(fault)) => Err(DayFault::Feed(fault)),
-        Err(RowsFault::Memory) => Err(DayFault::Memory),
-    }
+    Ok(timetable_of(alloc, rows, &frequencies, told, day, close)?)
 }
 
 // The same, where the rows of the feed were read and its footpaths are yet to be read.

@@ -21,3 +21,17 @@ impl From<Memory> for DayFault {
         DayFault::Memory
     }
 }
+
+impl From<RowsFault> for DayFault {
+    ghost use Rattle.std.specs.Prelude.{◌≡◌};
+    ghost use Rattle.trip_table.specs.OfRows.{day_fault};
+
+    ghost from_gives = { λ wrong fault. fault ≡ day_fault wrong };
+
+    fn from(wrong: RowsFault) -> DayFault {
+        match wrong {
+            RowsFault::Feed(fault) => DayFault::Feed(fault),
+            RowsFault::Memory => DayFault::Memory,
+        }
+    }
+}

@@ -105,9 +105,5 @@ pub fn file_rows<F: Folder, R: RowReader>(
         Ok(bytes) => bytes,
         Err(fault) => return Err(fault),
     };
-    match rows_in(alloc, reader, bytes) {
-        Ok(rows) => Ok(rows),
-        Err(RowsFault::Feed(fault)) => Err(DayFault::Feed(fault)),
-        Err(RowsFault::Memory) => Err(DayFault::Memory),
-    }
+    Ok(rows_in(alloc, reader, bytes)?)
 }

@@ -118,9 +118,5 @@ pub fn read_frequencies<F: Folder>(
         Ok(rows) => rows,
         Err(fault) => return Err(fault),
     };
-    match table_of(alloc, trips, rows) {
-        Ok(table) => Ok(table),
-        Err(RowsFault::Feed(fault)) => Err(DayFault::Feed(fault)),
-        Err(RowsFault::Memory) => Err(DayFault::Memory),
-    }
+    Ok(table_of(alloc, trips, rows)?)
 }

@@ -102,9 +102,5 @@ pub fn read_paths<F: Folder>(
         Ok(rows) => rows,
         Err(fault) => return Err(fault),
     };
-    match given_footpaths(alloc, rows.as_slice(), stops, options) {
-        Ok(told) => Ok(told),
-        Err(RowsFault::Feed(fault)) => Err(DayFault::Feed(fault)),
-        Err(RowsFault::Memory) => Err(DayFault::Memory),
-    }
+    Ok(given_footpaths(alloc, rows.as_slice(), stops, options)?)
 }

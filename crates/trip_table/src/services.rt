@@ -61,11 +61,8 @@ fn read_calendar<F: Folder>(
         Ok(rows) => rows,
         Err(fault) => return Err(fault),
     };
-    match check_calendar(alloc, &calendar) {
-        Ok(()) => Ok(calendar),
-        Err(RowsFault::Feed(fault)) => Err(DayFault::Feed(fault)),
-        Err(RowsFault::Memory) => Err(DayFault::Memory),
-    }
+    check_calendar(alloc, &calendar)?;
+    Ok(calendar)
 }
 
 // The rows of both files, of which one has to be there.

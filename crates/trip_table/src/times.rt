@@ -248,9 +248,6 @@ pub fn read_times<F: Folder>(
         Ok(None) => return Err(DayFault::Feed(FeedFault::MissingFile(FeedFile::StopTimes))),
         Err(fault) => return Err(fault),
     };
-    match check_times(alloc, stops, trips, times.as_slice()) {
-        Ok(()) => Ok(times),
-        Err(RowsFault::Feed(fault)) => Err(DayFault::Feed(fault)),
-        Err(RowsFault::Memory) => Err(DayFault::Memory),
-    }
+    check_times(alloc, stops, trips, times.as_slice())?;
+    Ok(times)
 }
