@@ -7,7 +7,8 @@ use super::notes::Note;
 use super::scan::Scan;
 use transfer_pack::ReadAhead;
 
-// How many segments, or notes, are read ahead at a time: so few that what was read is still at hand when it is looked at.
+// How many segments, or notes, are read ahead at a time: so few that what was read is still at hand
+// when it is looked at.
 const STRETCH: u32 = 128;
 
 // Reads the first and the last of the hops from the events of each of these notes ahead.
@@ -47,9 +48,9 @@ impl Desk {
         ahead
     }
 
-    /// Before segment `n` of a round is looked at: at the first segment of each stretch of 128, counted from where the round
-    /// begins, reads ahead what clips each segment of the stretch and the first event that it covers, up to number `to`. At any
-    /// other segment it does nothing.
+    /// Before segment `n` of a round is looked at: at the first segment of each stretch of 128,
+    /// counted from where the round begins, reads ahead what clips each segment of the stretch and
+    /// the first event that it covers, up to number `to`. At any other segment it does nothing.
     pub fn read_segments_ahead<S: Scan>(&mut self, scan: &S, begin: u32, n: u32, to: u32)
         requires step { IsInStep (S.net scan.now) self.old }
         requires begin { begin ≤ n }
@@ -66,8 +67,8 @@ impl Desk {
         self.ahead.join(events);
     }
 
-    /// Before note `k` is followed: at the first note of each stretch of 128 reads ahead the first and the last hop of each note
-    /// of the stretch. At any other note it does nothing.
+    /// Before note `k` is followed: at the first note of each stretch of 128 reads ahead the first
+    /// and the last hop of each note of the stretch. At any other note it does nothing.
     pub fn read_notes_ahead<S: Scan>(&mut self, scan: &S, k: usize)
         requires { All (λ note. AreEvents (S.net scan.now).table note.seen) self.old.notes }
         ensures { self.new ≡ self.old }

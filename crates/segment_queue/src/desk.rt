@@ -13,8 +13,9 @@ use std::marker::Model;
 use tb_base::{Memory, Query, StopNo, TripNo, Value};
 use transfer_pack::ReadAhead;
 
-/// A part of a trip: boarded at `board`, and looked at no further than `end`. It was hopped onto from the segment with the first
-/// number of `parent`, at the second number, an index of that segment's trip; without a parent it is a first ride.
+/// A part of a trip: boarded at `board`, and looked at no further than `end`. It was hopped onto
+/// from the segment with the first number of `parent`, at the second number, an index of that
+/// segment's trip; without a parent it is a first ride.
 #[derive(Clone, Copy, Debug, PartialEq, Eq)]
 pub struct Segment {
     pub trip: TripNo,
@@ -23,7 +24,8 @@ pub struct Segment {
     pub parent: Option<(u32, u32)>,
 }
 
-/// How a journey ends: it is a walk, or one alights from segment `entry` at index `at` and walks to a target.
+/// How a journey ends: it is a walk, or one alights from segment `entry` at index `at` and walks to
+/// a target.
 #[derive(Clone, Copy, Debug, PartialEq, Eq)]
 pub enum LastLeg {
     OnFoot { from: StopNo, to: StopNo },
@@ -37,8 +39,8 @@ pub struct Hit {
     pub last: LastLeg,
 }
 
-/// What a search writes: the queue of segments, the marks, the hits, and notes of where to go on from. It is made once,
-/// and used for any number of queries. Nobody sees what is read ahead.
+/// What a search writes: the queue of segments, the marks, the hits, and notes of where to go on
+/// from. It is made once, and used for any number of queries. Nobody sees what is read ahead.
 #[derive(Drop)]
 pub struct Desk {
     marks: Marks,
@@ -98,9 +100,10 @@ pub(crate) fn mark_on<S: Scan>(marks: &Marks, scan: &S, trip: TripNo) -> u32
     }
 }
 
-// Lowers the marks of a trip and of the later trips of its line to the index, where they are greater. Along a line
-// marks never rise, so it stops at the first that isn't greater. All trips of a line have the same last index, which is
-// the mark of those that no search has marked: it is greater than the index for all of them or for none.
+// Lowers the marks of a trip and of the later trips of its line to the index, where they are
+// greater. Along a line marks never rise, so it stops at the first that isn't greater. All trips of
+// a line have the same last index, which is the mark of those that no search has marked: it is
+// greater than the index for all of them or for none.
 pub(crate) fn lower_marks<S: Scan>(marks: &mut Marks, scan: &S, trip: TripNo, at: u32, last: u32)
     requires trip { trip < length (S.net scan.now).table.trips }
     requires room { length (S.net scan.now).table.trips ≤ length marks.old }
@@ -149,7 +152,8 @@ impl Desk {
         }
     }
 
-    /// Room for the scan: the desk fits it. At a refusal it fits what it fitted. What was in step stays so.
+    /// Room for the scan: the desk fits it. At a refusal it fits what it fitted. What was in step
+    /// stays so.
     pub fn make_room<S: Scan>(&mut self, scan: &S) -> Result<(), Memory>
         ensures fits { OnOk result (Fits (S.net scan.now).table self.new) }
         ensures still { (T : TimetableData) → Fits T self.old → Fits T self.new }
@@ -167,7 +171,8 @@ impl Desk {
         Ok(())
     }
 
-    /// Whether there is room for the scan: a mark for each trip, a segment and a note for each event, and one hit more.
+    /// Whether there is room for the scan: a mark for each trip, a segment and a note for each
+    /// event, and one hit more.
     pub fn fits<S: Scan>(&self, scan: &S) -> bool
         ensures { IsTrue result ↔ Fits (S.net scan.now).table self.now }
     {
@@ -196,8 +201,9 @@ impl Desk {
         self.notes.clear();
     }
 
-    /// Enters a trip at an index. Where the index is below the trip's mark, the segment from there up to the mark joins the
-    /// queue, and the marks of the trip and of the later trips of its line fall to the index where they are greater.
+    /// Enters a trip at an index. Where the index is below the trip's mark, the segment from there
+    /// up to the mark joins the queue, and the marks of the trip and of the later trips of its line
+    /// fall to the index where they are greater.
     #[inline(always)]
     pub fn reach<S: Scan>(
         &mut self,
@@ -221,8 +227,8 @@ impl Desk {
         self.enter(scan, trip, at, parent)
     }
 
-    /// Whether a trip has been reached at an index or before: then to enter it there changes nothing. Of a trip without a mark
-    /// it may say no although the index is its last.
+    /// Whether a trip has been reached at an index or before: then to enter it there changes
+    /// nothing. Of a trip without a mark it may say no although the index is its last.
     #[inline(always)]
     pub fn is_passed<S: Scan>(&self, scan: &S, trip: TripNo, at: u32) -> bool
         requires step { IsInStep (S.net scan.now) self.now }
@@ -234,7 +240,8 @@ impl Desk {
         self.marks.is_passed(trip, at)
     }
 
-    // Enters a trip at an index, as `reach` does: most hops lead to a trip that was passed, and don't come here.
+    // Enters a trip at an index, as `reach` does: most hops lead to a trip that was passed, and
+    // don't come here.
     #[inline(never)]
     fn enter<S: Scan>(
         &mut self,
@@ -269,7 +276,8 @@ impl Desk {
         true
     }
 
-    /// Appends a segment, whatever the marks say. It needs memory, where there is no room; at a refusal the desk is as before.
+    /// Appends a segment, whatever the marks say. It needs memory, where there is no room; at a
+    /// refusal the desk is as before.
     pub fn add_segment(&mut self, segment: Segment) -> Result<(), Memory>
         ensures segments { OnOk result (self.new.segments ≡ self.old.segments ++ segment ∷ []) }
         ensures refused { OnErr result (self.new.segments ≡ self.old.segments) }
@@ -296,9 +304,9 @@ impl Desk {
         self.segments.get(n as usize).copied()
     }
 
-    /// Up to which index a segment has to be looked at. Where the trip just before on its line has been entered, whoever
-    /// sits in that is there as early: what is behind its mark is left out. That has no more rides only as long as no segment
-    /// of a later round was entered.
+    /// Up to which index a segment has to be looked at. Where the trip just before on its line has
+    /// been entered, whoever sits in that is there as early: what is behind its mark is left out.
+    /// That has no more rides only as long as no segment of a later round was entered.
     pub fn clipped_end<S: Scan>(&self, scan: &S, segment: &Segment) -> u32
         requires trip { segment.now.trip < length (S.net scan.now).table.trips }
         requires room { length (S.net scan.now).table.trips ≤ length self.now.marks }

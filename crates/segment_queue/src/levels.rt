@@ -10,7 +10,8 @@ use std::alloc::Global;
 use std::marker::Model;
 use tb_base::{Memory, TripNo};
 
-/// Marks by the number of rides. Level 0 is for one ride; a level is made when a search first comes to it.
+/// Marks by the number of rides. Level 0 is for one ride; a level is made when a search first comes
+/// to it.
 #[derive(Drop)]
 pub struct Levels {
     levels: Vec<Marks>,
@@ -73,8 +74,8 @@ impl Levels {
         mark_on(&self.levels[level], scan, trip)
     }
 
-    /// Lowers the marks of a trip and of the later trips of its line to the index, at a level and at all higher ones, where they
-    /// are greater.
+    /// Lowers the marks of a trip and of the later trips of its line to the index, at a level and
+    /// at all higher ones, where they are greater.
     pub fn lower<S: Scan>(&mut self, scan: &S, level: usize, trip: TripNo, at: u32)
         requires trip { trip < length (S.net scan.now).table.trips }
         requires room { All (λ marks. length (S.net scan.now).table.trips ≤ length marks) self.old }

@@ -1,9 +1,12 @@
-//! The queue of a search by trip segments (Witt, Trip-Based Public Transit Routing, ESA 2015), and what the search looks at.
+//! The queue of a search by trip segments (Witt, Trip-Based Public Transit Routing, ESA 2015), and
+//! what the search looks at.
 //!
-//! A `Scan` shows a timetable, its lines and a set of hops, a `Look` one event at a time, and counts each look; the hops from
-//! events that were looked at may be read again by the `Seen` that the looks gave. A `Desk` holds the segments that a search has entered, a mark for each trip, the
-//! hits, and notes of the events to go on from. To the layer above it promises that segments of
-//! one trip cover no event twice, that marks along a line never rise, and that a desk that fits needs no more memory.
+//! A `Scan` shows a timetable, its lines and a set of hops, a `Look` one event at a time, and
+//! counts each look; the hops from events that were looked at may be read again by the `Seen` that
+//! the looks gave. A `Desk` holds the segments that a search has entered, a mark for each trip, the
+//! hits, and notes of the events to go on from. To the layer above it promises that segments of one
+//! trip cover no event twice, that marks along a line never rise, and that a desk that fits needs
+//! no more memory.
 #![tactic(auto)]
 
 mod ahead;

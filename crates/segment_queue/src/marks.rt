@@ -37,10 +37,12 @@ fn lower_words(words: &mut [u32], trips: &[TripNo], word: u32)
     }
 }
 
-/// An index for some of the trips, emptied in no time. It is seen as a list: for each trip its index, where it has one.
+/// An index for some of the trips, emptied in no time. It is seen as a list: for each trip its
+/// index, where it has one.
 ///
-/// A trip's word is the floor of the search that wrote it and the index. Each search's floor lies by as much below the one
-/// before as there are indices, so the words of earlier searches lie above all of its own.
+/// A trip's word is the floor of the search that wrote it and the index. Each search's floor lies
+/// by as much below the one before as there are indices, so the words of earlier searches lie above
+/// all of its own.
 #[derive(Drop)]
 pub struct Marks {
     words: Vec<u32>,
@@ -71,8 +73,8 @@ impl Marks {
         }
     }
 
-    /// So many trips without an index. So many times, and at most 428 times, `begin` writes no word; the next time it writes
-    /// all of them.
+    /// So many trips without an index. So many times, and at most 428 times, `begin` writes no
+    /// word; the next time it writes all of them.
     pub fn with_floors(alloc: Global, trips: u32, floors: u32) -> Result<Marks, Memory>
         ensures { OnOk result (result ≡ Ok (replicate trips None)) }
     {
@@ -144,7 +146,8 @@ impl Marks {
         if above < INDICES { above } else { otherwise }
     }
 
-    /// Whether a trip has an index that is at most this one. Of a number that is no index it may say so too.
+    /// Whether a trip has an index that is at most this one. Of a number that is no index it may
+    /// say so too.
     #[inline(always)]
     pub(crate) fn is_passed(&self, trip: TripNo, at: u32) -> bool
         requires { trip < length self.now }
@@ -155,8 +158,8 @@ impl Marks {
         self.above(trip) <= at
     }
 
-    /// Gives a trip this index, and answers true. A number from 10,000,000 on is no index of an event: then the answer is false,
-    /// and all is as before.
+    /// Gives a trip this index, and answers true. A number from 10,000,000 on is no index of an
+    /// event: then the answer is false, and all is as before.
     pub fn set(&mut self, trip: TripNo, at: u32) -> bool
         requires { trip < length self.old }
         ensures told { IsTrue result ↔ (at < 10000000) }
@@ -180,8 +183,9 @@ impl Marks {
         self.words[trip.index()] = self.floor + at;
     }
 
-    /// Gives these trips this index, in order, up to the first that has one that isn't greater. The words of trips
-    /// without an index are greater than those of trips with one, so one comparison a trip is enough.
+    /// Gives these trips this index, in order, up to the first that has one that isn't greater. The
+    /// words of trips without an index are greater than those of trips with one, so one comparison
+    /// a trip is enough.
     pub(crate) fn lower(&mut self, trips: &[TripNo], at: u32)
         requires trips { All (λ t. t < length self.old) trips.now }
         requires at { at < 10000000 }

@@ -3,7 +3,8 @@ ghost use Rattle.std.specs.Prelude.{◌≡◌, ◌<◌, ◌++◌, ◌∷◌, [],
 use super::desk::{Desk, push_within};
 use super::seen::Seen;
 
-/// Events that a segment covers, to go on from later: the number of the segment, and the events, which have been looked at.
+/// Events that a segment covers, to go on from later: the number of the segment, and the events,
+/// which have been looked at.
 #[derive(Clone, Copy)]
 pub struct Note {
     pub segment: u32,

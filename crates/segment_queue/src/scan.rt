@@ -22,8 +22,8 @@ pub struct Shape {
     pub lines: u32,
 }
 
-/// An event as a search sees it: its stop, its arrival, whether one may alight there, and the hops from it; and by what
-/// they can be read again.
+/// An event as a search sees it: its stop, its arrival, whether one may alight there, and the hops
+/// from it; and by what they can be read again.
 #[derive(Clone, Copy)]
 pub struct Visit<'a> {
     pub stop: StopNo,
@@ -66,7 +66,8 @@ pub trait Scan {
         requires { p < length (net self.now).table.stops }
         ensures { (secs : ℕ) → walk (net self.now).table p q ≡ Some secs → IsTrue result };
 
-    /// The group of each stop. No walk leads from one group to another; stops of one group need not have a walk.
+    /// The group of each stop. No walk leads from one group to another; stops of one group need not
+    /// have a walk.
     fn groups(&self) -> &[u32]
         ensures { AreWalkGroups (net self.now).table result.now };
 
@@ -93,7 +94,8 @@ pub trait Scan {
             (λ v. (v < length (net self.now).table.trips)
             × StandsBefore (net self.now).lines v trip) };
 
-    /// The hops from events that have been looked at, one event behind the other. It is no further step.
+    /// The hops from events that have been looked at, one event behind the other. It is no further
+    /// step.
     fn hops_from(&self, seen: &Seen) -> Hops<'_>
         requires { AreEvents (net self.now).table seen.now }
         ensures { lent result ≡ hops_seen (net self.now).hops seen.now };
@@ -116,17 +118,20 @@ pub trait Scan {
         requires trip { trip < length (net self.now).table.trips }
         requires at { at < length (events_of (net self.now).table trip) };
 
-    /// Reads the first and the last of the hops from events that have been looked at ahead. It shows nothing of them.
+    /// Reads the first and the last of the hops from events that have been looked at ahead. It
+    /// shows nothing of them.
     fn read_hops_ahead(&self, seen: &Seen, ahead: &mut ReadAhead)
         requires { AreEvents (net self.now).table seen.now };
 }
 
 /// The looks of a search at a network: who boards a line, and an event of a trip. Each is a step on
-/// a counter of the ledger `L`, and there is no other way to see a time: `hops_from` shows hops alone, and only
-/// those from events that have been looked at, of which looks gave the `Seen`. So a search over any `L` counts all its looks where its caller counts,
-/// since no counter that it makes is of this ledger.
+/// a counter of the ledger `L`, and there is no other way to see a time: `hops_from` shows hops
+/// alone, and only those from events that have been looked at, of which looks gave the `Seen`. So a
+/// search over any `L` counts all its looks where its caller counts, since no counter that it makes
+/// is of this ledger.
 pub trait Look<L: Ledger>: Scan {
-    /// Who boards the line at the line index with this number at the stop, no earlier than the time. It is a step.
+    /// Who boards the line at the line index with this number at the stop, no earlier than the
+    /// time. It is a step.
     fn boarding(&self, p: StopNo, berth: u32, time: Sec, steps: &mut Steps<L>) -> Option<Hop>
         requires stop { p < length (Self.net self.now).table.stops }
         requires berth { berth

@@ -3,10 +3,10 @@ ghost use Rattle.segment_queue.specs.Scans.{seen_arr, seen_first, seen_last, see
 
 use tb_base::{Sec, TripNo};
 
-/// Events of a trip that have been looked at, one behind the other: from index `first` to index `last`, and when the first
-/// arrives. Whoever has one may read the hops from those events again. That they were looked at, at this network and in this
-/// search, no clause says: outside this crate a `Seen` comes only from looks and from joining what they gave, and shows no
-/// trip and no index.
+/// Events of a trip that have been looked at, one behind the other: from index `first` to index
+/// `last`, and when the first arrives. Whoever has one may read the hops from those events again.
+/// That they were looked at, at this network and in this search, no clause says: outside this crate
+/// a `Seen` comes only from looks and from joining what they gave, and shows no trip and no index.
 #[derive(Clone, Copy)]
 pub struct Seen {
     pub(crate) trip: TripNo,
