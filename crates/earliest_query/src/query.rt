@@ -19,12 +19,12 @@ use tb_base::Query;
 
 /// Searches over a set of hops that is sufficient, and leaves the answer in the desk: its hits have
 /// exactly the best values of the query, and its segments go by hops of the set. It goes on from
-/// everywhere but where it arrives no earlier than a hit with no more rides, or where a trip that is
-/// no later, and behind which more trips stand on its line, was boarded before with no more rides:
-/// all has been made of each index that a segment covers and where it isn't outdone so, and first
-/// parts of its segments are a pruned search. So for a query without targets the segments serve every
-/// stop. It takes no memory, and at most as many steps as there are events and, at the stops with a
-/// walk from an origin, line indices.
+/// everywhere but where it arrives no earlier than a hit with no more rides, or where a trip that
+/// is no later, and behind which more trips stand on its line, was boarded before with no more
+/// rides: all has been made of each index that a segment covers and where it isn't outdone so, and
+/// first parts of its segments are a pruned search. So for a query without targets the segments
+/// serve every stop. It takes no memory, and at most as many steps as there are events and, at the
+/// stops with a walk from an origin, line indices.
 pub fn earliest<L: Ledger, S: Look<L>>(
     scan: &S,
     query: &Query,

@@ -107,7 +107,8 @@ fn alighting(visit: &Visit<'_>, path: Path, entry: u32, at: u32, round: u32) -> 
 }
 
 impl<S: Scan> Search<'_, S> {
-    // Whether there may be a walk from a stop to a target: not where its group is another than that of all targets.
+    // Whether there may be a walk from a stop to a target: not where its group is another than that
+    // of all targets.
     #[inline(always)]
     fn may_be_near(&self, p: StopNo) -> bool
         requires { p < length (S.net self.now.scan.now).table.stops }
@@ -164,10 +165,10 @@ impl<S: Scan> Search<'_, S> {
         self.weigh_near(best, visit, entry, at, round)
     }
 
-    // Looks at the indices that a segment covers one by one, and weighs to alight there. It ends where
-    // one gets no earlier than the best hit so far arrives, and where the trip before on the line has
-    // been entered, in which one is there as early with no more rides. Answers what it has seen
-    // before, too.
+    // Looks at the indices that a segment covers one by one, and weighs to alight there. It ends
+    // where one gets no earlier than the best hit so far arrives, and where the trip before on the
+    // line has been entered, in which one is there as early with no more rides. Answers what it has
+    // seen before, too.
     fn weigh_events<L: Ledger>(
         &self,
         desk: &Desk,
@@ -308,8 +309,8 @@ impl<S: Scan> Search<'_, S> {
         self.enter(desk, hop, Some((note.segment, at)));
     }
 
-    // Follows the hops from the events that were noted, unless one gets to the first no earlier than
-    // the best hit arrives.
+    // Follows the hops from the events that were noted, unless one gets to the first no earlier
+    // than the best hit arrives.
     fn follow_note(&self, desk: &mut Desk, best: &Option<Hit>, note: &Note, round: u32)
         requires queue { IsQueue (S.net self.now.scan.now) self.now.query.now desk.old (suc round) }
         requires note { IsSoundNote (S.net self.now.scan.now) desk.old.segments round note.now }
@@ -353,8 +354,8 @@ impl<S: Scan> Search<'_, S> {
         }
     }
 
-    // Rides the segments of a round, from one number up to another: weighs all of them, and then goes
-    // on from where one gets before the best hit.
+    // Rides the segments of a round, from one number up to another: weighs all of them, and then
+    // goes on from where one gets before the best hit.
     pub(crate) fn ride_round<L: Ledger>(
         &self,
         desk: &mut Desk,

@@ -4,7 +4,8 @@ ghost use Rattle.earliest_query.specs.Choices.{LeadFromGroup};
 use segment_queue::Scan;
 use tb_base::Query;
 
-// What a search reads: a scan, a query, the group of each stop, and the one group that all targets are of, if they are.
+// What a search reads: a scan, a query, the group of each stop, and the one group that all targets
+// are of, if they are.
 #[derive(Drop)]
 pub(crate) struct Search<'a, S: Scan> {
     pub(crate) scan: &'a S,

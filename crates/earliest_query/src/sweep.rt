@@ -54,8 +54,8 @@ impl Sweep {
     }
 
     /// Begins a sweep from the time of the query down: it empties the desk and the sweep. It needs
-    /// memory for a mark for each trip; at a refusal the desk has no segments and no hits either, and
-    /// still fits.
+    /// memory for a mark for each trip; at a refusal the desk has no segments and no hits either,
+    /// and still fits.
     pub fn begin<S: Scan>(
         &mut self,
         alloc: Global,
@@ -80,8 +80,8 @@ impl Sweep {
 
     /// Comes down to the time of the query, which is no later than the time before. It leaves the
     /// hits of this time in the desk: for each journey that leaves no earlier, one of them or a
-    /// value of before is no worse. It needs memory; at a refusal the desk still fits, and the sweep
-    /// has to begin anew. No bound on steps is promised.
+    /// value of before is no worse. It needs memory; at a refusal the desk still fits, and the
+    /// sweep has to begin anew. No bound on steps is promised.
     pub fn ask<L: Ledger, S: Look<L>>(
         &mut self,
         alloc: Global,

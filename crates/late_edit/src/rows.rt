@@ -42,7 +42,8 @@ impl Model for Rows {
 // Adds the transfers of a trip by the hops of one of its events.
 fn add_event(row: &mut Vec<Transfer>, trip: TripNo, at: u32, hops: &Hops<'_>) -> Result<(), Memory>
     ensures { OnOk result (row.new.items ≡ row.old.items
-        ++ map (λ h. record { trip = trip; at = at; to_trip = h.trip; to_at = h.at }) (lent hops.now)) }
+        ++ map (λ h. record { trip = trip; at = at; to_trip = h.trip; to_at = h.at })
+        (lent hops.now)) }
 {
     for place in 0..hops.count() {
         let hop = hops.at(place);

@@ -10,8 +10,8 @@ use tb_base::{Memory, Sec, StopNo, Timetable};
 use transfer_pack::PackedPaths;
 
 /// For each stop of a timetable the earliest arrival that was offered there, if any was, and the
-/// footpaths that lead to it. They remember for contracts of which timetable they are; that takes no
-/// room.
+/// footpaths that lead to it. They remember for contracts of which timetable they are; that takes
+/// no room.
 #[derive(Drop)]
 pub struct Labels {
     table: Snapshot<Timetable>,
@@ -30,8 +30,8 @@ impl Model for Labels {
 }
 
 impl Labels {
-    /// Labels for the stops of a timetable, with no time at any. Takes memory by the number of stops
-    /// and footpaths. Refused only for want of memory.
+    /// Labels for the stops of a timetable, with no time at any. Takes memory by the number of
+    /// stops and footpaths. Refused only for want of memory.
     pub fn new(alloc: Global, table: &Timetable) -> Result<Labels, Memory>
         ensures table { IfOk result (λ labels. labels.table ≡ table.now) }
         ensures times { IfOk result

@@ -19,9 +19,9 @@ const HIGHEST: u32 = UNWRITTEN - TIMES;
 
 /// For each stop a time, if any was offered there, all of them forgotten at once.
 ///
-/// A stop's word is the floor of the trip that wrote it, and the seconds of the time above the least
-/// one. Each trip's floor lies by as much below the one before as there are times, so that the words
-/// of earlier trips lie above all of its own.
+/// A stop's word is the floor of the trip that wrote it, and the seconds of the time above the
+/// least one. Each trip's floor lies by as much below the one before as there are times, so that
+/// the words of earlier trips lie above all of its own.
 #[derive(Drop)]
 pub(crate) struct Times {
     words: Vec<u32>,

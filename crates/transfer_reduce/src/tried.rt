@@ -7,7 +7,8 @@ ghost use Rattle.transfer_reduce.specs.Tried.{IsTried};
 use tb_base::{Transfer, TripNo};
 use transfer_pack::Calls;
 
-/// How many tried trips are remembered, each in the place of the one before with the same remainder.
+/// How many tried trips are remembered, each in the place of the one before with the same
+/// remainder.
 pub const TRIED: usize = 1024;
 
 /// A trip and an index of it. All that alighting behind the index brings has been offered.

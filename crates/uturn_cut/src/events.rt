@@ -65,8 +65,8 @@ fn stop_at<C: Calls>(calls: &C, trip: TripNo, at: usize) -> StopNo
     }
 }
 
-/// Whether a transfer is a U-turn, if the calls are those of the timetable. More than the two stops is
-/// looked at only where they are the same.
+/// Whether a transfer is a U-turn, if the calls are those of the timetable. More than the two stops
+/// is looked at only where they are the same.
 pub(crate) fn is_u_turn<C: Calls>(table: &Timetable, calls: &C, row: &Transfer) -> bool
     ensures { C.table calls.now ≡ table.now → result ≡ is_u_turn_row table.now row.now }
 {

@@ -13,7 +13,7 @@ next_added : (f : Hop → Transfer) (start row more : List Transfer) (hops : Lis
 next_added f start row more hops k h at is pushed =
     pushed ∙ ap (λ r. r ++ f h ∷ []) is ∙ append_assoc start (map f (take k hops)) (f h ∷ [])
     ∙ ap (λ ts. start ++ ts) (sym (map_push f (take k hops) h) ∙ ap (λ x. map f (take k hops ++ x ∷ [])) (sym (get_or_from_slice_get hops k h h at))
-        ∙ ap (map f) (sym (take_more hops k h (slice_get_within hops k h at))))
+    ∙ ap (map f) (sym (take_more hops k h (slice_get_within hops k h at))))
 
 pub loop-place-preserved : goal.loop-place-preserved
 loop-place-preserved c =
