@@ -1,6 +1,7 @@
 -- Where one arrives too late to go on.
 use Rattle.std.proofs.Common.{◌≡◌, ℕ, ◌<◌, ◌≤◌, ◌⊎◌, inl, inr, length, sym, ap, subst, arith, Option, None, Some, ℤ, ◌≤ℤ◌}
 use Rattle.std.proofs.lemmas.Int.{ints}
+use Rattle.std.proofs.lemmas.Bool.{cases_lt}
 use Rattle.tb_base.specs.Network.{NetData}
 use Rattle.tb_base.specs.TimetableData.{TimetableData, arrival_at, events_of}
 use Rattle.tb_base.specs.Soundness.{IsSound}
@@ -42,20 +43,17 @@ late-bounded T Q D best n i late = λ q secs offer. arrives_by-later best _ _ (�
 -- what has been ridden when the segment is left
 module _ (N : NetData) (Q : QueryData) (D E : DeskData) (n at top round : ℕ) (best result : Option Hit) (sound : IsSound N.table) (inside : n < length D.segments) (whole : IsSoundSegment N.table (segment_of D.segments n)) (extends : Extends D E top) (improved : IsImproved N.table Q E round best result)
     (late : ArrivesBy result (arrival_at N.table (segment_of D.segments n).trip at)) where
-  before_or_from : (i : ℕ) → (i < at) ⊎ (at ≤ i)
-  before_or_from i = grind arith
-
   late_from : (i : ℕ) → Covers D n i → at ≤ i → ArrivesBy result (arrival_at N.table (segment_of D.segments n).trip i)
   late_from i covers from = arrives_by-later result _ _ (arrives_on N.table (segment_of D.segments n).trip at i sound whole.trip from (omega (arith, covers.within, whole.within))) late
 
   pub left_done : ((i : ℕ) → (segment_of D.segments n).board < i → i < at → IsDone N E best n i) → (i : ℕ) → Covers D n i → IsDone N E result n i
-  left_done done i covers = elim (before_or_from i) [
+  left_done done i covers = elim (cases_lt i at) [
     | inl before ↦ done-kept N Q E E top round n i best result (extends-refl E top) (omega (arith, inside, extends-long D E top extends)) improved (done i covers.onward before)
     | inr from ↦ inr (subst (λ (s : Segment). ArrivesBy result (arrival_at N.table s.trip i)) (sym (extends-segment D E top extends n inside)) (late_from i covers from))
   ]
 
   pub left_bounded : ((i : ℕ) → (segment_of D.segments n).board < i → i < at → IsBounded N.table Q D best n i) → (i : ℕ) → Covers D n i → IsBounded N.table Q D result n i
-  left_bounded bounded i covers = elim (before_or_from i) [
+  left_bounded bounded i covers = elim (cases_lt i at) [
     | inl before ↦ bounded-improved N.table Q D E round best result n i improved (bounded i covers.onward before)
     | inr from ↦ late-bounded N.table Q D result n i (late_from i covers from)
   ]

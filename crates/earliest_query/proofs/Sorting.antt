@@ -6,7 +6,7 @@ use Rattle.tb_base.specs.TimetableData.{events_of}
 use Rattle.tb_base.specs.BestValues.{QueryData}
 use Rattle.tb_base.specs.Lines.{IsTripNoLater}
 use Rattle.tb_base.specs.Search.{IsCovered, RoundSegment, segment_at}
-use Rattle.tb_base.proofs.NumberFacts.{below_or_last}
+use Rattle.tb_base.proofs.NumberFacts.{below_or_last, less_or_same}
 use Rattle.segment_queue.specs.declared.desk.Segment.{Segment}
 use Rattle.segment_queue.specs.Queue.{DeskData}
 use Rattle.segment_queue.specs.Traced.{no_segment, round_of, round_segments, segment_of}
@@ -183,9 +183,6 @@ module _ (N : NetData) (Q : QueryData) (D : DeskData) (rounds : ℕ) (ridden : I
       | inl e ↦ s.has by there (inr (e, before))
       | inr other ↦ s.has by there (inl (elim (less_or_same p (left by) (omega (arith, no_fewer, now))) [ inl less ↦ less | inr e ↦ absurd (other (sym e)) ]))
     ]
-      where
-        less_or_same : (a b : ℕ) → a ≤ b → (a < b) ⊎ (a ≡ b)
-        less_or_same a b h = grind arith
 
     new_ends : (length (events_of N.table (seg k).trip) ≤ suc mine.end) ⊎ IsCovered N.table Y (length X) (round_of D.segments k) (seg k).trip mine.end
     new_ends = elim mine.past [

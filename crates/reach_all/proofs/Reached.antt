@@ -2,6 +2,7 @@
 use Rattle.std.proofs.Common.{◌≡◌, ◌∙◌, ℕ, zero, suc, ◌+◌, ◌<◌, ◌≤◌, ◌⊎◌, inl, inr, List, [], ◌∷◌, Bool, true, false, length, refl, sym, ap, subst, arith, ℤ, pos, ◌+ℤ◌}
 use Rattle.std.specs.Prelude.{Contains, IsSome, MatchBool, Some}
 use Rattle.std.proofs.lemmas.List.Elements.{All-contains}
+use Rattle.std.proofs.lemmas.Bool.{cases_lt}
 use Rattle.tb_base.specs.declared.query.Value.{Value}
 use Rattle.tb_base.specs.BestValues.{AreBestValues, IsAttained, IsBest, QueryData, value_of}
 use Rattle.tb_base.specs.Journeys.{Leads, Ride, walk_secs}
@@ -95,9 +96,6 @@ module _ (N : NetData) (from : List ℕ) (leave : ℤ) (D E : DeskData) (old new
   next : suc round ≡ round + 1
   next = omega arith
 
-  before_or_now : (n : ℕ) → (n < first) ⊎ (first ≤ n)
-  before_or_now n = grind arith
-
   inside : (n : ℕ) → n < to → n < length D.segments
   inside n h = omega (arith, h, to_is)
 
@@ -108,7 +106,7 @@ module _ (N : NetData) (from : List ℕ) (leave : ℤ) (D E : DeskData) (old new
   covers_old n i h covers = covers-kept E D n i (same n h) covers
 
   followed_next : (n i : ℕ) → n < to → Covers E n i → IsFollowed N E n i
-  followed_next n i h covers = elim (before_or_now n) [
+  followed_next n i h covers = elim (cases_lt n first) [
     | inl before ↦ followed-kept N D E (suc round) n i extends (inside n h) (spread.followed n i before (covers_old n i h covers))
     | inr now ↦ followed n i now h (covers_old n i h covers)
   ]
@@ -116,7 +114,7 @@ module _ (N : NetData) (from : List ℕ) (leave : ℤ) (D E : DeskData) (old new
   alighting_next : (n i : ℕ) → n < to → Covers E n i → HoldsAlighting N.table E new n i
   alighting_next n i h covers =
       alighting-grown N.table D E new n i (same n h) (extends-round D E (suc round) extends n (inside n h))
-      (elim (before_or_now n) [
+      (elim (cases_lt n first) [
         | inl before ↦ alighting-kept N.table D old new n i keep (spread.alighting n i before (covers_old n i h covers))
         | inr now ↦ alighting n i now h (covers_old n i h covers)
       ])
