@@ -1,8 +1,8 @@
 //! The places of each key in a list of keys, in linear time.
 #![tactic(auto)]
 
-ghost use Rattle.std.specs.Prelude.{◌≡◌, ◌<◌, ◌≤◌, ◌+◌, ◌^◌, ◌++◌, ◌∷◌, [], ℕ, List, IfOk, OnOk, OnErr, length, map, replicate, set, get_or, slice_index};
-ghost use Rattle.groups.specs.Places.{places_of, places_before};
+ghost use Rattle.std.specs.Prelude.{◌≡◌, ◌<◌, ◌+◌, ◌^◌, ◌++◌, ◌∷◌, [], ℕ, List, IfOk, OnOk, OnErr, length, map, replicate, set, get_or, slice_index};
+ghost use Rattle.groups.specs.Places.{places_of};
 
 use std::alloc::Global;
 use std::marker::Model;

@@ -1,7 +1,5 @@
 //! Where lines call at each stop.
-ghost use Rattle.std.specs.Prelude.{◌≡◌, ◌<◌, ◌^◌, ◌++◌, ◌==◌, ℕ, [], All, IfOk, OnOk, length, map, filter, slice_index_or};
-ghost use Rattle.tb_base.specs.TimetableData.{no_event};
-ghost use Rattle.tb_base.specs.Transfers.{numbers_below};
+ghost use Rattle.std.specs.Prelude.{◌≡◌, ◌<◌, ◌^◌, ◌++◌, ℕ, [], All, IfOk, OnOk, length, slice_index_or};
 ghost use Rattle.line_split.specs.LinesOf.{berths_at};
 ghost use Rattle.line_split.specs.Calls.{calls_of};
 

@@ -127,6 +127,7 @@ pub(crate) fn run_start(departures: &[Sec], start: usize, at: usize, count: usiz
     requires { start + at * count + count ≤ length departures.now }
     ensures { result ≡ start + at * count }
 {
+    // A vector's length is bounded, so the sum is too.
     let _all = departures.len();
     start + at * count
 }

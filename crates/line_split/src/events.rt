@@ -1,6 +1,6 @@
 //! The events of trips side by side.
-ghost use Rattle.std.specs.Prelude.{◌≡◌, ◌<◌, ◌==◌, ◌&&◌, length, int_le};
-ghost use Rattle.std.specs.Ordering.{nat_cmp, int_cmp, ordering_then};
+ghost use Rattle.std.specs.Prelude.{◌≡◌, ◌<◌, ◌==◌, ◌&&◌, int_le};
+ghost use Rattle.std.specs.Ordering.{int_cmp, ordering_then};
 ghost use Rattle.std.specs.Cmp.Lexicographic.{slice_cmp};
 ghost use Rattle.tb_base.specs.TimetableData.{events_of};
 ghost use Rattle.tb_base.specs.Lines.{may_follow, same_mark, times_of};

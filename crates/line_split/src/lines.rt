@@ -55,7 +55,6 @@ impl Model for Lines {
 impl Lines {
     ghost use Rattle.std.specs.Prelude.{MatchOption, slice_get};
     ghost use Rattle.tb_base.specs.Lines.{AreDividedInto, AreLines};
-    ghost use Rattle.tb_base.specs.TimetableData.{TimetableData};
     ghost use Rattle.tb_base.specs.Transfers.{earliest_trip, may_be_boarded};
     ghost use Rattle.line_split.specs.Layout.{AreBoardings, AreLaidOut, IsBoarding, departures_at};
     ghost use Rattle.line_split.specs.LinesOf.{IsBefore, IsRestOfLine, StandsAt, berths_at, line_events};
@@ -283,8 +282,9 @@ fn count_earlier(departures: &[Sec], time: Sec) -> u32
     earlier
 }
 
-// A part of the departures, where it begins and how many they are: all before it are earlier than the time, and none behind
-// it is. It is halved, without a branch that hangs on a departure, until they are few.
+// Where a part of the departures begins, and how many they are: all before it are earlier than the
+// time, and none behind it is. It is halved, without a branch that hangs on a departure, until they
+// are few.
 fn narrowed(departures: &[Sec], time: Sec) -> (usize, usize)
     requires { AllPairs (λ x y. x ≤ℤ y) departures.now }
     ensures within { result.0 + result.1 ≤ length departures.now }

@@ -1,5 +1,5 @@
 //! Trips are placed on lines, one after another.
-ghost use Rattle.std.specs.Prelude.{◌≡◌, ◌<◌, ◌≤◌, ◌++◌, ◌∷◌, ℕ, [], IfOk, OnOk, All, find, fold, length, replicate, slice_index_or, slice_set};
+ghost use Rattle.std.specs.Prelude.{◌≡◌, ◌<◌, ◌≤◌, ◌++◌, ◌∷◌, [], IfOk, OnOk, All, find, fold, length, replicate, slice_index_or, slice_set};
 ghost use Rattle.tb_base.specs.TimetableData.{events_of};
 ghost use Rattle.tb_base.specs.Lines.{last_trip, may_follow, place_trip};
 ghost use Rattle.line_split.specs.Patterns.{bucket_of};

@@ -5,7 +5,7 @@
 #![tactic(auto)]
 
 ghost use Rattle.std.specs.List.{list_any};
-ghost use Rattle.std.specs.Prelude.{not, ◌≡◌, ◌+◌, ◌<◌, ◌↔◌, ◌++◌, ◌||◌, ◌∷◌, [], ℕ, OnOk, List, map, position, bytes_eq, IfOk, OnErr, MatchBool, true, Contains, length, None, Some};
+ghost use Rattle.std.specs.Prelude.{not, ◌≡◌, ◌+◌, ◌<◌, ◌++◌, ◌||◌, ◌∷◌, [], ℕ, OnOk, List, map, position, bytes_eq, IfOk, OnErr, MatchBool, Some};
 
 use indexmap::IndexSet;
 use std::alloc::Global;

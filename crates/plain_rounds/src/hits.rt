@@ -1,5 +1,5 @@
 //! Arrivals at targets, and the legs that lead there.
-ghost use Rattle.std.specs.Prelude.{◌≡◌, ℕ, ◌<◌, ◌≤◌, ◌⊎◌, Option, Some, length, All, Contains, IfOk, IfSome, IsSomeAnd, MatchOption, pos, ◌≤ℤ◌};
+ghost use Rattle.std.specs.Prelude.{◌≡◌, ◌<◌, ◌≤◌, ◌⊎◌, Option, Some, length, All, IfSome, IsSomeAnd, MatchOption, pos, ◌≤ℤ◌};
 ghost use Rattle.plain_rounds.specs.Labels.{AreEarly};
 ghost use Rattle.plain_rounds.specs.Hits.{IsHitFrom, IsDueFrom, IsHitOf, IsDueOf, IsHitOfOrigin, IsDueOfOrigin, IsEarliest};
 

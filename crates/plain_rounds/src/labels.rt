@@ -1,7 +1,7 @@
 //! Labels at stops: the least time found so far, with the ride that leads there.
-ghost use Rattle.std.specs.Prelude.{◌≡◌, ℕ, ◌<◌, ◌≤◌, ◌⊎◌, length, slice_set, Some, Contains, IfSome, IsSomeAnd, MatchBool, All, ℤ, pos, ◌+ℤ◌, ◌≤ℤ◌};
+ghost use Rattle.std.specs.Prelude.{◌≡◌, ◌<◌, ◌≤◌, length, Some, IfSome, IsSomeAnd, MatchBool, All, ℤ, pos, ◌≤ℤ◌};
 ghost use Rattle.tb_base.specs.Walking.{footpath_secs, walk, change};
-ghost use Rattle.plain_rounds.specs.Labels.{IsNoLaterAt, IsLaterAt, Takes, AreEarly, IsOfferedByChange, IsOfferedByOrigin, label_at, later};
+ghost use Rattle.plain_rounds.specs.Labels.{IsNoLaterAt, IsLaterAt, Takes, AreEarly, IsOfferedByChange, IsOfferedByOrigin, later};
 
 use tb_base::{Sec, StopNo, Timetable};
 

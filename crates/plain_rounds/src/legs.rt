@@ -1,6 +1,6 @@
 //! The legs of a journey, and the shortest walks at its ends.
-ghost use Rattle.std.specs.Prelude.{◌≡◌, ℕ, ◌<◌, ◌≤◌, ◌⊎◌, ◌++◌, ◌∷◌, [], List, Option, None, Some, length, map, reverse, All, Contains, IfOk, OnOk, IfSome, MatchOption};
-ghost use Rattle.tb_base.specs.TimetableData.{events_of, stop_at};
+ghost use Rattle.std.specs.Prelude.{◌≡◌, ◌<◌, ◌≤◌, ◌⊎◌, ◌++◌, ◌∷◌, [], List, Option, None, Some, length, map, reverse, All, Contains, IfOk, OnOk, IfSome, MatchOption};
+ghost use Rattle.tb_base.specs.TimetableData.{stop_at};
 ghost use Rattle.tb_base.specs.JourneyRules.{walk_legs, legs_of};
 ghost use Rattle.tb_base.specs.Journeys.{Ride};
 ghost use Rattle.plain_rounds.specs.Rounds.{ride_of};

@@ -1,9 +1,8 @@
 //! The least arrival by exactly one ride, by looking at each trip once.
-ghost use Rattle.std.specs.Prelude.{◌≡◌, ℕ, ◌<◌, ◌≤◌, ◌↔◌, ◌⊎◌, length, IsTrue, All, ℤ, pos, ◌≤ℤ◌, ◌+ℤ◌, ◌-ℤ◌};
-ghost use Rattle.tb_base.specs.TimetableData.{events_of};
+ghost use Rattle.std.specs.Prelude.{◌≡◌, ◌<◌, ◌↔◌, ◌⊎◌, length, IsTrue, All};
 ghost use Rattle.tb_base.specs.Soundness.{IsSoundEvent};
 ghost use Rattle.tb_base.specs.BestValues.{IsLeast, IsDirectArrival};
-ghost use Rattle.plain_rounds.specs.OneRide.{CanBoardAt, ArrivesAt, ArrivesBySome, ArrivesOnTrip, IsReachedAt, earlier_of};
+ghost use Rattle.plain_rounds.specs.OneRide.{CanBoardAt, ArrivesAt, ArrivesBySome, IsReachedAt, earlier_of};
 
 use tb_base::{Event, Query, Sec, StopNo, Timetable, TripNo};
 

@@ -1,6 +1,6 @@
 //! Rounds: what can be reached with ever more rides.
 ghost use Rattle.std.specs.Prelude.{◌≡◌, ℕ, ◌<◌, ◌≤◌, ◌+◌, length, sum, All, IfOk, OnOk, MatchBool, MatchOption, Option, None, [], replicate, map, pos, ◌≤ℤ◌, slice_index_or};
-ghost use Rattle.tb_base.specs.TimetableData.{no_event, events_of};
+ghost use Rattle.tb_base.specs.TimetableData.{no_event};
 ghost use Rattle.plain_rounds.specs.Labels.{Takes, AreEarly, IsOfferedByChange, IsOfferedByOrigin};
 ghost use Rattle.plain_rounds.specs.Rounds.{AreKept, last_index, IsBoardable, LetsBoard, NoneBoards, TakesRides};
 

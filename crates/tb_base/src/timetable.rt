@@ -1,4 +1,4 @@
-ghost use Rattle.std.specs.Prelude.{◌≡◌, ◌≢◌, ℕ, ◌<◌, ◌≤◌, length, map, sum_by, All, AllPairs, Some};
+ghost use Rattle.std.specs.Prelude.{◌≡◌, ◌<◌, ◌≤◌, length, map, sum_by, All, AllPairs, Some};
 ghost use Rattle.tb_base.specs.TimetableData.{TripData};
 
 use super::memory::Memory;

@@ -1,9 +1,9 @@
 //! The trips that a change of times touches.
-ghost use Rattle.std.specs.Prelude.{◌≡◌, ◌<◌, ◌||◌, IfOk, false, length, not};
+ghost use Rattle.std.specs.Prelude.{◌≡◌, ◌<◌, ◌||◌, IfOk, false, length};
 ghost use Rattle.std.specs.List.{list_any};
 ghost use lib.Pointwise.{pointwise};
 ghost use Rattle.touched_trips.specs.Retimed.{IsRetimed};
-ghost use Rattle.touched_trips.specs.Touched.{candidates_of, has_other_times, is_touched, same_transfer};
+ghost use Rattle.touched_trips.specs.Touched.{has_other_times, is_touched, same_transfer};
 
 use super::near::{calls_at, near_stops};
 use super::network::Network;

@@ -1,5 +1,5 @@
 //! The candidates of one event.
-ghost use Rattle.std.specs.Prelude.{◌≡◌, ◌<◌, ◌≤◌, ◌++◌, ℕ, All, AllPairs, OnOk, flat_map, length, map};
+ghost use Rattle.std.specs.Prelude.{◌≡◌, ◌<◌, ◌≤◌, ◌++◌, All, AllPairs, OnOk, flat_map, length, map};
 ghost use Rattle.std.specs.List.{AllWithin};
 ghost use Rattle.tb_base.specs.TimetableData.{events_of, stop_at, MayAlight};
 ghost use Rattle.tb_base.specs.Transfers.{candidates};
