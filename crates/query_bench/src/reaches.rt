@@ -1,50 +1,13 @@
 //! Random origins, and the best values to every stop.
-ghost use Rattle.std.specs.Prelude.{◌≡◌, ◌<◌, ◌≤ℤ◌, All, length, pos};
+ghost use Rattle.std.specs.Prelude.{◌<◌, ◌≤ℤ◌, length, pos};
 
 use crate::queries::Found;
 use edition_store::Edition;
 use made_feeds::Draw;
-use reach_all::reach_all;
-use segment_queue::{Desk, Steps};
+use reach_all::uncounted;
+use segment_queue::Desk;
 use std::alloc::Global;
-use std::marker::Brand;
-use std::sync::ledger::{Blank, Ledger};
 use tb_base::{Memory, Sec, StopNo, Value};
-
-// The best values to every stop, on a ledger that nobody else counts in.
-fn reach_on<L: Ledger>(
-    alloc: Global,
-    edition: &Edition,
-    desk: &mut Desk,
-    from: &[StopNo],
-    leave: Sec,
-    blank: Blank,
-) -> Result<Vec<Vec<Value>>, Memory>
-    requires name { blank.name ≡ L.name }
-    requires parts { blank.parts ≡ L.parts }
-    requires some { 0 < L.parts }
-    requires origins { All (λ p. p < length edition.now.table.stops) from.now }
-    requires leave { leave ≤ℤ pos 359999 }
-{
-    edition.soundness();
-    desk.make_room(edition)?;
-    let mut steps = Steps::<L>::new(blank);
-    reach_all(alloc, edition, from, leave, desk, &mut steps)
-}
-
-// The best values to every stop.
-fn reach(
-    alloc: Global,
-    edition: &Edition,
-    desk: &mut Desk,
-    from: &[StopNo],
-    leave: Sec,
-) -> Result<Vec<Vec<Value>>, Memory>
-    requires origins { All (λ p. p < length edition.now.table.stops) from.now }
-    requires leave { leave ≤ℤ pos 359999 }
-{
-    reach_on::<Brand>(alloc, edition, desk, from, leave, Blank::new(1))
-}
 
 // The count of values to all stops, and the sum of their arrivals.
 fn found_in(lists: &[Vec<Value>]) -> Found {
@@ -66,8 +29,9 @@ fn found_from(
     requires stop { stop < length edition.now.table.stops }
     requires leave { leave ≤ℤ pos 359999 }
 {
+    edition.soundness();
     let from = [StopNo(stop)];
-    let lists = reach(alloc, edition, desk, from.as_slice(), leave)?;
+    let lists = uncounted::reach_all(alloc, edition, from.as_slice(), leave, desk)?;
     let found = found_in(lists.as_slice());
     drop(lists);
     Ok(found)

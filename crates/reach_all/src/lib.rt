@@ -15,6 +15,7 @@ mod one_to_all;
 mod query;
 mod riding;
 mod text;
+pub mod uncounted;
 mod walking;
 
 pub use query::reach_all;

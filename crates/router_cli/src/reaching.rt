@@ -6,11 +6,9 @@ ghost use Rattle.router_cli.specs.Answers.{AreStopsNamed, IsReachText};
 use answer_text::unknown_text;
 use command_line::OriginInquiry;
 use edition_store::Edition;
-use reach_all::{reach_all, reach_text as values_text};
-use segment_queue::{Desk, Steps};
+use reach_all::{reach_text as values_text, uncounted};
+use segment_queue::Desk;
 use std::alloc::Global;
-use std::marker::Brand;
-use std::sync::ledger::{Blank, Ledger};
 use tb_base::{Memory, Sec, StopNo, Timetable, Value};
 
 // The stops of a named place: none where no stop and no station has the name.
@@ -22,48 +20,6 @@ fn stops_named(alloc: Global, table: &Timetable, name: &[u8]) -> Result<Option<V
         Some(place) => Ok(Some(table.place_stops(alloc, place)?)),
         None => Ok(None),
     }
-}
-
-// The best values to every stop over an edition, in a desk that needn't have room.
-fn reach_in<L: Ledger>(
-    alloc: Global,
-    edition: &Edition,
-    from: &[StopNo],
-    leave: Sec,
-    desk: &mut Desk,
-    steps: &mut Steps<L>,
-) -> Result<Vec<Vec<Value>>, Memory>
-    requires origins { All (λ p. p < length edition.now.table.stops) from.now }
-    requires leave { leave ≤ℤ pos 359999 }
-    ensures { IfOk result (λ lists. IsReach edition.now.table from.now leave
-        (map (λ list. list.items) lists.items)) }
-{
-    edition.soundness();
-    desk.make_room(edition)?;
-    reach_all(alloc, edition, from, leave, desk, steps)
-}
-
-// The same, on a ledger that nobody else counts in.
-fn reach_on<L: Ledger>(
-    alloc: Global,
-    edition: &Edition,
-    from: &[StopNo],
-    leave: Sec,
-    blank: Blank,
-) -> Result<Vec<Vec<Value>>, Memory>
-    requires name { blank.name ≡ L.name }
-    requires parts { blank.parts ≡ L.parts }
-    requires some { 0 < L.parts }
-    requires origins { All (λ p. p < length edition.now.table.stops) from.now }
-    requires leave { leave ≤ℤ pos 359999 }
-    ensures { IfOk result (λ lists. IsReach edition.now.table from.now leave
-        (map (λ list. list.items) lists.items)) }
-{
-    let mut desk = Desk::new(alloc);
-    let mut steps = Steps::<L>::new(blank);
-    let lists = reach_in(alloc, edition, from, leave, &mut desk, &mut steps);
-    drop(desk);
-    lists
 }
 
 // The best values to every stop over an edition.
@@ -78,7 +34,11 @@ fn reach(
     ensures { IfOk result (λ lists. IsReach edition.now.table from.now leave
         (map (λ list. list.items) lists.items)) }
 {
-    reach_on::<Brand>(alloc, edition, from, leave, Blank::new(1))
+    edition.soundness();
+    let mut desk = Desk::new(alloc);
+    let lists = uncounted::reach_all(alloc, edition, from, leave, &mut desk);
+    drop(desk);
+    lists
 }
 
 /// The best values to every stop, one line a stop.

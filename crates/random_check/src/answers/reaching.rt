@@ -5,33 +5,10 @@ use super::tally::Tally;
 use crate::refused::{Difference, Refused, held};
 use edition_store::Edition;
 use plain_rounds::plain_ask;
-use reach_all::reach_all;
-use segment_queue::{Desk, Steps};
+use reach_all::uncounted;
+use segment_queue::Desk;
 use std::alloc::Global;
-use std::marker::Brand;
-use std::sync::ledger::{Blank, Ledger};
 use tb_base::{Choice, Memory, Query, Sec, StopNo, Timetable, Value};
-
-// The best values to every stop, on a ledger that nobody else counts in.
-fn reach_on<L: Ledger>(
-    alloc: Global,
-    edition: &Edition,
-    desk: &mut Desk,
-    from: &[StopNo],
-    leave: Sec,
-    blank: Blank,
-) -> Result<Vec<Vec<Value>>, Memory>
-    requires name { blank.name ≡ L.name }
-    requires parts { blank.parts ≡ L.parts }
-    requires some { 0 < L.parts }
-    requires origins { All (λ p. p < length edition.now.table.stops) from.now }
-    requires leave { leave ≤ℤ pos 359999 }
-{
-    edition.soundness();
-    desk.make_room(edition)?;
-    let mut steps = Steps::<L>::new(blank);
-    reach_all(alloc, edition, from, leave, desk, &mut steps)
-}
 
 // The best values to every stop.
 fn reach(
@@ -44,7 +21,8 @@ fn reach(
     requires origins { All (λ p. p < length edition.now.table.stops) from.now }
     requires leave { leave ≤ℤ pos 359999 }
 {
-    reach_on::<Brand>(alloc, edition, desk, from, leave, Blank::new(1))
+    edition.soundness();
+    uncounted::reach_all(alloc, edition, from, leave, desk)
 }
 
 // The best choices to one stop, by plain rounds.

@@ -1,4 +1,0 @@
-use Rattle.random_check.proofs.answers.reaching.reach.Given as goal
-
-abbrev pub ghosts-reach_on : goal.ghosts-reach_on
-ghosts-reach_on a = record { name = a.blank.name; parts = a.blank.parts }
