@@ -10,7 +10,7 @@ use Rattle.query_gate.specs.Replies.{AreBestChoices}
 use Rattle.feed_maker.specs.City.{city, city_stop, stop_number}
 use Rattle.feed_maker.proofs.Numbered.{length-made}
 use Rattle.command_line.specs.Cities.{IsSide}
-use Rattle.build_report.specs.Reports.{IsReport}
+use Rattle.edition_build.specs.Reports.{IsReport}
 use Rattle.router_cli.specs.Answers.{ShowsKept}
 use Rattle.router_cli.specs.Cities.{IsCityText, corner_query}
 use Rattle.router_cli.proofs.AnswerLemmas.{kept_changes}

@@ -13,7 +13,7 @@ use Rattle.tb_base.specs.Transfers.{kept_hops}
 use Rattle.segment_queue.specs.Traced.{LegsFollow}
 use Rattle.plain_rounds.specs.Shown.{SpellShortest}
 use Rattle.answer_text.specs.Journeys.{arrival_text, choices_text, offers_text, unknown_text}
-use Rattle.build_report.specs.Reports.{IsReport}
+use Rattle.edition_build.specs.Reports.{IsReport}
 use Rattle.mirror_table.specs.Departures.{ArrivalData}
 use Rattle.arrive_by.specs.Latest.{AreLatestDepartures, DepartureData}
 use Rattle.arrive_by.specs.Text.{departures_text}

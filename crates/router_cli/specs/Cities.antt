@@ -3,7 +3,7 @@ use Rattle.std.specs.Prelude.{◌≡◌, ℕ, ◌-◌, ◌≤◌, ◌⊎◌, Lis
 use Rattle.std.specs.Io.KnownBytes.{Appends}
 use Rattle.tb_base.specs.BestValues.{QueryData}
 use Rattle.feed_maker.specs.City.{city, stop_number}
-use Rattle.build_report.specs.Reports.{IsReport}
+use Rattle.edition_build.specs.Reports.{IsReport}
 use Rattle.command_line.specs.Cities.{CityRequestData}
 use Rattle.router_cli.specs.Answers.{ShowsKept}
 use Rattle.router_cli.specs.declared.status.Status.{Status}

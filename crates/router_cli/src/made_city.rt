@@ -5,7 +5,7 @@ ghost use Rattle.feed_maker.specs.City.{city};
 ghost use Rattle.edition_store.specs.Editions.{EditionData, net_of};
 ghost use Rattle.query_gate.specs.Replies.{AreBestChoices};
 ghost use Rattle.reduce_workers.specs.Reductions.{reduced};
-ghost use Rattle.build_report.specs.Reports.{IsReport};
+ghost use Rattle.edition_build.specs.Reports.{IsReport};
 ghost use Rattle.command_line.specs.Cities.{IsSide};
 ghost use Rattle.reduce_workers.specs.Workers.{AreWorkers};
 ghost use Rattle.router_cli.specs.Answers.{ShowsKept};
@@ -13,9 +13,8 @@ ghost use Rattle.router_cli.specs.Cities.{IsCityOutcome, IsCityText, corner_quer
 
 use crate::status::Status;
 use answer_text::{build_text, choices_text};
-use build_report::counts_of;
 use command_line::CityRequest;
-use edition_build::assemble;
+use edition_build::{assemble, counts_of};
 use edition_store::Edition;
 use feed_maker::city;
 use line_split::{Lines, split};

@@ -5,7 +5,7 @@ use Rattle.tb_base.specs.TimetableData.{TimetableData}
 use Rattle.reduce_workers.specs.Reductions.{ReducedData, reduced}
 use Rattle.answer_text.specs.Builds.{build_list_text, build_text}
 use Rattle.answer_text.specs.declared.builds.BuildCounts.{BuildCounts}
-use Rattle.build_report.specs.Reports.{counts_of, report}
+use Rattle.edition_build.specs.Reports.{counts_of, report}
 
 module _ (T : TimetableData) (lines : List (List ℕ)) (list : Bool) (made : ReducedData) (same : made ≡ reduced T lines) (counts : BuildCounts) (counted : counts ≡ counts_of lines made) where
   pub report_listed : (rows : List (List Transfer)) → rows ≡ made.rows → list ≡ true → build_list_text T counts rows ≡ report T lines list

@@ -2,9 +2,9 @@ use Rattle.std.proofs.Common.{◌∙◌, sym, ap, subst, map}
 use Rattle.std.proofs.lemmas.Result.{IfOk-weaker}
 use Rattle.tb_base.specs.OutSets.{AreRowsOf}
 use Rattle.reduce_workers.specs.Reductions.{ReducedData}
-use Rattle.build_report.proofs.Named.{all_named}
-use Rattle.build_report.proofs.Reporting.{report_listed, report_unlisted}
-use Rattle.build_report.proofs.build.report.Goals as goal
+use Rattle.edition_build.proofs.Named.{all_named}
+use Rattle.edition_build.proofs.Reporting.{report_listed, report_unlisted}
+use Rattle.edition_build.proofs.reporting.report.Goals as goal
 
 pub build_list_text-requires : goal.build_list_text-requires
 build_list_text-requires g c =

@@ -1,5 +1,5 @@
 ghost use Rattle.std.specs.Prelude.{◌≡◌, ◌<◌, ◌≤◌, IfOk};
-ghost use Rattle.build_report.specs.Reports.{IsReport, counts_of};
+ghost use Rattle.edition_build.specs.Reports.{IsReport, counts_of};
 
 use answer_text::{BuildCounts, build_list_text, build_text};
 use line_split::{Lines, split};
