@@ -1,9 +1,11 @@
 ghost use Rattle.std.specs.Prelude.{◌≡◌, ◌<◌, ◌≤◌, IfOk};
 ghost use Rattle.edition_store.specs.Editions.{EditionData};
+ghost use Rattle.mirror_table.specs.Mirror.{IsMirror};
 ghost use Rattle.reduce_workers.specs.Reductions.{reduced};
 
 use edition_store::{Edition, Shared};
 use line_split::{Lines, split};
+use mirror_table::mirror;
 use reduce_workers::{Reduced, reduce_all};
 use std::alloc::Global;
 use std::thread::Threads;
@@ -100,4 +102,20 @@ pub fn build_edition<G: Gate, R: Threads + Sync>(
         Ok(edition) => Shared::new(alloc, edition),
         Err(Memory) => Err(Memory),
     }
+}
+
+/// The edition of the mirror of a timetable, in which time runs backwards; see `build`.
+pub fn build_mirror<G: Gate, R: Threads + Sync>(
+    rt: &R,
+    alloc: Global,
+    table: &Timetable,
+    workers: u32,
+    gate: &G,
+) -> Result<Edition, Memory>
+    requires some { 0 < workers }
+    requires most { workers ≤ 64 }
+    ensures { IfOk result (λ e. IsMirror table.now (EditionData.table e)) }
+{
+    let mirrored = mirror(alloc, table)?;
+    build(rt, alloc, mirrored, workers, gate)
 }

@@ -1,32 +1,15 @@
 //! Random times to arrive by, and the latest departures.
 ghost use Rattle.std.specs.Prelude.{◌≡◌, ◌<◌, ◌≤ℤ◌, All, IfOk, length, pos};
-ghost use Rattle.edition_store.specs.Editions.{EditionData};
 ghost use Rattle.mirror_table.specs.Departures.{ArrivalData};
 ghost use Rattle.mirror_table.specs.Mirror.{IsMirror};
 
 use crate::queries::Found;
-use arrive_by::{Arrival, Departure, latest, mirror};
-use edition_build::build;
+use arrive_by::{Arrival, Departure, latest};
 use edition_store::Edition;
 use made_feeds::Draw;
 use segment_queue::Desk;
 use std::alloc::Global;
-use std::thread::Threads;
-use tb_base::{IdleGate, Memory, StopNo, Timetable};
-
-/// The edition of a timetable's mirror, by one worker.
-pub fn mirrored<R: Threads + Sync>(
-    rt: &R,
-    alloc: Global,
-    table: &Timetable,
-) -> Result<Edition, Memory>
-    ensures { IfOk result (λ e. IsMirror table.now (EditionData.table e)) }
-{
-    match mirror(alloc, table) {
-        Ok(mirrored) => build(rt, alloc, mirrored, 1, &IdleGate),
-        Err(Memory) => Err(Memory),
-    }
-}
+use tb_base::{Memory, StopNo, Timetable};
 
 // A time of the day to arrive by between two stops.
 fn arrival(alloc: Global, table: &Timetable, draw: &mut Draw) -> Result<Arrival, Memory>

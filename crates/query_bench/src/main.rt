@@ -21,8 +21,8 @@ mod stores;
 mod watch;
 mod words;
 
-use arrivals::{by_arrivals, mirrored};
-use edition_build::build;
+use arrivals::by_arrivals;
+use edition_build::{build, build_mirror};
 use edition_store::Edition;
 use queries::{Found, by_profiles, by_rounds, by_search};
 use reaches::by_reach;
@@ -118,7 +118,7 @@ fn measured_arrivals<R: Threads + Sync + CpuClock>(
     table: &Timetable,
     count: u32,
 ) -> Result<Measured, Unmeasured> {
-    match mirrored(rt, alloc, table) {
+    match build_mirror(rt, alloc, table, 1, &IdleGate) {
         Ok(mirrored) => {
             let since = Watch::start(rt);
             let found = by_arrivals(alloc, &mirrored, table, count);

@@ -12,27 +12,11 @@ use crate::reaching::reach_text;
 use answer_text::unknown_text;
 use arrive_by::Arrival;
 use command_line::{ArrivalInquiry, Command, DayRequest, Inquiry, OriginInquiry, WindowInquiry};
-use edition_build::{build, report};
+use edition_build::{build, build_mirror, report};
 use edition_store::Edition;
-use mirror_table::mirror;
 use std::alloc::Global;
 use std::thread::Threads;
 use tb_base::{Gate, Memory, Timetable};
-
-// The edition of the mirror of a timetable.
-fn mirrored_edition<G: Gate, R: Threads + Sync>(
-    rt: &R,
-    alloc: Global,
-    table: &Timetable,
-    workers: u32,
-    gate: &G,
-) -> Result<Edition, Memory>
-    requires { AreWorkers workers }
-    ensures { IfOk result (λ e. IsMirror table.now (EditionData.table e)) }
-{
-    let mirrored = mirror(alloc, table)?;
-    build(rt, alloc, mirrored, workers, gate)
-}
 
 // The best values, over the edition of a timetable.
 fn ask_answer<G: Gate, R: Threads + Sync>(
@@ -82,7 +66,7 @@ fn latest_by<G: Gate, R: Threads + Sync>(
     requires latest { arrival.now.by ≤ℤ pos 273599 }
     ensures { IfOk result (λ text. ShowsLatest table.now arrival.now text.items) }
 {
-    let mirrored = mirrored_edition(rt, alloc, table, workers, gate)?;
+    let mirrored = build_mirror(rt, alloc, table, workers, gate)?;
     let text = latest_text(alloc, &mirrored, table, arrival);
     drop(mirrored);
     text

@@ -1,7 +1,6 @@
 //! The latest departures by a time, and what the profile says of them.
 ghost use Rattle.std.specs.Prelude.{◌≡◌, ◌<◌, ◌≤ℤ◌, All, IfOk, length, pos};
 ghost use Rattle.mirror_table.specs.Mirror.{IsMirror};
-ghost use Rattle.edition_store.specs.Editions.{EditionData};
 ghost use Rattle.tb_base.specs.BestValues.{QueryData};
 ghost use Rattle.tb_base.specs.Profiles.{WindowData};
 
@@ -9,32 +8,16 @@ use super::claims::{claim, verdict_on};
 use super::profiles::offers_of;
 use super::tally::Tally;
 use crate::refused::{Difference, Refused, held};
-use arrive_by::{Arrival, Departure, latest, mirror};
-use edition_build::build;
+use arrive_by::{Arrival, Departure, latest};
 use edition_store::Edition;
 use journey_read::{Claimed, Verdict};
 use plain_rounds::plain_ask;
 use segment_queue::Desk;
 use std::alloc::Global;
-use std::thread::Threads;
-use tb_base::{Choice, IdleGate, Memory, Offer, Query, Rule, Sec, Timetable, Value, Window};
+use tb_base::{Choice, Memory, Offer, Query, Rule, Sec, Timetable, Value, Window};
 
 // Nothing leaves so early.
 const FIRST: Sec = -200_000;
-
-/// The edition of a timetable's mirror.
-pub fn mirrored<R: Threads + Sync>(
-    rt: &R,
-    alloc: Global,
-    table: &Timetable,
-) -> Result<Edition, Memory>
-    ensures { IfOk result (λ e. IsMirror table.now (EditionData.table e)) }
-{
-    match mirror(alloc, table) {
-        Ok(mirrored) => build(rt, alloc, mirrored, 1, &IdleGate),
-        Err(Memory) => Err(Memory),
-    }
-}
 
 // A departure without its legs.
 #[derive(Clone, Copy, PartialEq, Eq)]

@@ -2,7 +2,7 @@
 ghost use Rattle.std.specs.Prelude.{◌<◌, length};
 ghost use Rattle.mirror_table.specs.Mirror.{IsMirror};
 
-use super::arriving::{compare_departures, mirrored};
+use super::arriving::compare_departures;
 use super::hops::compare_hops;
 use super::profiles::compare_slots;
 use super::queries::compare_values;
@@ -10,7 +10,7 @@ use super::questions::{SECONDS, arrival, one_stop, query, window};
 use super::reaching::compare_reach;
 use super::tally::Tally;
 use crate::refused::{MadeFeed, Refused};
-use edition_build::build;
+use edition_build::{build, build_mirror};
 use edition_store::Edition;
 use made_feeds::{Unread, ring, town};
 use segment_queue::Desk;
@@ -180,7 +180,7 @@ fn try_edition<R: Threads + Sync>(
     desk: &mut Desk,
 ) -> Result<Tally, Refused> {
     compare_hops(rt, alloc, edition)?;
-    match mirrored(rt, alloc, edition.table()) {
+    match build_mirror(rt, alloc, edition.table(), 1, &IdleGate) {
         Ok(mirrored) => {
             let compared = try_editions(alloc, edition, &mirrored, desk, first);
             drop(mirrored);

@@ -2,7 +2,7 @@
 ghost use Rattle.std.specs.Prelude.{◌<◌, length};
 ghost use Rattle.mirror_table.specs.Mirror.{IsMirror};
 
-use super::arriving::{compare_departures, mirrored};
+use super::arriving::compare_departures;
 use super::drawn::{some_arrival, some_query, some_stops, some_time, some_window};
 use super::hops::compare_hops;
 use super::profiles::compare_slots;
@@ -11,12 +11,13 @@ use super::reaching::compare_reach;
 use super::tally::Tally;
 use crate::building::edition_of;
 use crate::refused::Refused;
+use edition_build::build_mirror;
 use edition_store::Edition;
 use made_feeds::{Draw, Reading, small_feed};
 use segment_queue::Desk;
 use std::alloc::Global;
 use std::thread::Threads;
-use tb_base::Memory;
+use tb_base::{IdleGate, Memory};
 
 // How much is asked over each feed.
 const QUERIES: u32 = 60;
@@ -178,7 +179,7 @@ fn try_mirror<R: Threads + Sync>(
 ) -> Result<Tally, Refused>
     requires { 0 < length edition.now.table.stops }
 {
-    match mirrored(rt, alloc, edition.table()) {
+    match build_mirror(rt, alloc, edition.table(), 1, &IdleGate) {
         Ok(mirrored) => {
             let compared = try_arrivals(alloc, edition, &mirrored, desk, draw);
             drop(mirrored);

@@ -1,7 +1,7 @@
 use Rattle.std.proofs.Common.{subst, sym}
 use Rattle.std.proofs.lemmas.Result.{IfOk-weaker}
 use Rattle.mirror_table.specs.Mirror.{IsMirror}
-use Rattle.router_cli.proofs.answers.mirrored_edition.Goals as goal
+use Rattle.edition_build.proofs.building.build_mirror.Goals as goal
 
 pub returns : goal.returns
 returns g c =
