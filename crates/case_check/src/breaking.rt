@@ -4,8 +4,8 @@
 //! another file's bytes in its place, or its rows turned round. Over each the program is asked for
 //! the best values by both ways, the latest departures, the best values to every stop, and the kept
 //! transfers. Each ends with an answer, or with a status that names a fault of the feed and nothing
-//! written; all with the same one; both ways show the same best values, and the order of rows changes
-//! none.
+//! written; all with the same one; both ways show the same best values, and the order of rows
+//! changes none.
 mod asking;
 mod breaks;
 mod trial;

@@ -1,5 +1,5 @@
-//! How the program ends over files in memory. `route` is called in one function, since whatever calls
-//! it is proved over all that its contract names.
+//! How the program ends over files in memory. `route` is called in one function, since whatever
+//! calls it is proved over all that its contract names.
 ghost use Rattle.std.specs.Prelude.{◌≡◌, ◌<◌, ◌-◌, ◌^◌, IfOk};
 
 use super::feeds::Files;

@@ -1,5 +1,4 @@
 //! Feeds of the machine's folder `feeds`.
-ghost use Rattle.std.specs.Prelude.{◌≡◌};
 
 use super::untried::Untried;
 use std::alloc::{AllocError, Global};

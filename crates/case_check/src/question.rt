@@ -109,7 +109,7 @@ pub fn words_of(alloc: Global, line: &str) -> Result<Vec<String>, AllocError> {
     Ok(words)
 }
 
-// A number below 256.
+/// A number below 256.
 pub fn byte_of(number: &str) -> Option<u8> {
     match number_of(number.as_bytes()) {
         Some(byte) if byte < 256 => Some(byte as u8),

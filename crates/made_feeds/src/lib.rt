@@ -5,8 +5,8 @@
 //! forbidden ways, stations, ties and times beyond midnight, that look random; the same seed gives
 //! the same files. `twin_feed` makes one with trips by frequency and trips of the day before, and
 //! `written_out_feed` of the same seed one with the same trips written out, a day later. `Seeds`
-//! says which of them a program takes. Nothing is promised of feeds and timetables but that they are
-//! made safely.
+//! says which of them a program takes. Nothing is promised of feeds and timetables but that they
+//! are made safely.
 #![tactic(auto)]
 
 mod calls;

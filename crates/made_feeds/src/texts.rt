@@ -15,8 +15,8 @@ const DATES: &str = "service_id,date,exception_type\nS,20260302,1\n";
 const DATES_OF_TWO_DAYS: &str =
     "service_id,date,exception_type\nS,20260302,1\nB,20260301,1\nE,20260301,1\nE,20260302,1\n";
 
-/// The texts of a feed. Each of its trips has the service S, which runs on one day; in a feed of two
-/// days B, which runs on the day before, or E, which runs on both, are others.
+/// The texts of a feed. Each of its trips has the service S, which runs on one day; in a feed of
+/// two days B, which runs on the day before, or E, which runs on both, are others.
 #[derive(Clone, Copy)]
 pub struct Feed<'a> {
     /// stops.txt.

@@ -289,8 +289,8 @@ fn drawn_texts(alloc: Global, draw: &mut Draw) -> Result<Texts, AllocError> {
 }
 
 /// The files of a feed of two to six platforms, of which trips run by frequency, and some on the
-/// day before until after midnight. Its footpaths may break the footpath law, so it wants to be read
-/// with footpaths closed.
+/// day before until after midnight. Its footpaths may break the footpath law, so it wants to be
+/// read with footpaths closed.
 pub fn twin_feed(alloc: Global, draw: &mut Draw) -> Result<Files, Memory> {
     let texts = drawn_texts(alloc, draw)?;
     let trips = &texts.trips;

@@ -1,5 +1,5 @@
 //! Random times to arrive by, and the latest departures.
-ghost use Rattle.std.specs.Prelude.{◌≡◌, ◌<◌, ◌≤ℤ◌, All, IfOk, length, pos};
+ghost use Rattle.std.specs.Prelude.{◌<◌, ◌≤ℤ◌, All, IfOk, length, pos};
 ghost use Rattle.mirror_table.specs.Departures.{ArrivalData};
 ghost use Rattle.mirror_table.specs.Mirror.{IsMirror};
 

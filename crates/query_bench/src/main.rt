@@ -5,13 +5,13 @@
 //! generator with a fixed seed, at random times of the day: with the method `search` over the kept
 //! transfers, with the method `plain` round by round. It writes how many choices were found and the
 //! sum of their arrivals, so both methods can be compared. With the method `profile` it asks for
-//! profiles of 24 hours instead, and writes the same of their slots; with `reach` for the best values
-//! from a stop to every stop; with `latest` for the latest departures by a time of the day, of which
-//! it writes the sum of the departures. With `pin` one seat of a store
-//! pins the day's edition COUNT times, with `publish` COUNT stores of one seat are given 99 more
-//! shares of it each; it writes how often, and the sum of the numbers. The processor time of that
-//! alone, without reading the feed and making its edition, it writes to standard error. Nothing is
-//! promised of it but that it is safe and ends.
+//! profiles of 24 hours instead, and writes the same of their slots; with `reach` for the best
+//! values from a stop to every stop; with `latest` for the latest departures by a time of the day,
+//! of which it writes the sum of the departures. With `pin` one seat of a store pins the day's
+//! edition COUNT times, with `publish` COUNT stores of one seat are given 99 more shares of it
+//! each; it writes how often, and the sum of the numbers. The processor time of that alone, without
+//! reading the feed and making its edition, it writes to standard error. Nothing is promised of it
+//! but that it is safe and ends.
 #![tactic(auto)]
 
 mod arrivals;

@@ -11,7 +11,8 @@ use segment_queue::Desk;
 use std::alloc::Global;
 use tb_base::{Choice, Memory, Offer, Query, Sec, StopNo, Timetable, Value, Window};
 
-/// How many choices or slots were found, and the sum of their arrivals.
+/// How many choices or slots were found, and the sum of their arrivals, each by its distance from
+/// the beginning of the day.
 #[derive(Clone, Copy)]
 pub struct Found {
     pub choices: u64,
@@ -19,6 +20,7 @@ pub struct Found {
 }
 
 impl Found {
+    /// Where nothing was found.
     pub const NOTHING: Found = Found {
         choices: 0,
         arrivals: 0,

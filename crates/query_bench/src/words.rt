@@ -51,6 +51,7 @@ fn method_named(name: &str) -> Option<Method> {
     }
 }
 
+/// What the words ask for; none where they aren't four that have a meaning.
 pub fn words_of(rt: &(impl Env + AllocGlobal)) -> Option<Words> {
     let Ok(args) = env::args(rt) else {
         return None;
@@ -60,6 +61,9 @@ pub fn words_of(rt: &(impl Env + AllocGlobal)) -> Option<Words> {
     let day = args.next()?;
     let count = args.next()?;
     let method = args.next()?;
+    if args.next().is_some() {
+        return None;
+    }
     let Ok(day) = day_of(day.as_bytes()) else {
         return None;
     };

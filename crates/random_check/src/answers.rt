@@ -1,13 +1,14 @@
 //! Ways to an answer, each held against another.
 //!
 //! The packed set of hops is held against the plain one; the search over kept transfers against the
-//! plain rounds; the profile of a window against asking at each of its seconds; the latest departures
-//! by a time against the profile of all times before; the best values to every stop against asking
-//! for each alone: over the two feeds of `made_feeds` that are made by hand, between all of their
-//! stops, and over such that look random. Beside each of these is another with trips by frequency
-//! and trips of the day before; the same is compared over it, and best values and profiles between
-//! all of its stops are held against those over the same trips written out a day later. The legs of
-//! each choice are judged as a claim, and so are claims that differ from one in a single field.
+//! plain rounds; the profile of a window against asking at each of its seconds; the latest
+//! departures by a time against the profile of all times before; the best values to every stop
+//! against asking for each alone: over the two feeds of `made_feeds` that are made by hand, between
+//! all of their stops, and over feeds that look random. Beside each of these is another with trips
+//! by frequency and trips of the day before; the same is compared over it, and best values and
+//! profiles between all of its stops are held against those over the same trips written out a day
+//! later. The legs of each choice are judged as a claim, and so are claims that differ from one in
+//! a single field.
 mod arriving;
 mod between_all;
 mod claims;

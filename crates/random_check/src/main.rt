@@ -1,11 +1,12 @@
-//! The program `random_check`: small feeds, most of which look random, over each of which one way to
-//! an answer is held against another, and editions that late trips amend against editions that are
-//! built anew.
+//! The program `random_check`: small feeds, most of which look random, over each of which one way
+//! to an answer is held against another, and editions that late trips amend against editions that
+//! are built anew.
 //!
-//! `random_check PART..` compares part after part: `answers:COUNT` ways to an answer over the feeds of
-//! so many seeds, `late:COUNT` amended editions over those of so many. The first seed is 1, or stands
-//! behind, as in `late:40:7`. One desk serves all feeds. It writes what was compared, or where the
-//! first difference is, with status 1. Nothing is promised of it but that it is safe and ends.
+//! `random_check PART..` compares part after part: `answers:COUNT` ways to an answer over the feeds
+//! of so many seeds, `late:COUNT` amended editions over those of so many. The first seed is 1, or
+//! stands behind, as in `late:40:7`. One desk serves all feeds. It writes what was compared, or
+//! where the first difference is, with status 1. Nothing is promised of it but that it is safe and
+//! ends.
 #![tactic(auto)]
 
 mod answers;

@@ -1,7 +1,5 @@
 //! The text of an answer over a timetable.
 ghost use Rattle.std.specs.Prelude.{◌≡◌, ◌<◌, ◌≤ℤ◌, All, IfOk, length, pos};
-ghost use Rattle.edition_store.specs.Editions.{EditionData};
-ghost use Rattle.mirror_table.specs.Mirror.{IsMirror};
 ghost use Rattle.reduce_workers.specs.Workers.{AreWorkers};
 ghost use Rattle.router_cli.specs.Answers.{IsAnswer, IsInquiryText, IsLatestText, IsProfileText, IsReachText, ShowsKept, ShowsLatest};
 
@@ -13,7 +11,6 @@ use answer_text::unknown_text;
 use arrive_by::Arrival;
 use command_line::{ArrivalInquiry, Command, DayRequest, Inquiry, OriginInquiry, WindowInquiry};
 use edition_build::{build, build_mirror, report};
-use edition_store::Edition;
 use std::alloc::Global;
 use std::thread::Threads;
 use tb_base::{Gate, Memory, Timetable};

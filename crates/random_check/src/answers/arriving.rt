@@ -164,8 +164,8 @@ fn is_too_early(verdict: Option<Verdict>) -> bool {
     }
 }
 
-// Whether a claim is a journey that leaves just then and arrives by the time. A walk may leave at any
-// time.
+// Whether a claim is a journey that leaves just then and arrives by the time. A walk may leave at
+// any time.
 fn is_claim_right(
     alloc: Global,
     table: &Timetable,

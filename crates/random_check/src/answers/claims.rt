@@ -1,5 +1,5 @@
 //! Choices that are judged as claims, and claims that differ from one in a single field.
-ghost use Rattle.std.specs.Prelude.{◌<◌, ◌≤ℤ◌, ◌^◌, pos, All, length};
+ghost use Rattle.std.specs.Prelude.{◌<◌, ◌≤ℤ◌, pos, All, length};
 
 use journey_read::{Claimed, Verdict, judge};
 use journey_rules::fault;
@@ -84,7 +84,7 @@ fn said_value(verdict: Verdict, claimed: &Claimed) -> Option<Value> {
     }
 }
 
-// Whether a value is no better than each best value.
+// Whether some best value arrives no later with no more rides.
 fn is_no_better(value: Value, best: &[Choice]) -> bool {
     best.iter().any(|choice| choice.value.arrive <= value.arrive
         && choice.value.rides <= value.rides)

@@ -12,7 +12,7 @@ use tb_base::{Memory, Query, Sec, StopNo, Timetable, TripNo, Window};
 // The last second of a query.
 const LAST: Sec = 359_999;
 
-// One stop, or at times two.
+/// One stop, or at times two.
 pub fn some_stops(alloc: Global, draw: &mut Draw, stops: u32) -> Result<Vec<StopNo>, Memory>
     requires { 0 < stops }
     ensures { IfOk result (λ found. All (λ p. p < stops) found.items) }

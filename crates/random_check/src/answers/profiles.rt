@@ -1,5 +1,5 @@
 //! The profile of a window, and the best values asked at each of its seconds.
-ghost use Rattle.std.specs.Prelude.{◌≡◌, ◌<◌, ◌≤◌, ◌≤ℤ◌, pos, All, length};
+ghost use Rattle.std.specs.Prelude.{◌<◌, ◌≤◌, ◌≤ℤ◌, pos, All, length};
 
 use super::tally::Tally;
 use crate::refused::{Difference, Refused, held};

@@ -1,5 +1,5 @@
 //! The best values of a query, by the search and by plain rounds.
-ghost use Rattle.std.specs.Prelude.{◌<◌, ◌≤◌, ◌≤ℤ◌, pos, All, IfOk, length};
+ghost use Rattle.std.specs.Prelude.{◌<◌, ◌≤◌, ◌≤ℤ◌, pos, All, length};
 
 use super::claims::{claim, judged_claims, verdict_on};
 use super::tally::Tally;
@@ -100,8 +100,8 @@ fn compare_search(
     compare_choices(alloc, edition.table(), query, searched.as_slice(), plain)
 }
 
-// Holds the choices of plain rounds, the best, against the search, and claims that differ from one of
-// them in one field against the rules.
+// Holds the choices of plain rounds, the best, against the search, and claims that differ from one
+// of them in one field against the rules.
 fn compare_plain(
     alloc: Global,
     edition: &Edition,

@@ -1,5 +1,5 @@
 //! The best values to every stop, asked at once and one by one.
-ghost use Rattle.std.specs.Prelude.{◌≡◌, ◌<◌, ◌≤ℤ◌, All, length, pos};
+ghost use Rattle.std.specs.Prelude.{◌<◌, ◌≤ℤ◌, All, length, pos};
 
 use super::tally::Tally;
 use crate::refused::{Difference, Refused, held};
