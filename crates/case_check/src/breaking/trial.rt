@@ -13,6 +13,24 @@ use tb_base::Memory;
 // How often a feed is broken.
 const BREAKS: u32 = 16;
 
+/// What is asked over each feed.
+#[derive(Clone, Copy, Debug, PartialEq, Eq)]
+pub enum Command {
+    Ask,
+    PlainAsk,
+    Latest,
+    Reach,
+    Build,
+}
+
+// What is asked after `Ask`, and held against how that ended.
+const FURTHER: [Command; 4] = [
+    Command::PlainAsk,
+    Command::Latest,
+    Command::Reach,
+    Command::Build,
+];
+
 /// What was tried.
 #[derive(Clone, Copy)]
 pub struct Tally {
@@ -42,9 +60,9 @@ pub enum Wrong {
     /// The feed as it was made has no answer.
     NoAnswer,
     /// A command ended with neither an answer nor a fault of the feed.
-    Unsound(u32),
-    /// A command ended with another status than the first.
-    OtherStatus(u32),
+    Unsound(Command),
+    /// A command ended with another status than `Ask`.
+    OtherStatus(Command),
     /// Both ways to the best values show different ones.
     OtherValues,
     /// The order of a file's rows changed the best values.
@@ -54,7 +72,9 @@ pub enum Wrong {
 /// Why a trial ends early.
 #[derive(Clone, Copy, Debug)]
 pub enum Refused {
+    /// There was no memory.
     Memory,
+    /// Something is wrong, over the feed as it was made or as it was broken.
     Found(Wrong, Option<Broken>),
 }
 
@@ -89,8 +109,8 @@ impl Question {
         }
     }
 
-    // The words of one of five commands.
-    fn line(self, alloc: Global, command: u32) -> Result<String, AllocError> {
+    // The words of a command.
+    fn line(self, alloc: Global, command: Command) -> Result<String, AllocError> {
         let Question {
             from,
             to,
@@ -98,19 +118,21 @@ impl Question {
             minute,
         } = self;
         match command {
-            0 => format!(in alloc;
+            Command::Ask => format!(in alloc;
                 "--close --workers 1 ask made 20260302 P{from} P{to} {hour}:{minute:02}:00"
             ),
-            1 => format!(in alloc;
+            Command::PlainAsk => format!(in alloc;
                 "--close --plain ask made 20260302 P{from} P{to} {hour}:{minute:02}:00"
             ),
-            2 => format!(in alloc;
+            Command::Latest => format!(in alloc;
                 "--close --workers 1 latest made 20260302 P{from} P{to} {hour}:{minute:02}:00"
             ),
-            3 => format!(in alloc;
+            Command::Reach => format!(in alloc;
                 "--close --workers 1 reach made 20260302 P{from} {hour}:{minute:02}:00"
             ),
-            _ => String::from_str(alloc, "--close --workers 2 build made 20260302 list"),
+            Command::Build => {
+                String::from_str(alloc, "--close --workers 2 build made 20260302 list")
+            }
         }
     }
 }
@@ -121,21 +143,21 @@ fn command_ending<R: Threads + Wait + Sync>(
     alloc: Global,
     files: &[(String, Vec<u8>)],
     question: Question,
-    command: u32,
+    command: Command,
 ) -> Result<Ending, Memory> {
     let line = question.line(alloc, command)?;
     asked(rt, alloc, files, line.as_str())
 }
 
 // What is wrong with how a further command ends, beside the first.
-fn wrong_with(came: &Ending, first: &Ending, command: u32) -> Option<Wrong> {
+fn wrong_with(came: &Ending, first: &Ending, command: Command) -> Option<Wrong> {
     if !came.is_sound() {
         return Some(Wrong::Unsound(command));
     }
     if !came.has_status_of(first) {
         return Some(Wrong::OtherStatus(command));
     }
-    if command == 1 && !came.has_values_of(first) {
+    if command == Command::PlainAsk && !came.has_values_of(first) {
         return Some(Wrong::OtherValues);
     }
     None
@@ -150,11 +172,11 @@ fn wrong_among<R: Threads + Wait + Sync>(
     first: &Ending,
 ) -> Result<Option<Wrong>, Memory> {
     if !first.is_sound() {
-        return Ok(Some(Wrong::Unsound(0)));
+        return Ok(Some(Wrong::Unsound(Command::Ask)));
     }
-    for command in 1..5 {
-        let came = command_ending(rt, alloc, files, question, command)?;
-        let wrong = wrong_with(&came, first, command);
+    for command in FURTHER.iter() {
+        let came = command_ending(rt, alloc, files, question, *command)?;
+        let wrong = wrong_with(&came, first, *command);
         drop(came);
         if wrong.is_some() {
             return Ok(wrong);
@@ -171,7 +193,7 @@ fn sound_ending<R: Threads + Wait + Sync>(
     question: Question,
     broken: Option<Broken>,
 ) -> Result<Ending, Refused> {
-    let first = command_ending(rt, alloc, files, question, 0)?;
+    let first = command_ending(rt, alloc, files, question, Command::Ask)?;
     let refused = match wrong_among(rt, alloc, files, question, &first) {
         Ok(None) => return Ok(first),
         Ok(Some(wrong)) => Refused::Found(wrong, broken),
