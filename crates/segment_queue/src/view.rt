@@ -214,7 +214,7 @@ impl<'a> Scan for View<'a> {
 
     fn read_event_ahead(&self, trip: TripNo, at: u32, ahead: &mut ReadAhead) {
         let set = self.set;
-        set.read_call_ahead(trip, at, ahead);
+        set.read_event_ahead(trip, at, ahead);
     }
 
     fn read_hops_ahead(&self, seen: &Seen, ahead: &mut ReadAhead) {

@@ -1,4 +1,5 @@
 pub mod Bounds
+pub mod Ended
 pub mod Ends
 pub mod Flattening
 pub mod PackedRows

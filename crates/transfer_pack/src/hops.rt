@@ -1,4 +1,4 @@
-ghost use Rattle.std.specs.Prelude.{◌≡◌, ◌+◌, ◌-◌, ◌<◌, ◌≤◌, ◌++◌, ◌∷◌, [], ℕ, Some, IfOk, IsTrue, ◌↔◌, OnOk, drop, length, map, slice_get, take};
+ghost use Rattle.std.specs.Prelude.{◌≡◌, ◌+◌, ◌-◌, ◌<◌, ◌≤◌, ◌++◌, ◌∷◌, [], Some, IfOk, IsTrue, ◌↔◌, OnOk, drop, length, map, slice_get, take};
 ghost use Rattle.transfer_pack.specs.Words.{IsShort, Takes, hop_in, hops_held, lent};
 
 use super::ahead::ReadAhead;
@@ -57,7 +57,7 @@ fn long_at(hops: &[Hop], place: usize) -> Hop
 
 // The items from one place up to another.
 #[inline(always)]
-fn part<T>(items: &[T], from: usize, to: usize) -> &[T]
+pub(crate) fn part<T>(items: &[T], from: usize, to: usize) -> &[T]
     requires from { from ≤ to }
     requires to { to ≤ length items.now }
     ensures { result.now ≡ take (to - from) (drop from items.now) }

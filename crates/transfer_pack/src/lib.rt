@@ -1,8 +1,8 @@
 //! Packed layouts of what the reduction and the search read again and again.
 //!
 //! What they read stands far apart in a timetable and in lists of transfers; here it stands in one
-//! run, in as few bytes as it needs. Each type gives the layer above exactly what the timetable or
-//! the plain lists have:
+//! run, in few bytes. Each type gives the layer above exactly what the timetable or the plain lists
+//! have:
 //!
 //! - `Calls` are the calls of a timetable's events: of each its stop, its arrival and whether one
 //!   may alight there. The timetable gives them, and so does `FlatCalls`, in eight bytes an event,

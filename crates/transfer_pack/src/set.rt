@@ -1,4 +1,6 @@
-ghost use Rattle.std.specs.Prelude.{◌≡◌, suc, Contains, Some, slice_get, ◌+◌, ◌<◌, ◌++◌, ◌∷◌, ◌-◌, ◌≤◌, [], ℕ, List, All, IfOk, OnOk, length, map, slice_index_or, take, drop};
+ghost use Rattle.std.specs.Prelude.{◌≡◌, suc, Contains, Some, slice_get, ◌+◌, ◌<◌, ◌++◌, ◌-◌, ◌≤◌, [], ℕ, All, IfOk, OnOk, length, map, slice_index_or};
+ghost use Rattle.std.specs.List.{AllWithin};
+ghost use Rattle.std.specs.List.Sorted.{IsNonDecreasingBy};
 ghost use Rattle.tb_base.specs.OutSets.{AreRowsOf, hops_at, row_of};
 ghost use Rattle.tb_base.specs.Transfers.{numbers_below};
 ghost use Rattle.tb_base.specs.declared.transfer.Hop.{Hop};
@@ -9,7 +11,7 @@ ghost use Rattle.transfer_pack.specs.Words.{lent};
 
 use super::ahead::ReadAhead;
 use super::calls::Call;
-use super::hops::{HopList, Hops};
+use super::hops::{HopList, Hops, part};
 use super::numbers::number;
 use super::packed_call::{NO_PACKED_CALL, PackedCall};
 use std::alloc::Global;
@@ -157,6 +159,16 @@ fn run_behind<'a>(hops: &'a HopList, spots: &[Spot], k: usize) -> Hops<'a>
     hops.run(spots[k].end as usize, spots[k + 1].end as usize)
 }
 
+// How many of the spots end with no more than so many hops behind `from`.
+fn ended_within(spots: &[Spot], from: usize, count: usize) -> usize
+    requires { IsNonDecreasingBy (λ s. s.end) spots.now }
+    ensures within { result ≤ length spots.now }
+    ensures ended { AllWithin (λ s. s.end - from ≤ count) spots.now 0 result }
+    ensures open { AllWithin (λ s. count < s.end - from) spots.now result (length spots.now) }
+{
+    spots.partition_point(|spot| (spot.end as usize).saturating_sub(from) <= count)
+}
+
 impl Set {
     ghost use Rattle.tb_base.specs.TimetableData.{event_at, events_of};
 
@@ -243,18 +255,16 @@ impl Set {
             slice_get (hops_over (packed self.now) trip first last) place ≡ Some h →
             Contains (packed self.now trip result) h }
     {
-        let _hops = &self.hops;
         let from = self.begin_of(trip, first) as usize;
-        for at in first..last {
-            if place < self.end_of(trip, at) as usize - from {
-                return at;
-            }
-        }
-        last
+        let spots = self.spots.as_slice();
+        let next = self.event(trip, first) + 1;
+        let end = self.event(trip, last) + 1;
+        let between = part(spots, next, end);
+        first + ended_within(between, from, place) as u32
     }
 
-    /// Reads an event ahead.
-    pub fn read_call_ahead(&self, trip: TripNo, at: u32, ahead: &mut ReadAhead)
+    /// Reads event `at` of a trip ahead.
+    pub fn read_event_ahead(&self, trip: TripNo, at: u32, ahead: &mut ReadAhead)
         requires trip { trip < length self.now.table.trips }
         requires at { at < length (events_of self.now.table trip) }
     {
