@@ -7,10 +7,10 @@
 //! alone speak. Nothing here reads or writes but through the object that is handed in.
 #![tactic(auto)]
 
-ghost use Rattle.std.specs.Prelude.{◌≡◌, ◌↔◌, ◌+◌, ◌-◌, ◌^◌, ◌<◌, ◌≤◌, ℕ, List, Option, Some, None, IsTrue, IsSome, IfOk, IfSome, OnOk, IsErrOf, option_map, length, take, drop, map, vec_len};
+ghost use Rattle.std.specs.Prelude.{◌≡◌, ◌↔◌, ◌-◌, ◌<◌, ℕ, List, Option, IsTrue, IsSome, IfOk, IfSome, length, take};
 ghost use Rattle.std.specs.Io.{ReadsAtMost, WritesAtMost};
 ghost use Rattle.std.specs.Io.KnownBytes.{ReadConsumes, WriteAppends};
-ghost use Rattle.tb_io.specs.Causes.{HasCause, Rose};
+ghost use Rattle.tb_io.specs.Causes.{HasCause};
 ghost use Rattle.tb_io.specs.Files.{FileList, file_at, IsPiece};
 
 mod host;

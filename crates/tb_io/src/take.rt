@@ -20,12 +20,11 @@ pub enum Taken {
 // The bytes of one reading.
 const PIECE: usize = 65_536;
 
-/// A whole file of at most `most` bytes, or `None` exactly where the folder says that it isn't
-/// there.
+/// A whole file of at most `most` bytes, or `None` where the folder says that it isn't there.
 ///
-/// `TooLarge` comes exactly where the file has more bytes and the folder didn't fail, and
-/// `ReadFault` only where it did: its count of faults rose. The file is read in pieces of 64 KiB;
-/// each turn takes a byte or ends.
+/// Where the folder tells its files, `None` comes only where the file isn't there, and `TooLarge`
+/// only where it has more bytes. `ReadFault` comes only where the folder failed: its count of
+/// faults rose. The file is read in pieces of 64 KiB; each turn takes a byte or ends.
 pub fn take_file<F: Folder>(
     alloc: Global,
     folder: &mut F,
@@ -68,9 +67,9 @@ pub fn take_file<F: Folder>(
 
 /// All bytes of a source to its end, at most `most` of them.
 ///
-/// `TooLarge` comes exactly where there are more and the source didn't fail, and `ReadFault` only
-/// where it did: its count of faults rose. After a refusal some bytes have been read. The source is
-/// read in pieces of 64 KiB; each turn takes a byte or ends.
+/// Where the source tells what is unread, `TooLarge` comes only where there are more. `ReadFault`
+/// comes only where the source failed: its count of faults rose. After a refusal some bytes have
+/// been read. The source is read in pieces of 64 KiB; each turn takes a byte or ends.
 pub fn take_source<S: Source>(alloc: Global, source: &mut S, most: u64) -> Result<Vec<u8>, Taken>
     requires most { most ≤ 1_073_741_824 }
     requires count { S.faults source.old < 2 ^ 64 - 1 }

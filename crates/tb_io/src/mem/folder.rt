@@ -1,5 +1,5 @@
 //! A folder in memory.
-ghost use Rattle.std.specs.Prelude.{◌≡◌, ◌↔◌, ◌-◌, ◌^◌, ◌<◌, ◌≤◌, Some, length, option_map, IfOk, IfSome, IsErr, IsSome, IsTrue};
+ghost use Rattle.std.specs.Prelude.{◌≡◌, ◌↔◌, ◌-◌, ◌^◌, ◌<◌, Some, length, min, option_map, IfOk, IfSome, IsErr, IsSome, IsTrue};
 ghost use Rattle.std.specs.Io.{ReadsAtMost};
 ghost use Rattle.tb_io.specs.Calls.{fails_next, after_call, no_calls};
 ghost use Rattle.tb_io.specs.Causes.{HasCause};
@@ -91,8 +91,7 @@ fn find<'a>(files: &'a [(String, Vec<u8>)], path: &str) -> Option<&'a [u8]>
 // Copies a piece of a file, of at most so many bytes, and says how many it has.
 fn copy_piece(file: &[u8], from: u64, most: usize, buf: &mut [u8]) -> usize
     requires { 0 < most }
-    ensures most { result ≤ most }
-    ensures bound { result ≤ length buf.new }
+    ensures count { result ≡ min most (min (length file.now - from) (length buf.new)) }
     ensures piece { IsPiece file.now from result buf.new }
 {
     if from >= file.len() as u64 {
@@ -130,7 +129,8 @@ impl Folder for MemFolder {
         ensures cause { HasCause self.old.calls.faults self.new.calls.faults result }
         ensures fails { IsErr result ↔ IsTrue (fails_next self.old.calls) }
         ensures calls { self.new.calls ≡ after_call self.old.calls (fails_next self.old.calls) }
-        ensures most { IfOk result (λ n. n ≤ self.old.piece) }
+        ensures most { IfOk result (λ n. IfSome (file_at self.old.files path.now) (λ file.
+            n ≡ min self.old.piece (min (length file - from) (length buf.new)))) }
         ensures pieces { self.new.piece ≡ self.old.piece }
     {
         if self.call_fails() {

@@ -1,5 +1,5 @@
 //! A source in memory.
-ghost use Rattle.std.specs.Prelude.{◌≡◌, ◌↔◌, ◌-◌, ◌^◌, ◌<◌, ◌≤◌, Some, IfOk, IsErr, IsTrue};
+ghost use Rattle.std.specs.Prelude.{◌≡◌, ◌↔◌, ◌-◌, ◌^◌, ◌<◌, ◌≤◌, Some, length, min, IfOk, IsErr, IsTrue};
 ghost use Rattle.std.specs.Io.{ReadsAtMost};
 ghost use Rattle.std.specs.Io.KnownBytes.{ReadConsumes};
 ghost use Rattle.tb_io.specs.Calls.{fails_next, after_call, no_calls};
@@ -80,7 +80,8 @@ impl Source for MemSource {
         ensures cause { HasCause self.old.calls.faults self.new.calls.faults result }
         ensures fails { IsErr result ↔ IsTrue (fails_next self.old.calls) }
         ensures calls { self.new.calls ≡ after_call self.old.calls (fails_next self.old.calls) }
-        ensures most { IfOk result (λ n. n ≤ self.old.piece) }
+        ensures most { IfOk result (λ n.
+            n ≡ min self.old.piece (min (length self.old.left) (length buf.new))) }
         ensures pieces { self.new.piece ≡ self.old.piece }
     {
         let failed = self.calls.fails_next();
