@@ -1,5 +1,6 @@
 -- The first line of a text, by the place of its first line feed.
-use Rattle.std.proofs.Common.{◌≡◌, ◌∙◌, refl, ap, sym, ℕ, zero, suc, ◌-◌, ◌<◌, ◌==◌, List, [], ◌∷◌, ◌++◌, length, take, drop, Bool, true, false, append_assoc, arith}
+use Rattle.std.proofs.Common.{◌≡◌, ◌∙◌, refl, ap, sym, ℕ, zero, suc, ◌-◌, ◌<◌, ◌≤◌, ◌==◌, List, [], ◌∷◌, ◌++◌, length, take, drop, Bool, true, false, append_assoc, length-drop, arith}
+use Rattle.std.proofs.lemmas.List.{take_rest}
 use Rattle.std.specs.Prelude.{slice_index, if◌then◌else◌}
 use Rattle.text_lines.specs.Lines.{last_line, lines_from, without_cr}
 
@@ -49,3 +50,11 @@ one_line (b ∷ text) some = refl
 -- nothing is taken
 pub nothing : (n : ℕ) (xs : List ℕ) → take (n - n) (drop n xs) ≡ []
 nothing n xs = let none : n - n ≡ 0 = omega arith in ap (λ k. take k (drop n xs)) none
+
+-- what stands from a place on, by its own length
+pub behind_place : (text : List ℕ) (n : ℕ) → n ≤ length text → take (length text - n) (drop n text) ≡ drop (length text - length (take (length text - n) (drop n text))) text
+behind_place text n within =
+    let whole : take (length text - n) (drop n text) ≡ drop n text = take_rest text n in
+    let long : length (take (length text - n) (drop n text)) ≡ length text - n = ap length whole ∙ length-drop n text in
+    let place : n ≡ length text - length (take (length text - n) (drop n text)) = omega (arith, within, long) in
+    whole ∙ ap (λ k. drop k text) place

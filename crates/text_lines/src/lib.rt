@@ -5,7 +5,7 @@
 //! a line feed or to the text's end, and a carriage return at its end is no part of it.
 #![tactic(auto)]
 
-ghost use Rattle.std.specs.Prelude.{◌≡◌, ◌∷◌, ◌<◌, [], MatchOption, length};
+ghost use Rattle.std.specs.Prelude.{◌≡◌, ◌∷◌, ◌-◌, ◌<◌, [], IfSome, MatchOption, drop, length};
 ghost use Rattle.text_lines.specs.Lines.{lines_of, without_cr};
 
 use memchr::memchr;
@@ -35,6 +35,8 @@ pub fn first_line(text: &[u8]) -> Option<Cut<'_>>
         (λ cut. lines_of text.now ≡ cut.line.now ∷ lines_of cut.rest.now) }
     ensures shorter { MatchOption result (text.now ≡ [])
         (λ cut. length cut.rest.now < length text.now) }
+    ensures behind { IfSome result (λ cut.
+        cut.rest.now ≡ drop (length text.now - length cut.rest.now) text.now) }
 {
     if text.is_empty() {
         return None;

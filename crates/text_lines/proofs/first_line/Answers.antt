@@ -2,7 +2,7 @@ use Rattle.std.proofs.Common.{◌≡◌, ◌∙◌, ◌+◌, ◌-◌, ◌≢◌,
 use Rattle.std.proofs.lemmas.List.{length-drop, take_all}
 use Rattle.std.proofs.lemmas.Bool.Decides.{nat_tests}
 use Rattle.text_lines.specs.Lines.{lines_from, lines_of, without_cr}
-use Rattle.text_lines.proofs.Cutting.{cut, nothing, one_line, uncut}
+use Rattle.text_lines.proofs.Cutting.{behind_place, cut, nothing, one_line, uncut}
 use Rattle.text_lines.proofs.first_line.Goals as goal
 
 pub returns-in-Some-clause-lines : goal.returns-in-Some-clause-lines
@@ -26,3 +26,9 @@ returns-in-None-clause-lines c =
     ∙ one_line text (omega (arith, some))
     ∙ ap (λ line. line ∷ []) (sym c.without_cr-in-None.ensures)
     ∙ ap (λ rest. c.without_cr-in-None.result.now ∷ lines_of rest) (sym none)
+
+pub returns-in-Some-clause-behind : goal.returns-in-Some-clause-behind
+returns-in-Some-clause-behind c = behind_place c.args.text.now (c.in-Some.at + 1) (omega (arith, c.in-Some.ensures.0.high))
+
+pub returns-in-None-clause-behind : goal.returns-in-None-clause-behind
+returns-in-None-clause-behind c = behind_place c.args.text.now (length c.args.text.now) (omega arith)
