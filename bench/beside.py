@@ -1,27 +1,23 @@
 #!/usr/bin/env python3
-"""Measures two builds of the program in one run: beside.py OTHER [city:TRIPS ..] [network:PATTERNS ..] [FOLDER ..] [--runs N]
+"""Measures two builds of the program in one run:
+beside.py OTHER [city:TRIPS ..] [network:PATTERNS ..] [FOLDER ..] [--runs N]
 
-OTHER is another build of the program, as of an earlier state; the one of this checkout is crates/router/out/router, which `rt run` in
-crates/router builds, or the one that the variable ROUTER names. Both read each feed by `direct` and make its transfers by `build`, in
-turn, N times or five. Prints the least processor seconds of `direct` and of what `build` takes more, of both, and their ratios; and how
-many megabytes of stop_times.txt `direct` gets through in a second. Words may also be folders that hold such feeds.
+OTHER is another build of the program, as of an earlier state; the one of this checkout is
+crates/router/out/router, which `rt run` in crates/router builds, or the one that the variable
+ROUTER names. Both read each feed by `direct` and make its transfers by `build`, in turn, N times or
+five. Prints the least processor seconds of `direct` and of what `build` takes more, of both, and
+their ratios; and how many megabytes of stop_times.txt `direct` gets through in a second. Words may
+also be folders that hold such feeds.
 """
 import os
-import subprocess
 import sys
-import tempfile
 
-HERE = os.path.dirname(os.path.abspath(__file__))
-PROGRAM = os.environ.get("ROUTER", os.path.join(HERE, "..", "crates", "router", "out", "router"))
-DAY = "20260302"
+from runs import DAY, PROGRAM, done, feed_of
 
 
 def seconds(program, words):
     """The processor seconds of a run."""
-    child = subprocess.Popen([program, "--change", "60", *words], stdout=subprocess.DEVNULL)
-    _, status, used = os.wait4(child.pid, 0)
-    assert status == 0, (program, words, status)
-    return used.ru_utime + used.ru_stime
+    return done(["--change", "60", *words], program=program).seconds
 
 
 def ends_of(feed):
@@ -58,14 +54,9 @@ def main(words):
         del words[at : at + 2]
     other, *feeds = words
     print("| feed | `direct` s, other | this | ratio | MB/s | `build` less `direct` s, other | this | ratio |\n" + "|---" * 8 + "|")
-    for feed in feeds or ["network:300", "city:20000"]:
-        if os.path.isdir(feed):
-            measure(os.path.basename(os.path.normpath(feed)), feed, other, runs)
-            continue
-        kind, size = feed.split(":")
-        with tempfile.TemporaryDirectory() as folder:
-            subprocess.run([sys.executable, os.path.join(HERE, f"make_{kind}.py"), folder, size], check=True)
-            measure(feed, folder, other, runs)
+    for word in feeds or ["network:300", "city:20000"]:
+        with feed_of(word) as (name, feed):
+            measure(name, feed, other, runs)
 
 
 if __name__ == "__main__":

@@ -1,34 +1,30 @@
 #!/usr/bin/env python3
 """Measures reading trips by frequency: frequencies.py [PATTERNS ..]
 
-Writes each network three times: every second route by rows of frequencies.txt, with the same trips written out, and without
-them. Reads each and makes the timetable of a weekday with the proved program (crates/query_bench/out/query_bench, which `rt run`
-in crates/query_bench builds), the least of five runs, and prints seconds of processor time and microseconds for each trip of the
-half by frequency and of the half written out, beside those of the other half. Both ways have to give the same answers.
+Writes each network three times: every second route by rows of frequencies.txt, with the same trips
+written out, and without them. Reads each and makes the timetable of a weekday with the proved
+program (crates/query_bench/out/query_bench, which `rt run` in crates/query_bench builds, or the one
+that the variable QUERY_BENCH names), the least of five runs, and prints seconds of processor time
+and microseconds for each trip of the half by frequency and of the half written out, beside those of
+the other half. Both ways have to give the same answers.
 """
 import os
-import subprocess
 import sys
 import tempfile
 
-HERE = os.path.dirname(os.path.abspath(__file__))
-PROGRAM = os.environ.get("QUERY_BENCH", os.path.join(HERE, "..", "crates", "query_bench", "out", "query_bench"))
-DAY = "20260302"
+from runs import DAY, QUERY_BENCH, done, make_feed
+
 HALVES = ("frequencies", "written", "without")
 RUNS = 5
 
 
 def seconds(folder):
     """The processor seconds of reading a feed and making its timetable."""
-    child = subprocess.Popen([PROGRAM, folder, DAY, "0", "plain"], stdout=subprocess.DEVNULL, stderr=subprocess.DEVNULL)
-    _, status, used = os.wait4(child.pid, 0)
-    assert status == 0, status
-    return used.ru_utime + used.ru_stime
+    return done([folder, DAY, "0", "plain"], program=QUERY_BENCH).seconds
 
 
 def found(folder):
-    words = [PROGRAM, folder, DAY, "100", "plain"]
-    return subprocess.run(words, capture_output=True, text=True, check=True).stdout
+    return done([folder, DAY, "100", "plain"], program=QUERY_BENCH, out=None).out
 
 
 def rows(folder, name):
@@ -39,7 +35,7 @@ def rows(folder, name):
 def measure(patterns, folder):
     folders = {half: os.path.join(folder, half) for half in HALVES}
     for half, path in folders.items():
-        subprocess.run([sys.executable, os.path.join(HERE, "make_network.py"), path, str(patterns), half], check=True)
+        make_feed("network", path, str(patterns), half)
     assert found(folders["frequencies"]) == found(folders["written"])
     taken = {half: min(seconds(path) for _ in range(RUNS)) for half, path in folders.items()}
     other = rows(folders["without"], "trips.txt")

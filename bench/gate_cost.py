@@ -1,10 +1,11 @@
 #!/usr/bin/env python3
 """What the gate costs, crate by crate: gate_cost.py [--watch FOLDER]
 
-Runs `rt ci` at the top of this checkout, with `--anew` where the toolchain knows that word, so that everything is proved from nothing,
-and prints a table: for each crate the processor seconds of its code, of its tests and of its must-fail edits, and the most memory
-that one prover held. With `--watch` it starts nothing, and watches a gate that runs in another checkout until that ends. It samples
-the prover's processes twice a second; what a process used after its last sample is missed.
+Runs `rt ci` at the top of this checkout, with `--anew` where the toolchain knows that word, so that
+everything is proved from nothing, and prints a table: for each crate the processor seconds of its
+code, of its tests and of its must-fail edits, and the most memory that one prover held. With
+`--watch` it starts nothing, and watches a gate that runs in another checkout until that ends. It
+samples the prover's processes twice a second; what a process used after its last sample is missed.
 """
 import collections
 import os
@@ -26,7 +27,9 @@ def read(path):
 
 
 def gate_words():
-    """The words that prove everything from nothing: a toolchain that keeps what passed is told not to use it."""
+    """The words that prove everything from nothing: a toolchain that keeps what passed is told not
+    to use it.
+    """
     help_text = subprocess.run(["rt", "help"], capture_output=True, text=True).stderr
     return ["rt", "ci", "--anew"] if "--anew" in help_text else ["rt", "ci"]
 

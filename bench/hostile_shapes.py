@@ -1,8 +1,9 @@
 #!/usr/bin/env python3
 """Feeds of shapes that are made to cost time: hostile_shapes.py [NAME ..]
 
-Writes each feed to a temporary folder at one size and at twice that, runs `direct` or `build` over it, and prints status, processor seconds
-and memory of both: what grows with the bytes alone at most doubles.
+Writes each feed to a temporary folder at one size and at twice that, runs `direct` or `build` over
+it, and prints status, processor seconds and memory of both: what grows with the bytes alone at most
+doubles.
 """
 import os
 import sys

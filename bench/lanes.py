@@ -1,21 +1,21 @@
 #!/usr/bin/env python3
-"""Measures a served script: lanes.py [city:TRIPS ..] [network:PATTERNS ..]
+"""Measures a served script: lanes.py [city:TRIPS ..] [network:PATTERNS ..] [FOLDER ..]
 
-Writes each feed, a made city or a network with the density of a real one, to a temporary folder, and a script of 10,000 requests
-for best values between random stations, dealt out to 1, 4 and 8 lanes. Runs the proved program (crates/router/out/router, which
-`rt run` in crates/router builds, or the one that the variable ROUTER names) on it over one day and over two, so that the second is
-read, built and published beside the lanes, and prints seconds by the clock and of processor time, without those of the same run
-with one request a lane, and the most memory. Requests a second are by the clock. Words may also be folders that hold such feeds.
+Writes each feed, a made city or a network with the density of a real one, to a temporary folder,
+and a script of 10,000 requests for best values between random stations, dealt out to 1, 4 and 8
+lanes. Runs the proved program (crates/router/out/router, which `rt run` in crates/router builds, or
+the one that the variable ROUTER names) on it over one day and over two, so that the second is read,
+built and published beside the lanes, and prints seconds by the clock and of processor time, without
+those of the same run with one request a lane, and the most memory. Requests a second are by the
+clock. Words may also be folders that hold such feeds.
 """
 import os
 import random
-import subprocess
 import sys
 import tempfile
-import time
 
-HERE = os.path.dirname(os.path.abspath(__file__))
-PROGRAM = os.environ.get("ROUTER", os.path.join(HERE, "..", "crates", "router", "out", "router"))
+from runs import done, feed_of
+
 OPTIONS = ["--change", "60", "--workers", "1"]
 DAYS = ["20260302", "20260303"]
 REQUESTS = 10_000
@@ -41,12 +41,9 @@ def write_script(path, stations, lanes, requests):
 
 def run(script, items):
     """The seconds by the clock and of processor time of a run, and the megabytes that it held."""
-    with open(script, "rb") as given, open(os.devnull, "wb") as out:
-        start = time.perf_counter()
-        child = subprocess.Popen([PROGRAM, *OPTIONS, "serve", *items], stdin=given, stdout=out)
-        _, status, used = os.wait4(child.pid, 0)
-        assert status == 0, status
-        return time.perf_counter() - start, used.ru_utime + used.ru_stime, used.ru_maxrss / 1024
+    with open(script, "rb") as file:
+        ended = done([*OPTIONS, "serve", *items], given=file.read())
+    return ended.clock, ended.seconds, ended.mebibytes
 
 
 def measure(folder, stations, lanes, items):
@@ -72,15 +69,9 @@ def measure_feed(name, feed, folder):
 
 def main(words):
     print("| feed | lanes | editions | s by the clock | requests a second | processor ms a request | memory MB |\n" + "|---" * 7 + "|")
-    for feed in words or ["city:20000"]:
-        with tempfile.TemporaryDirectory() as folder:
-            if os.path.isdir(feed):
-                measure_feed(os.path.basename(feed), feed, folder)
-                continue
-            kind, size = feed.split(":")
-            made = os.path.join(folder, "feed")
-            subprocess.run([sys.executable, os.path.join(HERE, f"make_{kind}.py"), made, size], check=True)
-            measure_feed(feed, made, folder)
+    for word in words or ["city:20000"]:
+        with feed_of(word) as (name, feed), tempfile.TemporaryDirectory() as folder:
+            measure_feed(name, feed, folder)
 
 
 if __name__ == "__main__":

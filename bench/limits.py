@@ -1,8 +1,9 @@
 #!/usr/bin/env python3
 """Holds the proved program against its limits from both sides: limits.py [NAME ..]
 
-Writes a feed or a script just at a limit and one just past it, runs `direct` or `serve` over each, and prints status, seconds and
-memory. The files take up to two gigabytes of a temporary folder at a time.
+Writes a feed or a script just at a limit and one just past it, runs `direct` or `serve` over each,
+and prints status, seconds and memory. The files take up to two gigabytes of a temporary folder at a
+time.
 """
 import os
 import sys
@@ -60,7 +61,9 @@ def running_trips(folder, more):
 
 
 def bytes_of_file(folder, more):
-    """A stops.txt of 1,073,741,824 bytes and so many more, most of them in a column that nobody reads."""
+    """A stops.txt of 1,073,741,824 bytes and so many more, most of them in a column that nobody
+    reads.
+    """
     write_feed(folder)
     with open(os.path.join(folder, "stops.txt"), "wb") as file:
         file.write(b"stop_id,note\n")
@@ -81,7 +84,9 @@ def stops(folder, more):
 
 
 def footpaths(folder, more):
-    """Stations whose platforms an option joins each to each, 2,000,000 footpaths in all, and so many stations of two platforms."""
+    """Stations whose platforms an option joins each to each, 2,000,000 footpaths in all, and so
+    many stations of two platforms.
+    """
     sizes = [101] * 198 + [14, 4, 3] + [2] * more
     rows = "stop_id,location_type,parent_station\nA,,\nB,,\n"
     for station, size in enumerate(sizes):
@@ -90,7 +95,9 @@ def footpaths(folder, more):
 
 
 def rows_of_transfers(folder, more):
-    """2,000,000 rows of transfers.txt, each a footpath, between the stops of groups of 22 and between A and B, and so many more."""
+    """2,000,000 rows of transfers.txt, each a footpath, between the stops of groups of 22 and
+    between A and B, and so many more.
+    """
 
     def rows():
         for group in range(4329):

@@ -1,13 +1,16 @@
 #!/usr/bin/env python3
 """Writes the feed of a made city: make_city.py FOLDER TRIPS [SEED]
 
-Stations with two platforms each stand in a square grid. Lines wander over it, 100 trips each, about 25 calls a trip. There
-are services by weekday with exceptions, times that are left out between two that stand, marks of boarding and alighting, and
-transfers that keep the footpath law. The same words give the same bytes.
+Stations with two platforms each stand in a square grid. Lines wander over it, 100 trips each, about
+25 calls a trip. There are services by weekday with exceptions, times that are left out between two
+that stand, marks of boarding and alighting, and transfers that keep the footpath law. The same
+words give the same bytes.
 """
 import os
 import random
 import sys
+
+from runs import clock, write_lines
 
 TRIPS_PER_LINE = 100
 TRIPS_PER_STATION = 20
@@ -18,15 +21,6 @@ DWELL = 20
 # The two platforms of a station, and the platforms of two stations that one can walk between.
 ACROSS = 90
 BETWEEN = 300
-
-
-def clock(secs):
-    return f"{secs // 3600:02}:{secs // 60 % 60:02}:{secs % 60:02}"
-
-
-def write(folder, name, lines):
-    with open(os.path.join(folder, name), "w", encoding="ascii") as file:
-        file.writelines(line + "\n" for line in lines)
 
 
 def stops(side):
@@ -88,9 +82,9 @@ def main(folder, trips, seed):
     side = max(round((trips / TRIPS_PER_STATION) ** 0.5), 3)
     lines = [path(side) for _ in range(-(-trips // TRIPS_PER_LINE))]
     services = random.choices(("WD", "SA", "SU"), (8, 1, 1), k=trips)
-    write(folder, "stops.txt", stops(side))
-    write(folder, "transfers.txt", transfers(side))
-    write(
+    write_lines(folder, "stops.txt", stops(side))
+    write_lines(folder, "transfers.txt", transfers(side))
+    write_lines(
         folder,
         "calendar.txt",
         [
@@ -100,17 +94,17 @@ def main(folder, trips, seed):
             "SU,0,0,0,0,0,0,1,20260101,20261231",
         ],
     )
-    write(
+    write_lines(
         folder,
         "calendar_dates.txt",
         ["service_id,date,exception_type", "WD,20260406,2", "SU,20260406,1"],
     )
-    write(
+    write_lines(
         folder,
         "trips.txt",
         ["route_id,service_id,trip_id", *(f"R{trip // TRIPS_PER_LINE},{services[trip]},T{trip}" for trip in range(trips))],
     )
-    write(folder, "stop_times.txt", stop_times(lines, trips))
+    write_lines(folder, "stop_times.txt", stop_times(lines, trips))
 
 
 if __name__ == "__main__":

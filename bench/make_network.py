@@ -1,17 +1,23 @@
 #!/usr/bin/env python3
-"""Writes a feed with the density of a real network: make_network.py FOLDER PATTERNS [SEED] [frequencies|written|without]
+"""Writes a feed with the density of a real network:
+make_network.py FOLDER PATTERNS [SEED] [frequencies|written|without]
 
-Stations stand in a square grid, with two to six platforms each: as many as their routes need, joined by footpaths. A route runs
-both ways over the same stations, by way of a hub, some 28 calls a trip; each direction is a pattern of stops, with some 54
-trips a weekday: more often in the two peaks, when they are slower too, and seldom in the evening. No trip overtakes another of
-its pattern. Where routes meet one can change, to some nine lines from an event. The same words give the same bytes.
+Stations stand in a square grid, with two to six platforms each: as many as their routes need,
+joined by footpaths. A route runs both ways over the same stations, by way of a hub, some 28 calls a
+trip; each direction is a pattern of stops, with some 54 trips a weekday: more often in the two
+peaks, when they are slower too, and seldom in the evening. No trip overtakes another of its
+pattern. Where routes meet one can change, to some nine lines from an event. The same words give the
+same bytes.
 
-With the word `frequencies` every second route runs by rows of frequencies.txt: the times of one trip a pattern and service, and
-the same number of departures a headway apart. With `written` the same trips are written out, with `without` they are left out.
+With the word `frequencies` every second route runs by rows of frequencies.txt: the times of one
+trip a pattern and service, and the same number of departures a headway apart. With `written` the
+same trips are written out, with `without` they are left out.
 """
 import os
 import random
 import sys
+
+from runs import clock, write_lines
 
 PATTERNS_PER_STATION = 0.15
 CALLS = 28
@@ -23,18 +29,10 @@ STAIR = 45
 PLATFORM = 15
 # Seconds between the platforms of two stations that one can walk between.
 BETWEEN = 300
-# Hours, and minutes from one departure to the next by then, of the timetable of each day and of weekdays.
+# Hours, and minutes from one departure to the next by then, of the timetable of each day and of
+# weekdays.
 EACH_DAY = ((7, 30), (20, 25), (24, 48))
 PEAKS = ((7, 9), (16, 19))
-
-
-def clock(secs):
-    return f"{secs // 3600:02}:{secs // 60 % 60:02}:{secs % 60:02}"
-
-
-def write(folder, name, lines):
-    with open(os.path.join(folder, name), "w", encoding="ascii") as file:
-        file.writelines(line + "\n" for line in lines)
 
 
 def way(side, begin, end):
@@ -55,7 +53,9 @@ def way(side, begin, end):
 
 
 def route(side, hubs):
-    """The stations of a route: from one by way of a hub to another, each at most once, some 28 of them."""
+    """The stations of a route: from one by way of a hub to another, each at most once, some 28 of
+    them.
+    """
     while True:
         hub = random.choice(hubs)
         calls = CALLS + random.randrange(-6, 7)
@@ -95,13 +95,16 @@ def transfers(side, platforms):
 
 
 def crowd(secs):
-    """How crowded a time is, from 0 to 1: it rises and falls within an hour at both ends of a peak."""
+    """How crowded a time is, from 0 to 1: it rises and falls within an hour at both ends of a peak.
+    """
     hour = secs / 3600
     return max(max(0.0, min(1.0, hour - first + 0.5, last + 0.5 - hour)) for first, last in PEAKS)
 
 
 def departures(share):
-    """Departures of a pattern with their services. The share says how often it runs: 1 as the tables above."""
+    """Departures of a pattern with their services. The share says how often it runs: 1 as the
+    tables above.
+    """
     found = []
     secs = FIRST_DEPARTURE + random.randrange(1200)
     while secs < LAST_DEPARTURE:
@@ -116,7 +119,9 @@ def departures(share):
 
 
 def ride(legs, depart, crowded=True):
-    """The times at which a trip arrives; it departs after a dwell. Legs take up to a quarter longer in a peak, where it's crowded."""
+    """The times at which a trip arrives; it departs after a dwell. Legs take up to a quarter longer
+    in a peak, where it's crowded.
+    """
     secs = depart - DWELL
     yield secs
     for leg in legs:
@@ -126,7 +131,9 @@ def ride(legs, depart, crowded=True):
 
 
 def headways(departs):
-    """Rows of frequencies.txt that give these departures: the first, a second behind the last, and the seconds between."""
+    """Rows of frequencies.txt that give these departures: the first, a second behind the last, and
+    the seconds between.
+    """
     at = 0
     while at < len(departs):
         end = at + 1
@@ -192,9 +199,9 @@ def main(folder, patterns, seed, half=None):
             elif by != "without":
                 for place, (depart, service) in enumerate(departs):
                     trips.add(f"{number}:{direction}", service, place, calls, ride(legs, depart, by is None))
-    write(folder, "stops.txt", stops(platforms))
-    write(folder, "transfers.txt", transfers(side, platforms))
-    write(
+    write_lines(folder, "stops.txt", stops(platforms))
+    write_lines(folder, "transfers.txt", transfers(side, platforms))
+    write_lines(
         folder,
         "calendar.txt",
         [
@@ -203,10 +210,10 @@ def main(folder, patterns, seed, half=None):
             "WD,1,1,1,1,1,0,0,20260101,20261231",
         ],
     )
-    write(folder, "trips.txt", trips.trips)
-    write(folder, "stop_times.txt", trips.times)
+    write_lines(folder, "trips.txt", trips.trips)
+    write_lines(folder, "stop_times.txt", trips.times)
     if half == "frequencies":
-        write(folder, "frequencies.txt", trips.frequencies)
+        write_lines(folder, "frequencies.txt", trips.frequencies)
 
 
 if __name__ == "__main__":

@@ -1,9 +1,11 @@
 #!/usr/bin/env python3
 """Measures the proved program over made cities: measure.py [TRIPS ..]
 
-Builds the program as its users get it (`rt run` proves and builds it), writes a city of each size to a temporary folder, and
-prints a table. Reading is a query outside the time of service; what a query on a working day takes more is building the
-timetable and the answer; `build` less `direct` is making lines and kept transfers; `ask` less `build` is the set and the search.
+Builds the program as its users get it (`rt run` proves and builds it), or takes the one that the
+variable ROUTER names; writes a city of each size to a temporary folder, and prints a table. Reading
+is a query outside the time of service; what a query on a working day takes more is building the
+timetable and the answer; `build` less `direct` is making lines and kept transfers; `ask` less
+`build` is the set and the search.
 """
 import os
 import shutil
@@ -12,10 +14,10 @@ import sys
 import tempfile
 import time
 
-HERE = os.path.dirname(os.path.abspath(__file__))
-PROGRAM = os.path.join(HERE, "..", "crates", "router", "out", "router")
+from runs import DAY, HERE, Run, make_feed
+
 OPTIONS = ["--change", "60"]
-NO_DAY, DAY = "20300101", "20260302"
+NO_DAY = "20300101"
 
 
 def build():
@@ -25,12 +27,11 @@ def build():
 
 
 def run(*words):
-    """The processor seconds of a run, the megabytes that it held at most, and what it wrote."""
-    with tempfile.TemporaryFile() as out:
-        child = subprocess.Popen([PROGRAM, *OPTIONS, *words], stdout=out)
-        _, status, used = os.wait4(child.pid, 0)
-        out.seek(0)
-        return used.ru_utime + used.ru_stime, used.ru_maxrss / 1000, status, out.read().decode()
+    """The processor seconds of a run, the megabytes that it held at most, how it ended and what
+    it wrote.
+    """
+    ended = Run([*OPTIONS, *words])
+    return ended.seconds, ended.megabytes, ended.status, ended.out
 
 
 def copy(folder):
@@ -44,7 +45,7 @@ def copy(folder):
 
 def measure(trips):
     with tempfile.TemporaryDirectory() as folder:
-        subprocess.run([sys.executable, os.path.join(HERE, "make_city.py"), folder, str(trips)], check=True)
+        make_feed("city", folder, str(trips))
         times = os.path.join(folder, "stop_times.txt")
         size = os.path.getsize(times) / 1e6
         with open(times, encoding="ascii") as file:
@@ -69,7 +70,8 @@ def measure(trips):
 
 
 def main(sizes):
-    build()
+    if "ROUTER" not in os.environ:
+        build()
     print(
         "| trips | stop times | MB | copy s | reading s | MB/s | timetable s | reduction s | set and search s | round by round s "
         "| reading MB | bytes a stop time beside the file | all MB | lines | candidates | without U-turns | kept |"

@@ -1,9 +1,10 @@
 #!/usr/bin/env python3
 """Meets the proved program with real faults of the machine: outside_faults.py
 
-Runs it over folders that may not be read, files that are folders and links to nowhere, onto a full disk, to a reader that has gone,
-and with standard input or output closed, and prints how each run ended beside what the documents say. As the machine's superuser
-may read everything, the runs are those of the user with the number 65534 then.
+Runs it over folders that may not be read, files that are folders and links to nowhere, onto a full
+disk, to a reader that has gone, and with standard input or output closed, and prints how each run
+ended beside what the documents say. As the machine's superuser may read everything, the runs are
+those of the user with the number 65534 then.
 """
 import os
 import sys

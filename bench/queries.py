@@ -1,30 +1,28 @@
 #!/usr/bin/env python3
-"""Measures queries and profiles: queries.py [city:TRIPS ..] [network:PATTERNS ..] [METHOD ..] [--runs N] [--with PROGRAM]
+"""Measures queries and profiles:
+queries.py [city:TRIPS ..] [network:PATTERNS ..] [METHOD ..] [--runs N] [--with PROGRAM]
 
-Writes each feed, a made city or a network with the density of a real one, to a temporary folder and asks it 1,000 random queries
-by the search and round by round, 50 random profiles of 24 hours, 1,000 random latest departures, and the best values from 20 random
-stops to every stop, with the proved program (crates/query_bench/out/query_bench, which `rt run` in crates/query_bench builds).
-Prints milliseconds of processor time each, of the asking alone, as the program says: the least and the most of N runs, or of
-three. With another build of query_bench both are measured in one run, one after the other.
+Writes each feed, a made city or a network with the density of a real one, to a temporary folder and
+asks it 1,000 random queries by the search and round by round, 50 random profiles of 24 hours, 1,000
+random latest departures, and the best values from 20 random stops to every stop, with the proved
+program (crates/query_bench/out/query_bench, which `rt run` in crates/query_bench builds, or the one
+that the variable QUERY_BENCH names). Prints milliseconds of processor time each, of the asking
+alone, as the program says: the least and the most of N runs, or of three. With another build of
+query_bench both are measured in one run, one after the other.
 """
-import os
-import subprocess
 import sys
-import tempfile
 
-HERE = os.path.dirname(os.path.abspath(__file__))
-PROGRAM = os.environ.get("QUERY_BENCH", os.path.join(HERE, "..", "crates", "query_bench", "out", "query_bench"))
-DAY = "20260302"
+from runs import DAY, QUERY_BENCH, done, feed_of
+
 FEEDS = ["city:2000", "city:20000", "network:300"]
 COUNTS = {"search": 1000, "plain": 1000, "profile": 50, "latest": 1000, "reach": 20}
 
 
 def run(program, folder, method):
     """The milliseconds of processor time of each question of a run, and what it found."""
-    words = [program, folder, DAY, str(COUNTS[method]), method]
-    ended = subprocess.run(words, capture_output=True, text=True, check=True)
-    micros = int(ended.stderr.removeprefix("processor microseconds "))
-    return micros / 1000 / COUNTS[method], ended.stdout.strip()
+    ended = done([folder, DAY, str(COUNTS[method]), method], program=program, out=None)
+    micros = int(ended.err.removeprefix("processor microseconds "))
+    return micros / 1000 / COUNTS[method], ended.out.strip()
 
 
 def measure(program, folder, method, runs):
@@ -43,12 +41,10 @@ def main(words):
     other = word_after(words, "--with")
     runs = int(word_after(words, "--runs") or 3)
     feeds = [word for word in words if word.startswith(("city:", "network:"))] or FEEDS
-    programs = [("this", PROGRAM)] + ([("other", other)] if other else [])
+    programs = [("this", QUERY_BENCH)] + ([("other", other)] if other else [])
     print("| feed | method | program | ms each, least | most | found |\n|---|---|---|---|---|---|")
-    for feed in feeds:
-        kind, size = feed.split(":")
-        with tempfile.TemporaryDirectory() as folder:
-            subprocess.run([sys.executable, os.path.join(HERE, f"make_{kind}.py"), folder, size], check=True)
+    for word in feeds:
+        with feed_of(word) as (feed, folder):
             for method in methods:
                 for name, program in programs:
                     least, most, found = measure(program, folder, method, runs)

@@ -1,7 +1,8 @@
 #!/usr/bin/env python3
 """Runs the proved program so that it ends in each of its statuses: statuses.py
 
-Prints what each run ended with, what it wrote to standard error, and whether both, and standard output, are what the documents say.
+Prints what each run ended with, what it wrote to standard error, and whether both, and standard
+output, are what the documents say.
 """
 import os
 import sys
