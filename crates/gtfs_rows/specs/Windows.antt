@@ -7,8 +7,8 @@ use Rattle.csv.specs.declared.parser.State.TheVariants as st
 use Rattle.gtfs_rows.specs.Records.{Record}
 use Rattle.gtfs_rows.specs.PlainText.{records_of}
 
--- Marks of the sixteen bytes from `at` on: from the byte `next` on, one at each byte that is no more
--- than a comma, and maybe at others.
+-- Marks of the sixteen bytes from `at` on: from the byte `next` on, one at each byte that is no
+-- more than a comma, and maybe at others.
 pub record AreMarks (text : List ℕ) (at next marks : ℕ) : Type 0 where
   pub high : (k : ℕ) → k < 16 → next ≤ at + k → bit_at marks k ≡ 0 → 44 < get_or text (at + k) 0
   pub none_before : (k : ℕ) → k < 64 → at + k < next → bit_at marks k ≡ 0

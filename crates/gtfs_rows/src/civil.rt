@@ -1,6 +1,6 @@
 //! Dates in text.
 ghost use Rattle.std.specs.Prelude.{◌≡◌, ◌<◌, IfSome, true};
-ghost use Rattle.gtfs_rows.specs.Dates.{date_of, if_date, is_date};
+ghost use Rattle.gtfs_rows.specs.Dates.{date_of, is_date};
 
 use crate::numbers::number_of;
 use jiff::civil::Date;

@@ -1,5 +1,5 @@
 //! The rows of a file by the names in its first row.
-ghost use Rattle.std.specs.Prelude.{◌≡◌, ◌≤◌, ◌<◌, ◌+◌, ◌^◌, ◌∷◌, [], ℕ, List, IfOk, OnErr, MatchBool, length, map, take, position, bytes_eq, is_none, IsTrue};
+ghost use Rattle.std.specs.Prelude.{◌≡◌, ◌≤◌, ◌<◌, ◌+◌, ◌^◌, ◌∷◌, [], IfOk, OnErr, MatchBool, length, map, position, bytes_eq, is_none, IsTrue};
 ghost use Rattle.std.specs.List.{list_all};
 ghost use Rattle.std.specs.Str.{is_utf8};
 ghost use Rattle.gtfs_rows.specs.Records.{file_records};

@@ -1,8 +1,8 @@
 //! Numbers and times in text.
-ghost use Rattle.std.specs.Prelude.{◌≡◌, ◌≤◌, ◌<◌, ◌+◌, ◌-◌, ◌*◌, ◌∷◌, [], ℕ, ℤ, List, MatchOption, IfSome, Some, length, take, drop, get_or, pos, option_map, IsTrue};
-ghost use Rattle.std.specs.Str.Parse.{AllDigits, digits_value};
+ghost use Rattle.std.specs.Prelude.{◌≡◌, ◌≤◌, ◌<◌, ◌+◌, ◌-◌, ◌*◌, ◌∷◌, [], MatchOption, IfSome, Some, length, pos, option_map, IsTrue};
+ghost use Rattle.std.specs.Str.Parse.{digits_value};
 ghost use Rattle.std.specs.Int.{IsInRange};
-ghost use Rattle.gtfs_rows.specs.Numbers.{IsNumber, IsClock, number_of, sixtieth, after_hours, clock_of, time_of, time_secs};
+ghost use Rattle.gtfs_rows.specs.Numbers.{IsNumber, IsClock, number_of, sixtieth, clock_of, time_of, time_secs};
 
 use std::simd::prelude::*;
 use tb_base::Sec;
