@@ -1,5 +1,5 @@
 //! What is built of a timetable, as texts.
-ghost use Rattle.std.specs.Prelude.{◌≡◌, ◌++◌, ◌<◌, All, IfOk, OnOk, flat_map, length, map};
+ghost use Rattle.std.specs.Prelude.{◌≡◌, ◌++◌, ◌<◌, All, IfOk, OnOk, length, map};
 ghost use Rattle.answer_text.specs.Builds.{HasTrips, build_list_text, build_text, counts_text, event_text, labelled, table_text, transfer_text, transfers_text};
 
 use crate::text::Text;

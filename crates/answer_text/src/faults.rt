@@ -1,5 +1,5 @@
 //! Faults of a feed as texts.
-ghost use Rattle.std.specs.Prelude.{◌≡◌, ◌++◌, ◌≤◌, ◌<◌, IfOk, OnOk, length, codes};
+ghost use Rattle.std.specs.Prelude.{◌≡◌, ◌++◌, ◌<◌, IfOk, OnOk, codes};
 ghost use Rattle.gtfs_rows.specs.FileNames.{file_name};
 ghost use Rattle.answer_text.specs.Faults.{column_name, spot_text, many_text, row_text, fault_text};
 

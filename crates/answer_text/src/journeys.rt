@@ -1,11 +1,10 @@
 //! Journeys as texts.
 ghost use Rattle.std.specs.Prelude.{◌≡◌, ◌++◌, ◌<◌, All, IfOk, OnOk, codes, length};
-ghost use Rattle.tb_base.specs.TimetableData.{events_of, event_at};
+ghost use Rattle.tb_base.specs.TimetableData.{events_of};
 ghost use Rattle.tb_base.specs.BestValues.{ChoiceData};
 ghost use Rattle.tb_base.specs.Profiles.{OfferData};
 ghost use Rattle.tb_base.specs.JourneyRules.{HasNumbers};
-ghost use Rattle.answer_text.specs.Times.{time_text};
-ghost use Rattle.answer_text.specs.Journeys.{stop_name, trip_name, day_mark, place_text, walk_text, ride_words, ride_text, leg_text, legs_text, journey_text, choice_text, choices_text, leave_text, offer_text, offers_text, arrival_text, no_journey, unknown_text};
+ghost use Rattle.answer_text.specs.Journeys.{stop_name, trip_name, day_mark, place_text, walk_text, ride_words, ride_text, leg_text, legs_text, journey_text, choice_text, choices_text, leave_text, offer_text, offers_text, arrival_text, unknown_text};
 
 use crate::text::Text;
 use std::alloc::Global;
@@ -13,17 +12,6 @@ use tb_base::{Choice, Event, Leg, Memory, Offer, Sec, Slot, StopNo, Timetable, T
 
 /// The line that stands for no choice at all.
 pub const NO_JOURNEY: &[u8] = b"no journey\n";
-
-// An event of a trip.
-fn event_at(table: &Timetable, trip: TripNo, at: u32) -> Event
-    requires trip { trip < length table.now.trips }
-    requires at { at < length (events_of table.now trip) }
-    ensures event { result ≡ event_at table.now trip at }
-    ensures stop { result.stop < length table.now.stops }
-{
-    let trip = table.trip(trip);
-    trip.events[at as usize]
-}
 
 impl Text {
     // Adds the name of a stop, behind a space.
@@ -117,8 +105,8 @@ impl Text {
         requires alight { alight < length (events_of table.now trip) }
         ensures { OnOk result (self.new ≡ self.old ++ ride_words table.now trip board alight) }
     {
-        let boarded = event_at(table, trip, board);
-        let left = event_at(table, trip, alight);
+        let boarded = table.event(trip, board);
+        let left = table.event(trip, alight);
         self.add(b"  ride ")?;
         self.trip(table, trip)?;
         self.boarding(table, &boarded)?;

@@ -1,5 +1,5 @@
 //! A text that grows.
-ghost use Rattle.std.specs.Prelude.{◌≡◌, ◌++◌, ◌<◌, [], OnOk};
+ghost use Rattle.std.specs.Prelude.{◌≡◌, ◌++◌, ◌<◌, [], OnErr, OnOk};
 ghost use Rattle.std.specs.Fmt.{decimal};
 ghost use Rattle.answer_text.specs.Times.{two_digits, padded, clock_text, time_text};
 
@@ -41,9 +41,10 @@ impl Text {
         self.bytes
     }
 
-    /// Adds bytes.
+    /// Adds bytes. A refusal leaves the text as it was.
     pub fn add(&mut self, bytes: &[u8]) -> Result<(), Memory>
-        ensures { OnOk result (self.new ≡ self.old ++ bytes.now) }
+        ensures added { OnOk result (self.new ≡ self.old ++ bytes.now) }
+        ensures refused { OnErr result (self.new ≡ self.old) }
     {
         match self.bytes.extend_from_slice(bytes) {
             Ok(()) => Ok(()),
@@ -51,9 +52,10 @@ impl Text {
         }
     }
 
-    /// Adds a count in decimal digits.
+    /// Adds a count in decimal digits. A refusal leaves the text as it was.
     pub fn count(&mut self, n: u64) -> Result<(), Memory>
-        ensures { OnOk result (self.new ≡ self.old ++ decimal n) }
+        ensures added { OnOk result (self.new ≡ self.old ++ decimal n) }
+        ensures refused { OnErr result (self.new ≡ self.old) }
     {
         match format!(in self.alloc; "{n}") {
             Ok(digits) => self.add(digits.as_bytes()),
@@ -61,14 +63,12 @@ impl Text {
         }
     }
 
-    /// Adds a number in decimal digits.
+    /// Adds a number in decimal digits. A refusal leaves the text as it was.
     pub fn number(&mut self, n: u32) -> Result<(), Memory>
-        ensures { OnOk result (self.new ≡ self.old ++ decimal n) }
+        ensures added { OnOk result (self.new ≡ self.old ++ decimal n) }
+        ensures refused { OnErr result (self.new ≡ self.old) }
     {
-        match format!(in self.alloc; "{n}") {
-            Ok(digits) => self.add(digits.as_bytes()),
-            Err(_) => Err(Memory),
-        }
+        self.count(u64::from(n))
     }
 
     // Adds a number below 100, in two digits.
