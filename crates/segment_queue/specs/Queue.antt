@@ -41,12 +41,12 @@ pub record IsSoundSegment (T : TimetableData) (s : Segment) : Type 0 where
   pub onward : s.board < s.end
   pub within : s.end < length (events_of T s.trip)
 
--- A segment is clipped by the trip just before on its line: what is behind that trip's mark is left
--- out.
+-- A segment is clipped by the trip just before on its line: what is behind that trip's mark is
+-- left out.
 abbrev pub IsClipped : NetData → List (Option ℕ) → Segment → ℕ → Type 0
 IsClipped N marks s end = (IsFirst N.lines s.trip × (end ≡ s.end))
     ⊎ ((v : ℕ) × (v < length N.table.trips) × StandsBefore N.lines v s.trip
-    × (end ≡ min s.end (unwrap_or (slice_index_or marks v None) s.end)))
+    × (end ≡ min s.end (mark_of N.table marks v)))
 
 -- how many indices a segment covers: those behind its boarding, up to its end
 abbrev pub covered_indices : Segment → ℕ

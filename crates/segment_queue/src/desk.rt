@@ -1,9 +1,9 @@
-ghost use Rattle.std.specs.Prelude.{◌≡◌, ◌+◌, ◌<◌, ◌≤◌, ◌++◌, ◌∷◌, [], ℕ, List, None, Option, Some, IsSomeAnd, IsTrue, ◌↔◌, MatchBool, OnErr, OnOk, length, replicate, slice_get, slice_index_or, unwrap_or, vec_capacity, vec_len};
+ghost use Rattle.std.specs.Prelude.{◌≡◌, ◌+◌, ◌<◌, ◌≤◌, ◌++◌, ◌∷◌, [], ℕ, None, IsSomeAnd, IsTrue, ◌↔◌, MatchBool, OnErr, OnOk, length, replicate, slice_get, slice_index_or, vec_capacity, vec_len};
 ghost use Rattle.tb_base.specs.Lines.{AreDividedInto};
 ghost use Rattle.tb_base.specs.Network.{NetData};
-ghost use Rattle.tb_base.specs.TimetableData.{TimetableData, event_total, events_of};
+ghost use Rattle.tb_base.specs.TimetableData.{TimetableData};
 ghost use Rattle.segment_queue.specs.Scans.{trips_from};
-ghost use Rattle.segment_queue.specs.Queue.{EntersSegment, Fits, IsClipped, IsFalling, IsInStep, last_index, lowered, mark_of};
+ghost use Rattle.segment_queue.specs.Queue.{EntersSegment, Fits, IsClipped, IsFalling, IsInStep, IsSoundSegment, last_index, lowered, mark_of};
 
 use super::marks::Marks;
 use super::notes::Note;
@@ -277,7 +277,7 @@ impl Desk {
     }
 
     /// Appends a segment, whatever the marks say. It needs memory, where there is no room; at a
-    /// refusal the desk is as before.
+    /// refusal the desk holds what it held, and fits what it fitted.
     pub fn add_segment(&mut self, segment: Segment) -> Result<(), Memory>
         ensures segments { OnOk result (self.new.segments ≡ self.old.segments ++ segment ∷ []) }
         ensures refused { OnErr result (self.new.segments ≡ self.old.segments) }
@@ -304,14 +304,16 @@ impl Desk {
         self.segments.get(n as usize).copied()
     }
 
-    /// Up to which index a segment has to be looked at. Where the trip just before on its line has
-    /// been entered, whoever sits in that is there as early: what is behind its mark is left out.
-    /// That has no more rides only as long as no segment of a later round was entered.
+    /// Up to which index a segment has to be looked at: no further than the mark of the trip just
+    /// before on its line. Whoever sits in that trip is at all behind its mark as early. Whoever
+    /// calls it sees to it that this takes no more rides, as it does where no segment of a later
+    /// round was entered.
     pub fn clipped_end<S: Scan>(&self, scan: &S, segment: &Segment) -> u32
-        requires trip { segment.now.trip < length (S.net scan.now).table.trips }
+        requires sound { IsSoundSegment (S.net scan.now).table segment.now }
         requires room { length (S.net scan.now).table.trips ≤ length self.now.marks }
         ensures { IsClipped (S.net scan.now) self.now.marks segment.now result }
     {
+        scan.soundness();
         match scan.before(segment.trip) {
             Some(before) => segment.end.min(self.marks.get_or(before, segment.end)),
             None => segment.end,
@@ -326,7 +328,8 @@ impl Desk {
         push_within(&mut self.hits, hit);
     }
 
-    /// Appends a hit. It needs memory, where there is no room; at a refusal the desk is as before.
+    /// Appends a hit. It needs memory, where there is no room; at a refusal the desk holds what it
+    /// held, and fits what it fitted.
     pub fn push_hit(&mut self, hit: Hit) -> Result<(), Memory>
         ensures hits { OnOk result (self.new.hits ≡ self.old.hits ++ hit ∷ []) }
         ensures refused { OnErr result (self.new.hits ≡ self.old.hits) }

@@ -37,8 +37,8 @@ fn lower_words(words: &mut [u32], trips: &[TripNo], word: u32)
     }
 }
 
-/// An index for some of the trips, emptied in no time. It is seen as a list: for each trip its
-/// index, where it has one.
+/// An index for some of the trips, emptied mostly without writing a word. It is seen as a list: for
+/// each trip its index, where it has one.
 ///
 /// A trip's word is the floor of the search that wrote it and the index. Each search's floor lies
 /// by as much below the one before as there are indices, so the words of earlier searches lie above
@@ -74,7 +74,7 @@ impl Marks {
     }
 
     /// So many trips without an index. So many times, and at most 428 times, `begin` writes no
-    /// word; the next time it writes all of them.
+    /// word; the next time it writes all of them. That is so in the code and in no clause.
     pub fn with_floors(alloc: Global, trips: u32, floors: u32) -> Result<Marks, Memory>
         ensures { OnOk result (result ≡ Ok (replicate trips None)) }
     {

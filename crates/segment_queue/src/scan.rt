@@ -1,4 +1,4 @@
-ghost use Rattle.std.specs.Prelude.{◌≡◌, ◌+◌, ◌<◌, ◌≤◌, ◌∷◌, [], ℕ, All, Contains, AllPairs, IsTrue, MatchOption, Some, length, slice_get, slice_index_or};
+ghost use Rattle.std.specs.Prelude.{◌≡◌, ◌+◌, ◌<◌, ◌≤◌, ℕ, All, Contains, AllPairs, IsTrue, MatchOption, Some, length, slice_get, slice_index_or};
 ghost use Rattle.tb_base.specs.Lines.{AreDividedInto};
 ghost use Rattle.tb_base.specs.Soundness.{IsSound, IsSoundPath};
 ghost use Rattle.tb_base.specs.Walking.{walk};
@@ -125,10 +125,11 @@ pub trait Scan {
 }
 
 /// The looks of a search at a network: who boards a line, and an event of a trip. Each is a step on
-/// a counter of the ledger `L`, and there is no other way to see a time: `hops_from` shows hops
-/// alone, and only those from events that have been looked at, of which looks gave the `Seen`. So a
-/// search over any `L` counts all its looks where its caller counts, since no counter that it makes
-/// is of this ledger.
+/// a counter of the ledger `L`, and there is no other way to see a time for the first time: a
+/// `Seen` shows again when its first event arrives, and `hops_from` shows hops alone, and only
+/// those from events that have been looked at, of which looks gave the `Seen`. So a search over any
+/// `L` counts all its looks where its caller counts, since no counter that it makes is of this
+/// ledger.
 pub trait Look<L: Ledger>: Scan {
     /// Who boards the line at the line index with this number at the stop, no earlier than the
     /// time. It is a step.
@@ -137,7 +138,8 @@ pub trait Look<L: Ledger>: Scan {
         requires berth { berth
             < length (line_indices_at (Self.net self.now).table (Self.net self.now).lines p) }
         ensures hop { result ≡ boarding_hop (Self.net self.now).table
-            (slice_index_or (line_indices_at (Self.net self.now).table (Self.net self.now).lines p) berth
+            (slice_index_or
+            (line_indices_at (Self.net self.now).table (Self.net self.now).lines p) berth
             no_line_index) time }
         ensures step { steps.new ≡ steps.old + 1 };
 

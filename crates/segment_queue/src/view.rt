@@ -1,4 +1,4 @@
-ghost use Rattle.std.specs.Prelude.{◌≡◌, ◌<◌, ◌+◌, ◌≤◌, ℕ, Some, All, AllPairs, IfSome, IsTrue, MatchOption, ◌↔◌, length, slice_get, slice_index_or};
+ghost use Rattle.std.specs.Prelude.{◌≡◌, ◌<◌, ◌+◌, Some, All, AllPairs, MatchOption, length, slice_get};
 ghost use Rattle.tb_base.specs.Soundness.{IsSoundPath};
 ghost use Rattle.tb_base.specs.TimetableData.{arrival_at, event_at, events_of, stop_at};
 ghost use Rattle.segment_queue.specs.Scans.{AreEvents, IsFirst, StandsBefore, hops_seen, seen_arr, seen_first, seen_last, seen_trip, trips_from};

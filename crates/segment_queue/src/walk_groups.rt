@@ -1,5 +1,5 @@
 //! Groups of stops, so that most pairs of stops are seen to have no walk at one look.
-ghost use Rattle.std.specs.Prelude.{◌≡◌, ◌<◌, ◌≤◌, ℕ, Some, All, IfOk, IsTrue, length, slice_get, slice_index_or};
+ghost use Rattle.std.specs.Prelude.{◌≡◌, ◌<◌, ℕ, Some, All, IfOk, IsTrue, length};
 ghost use Rattle.tb_base.specs.TimetableData.{TimetableData};
 ghost use Rattle.tb_base.specs.Walking.{walk};
 ghost use Rattle.segment_queue.specs.WalkGroups.{AreWalkGroups, StaysIn};
