@@ -1,6 +1,6 @@
 -- Lates that are taken one after another.
 use Rattle.std.proofs.Common.{◌≡◌, ◌∙◌, sym, ap, subst, ℕ, ◌+◌, ◌<◌, ◌≤◌, List, ◌∷◌, length, get_or, drop, Option}
-use Rattle.std.specs.Prelude.{Result, Ok, Err, IsErr, IsErrAnd, MatchResult}
+use Rattle.std.specs.Prelude.{Result, Ok, Err, IfErr, IsErr, IsErrAnd, MatchResult}
 use Rattle.std.proofs.Math.ListN.{drop_of_length-le}
 use Rattle.std.proofs.lemmas.List.{drop_more}
 use Rattle.gtfs_rows.specs.Steps.{and_then}
@@ -8,7 +8,7 @@ use Rattle.tb_base.specs.declared.table.Path.{Path}
 use Rattle.tb_base.specs.declared.table.Stop.{Stop}
 use Rattle.tb_base.specs.TimetableData.{StationData, TimetableData, TripData}
 use Rattle.late_times.specs.Amended.{amended, amended_trips, trips_after, with_trips}
-use Rattle.late_times.specs.Lates.{IsRefused, LateData}
+use Rattle.late_times.specs.Lates.{IsOfLate, IsRefused, LateData}
 use Rattle.late_times.specs.declared.late.LateFault.{LateFault}
 use Rattle.late_times.specs.declared.late.LateFault.TheVariants as fault
 
@@ -27,6 +27,10 @@ refused_by fault.TooLarge r s step h = step fault.TooLarge h
 pub handed_on : {A B : Type 0} (f : LateFault) (r : Result A LateFault) (X : A → Type 0) (meant : Result B LateFault) → IsErr r × IsErrAnd r (λ e. e ≡ f) → IsRefused f meant → MatchResult r X (λ e. IsRefused e meant)
 handed_on f (Ok x) X meant h refused = absurd (let k = h.0 in cc)
 handed_on f (Err e) X meant h refused = subst (λ g. IsRefused g meant) (sym h.1) refused
+
+pub own_handed_on : {A : Type 0} (f : LateFault) (r : Result A LateFault) → IsErr r × IsErrAnd r (λ e. e ≡ f) → IsOfLate f → IfErr r IsOfLate
+own_handed_on f (Ok x) h own = tt
+own_handed_on f (Err e) h own = subst IsOfLate (sym h.1) own
 
 module _ (T : TimetableData) (lates : List LateData) (trips : List TripData) (i : ℕ) (so_far : amended_trips lates T.trips ≡ amended_trips (drop i lates) trips) where
   -- the next late

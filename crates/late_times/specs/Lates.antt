@@ -62,6 +62,17 @@ lates_from n (line ∷ lines) =
 abbrev pub lates_of : List ℕ → Result (List LateData) LateFault
 lates_of bytes = lates_from 1 (lines_of bytes)
 
+-- a fault of a late, or want of memory, and none of a file
+abbrev pub IsOfLate : LateFault → Type 0
+IsOfLate fault.Memory = ⊤
+IsOfLate (fault.UnknownTrip n) = ⊤
+IsOfLate (fault.TimeRunsBack n) = ⊤
+IsOfLate (fault.OutOfRange n) = ⊤
+IsOfLate (fault.BadEvent n) = ⊤
+IsOfLate (fault.BadLine n) = ⊥
+IsOfLate fault.MissingFile = ⊥
+IsOfLate fault.TooLarge = ⊥
+
 -- the fault is what is meant; want of memory says nothing
 abbrev pub IsRefused : {A : Type 0} → LateFault → Result A LateFault → Type 0
 IsRefused fault.Memory meant = ⊤

@@ -1,6 +1,6 @@
-ghost use Rattle.std.specs.Prelude.{◌≡◌, MatchResult, Ok};
+ghost use Rattle.std.specs.Prelude.{◌≡◌, IfErr, MatchResult, Ok};
 ghost use Rattle.late_times.specs.Amended.{amended};
-ghost use Rattle.late_times.specs.Lates.{IsRefused};
+ghost use Rattle.late_times.specs.Lates.{IsOfLate, IsRefused};
 
 use crate::late::{Late, LateFault};
 use crate::moving::MovingTrips;
@@ -9,10 +9,12 @@ use table_copies::{change_times, paths, stations, stops};
 use tb_base::{Parts, Timetable};
 
 /// The timetable amended by lates, each of which moves what those before it left, or exactly the
-/// first fault of one. Takes time by the size of the timetable, and by the events that are moved.
+/// first fault of one, and none of a file. Takes time by the size of the timetable, and by the
+/// events that are moved.
 pub fn amended(alloc: Global, table: &Timetable, lates: &[Late]) -> Result<Timetable, LateFault>
-    ensures { MatchResult result (λ new. amended table.now lates.now ≡ Ok new)
+    ensures table { MatchResult result (λ new. amended table.now lates.now ≡ Ok new)
         (λ f. IsRefused f (amended table.now lates.now)) }
+    ensures own { IfErr result IsOfLate }
 {
     let mut trips = MovingTrips::of(alloc, table)?;
     for late in lates {

@@ -1,9 +1,9 @@
 //! The events of a late trip are moved.
-ghost use Rattle.std.specs.Prelude.{◌≡◌, ◌<◌, ◌≤ℤ◌, All, MatchResult, Ok, OnErr, OnOk, int_lt, length, map, negsuc, pos};
+ghost use Rattle.std.specs.Prelude.{◌≡◌, ◌<◌, ◌≤ℤ◌, All, IfErr, MatchResult, Ok, OnErr, OnOk, int_lt, length, map, negsuc, pos};
 ghost use Rattle.std.specs.List.{list_any};
 ghost use Rattle.late_times.specs.Amended.{events_moved, has_time_outside, is_outside, is_over_a_day, is_reached_early, moved, moved_from};
 ghost use Rattle.late_times.specs.Finding.{IsTimedEvent};
-ghost use Rattle.late_times.specs.Lates.{IsRefused};
+ghost use Rattle.late_times.specs.Lates.{IsOfLate, IsRefused};
 
 use crate::late::{Late, LateFault};
 use tb_base::{Event, Sec};
@@ -104,6 +104,7 @@ fn check_move(events: &[Event], late: &Late) -> Result<(), LateFault>
     ensures fault { MatchResult result (λ _. events_moved late.now events.now
         ≡ Ok (moved_from late.now.from late.now.secs events.now))
         (λ f. IsRefused f (events_moved late.now events.now)) }
+    ensures own { IfErr result IsOfLate }
     ensures from { OnOk result (late.now.from < length events.now) }
     ensures early { OnOk result (negsuc 86399 ≤ℤ late.now.secs) }
     ensures late { OnOk result (late.now.secs ≤ℤ pos 86400) }
@@ -126,6 +127,7 @@ pub(crate) fn move_events(events: &mut [Event], late: &Late) -> Result<(), LateF
     requires { All IsTimedEvent events.old }
     ensures moved { MatchResult result (λ _. events_moved late.now events.old ≡ Ok events.new)
         (λ f. IsRefused f (events_moved late.now events.old)) }
+    ensures own { IfErr result IsOfLate }
     ensures unchanged { OnErr result (events.new ≡ events.old) }
 {
     check_move(events, late)?;

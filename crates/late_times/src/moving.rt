@@ -1,7 +1,7 @@
 //! The trips of a timetable, while lates move them.
-ghost use Rattle.std.specs.Prelude.{◌≡◌, IfOk, MatchResult, Ok};
+ghost use Rattle.std.specs.Prelude.{◌≡◌, IfErr, IfOk, MatchResult, Ok};
 ghost use Rattle.late_times.specs.Amended.{trips_after};
-ghost use Rattle.late_times.specs.Lates.{IsRefused};
+ghost use Rattle.late_times.specs.Lates.{IsOfLate, IsRefused};
 
 use crate::first_trips::FirstTrips;
 use crate::late::{Late, LateFault};
@@ -43,8 +43,9 @@ impl MovingTrips {
 
     /// Moves the trip that a late names, or tells the late's first fault.
     pub(crate) fn apply(&mut self, late: &Late) -> Result<(), LateFault>
-        ensures { MatchResult result (λ _. trips_after late.now self.old ≡ Ok self.new)
+        ensures moved { MatchResult result (λ _. trips_after late.now self.old ≡ Ok self.new)
             (λ f. IsRefused f (trips_after late.now self.old)) }
+        ensures own { IfErr result IsOfLate }
     {
         let Some(trip) = self.first.find(late.before, late.trip.bytes()) else {
             return Err(LateFault::UnknownTrip(late.line));
