@@ -5,3 +5,4 @@ pub mod Reading
 pub mod Values
 pub mod Going
 pub mod Adding
+pub mod ClaimLegs

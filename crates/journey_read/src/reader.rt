@@ -1,8 +1,9 @@
 //! Claims are read line by line.
-ghost use Rattle.std.specs.Prelude.{◌≡◌, ◌<◌, ◌^◌, ◌+◌, ◌-◌, [], IfOk, MatchResult, None, Ok, length};
+ghost use Rattle.std.specs.Prelude.{◌≡◌, ◌<◌, ◌≤◌, ◌^◌, ◌+◌, ◌-◌, [], IfOk, MatchResult, None, Ok, length};
 ghost use Rattle.tb_base.specs.LineWords.{line_words};
 ghost use Rattle.tb_base.specs.TimetableData.{TimetableData};
-ghost use Rattle.journey_read.specs.Claims.{IsRefused, Reads, ReadsWords, claim_of, claim_so_far};
+ghost use Rattle.journey_read.specs.Claims.{IsRefused, Reads, ReadsWords, claim_from, claim_of, claim_so_far};
+ghost use Rattle.text_lines.specs.Lines.{lines_of};
 
 use crate::claim::{Claimed, JourneyFault};
 use crate::legs::{leg_of, value_of};
@@ -105,21 +106,12 @@ impl ClaimReader {
     }
 }
 
-/// The journey that a text claims, or exactly its first fault: bytes in lines, each up to a line
-/// feed or the text's end, without a carriage return at its end; what stands behind the last line
-/// feed is a line, unless it is empty. The words of a line are those of `line_words`. Lines without
-/// words, and those whose first byte is `#`, are passed over. The first other line is `arrive TIME
-/// rides N`; each further one `walk STOP STOP SECONDS`, `ride TRIP STOP TIME STOP TIME`, or the
-/// latter with `day-before`. A ride is that of the lowest-numbered trip with the name that began on
-/// the day before exactly where `day-before` stands, and calls at the first stop with that departure
-/// and later at the second with that arrival; of its events the first such pair counts.
-pub fn read_journey(alloc: Global, table: &Timetable, bytes: &[u8]) -> Result<Claimed, JourneyFault>
-    ensures { MatchResult result (λ c. claim_of table.now bytes.now ≡ Ok c)
-        (λ f. IsRefused f (claim_of table.now bytes.now)) }
+// The claim of the lines of a text.
+fn claim_in_lines(alloc: Global, table: &Timetable, bytes: &[u8]) -> Result<Claimed, JourneyFault>
+    requires { length bytes.now ≤ 1048576 }
+    ensures { MatchResult result (λ c. claim_from table.now 1 (lines_of bytes.now) ≡ Ok c)
+        (λ f. IsRefused f (claim_from table.now 1 (lines_of bytes.now))) }
 {
-    if bytes.len() > MOST_BYTES {
-        return Err(JourneyFault::TooLong);
-    }
     let mut reader = ClaimReader {
         lines: 0,
         claimed: None,
@@ -130,4 +122,23 @@ pub fn read_journey(alloc: Global, table: &Timetable, bytes: &[u8]) -> Result<Cl
         text = cut.rest;
     }
     reader.end()
+}
+
+/// The journey that a text claims, or exactly its first fault: bytes in lines, each up to a line
+/// feed or the text's end, without a carriage return at its end; what stands behind the last line
+/// feed is a line, unless it is empty. The words of a line are those of `line_words`. Lines without
+/// words, and those whose first byte is `#`, are passed over. The first other line is `arrive TIME
+/// rides N`; each further one `walk STOP STOP SECONDS`, `ride TRIP STOP TIME STOP TIME`, or the
+/// latter with `day-before`. A ride is that of the lowest-numbered trip with the name that began on
+/// the day before exactly where `day-before` stands, and calls at the first stop with that departure
+/// and later at the second with that arrival; of its events the first such pair counts.
+pub fn read_journey(alloc: Global, table: &Timetable, bytes: &[u8]) -> Result<Claimed, JourneyFault>
+    ensures claim { MatchResult result (λ c. claim_of table.now bytes.now ≡ Ok c)
+        (λ f. IsRefused f (claim_of table.now bytes.now)) }
+    ensures count { IfOk result (λ c. length c.legs < 2 ^ 32) }
+{
+    if bytes.len() > MOST_BYTES {
+        return Err(JourneyFault::TooLong);
+    }
+    claim_in_lines(alloc, table, bytes)
 }

@@ -1,5 +1,5 @@
 //! Which ride a trip's name, its day, two stops and two times stand for.
-ghost use Rattle.std.specs.Prelude.{◌≡◌, ◌<◌, ◌^◌, length, option_map};
+ghost use Rattle.std.specs.Prelude.{◌≡◌, ◌<◌, ◌^◌, length};
 ghost use Rattle.journey_read.specs.Rides.{arrives, departs, ends_among, ride_among, ride_on};
 
 use tb_base::{Event, Leg, Sec, StopNo, Timetable, Trip, TripNo};
