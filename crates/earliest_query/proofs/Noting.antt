@@ -1,6 +1,6 @@
 -- Events are weighed, and noted to go on from.
 use Rattle.std.proofs.Common.{◌≡◌, ◌∙◌, ℕ, suc, ◌+◌, ◌<◌, ◌≤◌, ◌⊎◌, inl, inr, List, [], length, Bool, refl, sym, ap, subst, arith, Option, None, Some, ℤ}
-use Rattle.std.specs.Prelude.{All, Contains, IfSome, MatchOption, min, slice_index_or, unwrap_or}
+use Rattle.std.specs.Prelude.{All, Contains, IfSome, MatchOption}
 use Rattle.std.proofs.lemmas.List.{append-nil}
 use Rattle.std.proofs.lemmas.List.Elements.{All-nil, All-push}
 use Rattle.tb_base.specs.Network.{NetData}
@@ -11,7 +11,7 @@ use Rattle.segment_queue.specs.declared.desk.Segment.{Segment}
 use Rattle.segment_queue.specs.declared.desk.Hit.{Hit}
 use Rattle.segment_queue.specs.declared.notes.Note.{Note}
 use Rattle.segment_queue.specs.declared.seen.Seen.{Seen}
-use Rattle.segment_queue.specs.Queue.{DeskData, IsClipped, IsInStep, IsSoundSegment, last_index, mark_of}
+use Rattle.segment_queue.specs.Queue.{DeskData, IsClipped, IsInStep, IsSoundSegment}
 use Rattle.segment_queue.specs.Scans.{AreEvents, seen_arr, seen_first, seen_last, seen_trip, trips_from}
 use Rattle.segment_queue.specs.Traced.{no_segment, round_of, segment_of}
 use Rattle.earliest_query.specs.Choices.{ArrivesBy, IsWeighed}
@@ -240,7 +240,17 @@ clipped_within N marks s end (inr (v, there, before, end_is)) = omega (arith, en
 pub clipped_outdone : (N : NetData) (Q : QueryData) (D : DeskData) (n round end i : ℕ) (s : Segment) → AreDividedInto N.table N.lines → IsQueue N Q D round → n < length D.segments → round_of D.segments n ≡ round → segment_of D.segments n ≡ s → IsClipped N D.marks s end
     → i ≤ s.end → end < i → IsOutdone N D.segments n i
 clipped_outdone N Q D n round end i s divided queue inside is_round is (inl whole) within past = absurd (omega (arith, whole.1, within, past))
-clipped_outdone N Q D n round end i s divided queue inside is_round is (inr (v, there, before, end_is)) within past = by_mark (slice_index_or D.marks v None) refl
+clipped_outdone N Q D n round end i s divided queue inside is_round is (inr (v, there, before, end_is)) within past = elim (queue.marked v there) [
+  | inl last ↦ absurd (omega (arith, last, end_is, within, past, sound.within, no_later.long))
+  | inr c ↦ (let here : c.cover.by < length D.segments = c.cover.within in record {
+    by = c.cover.by;
+    within = c.cover.within;
+    by_then = omega (arith, c.cover.by_then, is_round);
+    trip = subst (λ (r : Segment). IsTripNoLater N.table (segment_of D.segments c.cover.by).trip r.trip) (sym is) (no_later-trans N.table (segment_of D.segments c.cover.by).trip v s.trip (subst (λ t. IsTripNoLater N.table t v) (trip_of D.segments c.cover.by here) c.cover.trip) no_later);
+    ahead = omega (arith, c.ahead, fewer, ap (λ (r : Segment). trips_left N r.trip) is);
+    board = omega (arith, c.cover.board, board_of D.segments c.cover.by here, end_is, within, past);
+  })
+]
   where
     sound : IsSoundSegment N.table s
     sound = subst (IsSoundSegment N.table) is (queue.step.segments n no_segment inside)
@@ -253,23 +263,6 @@ clipped_outdone N Q D n round end i s divided queue inside is_round is (inr (v, 
 
     fewer : trips_left N s.trip < trips_left N v
     fewer = omega (arith, ap length before)
-
-    by_mark : (o : Option ℕ) → slice_index_or D.marks v None ≡ o → IsOutdone N D.segments n i
-    by_mark None none = absurd (let e : end ≡ min s.end s.end = end_is ∙ ap (λ o. min s.end (unwrap_or o s.end)) none in omega (arith, e, within, past))
-    by_mark (Some m) some =
-        let e : end ≡ min s.end m = end_is ∙ ap (λ o. min s.end (unwrap_or o s.end)) some in
-        let mark : mark_of N.table D.marks v ≡ m = ap (λ o. unwrap_or o (last_index N.table v)) some in
-        elim (queue.marked v there) [
-          | inl last ↦ absurd (omega (arith, last, mark, e, within, past, sound.within, no_later.long))
-          | inr c ↦ (let here : c.cover.by < length D.segments = c.cover.within in record {
-            by = c.cover.by;
-            within = c.cover.within;
-            by_then = omega (arith, c.cover.by_then, is_round);
-            trip = subst (λ (r : Segment). IsTripNoLater N.table (segment_of D.segments c.cover.by).trip r.trip) (sym is) (no_later-trans N.table (segment_of D.segments c.cover.by).trip v s.trip (subst (λ t. IsTripNoLater N.table t v) (trip_of D.segments c.cover.by here) c.cover.trip) no_later);
-            ahead = omega (arith, c.ahead, fewer, ap (λ (r : Segment). trips_left N r.trip) is);
-            board = omega (arith, c.cover.board, board_of D.segments c.cover.by here, mark, e, within, past);
-          })
-        ]
 
 -- segment k of a desk D is weighed, once it has these notes
 module _ (N : NetData) (Q : QueryData) (D : DeskData) (notes after : List Note) (from k round : ℕ) (so_far best result : Option Hit) (inside : k < length D.segments) (kept : (note : Note) → Contains notes note → Contains after note)

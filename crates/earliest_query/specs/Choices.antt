@@ -1,10 +1,10 @@
 -- Which stops a search boards at, and what it makes of an event where one may alight.
-use Rattle.std.specs.Prelude.{◌≡◌, ℕ, ◌-◌, ◌<◌, ◌≤◌, ◌==◌, ◌⊎◌, List, [], ◌∷◌, Option, None, Some, length, filter, sum_by, slice_index, slice_index_or, slice_get, All, nat_le, if◌then◌else◌, Bool, IsTrue, IfSome, IsSomeAnd, is_some, Contains, ℤ, pos, ◌+ℤ◌, ◌≤ℤ◌, ◌<ℤ◌, int_lt}
+use Rattle.std.specs.Prelude.{◌≡◌, ℕ, ◌+◌, ◌-◌, ◌<◌, ◌≤◌, ◌==◌, ◌⊎◌, List, [], ◌∷◌, Option, None, Some, length, filter, sum_by, slice_index, slice_index_or, slice_get, All, nat_le, if◌then◌else◌, Bool, IsTrue, IfSome, IsSomeAnd, is_some, Contains, ℤ, pos, ◌+ℤ◌, ◌≤ℤ◌, ◌<ℤ◌, int_lt}
 use Rattle.std.specs.List.{list_any}
 use Rattle.std.specs.Option.{option_map}
 use Rattle.tb_base.specs.Network.{NetData}
 use Rattle.tb_base.specs.declared.table.Path.{Path}
-use Rattle.tb_base.specs.TimetableData.{TimetableData}
+use Rattle.tb_base.specs.TimetableData.{TimetableData, event_total}
 use Rattle.tb_base.specs.Transfers.{numbers_below}
 use Rattle.tb_base.specs.Walking.{walk}
 use Rattle.tb_base.specs.BestValues.{QueryData}
@@ -55,6 +55,11 @@ stops_near T origins =
 abbrev pub lines_near : NetData → List ℕ → ℕ
 lines_near N origins =
     sum_by (λ p. length (line_indices_at N.table N.lines p)) (stops_near N.table origins)
+
+-- the most looks of a search from these stops: one at each event, and one at each line index of the
+-- stops with a walk from an origin
+abbrev pub search_looks : NetData → List ℕ → ℕ
+search_looks N origins = event_total N.table + lines_near N origins
 
 -- when the best hit so far arrives
 abbrev pub arrival_of : Option Hit → Option ℤ

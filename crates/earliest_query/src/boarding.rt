@@ -1,4 +1,4 @@
-ghost use Rattle.std.specs.Prelude.{◌≡◌, ◌+◌, ◌<◌, ◌≤◌, ◌⊎◌, ℕ, Option, Some, All, length, slice_index, slice_index_or, pos, ◌+ℤ◌, ◌≤ℤ◌};
+ghost use Rattle.std.specs.Prelude.{◌≡◌, ◌+◌, ◌<◌, ◌≤◌, ℕ, Some, All, length, slice_index, slice_index_or, pos, ◌+ℤ◌, ◌≤ℤ◌};
 ghost use Rattle.tb_base.specs.Walking.{walk};
 ghost use Rattle.tb_base.specs.declared.transfer.Hop.{Hop};
 ghost use Rattle.segment_queue.specs.Scans.{boarding_hop, line_indices_at, no_line_index};

@@ -1,9 +1,7 @@
-ghost use Rattle.std.specs.Prelude.{◌≡◌, ◌+◌, ◌<◌, ◌≤◌, ℕ, suc, List, Option, Some, Contains, length, slice_get};
-ghost use Rattle.tb_base.specs.Sufficiency.{AreSufficient};
+ghost use Rattle.std.specs.Prelude.{◌≡◌, ◌+◌, ◌<◌, ℕ, Some, Contains, length};
 ghost use Rattle.tb_base.specs.TimetableData.{events_of};
-ghost use Rattle.tb_base.specs.declared.transfer.Hop.{Hop};
-ghost use Rattle.segment_queue.specs.Traced.{IsEntered, round_after, round_of, round_segments, segment_of};
-ghost use Rattle.earliest_query.specs.UnderWay.{Covers, Extends, IsFollowed, IsQueue, IsReachedBy};
+ghost use Rattle.segment_queue.specs.Traced.{IsEntered, round_after, round_segments, segment_of};
+ghost use Rattle.earliest_query.specs.UnderWay.{Extends, IsQueue, IsReachedBy};
 
 use super::search::Search;
 use segment_queue::{Desk, Scan};

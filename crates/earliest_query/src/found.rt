@@ -1,5 +1,5 @@
 //! The values that a sweep has found.
-ghost use Rattle.std.specs.Prelude.{◌≡◌, ◌<◌, ℕ, All, Contains, IsTrue, ◌↔◌, OnOk, filter, nat_lt};
+ghost use Rattle.std.specs.Prelude.{◌≡◌, All, Contains, IsTrue, ◌↔◌, OnOk, filter, nat_lt};
 ghost use Rattle.tb_laws.specs.Pruning.{AreCoveredBy};
 ghost use Rattle.earliest_query.specs.Sweeping.{values_with};
 ghost use Rattle.earliest_query.specs.UnderWay.{IsHit};

@@ -25,7 +25,8 @@ pub fn best_values_at_every_stop()
         IsFound N.table (stop ∷ []) (round_segments segments) v }
 {}
 
-/// A query without targets has no hits: its search holds nothing against an arrival.
+/// A query without targets has no hits: its search holds nothing against an arrival. With what
+/// `earliest` says of its segments this makes them the ones that the law above speaks of.
 pub fn no_target_no_hit()
     ensures { (N : NetData) (Q : QueryData) (D : DeskData) → IsAnswered N Q D → Q.to ≡ [] →
         D.hits ≡ [] }

@@ -1,14 +1,11 @@
-ghost use Rattle.std.specs.Prelude.{List, ℕ, ◌⊎◌, ◌+◌, ◌<◌, ◌≤◌, All, length, map, pos, ◌≤ℤ◌};
+ghost use Rattle.std.specs.Prelude.{List, ◌+◌, ◌<◌, ◌≤◌, All, length, map, pos, ◌≤ℤ◌};
 ghost use Rattle.tb_base.specs.Sufficiency.{AreSufficient};
-ghost use Rattle.tb_base.specs.TimetableData.{event_total};
 ghost use Rattle.tb_laws.specs.Pruning.{IsPrunedSearch};
 ghost use Rattle.segment_queue.specs.Queue.{Fits, IsInStep};
 ghost use Rattle.segment_queue.specs.Traced.{IsAnswered, round_segments};
 ghost use Rattle.tb_base.specs.Search.{RoundSegment};
-ghost use Rattle.earliest_query.specs.Choices.{lines_near};
+ghost use Rattle.earliest_query.specs.Choices.{search_looks};
 ghost use Rattle.earliest_query.specs.Parts.{ArePartsOf};
-ghost use Rattle.earliest_query.specs.Ridden.{IsServed};
-ghost use Rattle.earliest_query.specs.UnderWay.{Covers, IsOutdone};
 
 use super::all_rounds::keep;
 use super::search::Search;
@@ -18,13 +15,11 @@ use std::sync::ledger::Ledger;
 use tb_base::Query;
 
 /// Searches over a set of hops that is sufficient, and leaves the answer in the desk: its hits have
-/// exactly the best values of the query, and its segments go by hops of the set. It goes on from
-/// everywhere but where it arrives no earlier than a hit with no more rides, or where a trip that
-/// is no later, and behind which more trips stand on its line, was boarded before with no more
-/// rides: all has been made of each index that a segment covers and where it isn't outdone so, and
-/// first parts of its segments are a pruned search. So for a query without targets the segments
-/// serve every stop. It takes no memory, and at most as many steps as there are events and, at the
-/// stops with a walk from an origin, line indices.
+/// exactly the best values of the query, and its segments go by hops of the set. First parts of the
+/// segments are a search that goes on from everywhere but where it arrives no earlier than a hit
+/// with no more rides; so for a query without targets the segments serve every stop, by the laws of
+/// this crate. It takes no memory, and at most as many steps as there are events and, at the stops
+/// with a walk from an origin, line indices.
 pub fn earliest<L: Ledger, S: Look<L>>(
     scan: &S,
     query: &Query,
@@ -41,11 +36,7 @@ pub fn earliest<L: Ledger, S: Look<L>>(
         × ArePartsOf (round_segments desk.new.segments) parts
         × IsPrunedSearch (S.net scan.now).table (S.net scan.now).hops query.now.from
         query.now.leave (map (λ h. h.value) desk.new.hits) parts }
-    ensures served { (n i : ℕ) → n < length desk.new.segments → Covers desk.new n i →
-        IsServed (S.net scan.now) query.now desk.new n i
-        ⊎ IsOutdone (S.net scan.now) desk.new.segments n i }
-    ensures steps { steps.new ≤ steps.old
-        + (event_total (S.net scan.now).table + lines_near (S.net scan.now) query.now.from) }
+    ensures steps { steps.new ≤ steps.old + search_looks (S.net scan.now) query.now.from }
 {
     scan.soundness();
     let groups = scan.groups();

@@ -1,4 +1,4 @@
-ghost use Rattle.std.specs.Prelude.{◌≡◌, ◌<◌, ◌≤◌, [], ℤ, All, AllPairs, OnOk, length, pos, ◌≤ℤ◌};
+ghost use Rattle.std.specs.Prelude.{◌≡◌, ◌<◌, [], ℤ, All, AllPairs, OnOk, length, pos, ◌≤ℤ◌};
 ghost use Rattle.tb_base.specs.BestValues.{IsAttained, IsStep};
 ghost use Rattle.tb_base.specs.Sufficiency.{AreSufficient};
 ghost use Rattle.tb_base.specs.declared.query.Value.{Value as ValueData};

@@ -1,4 +1,4 @@
-ghost use Rattle.std.specs.Prelude.{◌≡◌, ◌+◌, ◌<◌, ◌≤◌, ◌==◌, All, IfSome, IsTrue, ◌↔◌, Some, length, pos, ◌+ℤ◌, ◌≤ℤ◌};
+ghost use Rattle.std.specs.Prelude.{◌≡◌, ◌<◌, ◌≤◌, All, IfSome, IsTrue, ◌↔◌, length, pos, ◌+ℤ◌, ◌≤ℤ◌};
 ghost use Rattle.tb_base.specs.Walking.{walk};
 ghost use Rattle.earliest_query.specs.Choices.{AreOfGroup, IsFirstChoice, IsNearest, IsPreferred, nearer_of};
 

@@ -26,6 +26,3 @@ returns-clause-searched g c =
     let round = c.ride_all.ensures.ridden.0 in
     let ridden = c.ride_all.ensures.ridden.1 in
     (parts N Q D round ridden, are_parts N Q D round ridden, searched N Q D round ridden)
-
-pub returns-clause-served : goal.returns-clause-served
-returns-clause-served g c = c.ride_all.ensures.ridden.1.served

@@ -14,6 +14,11 @@ use Rattle.earliest_query.proofs.Following.{sound_event}
 use Rattle.earliest_query.proofs.Noting.{IsSeenAt, IsWeighedAt, bounded_late, clipped_outdone, clipped_within, improved_late, left_late, seen_behind, seen_more, seen_noted, seen_sound, weighed_on}
 use Rattle.earliest_query.proofs.search.Search.weigh_events.Goals as goal
 
+pub clipped_end-end-requires-clause-sound : goal.clipped_end-end-requires-clause-sound
+clipped_end-end-requires-clause-sound g c =
+    let same : segment_of c.args.desk.now.segments c.args.n ≡ c.in-Some.segment = get_or_from_slice_get c.args.desk.now.segments c.args.n c.in-Some.segment no_segment (sym c.in-Some.ensures) in
+    subst (IsSoundSegment (g.S.Scan.net c.args.self.now.scan.now).table) same (c.requires.queue.step.segments c.args.n no_segment c.requires.segment)
+
 pub loop-before-init : goal.loop-before-init
 loop-before-init g c =
     let same : segment_of c.args.desk.now.segments c.args.n ≡ c.in-Some.segment = get_or_from_slice_get c.args.desk.now.segments c.args.n c.in-Some.segment no_segment (sym c.in-Some.ensures) in
