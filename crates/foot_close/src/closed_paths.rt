@@ -1,5 +1,5 @@
 //! Change times and footpaths of a closure.
-ghost use Rattle.std.specs.Prelude.{◌≡◌, ◌<◌, ℕ, IfOk, IfSome, length};
+ghost use Rattle.std.specs.Prelude.{◌≡◌, ◌<◌, ℕ, IfOk, length};
 ghost use Rattle.footpaths.specs.Footpaths.{paths_of, paths_from};
 ghost use Rattle.foot_close.specs.Shortest.{closure_of};
 ghost use Rattle.foot_close.specs.Closing.{IsNear};

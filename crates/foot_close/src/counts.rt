@@ -1,5 +1,5 @@
 //! How many changes closing adds and lowers.
-ghost use Rattle.std.specs.Prelude.{◌≡◌, ◌<◌, ℕ, Some, length, count_by};
+ghost use Rattle.std.specs.Prelude.{◌≡◌, ◌<◌, Some, length, count_by};
 ghost use Rattle.footpaths.specs.Footpaths.{numbers};
 ghost use Rattle.tb_base.specs.Walking.{change_between};
 ghost use Rattle.foot_close.specs.Shortest.{closure_of};

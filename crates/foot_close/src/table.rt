@@ -1,5 +1,5 @@
 //! What chains of given changes lead to from each stop.
-ghost use Rattle.std.specs.Prelude.{◌≡◌, ◌<◌, ◌≤◌, ◌==◌, MatchResult, filter_map, length, map};
+ghost use Rattle.std.specs.Prelude.{◌≡◌, ◌<◌, ◌≤◌, MatchResult, filter_map, length, map};
 ghost use Rattle.tb_base.specs.Soundness.{IsSoundFootpaths};
 ghost use Rattle.tb_base.specs.Walking.{change_between};
 ghost use Rattle.foot_close.specs.Searching.{reached_of};

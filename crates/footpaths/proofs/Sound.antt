@@ -10,13 +10,13 @@ use Rattle.std.proofs.lemmas.List.FromFn.{length-map-range_with_len, get_or-map-
 use Rattle.tb_base.specs.declared.table.Path.{Path}
 use Rattle.tb_base.specs.Soundness.{IsSoundPath, IsSoundFootpaths}
 use Rattle.gtfs_rows.specs.StopsFile.{StopData}
-use Rattle.gtfs_rows.specs.TransfersFile.{TransferData}
+use Rattle.gtfs_rows.specs.TransfersFile.{TakesAtMostADay, TransferData}
 use Rattle.gtfs_rows.specs.declared.transfers.PathRule.{PathRule}
 use Rattle.gtfs_rows.specs.declared.transfers.PathRule.TheVariants as rule
 use Rattle.footpaths.specs.declared.found.Link.{Link}
 use Rattle.footpaths.specs.declared.paths.Options.{Options}
 use Rattle.footpaths.specs.Stops.{station_of}
-use Rattle.footpaths.specs.Links.{secs_by, link_of, links_of, TakesAtMostADay}
+use Rattle.footpaths.specs.Links.{secs_by, link_of, links_of}
 use Rattle.footpaths.specs.Footpaths.{Changes, Rule, Unsaid, Forbidden, Takes, rule_of, longer, longest, first_said, secs_of, said, default_rule, fits, rank, have_one_station, secs_between, path_to, paths_from, paths_of, numbers, check_count}
 use Rattle.tb_base.specs.TimetableData.{FootpathData, path_total}
 

@@ -11,7 +11,7 @@ use Rattle.std.proofs.lemmas.Bool.{and_from, and_parts}
 use Rattle.tb_base.proofs.Lists.{list_any-over_map}
 use Rattle.names.proofs.Found.{found}
 use Rattle.gtfs_rows.specs.StopsFile.{StopData}
-use Rattle.gtfs_rows.specs.TransfersFile.{TransferData}
+use Rattle.gtfs_rows.specs.TransfersFile.{TakesAtMostADay, TransferData}
 use Rattle.gtfs_rows.specs.declared.fault.FeedFile.TheVariants as file
 use Rattle.gtfs_rows.specs.declared.fault.FeedFault.TheVariants as fault
 use Rattle.gtfs_rows.specs.Faults.{unless_wrong, wrong_after, spot}
@@ -97,6 +97,12 @@ pub ends_more : (stops : List StopData) (rows : List TransferData) (i : ℕ) (r 
 ends_more stops rows i r h k at there =
     let more : take (i + 1) rows ≡ take i rows ++ r ∷ [] = take_more rows i r k ∙ ap (λ y. take i rows ++ y ∷ []) (sym at) in
     rw more (All-push (HasEnds stops) (take i rows) r h there)
+
+pub days_more : (rows : List TransferData) (i : ℕ) (r : TransferData) → All (λ r. TakesAtMostADay (TransferData.rule r)) (take i rows) → i < length rows → r ≡ get_or rows i r → TakesAtMostADay r.rule
+    → All (λ r. TakesAtMostADay (TransferData.rule r)) (take (i + 1) rows)
+days_more rows i r h k at day =
+    let more : take (i + 1) rows ≡ take i rows ++ r ∷ [] = take_more rows i r k ∙ ap (λ y. take i rows ++ y ∷ []) (sym at) in
+    rw more (All-push (λ r. TakesAtMostADay (TransferData.rule r)) (take i rows) r h day)
 
 pub mapped_more : {X Y : Type 0} (f : X → Y) (old new : List Y) (xs : List X) (i : ℕ) (x : X) (y : Y) → old ≡ map f (take i xs) → i < length xs → x ≡ get_or xs i x → y ≡ f x → new ≡ old ++ y ∷ [] → new ≡ map f (take (i + 1) xs)
 mapped_more f old new xs i x y e h at is n = n ∙ ap (λ ys. ys ++ y ∷ []) e ∙ ap (λ z. map f (take i xs) ++ z ∷ []) (is ∙ ap f at) ∙ sym (map_more f xs i x h)

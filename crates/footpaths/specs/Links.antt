@@ -1,6 +1,6 @@
 -- The rows of transfers.txt by the numbers of their ends, and the first thing that is wrong with
 -- them.
-use Rattle.std.specs.Prelude.{◌≡◌, ◌≤◌, ℕ, ◌+◌, ◌*◌, ◌&&◌, not, List, [], ◌∷◌, map, true, false, ◌⊎◌, Option, Some, None, position, unwrap_or, bytes_eq, Result, Err, ⊤}
+use Rattle.std.specs.Prelude.{◌≡◌, ℕ, ◌+◌, ◌*◌, ◌&&◌, not, List, [], ◌∷◌, map, true, false, ◌⊎◌, Option, Some, None, position, unwrap_or, bytes_eq, Result, Err, ⊤}
 use Rattle.std.specs.List.{list_any}
 use Rattle.gtfs_rows.specs.Faults.{spot, fault_if, check_rows}
 use Rattle.gtfs_rows.specs.StopsFile.{StopData}
@@ -23,12 +23,6 @@ abbrev pub secs_by : ℕ → PathRule → Option ℕ
 secs_by change (rule.Secs secs) = Some secs
 secs_by change rule.Default = Some change
 secs_by change rule.Forbidden = None
-
--- a row gives at most a day, as every row does that was read
-abbrev pub TakesAtMostADay : PathRule → Type 0
-TakesAtMostADay (rule.Secs secs) = secs ≤ 86400
-TakesAtMostADay rule.Default = ⊤
-TakesAtMostADay rule.Forbidden = ⊤
 
 -- an end of a row: what has the id
 abbrev pub end_of : List StopData → List ℕ → Found

@@ -1,10 +1,10 @@
 //! Change times and footpaths from the rows of transfers.txt.
-ghost use Rattle.std.specs.Prelude.{◌≡◌, ◌<◌, ◌≤◌, ◌++◌, ℕ, [], None, All, IfOk, IfSome, OnOk, length, get_or};
+ghost use Rattle.std.specs.Prelude.{◌≡◌, ◌<◌, ◌++◌, ℕ, [], None, IfOk, OnOk, length, get_or};
 ghost use Rattle.std.specs.Option.{option_to_list};
 ghost use Rattle.gtfs_rows.specs.Refused.{Yields};
-ghost use Rattle.gtfs_rows.specs.TransfersFile.{TransferData};
 ghost use Rattle.footpaths.specs.Stops.{platforms};
-ghost use Rattle.footpaths.specs.Links.{TakesAtMostADay, IsPathsRefused};
+ghost use Rattle.footpaths.specs.Limits.{AreWithinADay};
+ghost use Rattle.footpaths.specs.Links.{IsPathsRefused};
 ghost use Rattle.footpaths.specs.Footpaths.{footpaths, path_to, paths_of, check_count, secs_between};
 ghost use Rattle.tb_base.specs.Soundness.{IsSoundFootpaths};
 ghost use Rattle.footpaths.specs.BestRules.{slot, verdict_secs};
@@ -112,13 +112,10 @@ pub fn build_paths(
     stops: &StopTable,
     options: &Options,
 ) -> Result<Paths, PathsFault>
-    requires change { options.now.change ≤ 86400 }
-    requires station { IfSome options.now.station (λ secs. secs ≤ 86400) }
+    requires { AreWithinADay options.now }
     ensures told { Yields IsPathsRefused result (λ x. x)
         (footpaths stops.now options.now rows.now) }
-    ensures sound { IfOk result
-        (λ paths. All (λ r. TakesAtMostADay (TransferData.rule r)) rows.now →
-        IsSoundFootpaths paths) }
+    ensures sound { IfOk result (λ paths. IsSoundFootpaths paths) }
 {
     stops.soundness();
     let links = match links_of(alloc, rows, stops, options.change) {

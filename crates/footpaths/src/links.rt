@@ -1,7 +1,8 @@
 //! The rows of transfers.txt by the numbers of their ends.
-ghost use Rattle.std.specs.Prelude.{◌≡◌, ◌<◌, ◌≤◌, ◌++◌, ◌∷◌, [], ℕ, not, true, false, Ok, IfOk, OnErr, MatchResult, MatchBool, length, nat_eq};
+ghost use Rattle.std.specs.Prelude.{◌≡◌, ◌<◌, ◌≤◌, ◌++◌, ◌∷◌, [], ℕ, not, true, false, All, Ok, IfOk, OnOk, OnErr, MatchResult, MatchBool, length, nat_eq};
 ghost use Rattle.std.specs.List.{list_any};
 ghost use Rattle.gtfs_rows.specs.Refused.{Yields};
+ghost use Rattle.gtfs_rows.specs.TransfersFile.{TakesAtMostADay, TransferData};
 ghost use Rattle.footpaths.specs.Links.{secs_by, end_of, link_of, links_of, check_transfers, HasEnds, LacksEnd, pair_number, IsPathsRefused};
 
 use crate::found::{Found, Link};
@@ -61,9 +62,10 @@ fn secs_by(change: u32, rule: PathRule) -> Option<u32>
 
 // The number of the pair of stops that a row names.
 fn pair_of(row: &TransferRow, stops: &StopTable) -> Result<u64, PathsFault>
-    ensures { MatchResult result
+    ensures number { MatchResult result
         (λ number. HasEnds stops.now row.now × (number ≡ pair_number stops.now row.now))
         (LacksEnd stops.now row.now) }
+    ensures day { TakesAtMostADay row.now.rule }
 {
     let Some(from) = stops.place(row.from.bytes()) else {
         return Err(PathsFault::UnknownStop {
@@ -102,7 +104,9 @@ fn link_of(row: &TransferRow, stops: &StopTable, change: u32) -> Link
 // Whether something is wrong with the rows.
 fn check_transfers(alloc: Global, rows: &[TransferRow], stops: &StopTable) -> Result<(), PathsFault>
     requires { length stops.now ≤ 100000 }
-    ensures { Yields IsPathsRefused result (λ _. rows.now) (check_transfers stops.now rows.now) }
+    ensures checked { Yields IsPathsRefused result (λ _. rows.now)
+        (check_transfers stops.now rows.now) }
+    ensures days { OnOk result (All (λ r. TakesAtMostADay (TransferData.rule r)) rows.now) }
 {
     let mut pairs = Pairs::new(alloc);
     for row in rows {
@@ -139,10 +143,11 @@ pub fn links_of(
     stops: &StopTable,
     change: u32,
 ) -> Result<Vec<Link>, PathsFault>
-    ensures { MatchResult result
+    ensures links { MatchResult result
         (λ links. (check_transfers stops.now rows.now ≡ Ok rows.now)
         × (links.items ≡ links_of stops.now change rows.now))
         (IsPathsRefused (check_transfers stops.now rows.now)) }
+    ensures days { OnOk result (All (λ r. TakesAtMostADay (TransferData.rule r)) rows.now) }
 {
     stops.soundness();
     match check_transfers(alloc, rows, stops) {

@@ -1,8 +1,7 @@
 //! The services that run on a day.
-ghost use Rattle.std.specs.Prelude.{◌≡◌, ◌∷◌, [], ◌++◌, ◌||◌, ◌&&◌, ℕ, List, IfOk, OnOk, bytes_eq, slice_index_or, false, not, length, ◌<◌};
+ghost use Rattle.std.specs.Prelude.{◌≡◌, ◌||◌, ◌&&◌, ℕ, List, IfOk, OnOk, bytes_eq, false, not, ◌<◌};
 ghost use Rattle.std.specs.List.{list_any};
-ghost use Rattle.gtfs_rows.specs.Dates.{weekday_of, day_number};
-ghost use Rattle.service_day.specs.Running.{says, holds, has, runs};
+ghost use Rattle.service_day.specs.Running.{says, holds, runs};
 
 use crate::Day;
 use gtfs_rows::{CalendarRow, DateRow};

@@ -4,10 +4,10 @@
 //! The layer above names the trip of each row of frequencies.txt by its number, and says which rows
 //! of trips.txt have a service that runs on the day and on the day before. It gets exactly the
 //! trips of the day, and after them the trips of the day before that are still under way after
-//! midnight, or else the first thing that is wrong: a start that moves a time beyond the limits of a
-//! day, then too many trips, then too many events. How many there are is counted before one is made.
-//! The trips that it gets are sound. Follows frequencies.txt and the times of stop_times.txt of the
-//! GTFS Schedule Reference.
+//! midnight, or else the first thing that is wrong: a start that moves a time beyond the limits of
+//! a day, then too many trips, then too many events. In the code they are counted before one is
+//! made; no clause says it. The trips that it gets are sound. Follows frequencies.txt and the times
+//! of stop_times.txt of the GTFS Schedule Reference.
 #![tactic(auto)]
 
 mod beyond;

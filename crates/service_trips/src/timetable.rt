@@ -49,7 +49,8 @@ fn made_trips(
 /// The trips of a timetable: those of the day, in the order of trips.txt, and then those of the day
 /// before that are still under way after midnight. Or else the first thing that is wrong: a row of
 /// frequencies.txt with a start that moves a time beyond the limits of a day, whether its trip runs
-/// or not, then too many trips, then too many events. Nothing is made before they are counted.
+/// or not, then too many trips, then too many events. In the code they are counted before one is
+/// made; no clause says it.
 ///
 /// For each row of trips.txt there are its events, none for fewer than two stop times, and whether
 /// its service runs on the day and on the day before.

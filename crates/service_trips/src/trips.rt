@@ -13,8 +13,8 @@ use std::alloc::Global;
 use std::mem;
 use tb_base::{Event, Memory, Name, Trip};
 
-// Adds the trips of a row of trips.txt, if it runs on the day. Where no row of frequencies.txt names
-// it, its events go over to its trip.
+// Adds the trips of a row of trips.txt, if it runs on the day. Where no row of frequencies.txt
+// names it, its events go over to its trip.
 fn add_own(
     alloc: Global,
     trips: &mut Vec<Trip>,

@@ -9,14 +9,14 @@ use Rattle.gtfs_rows.specs.Columns.{row_limit}
 use Rattle.gtfs_rows.specs.Faults.{wrong_after}
 use Rattle.gtfs_rows.specs.RawRows.{RawRow, shape, table, typed_rows}
 use Rattle.gtfs_rows.specs.StopsFile.{StopData, stop_row, is_platform}
-use Rattle.gtfs_rows.specs.TransfersFile.{TransferData, transfer_row}
+use Rattle.gtfs_rows.specs.TransfersFile.{TakesAtMostADay, TransferData, transfer_row}
 use Rattle.gtfs_rows.specs.declared.fault.FeedFile.{FeedFile}
 use Rattle.gtfs_rows.specs.declared.fault.FeedFile.TheVariants as file
 use Rattle.gtfs_rows.specs.declared.fault.FeedFault.{FeedFault}
 use Rattle.footpaths.specs.declared.law.LawFault.{LawFault}
 use Rattle.footpaths.specs.declared.paths.Options.{Options}
 use Rattle.footpaths.specs.Stops.{platforms, wrong_stop, check_stops}
-use Rattle.footpaths.specs.Links.{TakesAtMostADay, wrong_transfer, check_transfers}
+use Rattle.footpaths.specs.Links.{wrong_transfer, check_transfers}
 use Rattle.footpaths.specs.Footpaths.{changes}
 use Rattle.footpaths.specs.Law.{IsFirstBreach}
 use Rattle.tb_base.specs.Soundness.{IsSoundFootpaths}

@@ -6,10 +6,9 @@ use Rattle.std.proofs.lemmas.Bool.Decides.{nat_tests}
 use Rattle.gtfs_rows.specs.RawRows.{RawRow, cell, typed_rows}
 use Rattle.gtfs_rows.specs.Numbers.{number_of}
 use Rattle.gtfs_rows.specs.Fields.{id_of, or_empty, secs_of, within_a_day, transfer_type}
-use Rattle.gtfs_rows.specs.TransfersFile.{TransferData, is_passed_over, rule_of, transfer_row}
+use Rattle.gtfs_rows.specs.TransfersFile.{TakesAtMostADay, TransferData, is_passed_over, rule_of, transfer_row}
 use Rattle.gtfs_rows.specs.declared.fault.FeedFile.TheVariants as file
 use Rattle.gtfs_rows.specs.declared.fault.FeedFault.{FeedFault}
-use Rattle.footpaths.specs.Links.{TakesAtMostADay}
 use Rattle.trip_table.proofs.RowFacts.{rows_all}
 use Rattle.trip_table.proofs.FileTimes.{chosen, followed, mapped}
 use Rattle.trip_table.proofs.GoodRows.{opened, inner}

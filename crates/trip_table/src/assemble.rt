@@ -1,5 +1,5 @@
 //! The timetable of trips over the stops of a feed.
-ghost use Rattle.std.specs.Prelude.{◌≡◌, ◌≢◌, ◌≤◌, ◌++◌, ◌∷◌, [], ℕ, IfOk, OnOk, All, length, map, sum_by};
+ghost use Rattle.std.specs.Prelude.{◌≡◌, ◌≢◌, ◌≤◌, ◌++◌, ◌∷◌, [], IfOk, OnOk, All, length, map, sum_by};
 ghost use Rattle.tb_base.specs.TimetableData.{TripData, FootpathData};
 ghost use Rattle.tb_base.specs.Soundness.{IsSoundTrip, IsSoundFootpaths};
 ghost use Rattle.tb_base.specs.Walking.{KeepsFootpathLaw};

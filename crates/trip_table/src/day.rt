@@ -1,7 +1,8 @@
 //! The timetable of a day.
-ghost use Rattle.std.specs.Prelude.{◌≡◌, ◌⊎◌, ◌<◌, ◌≤◌, ◌-◌, ◌^◌, IfSome, IsSome, Ok, Err, Result, length};
+ghost use Rattle.std.specs.Prelude.{◌≡◌, ◌⊎◌, ◌<◌, ◌-◌, ◌^◌, IfSome, IsSome, Ok, Err, Result, length};
 ghost use Rattle.tb_base.specs.TimetableData.{TimetableData, FootpathData};
 ghost use Rattle.gtfs_rows.specs.declared.fault.FeedFault.{FeedFault};
+ghost use Rattle.footpaths.specs.Limits.{AreWithinADay};
 ghost use Rattle.footpaths.specs.Stops.{platforms};
 ghost use Rattle.tb_base.specs.Soundness.{IsSoundFootpaths};
 ghost use Rattle.trip_table.specs.Answers.{Gives, GivesRows, IsCounted, Leaves, feed_of};
@@ -60,8 +61,8 @@ fn timetable_of(
     }
 }
 
-// The timetable of a day, where the rows of the feed and its footpaths were read, or the first thing
-// that is wrong with frequencies.txt, or with the day.
+// The timetable of a day, where the rows of the feed and its footpaths were read, or the first
+// thing that is wrong with frequencies.txt, or with the day.
 fn timetable_after_paths<F: Folder>(
     alloc: Global,
     folder: &mut F,
@@ -100,8 +101,7 @@ fn timetable_after_rows<F: Folder>(
     day: &Day,
     options: &Options,
 ) -> Result<Timetable, DayFault>
-    requires change { options.now.change ≤ 86400 }
-    requires station { IfSome options.now.station (λ secs. secs ≤ 86400) }
+    requires options { AreWithinADay options.now }
     requires count { F.faults folder.old < 2 ^ 64 - 1 }
     ensures told { IsSome (F.files folder.old) →
         Gives
@@ -127,8 +127,7 @@ fn read_timetable<F: Folder>(
     day: &Day,
     options: &Options,
 ) -> Result<Timetable, DayFault>
-    requires change { options.now.change ≤ 86400 }
-    requires station { IfSome options.now.station (λ secs. secs ≤ 86400) }
+    requires options { AreWithinADay options.now }
     requires count { F.faults folder.old < 2 ^ 64 - 1 }
     ensures told { IsSome (F.files folder.old) →
         Gives (IsTimetableOf (feed_of (F.files folder.old) dir.now) day.now options.now) result }
@@ -150,8 +149,9 @@ fn read_timetable<F: Folder>(
 /// starts give, then with the size of the day, then with its footpaths.
 ///
 /// Footpaths are closed over chains where the options ask for it; else they have to keep the law.
-/// `ReadFault` comes only where the folder's count of faults rose, and where it stands, the answer
-/// is the day's or want of memory. The seconds of the options are at most a day.
+/// `ReadFault` comes only where the folder's count of faults rose, and where it stands and the
+/// folder tells its files, the answer is the day's or want of memory. The seconds of the options
+/// are at most a day.
 pub fn read_day<F: Folder>(
     alloc: Global,
     folder: &mut F,
@@ -159,8 +159,7 @@ pub fn read_day<F: Folder>(
     day: &Day,
     options: &Options,
 ) -> Result<Timetable, DayFault>
-    requires change { options.now.change ≤ 86400 }
-    requires station { IfSome options.now.station (λ secs. secs ≤ 86400) }
+    requires options { AreWithinADay options.now }
     requires count { F.faults folder.old < 2 ^ 64 - 1 }
     ensures told { IsSome (F.files folder.old) →
         Gives (IsTimetableOf (feed_of (F.files folder.old) dir.now) day.now options.now) result }

@@ -1,7 +1,8 @@
 //! Laws of the timetable of a day. Each function does nothing: its contract is the law.
-ghost use Rattle.std.specs.Prelude.{◌≡◌, ◌≤◌, ℕ, IfSome, Result};
+ghost use Rattle.std.specs.Prelude.{◌≡◌, ℕ, Result};
 ghost use Rattle.tb_base.specs.TimetableData.{TimetableData};
 ghost use Rattle.gtfs_rows.specs.declared.fault.FeedFault.{FeedFault};
+ghost use Rattle.footpaths.specs.Limits.{AreWithinADay};
 ghost use Rattle.footpaths.specs.declared.paths.Options.{Options};
 ghost use Rattle.trip_table.specs.Feed.{Feed};
 ghost use Rattle.trip_table.specs.Day.{IsTimetableOf};
@@ -16,7 +17,6 @@ pub fn timetable_determined()
 /// A feed, a day and options have a timetable or a first fault, where the seconds of the options
 /// are at most a day.
 pub fn timetable_given()
-    ensures { (feed : Feed) (day : ℕ) (options : Options) → options.change ≤ 86400
-        → IfSome options.station (λ secs. secs ≤ 86400)
+    ensures { (feed : Feed) (day : ℕ) (options : Options) → AreWithinADay options
         → (r : Result TimetableData FeedFault) × IsTimetableOf feed day options r }
 {}

@@ -3,13 +3,13 @@
 //!
 //! [`read_day`] takes the files from a folder, one after another, and gives exactly the timetable
 //! of the day, or exactly the first thing that is wrong: stops.txt, calendar.txt,
-//! calendar_dates.txt, trips.txt, stop_times.txt, transfers.txt and frequencies.txt, and in each its
-//! presence, its size, its text, its columns, its rows and what they name; then the times of a trip,
-//! running or not; then those that the starts of frequencies.txt give; then the size of the day;
-//! then the number of footpaths; then, where footpaths are closed, their number again and pairs that
-//! are more than a day apart, and else the law that they keep. The trips of the day before that are
-//! still under way after midnight are part of the day. The definition of the whole is
-//! `IsTimetableOf` in specs/Day.antt.
+//! calendar_dates.txt, trips.txt, stop_times.txt, transfers.txt and frequencies.txt, and in each
+//! its presence, its size, its text, its columns, its rows and what they name; then the times of a
+//! trip, running or not; then those that the starts of frequencies.txt give; then the size of the
+//! day; then the number of footpaths; then, where footpaths are closed, their number again and
+//! pairs that are more than a day apart, and else the law that they keep. The trips of the day
+//! before that are still under way after midnight are part of the day. The definition of the whole
+//! is `IsTimetableOf` in specs/Day.antt.
 #![tactic(auto)]
 
 mod assemble;

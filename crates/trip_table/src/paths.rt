@@ -1,9 +1,10 @@
 //! Change times and footpaths from transfers.txt.
-ghost use Rattle.std.specs.Prelude.{◌≡◌, ◌<◌, ◌≤◌, ◌-◌, ◌^◌, All, List, Ok, IfOk, IfSome, IsSome, MatchResult, length};
+ghost use Rattle.std.specs.Prelude.{◌≡◌, ◌<◌, ◌-◌, ◌^◌, List, Ok, IfOk, IfSome, IsSome, MatchResult, length};
 ghost use Rattle.gtfs_rows.specs.Refused.{Yields};
 ghost use Rattle.gtfs_rows.specs.Refused as refusal;
 ghost use Rattle.gtfs_rows.specs.TransfersFile.{TransferData};
-ghost use Rattle.footpaths.specs.Links.{TakesAtMostADay, check_transfers};
+ghost use Rattle.footpaths.specs.Limits.{AreWithinADay};
+ghost use Rattle.footpaths.specs.Links.{check_transfers};
 ghost use Rattle.footpaths.specs.Stops.{platforms};
 ghost use Rattle.tb_base.specs.TimetableData.{FootpathData};
 ghost use Rattle.tb_base.specs.Soundness.{IsSoundFootpaths};
@@ -28,8 +29,6 @@ fn transfer_rows_of<F: Folder>(
     ensures told { IsSome (F.files folder.old) →
         Yields IsRefused result (λ rows. rows.items)
         (transfer_rows_of (feed_of (F.files folder.old) dir.now)) }
-    ensures short { IfOk result
-        (λ rows. All (λ r. TakesAtMostADay (TransferData.rule r)) rows.items) }
     ensures leaves { Leaves (F.files folder.old) (F.files folder.new) (F.faults folder.old)
         (F.faults folder.new) result }
 {
@@ -47,9 +46,7 @@ fn given_footpaths(
     stops: &StopTable,
     options: &Options,
 ) -> Result<Option<Paths>, RowsFault>
-    requires change { options.now.change ≤ 86400 }
-    requires station { IfSome options.now.station (λ secs. secs ≤ 86400) }
-    requires short { All (λ r. TakesAtMostADay (TransferData.rule r)) rows.now }
+    requires { AreWithinADay options.now }
     ensures told { MatchResult result
         (λ told. (check_transfers stops.now rows.now ≡ Ok rows.now)
         × IsCounted (given_footpaths stops.now options.now rows.now) told)
@@ -83,8 +80,7 @@ pub fn read_paths<F: Folder>(
     options: &Options,
 ) -> Result<Option<Paths>, DayFault>
     requires faults { F.faults folder.old < 2 ^ 64 - 1 }
-    requires change { options.now.change ≤ 86400 }
-    requires station { IfSome options.now.station (λ secs. secs ≤ 86400) }
+    requires options { AreWithinADay options.now }
     ensures told { IsSome (F.files folder.old) →
         MatchResult result
         (λ told. (rows : List TransferData)

@@ -75,8 +75,8 @@ impl FeedRows {
 }
 
 // The rows of a feed, where those of stops.txt, those that say which services run and those of
-// trips.txt were read. What isn't handed on is dropped by a call: at the end of a scope each part of
-// it would be dropped by itself, and the proof would go through all of them.
+// trips.txt were read. What isn't handed on is dropped by a call: at the end of a scope each part
+// of it would be dropped by itself, and the proof would go through all of them.
 fn rows_after_trips<F: Folder>(
     alloc: Global,
     folder: &mut F,
