@@ -12,17 +12,13 @@ use Rattle.tb_base.specs.Journeys.{Journey, Ride}
 use Rattle.tb_base.specs.TimetableData.{TimetableData}
 use Rattle.tb_base.proofs.Members.{Member-map}
 use Rattle.tb_base.proofs.Ordered.{Contains-from_Member, Member-from_Contains}
-use Rattle.mirror_table.specs.Departures.{AreLatest, ArrivalData, ArrivesNoLater, HasLeaving, IsLatest, IsPossible, LeavingData, SpellLeaving, departure, leaving_from, mirror_query}
+use Rattle.mirror_table.specs.Departures.{AreLatest, ArrivalData, ArrivesNoLater, HasLeaving, IsLatest, IsPossible, LeavingData, SpellLeaving, departure, leaving_from, mirror_query, value_from}
 use Rattle.mirror_table.specs.Mirror.{IsMirror, mirror_time}
 use Rattle.mirror_table.specs.TurnedJourneys.{turn_journey, turn_legs, turn_rides}
 use Rattle.mirror_table.proofs.Back.{time_back}
 use Rattle.mirror_table.proofs.Legs.{legs_turned}
 use Rattle.mirror_table.proofs.Turning.{arrival_turned, arrives_turned, departure_turned, leads_turned, leaves_turned, length-turn_before}
 use Rattle.mirror_table.proofs.Unique.{mirror_back}
-
--- a departure as an arrival in the mirror
-abbrev value_from : LeavingData → Value
-value_from d = record { arrive = mirror_time d.leave; rides = d.rides }
 
 there_and_back : (d : LeavingData) → leaving_from (value_from d) ≡ d
 there_and_back d = λ i. record { leave = time_back d.leave i; rides = d.rides }
@@ -34,7 +30,7 @@ same_length : (T : TimetableData) (rides : List Ride) → length (turn_rides T r
 same_length T rides = omega (arith, length-turn_before T rides [])
 
 module _ (T M : TimetableData) (m : IsMirror T M) (A : ArrivalData) where
-  has_value : (j : Journey) (d : LeavingData) → HasLeaving T A j d → HasValue M (mirror_query A) (turn_journey T j) (value_from d)
+  pub has_value : (j : Journey) (d : LeavingData) → HasLeaving T A j d → HasValue M (mirror_query A) (turn_journey T j) (value_from d)
   has_value j d h = record {
     journey = record { origin = h.journey.target; target = h.journey.origin; leads = leads_turned T M m j.origin j.target j.rides h.journey.leads };
     leaves = leaves_turned T M m A.by j.origin j.target j.rides h.journey.leads h.arrives;

@@ -73,3 +73,7 @@ mirror_query A = record { from = A.to; to = A.from; leave = mirror_time A.by }
 -- the departure that is the arrival of a value in the mirror
 abbrev pub leaving_from : Value → LeavingData
 leaving_from v = record { leave = mirror_time v.arrive; rides = v.rides }
+
+-- the value in the mirror of which a departure is the arrival
+abbrev pub value_from : LeavingData → Value
+value_from d = record { arrive = mirror_time d.leave; rides = d.rides }

@@ -10,6 +10,8 @@
 
 pub mod laws;
 mod mirrored;
+mod times;
 mod turned_trips;
 
 pub use mirrored::mirror;
+pub use times::mirrored_time;

@@ -1,25 +1,22 @@
 //! Trips that run backwards.
-ghost use Rattle.std.specs.Prelude.{◌≡◌, ◌<◌, ◌≤ℤ◌, IfOk, length, map, negsuc, pos};
+ghost use Rattle.std.specs.Prelude.{◌≡◌, ◌<◌, ◌≤ℤ◌, IfOk, length, map, negsuc};
 ghost use Rattle.tb_base.specs.TimetableData.{events_of};
 ghost use Rattle.mirror_table.specs.Mirror.{mirror_event, mirror_events, mirror_trip};
 
+use crate::times::mirrored_time;
 use std::alloc::Global;
-use tb_base::{Event, Memory, Name, Sec, Timetable, Trip, TripNo};
-
-// The latest time that an event may have, less the seconds by which the earliest is before 0.
-const END: Sec = 273_599;
+use tb_base::{Event, Memory, Name, Timetable, Trip, TripNo};
 
 // An event in the mirror.
 fn mirrored_event(event: &Event) -> Event
     requires earliest { negsuc 86399 ≤ℤ event.now.arr }
     requires waits { event.now.arr ≤ℤ event.now.dep }
-    requires latest { event.now.dep ≤ℤ pos 359999 }
     ensures { result ≡ mirror_event event.now }
 {
     Event {
         stop: event.stop,
-        arr: END - event.dep,
-        dep: END - event.arr,
+        arr: mirrored_time(event.dep),
+        dep: mirrored_time(event.arr),
         board: event.alight,
         alight: event.board,
     }
