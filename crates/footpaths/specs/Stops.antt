@@ -5,8 +5,6 @@ use Rattle.std.specs.Option.{option_or}
 use Rattle.gtfs_rows.specs.Faults.{spot, fault_if, check_rows}
 use Rattle.gtfs_rows.specs.StopsFile.{StopData, is_platform, is_station}
 use Rattle.gtfs_rows.specs.TransfersFile.{is_filled}
-use Rattle.gtfs_rows.specs.declared.stops.Kind.{Kind}
-use Rattle.gtfs_rows.specs.declared.stops.Kind.TheVariants as kind
 use Rattle.gtfs_rows.specs.declared.fault.FeedFile.TheVariants as file
 use Rattle.gtfs_rows.specs.declared.fault.FeedFault.{FeedFault}
 use Rattle.gtfs_rows.specs.declared.fault.FeedFault.TheVariants as fault
@@ -20,11 +18,6 @@ stop_id s = s.id
 
 abbrev pub has_stop_id : List ℕ → StopData → Bool
 has_stop_id id s = bytes_eq id s.id
-
-abbrev pub is_kind : Kind → Kind → Bool
-is_kind kind.Platform = is_platform
-is_kind kind.Station = is_station
-is_kind kind.Other = λ k. not (is_platform k) && not (is_station k)
 
 -- the platforms, in file order: the number of a platform is its place among them, from 0
 abbrev pub platforms : List StopData → List StopData

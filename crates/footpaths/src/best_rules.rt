@@ -7,7 +7,7 @@ use std::alloc::Global;
 use std::marker::Model;
 use tb_base::Memory;
 
-// What a rank says of a way: its seconds, or None where it is forbidden.
+/// What a rank says of a way: its seconds, or None where it is forbidden.
 #[derive(Debug, Clone, Copy, PartialEq, Eq)]
 pub struct Verdict {
     pub rank: u8,
@@ -63,7 +63,7 @@ impl Model for BestRules {
 }
 
 impl BestRules {
-    /// No mark at any of so many stops.
+    /// No verdict at any of so many stops.
     pub fn new(alloc: Global, count: usize) -> Result<BestRules, Memory>
         ensures { IfOk result (λ marks. marks ≡ replicate count None) }
     {

@@ -12,7 +12,7 @@ pub enum Found {
     Other,
 }
 
-// A row of transfers.txt by the numbers of its ends: None where the way is forbidden.
+/// A row of transfers.txt by the numbers of its ends: None where the way is forbidden.
 #[derive(Debug, Clone, Copy, PartialEq, Eq)]
 pub struct Link {
     pub from: Found,

@@ -13,6 +13,11 @@ use std::alloc::{AllocError, Global};
 use std::marker::Model;
 use tb_base::{Memory, StopNo};
 
+// The ranks of the defaults, behind those of rows, which are how many stations a row names.
+const DEFAULT_CHANGE: u8 = 3;
+
+const WITHIN_STATION: u8 = 4;
+
 fn stations_in(found: Found) -> u8
     ensures { result ≡ stations_in found }
 {
@@ -210,7 +215,13 @@ impl<'a> Network<'a> {
             return Ok(());
         };
         match self.stops.station_of(stop) {
-            Some(station) => marks.mark_all(self.members.of(station as usize), 4, Some(given)),
+            Some(station) => {
+                marks.mark_all(
+                    self.members.of(station as usize),
+                    WITHIN_STATION,
+                    Some(given),
+                )
+            }
             None => Ok(()),
         }
     }
@@ -231,7 +242,7 @@ impl<'a> Network<'a> {
             ≡ secs_between self.now.stops options.now self.now.links p stop) }
     {
         self.mark_rows(marks, stop)?;
-        marks.mark(stop.0, 3, Some(options.change))?;
+        marks.mark(stop.0, DEFAULT_CHANGE, Some(options.change))?;
         self.mark_station(marks, stop, options.station)
     }
 }

@@ -1,25 +1,15 @@
 //! The rows of stops.txt, with their numbers and a look-up by id.
-ghost use Rattle.std.specs.Prelude.{◌≡◌, ◌<◌, ◌≤◌, ℕ, List, Ok, IfOk, MatchResult, length, map, filter, position, bytes_eq, is_some, IfSome};
+ghost use Rattle.std.specs.Prelude.{◌≡◌, ◌<◌, ◌≤◌, ℕ, List, Ok, IfOk, MatchResult, length, map, position, bytes_eq, is_some, IfSome};
 ghost use Rattle.std.specs.List.{list_any};
 ghost use Rattle.gtfs_rows.specs.StopsFile.{StopData, is_platform, is_station};
-ghost use Rattle.footpaths.specs.Stops.{stop_id, has_stop_id, lacks_parent, is_kind, platforms, stations, parent_station, check_stops, IsStopsRefused};
+ghost use Rattle.footpaths.specs.Stops.{stop_id, has_stop_id, lacks_parent, platforms, stations, parent_station, check_stops, IsStopsRefused};
 
 use crate::{Found, StopsFault};
-use gtfs_rows::{Kind, StopRow};
+use gtfs_rows::StopRow;
 use names::NameIndex;
 use std::alloc::Global;
 use std::marker::Model;
 use tb_base::{Memory, Name, StopNo};
-
-fn is_kind(asked: Kind, kind: Kind) -> bool
-    ensures { result ≡ is_kind asked kind }
-{
-    match asked {
-        Kind::Platform => kind.is_platform(),
-        Kind::Station => kind.is_station(),
-        Kind::Other => !kind.is_platform() && !kind.is_station(),
-    }
-}
 
 // The ids of all rows, where an id that stands twice counts once.
 fn known_ids(alloc: Global, rows: &[StopRow]) -> Result<NameIndex, Memory>
@@ -65,14 +55,28 @@ fn checked_ids(alloc: Global, rows: &[StopRow], known: &NameIndex) -> Result<Nam
     Ok(ids)
 }
 
-// The ids of the rows of a kind, in file order.
-fn ids_of(alloc: Global, rows: &[StopRow], kind: Kind) -> Result<NameIndex, Memory>
+// The ids of the platforms, in file order.
+fn platform_ids(alloc: Global, rows: &[StopRow]) -> Result<NameIndex, Memory>
     requires { check_stops rows.now ≡ Ok rows.now }
-    ensures { IfOk result (λ ids. ids ≡ map stop_id (filter (λ s. is_kind kind s.kind) rows.now)) }
+    ensures { IfOk result (λ ids. ids ≡ map stop_id (platforms rows.now)) }
 {
     let mut ids = NameIndex::new(alloc);
     for row in rows {
-        if is_kind(kind, row.kind) {
+        if row.kind.is_platform() {
+            ids.add(alloc, row.id.bytes())?;
+        }
+    }
+    Ok(ids)
+}
+
+// The ids of the stations, in file order.
+fn station_ids(alloc: Global, rows: &[StopRow]) -> Result<NameIndex, Memory>
+    requires { check_stops rows.now ≡ Ok rows.now }
+    ensures { IfOk result (λ ids. ids ≡ map stop_id (stations rows.now)) }
+{
+    let mut ids = NameIndex::new(alloc);
+    for row in rows {
+        if row.kind.is_station() {
             ids.add(alloc, row.id.bytes())?;
         }
     }
@@ -190,8 +194,8 @@ impl StopTable {
         requires ids { ids ≡ map stop_id rows.now }
         ensures { IfOk result (λ table. table ≡ rows.now) }
     {
-        let platforms = ids_of(alloc, rows, Kind::Platform)?;
-        let stations = ids_of(alloc, rows, Kind::Station)?;
+        let platforms = platform_ids(alloc, rows)?;
+        let stations = station_ids(alloc, rows)?;
         let parents = parents_of(alloc, rows, &stations)?;
         let rows = copies_of(alloc, rows)?;
         Ok(StopTable {
