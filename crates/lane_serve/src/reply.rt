@@ -1,6 +1,6 @@
 //! Replies as texts.
 ghost use Rattle.std.specs.Prelude.{◌≡◌, IfOk};
-ghost use Rattle.query_gate.specs.Callers.{HasLegNumbers};
+ghost use Rattle.query_gate.specs.Replies.{HaveNumbers};
 ghost use Rattle.lane_serve.specs.Lanes.{deferred_text, reply_text};
 
 use answer_text::{choices_text, offers_text, unknown_text};
@@ -21,7 +21,7 @@ fn deferred_text(alloc: Global, number: u32) -> Result<Vec<u8>, Memory>
 
 /// The lines of an edition's reply. Refused only for want of memory.
 pub fn reply_text(alloc: Global, edition: &Edition, reply: &Reply) -> Result<Vec<u8>, Memory>
-    requires { HasLegNumbers edition.now reply.now }
+    requires { HaveNumbers edition.now.table reply.now }
     ensures { IfOk result (λ v. v.items ≡ reply_text edition.now.table reply.now) }
 {
     let table = edition.table();

@@ -3,7 +3,8 @@ use Rattle.std.proofs.Common.{◌≡◌, ◌∙◌, ◌≤◌, ◌+◌, ℕ, Lis
 use Rattle.tb_base.specs.Network.{NetData}
 use Rattle.tb_base.specs.TimetableData.{TimetableData}
 use Rattle.query_gate.specs.Questions.{Ends, ends_between}
-use Rattle.query_gate.specs.Replies.{IsBetween, looks_between, search_looks}
+use Rattle.earliest_query.specs.Choices.{search_looks}
+use Rattle.query_gate.specs.Replies.{IsBetween, looks_between}
 use Rattle.query_gate.specs.declared.between.Between.{Between}
 
 pub between_by : (T U : TimetableData) (from start to target : List ℕ) → T ≡ U → from ≡ start → to ≡ target → (b : Between) → IsBetween T from to b → IsBetween U start target b

@@ -49,14 +49,7 @@ LeavesAnsweredBy editions q reply D =
     (e : EditionData) → IsEditionOf editions (length editions) e →
     LeavesAnswered (net_of e) q reply D
 
--- the trips, stops and indices in all legs of a reply exist in the edition
-abbrev pub HasLegNumbers : EditionData → Reply → Type 0
-HasLegNumbers e (Values choices) = HaveNumbers e.table (Values choices)
-HasLegNumbers e (Slots offers) = HaveNumbers e.table (Slots offers)
-HasLegNumbers e (UnknownStop name) = ⊤
-HasLegNumbers e (Deferred number) = ⊤
-
--- they exist in edition n of a list
+-- the trips, stops and indices in all legs of a reply exist in edition n of a list
 abbrev pub HasLegNumbersIn : List EditionData → ℕ → Reply → Type 0
 HasLegNumbersIn editions n reply =
-    (e : EditionData) → IsEditionOf editions n e → HasLegNumbers e reply
+    (e : EditionData) → IsEditionOf editions n e → HaveNumbers e.table reply

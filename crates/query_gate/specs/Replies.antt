@@ -1,11 +1,11 @@
 -- Which replies are right.
-use Rattle.std.specs.Prelude.{◌≡◌, ◌+◌, ◌<◌, ⊤, ℕ, List, Result, Ok, Err, All, map}
+use Rattle.std.specs.Prelude.{◌≡◌, ◌<◌, ⊤, ℕ, List, Result, Ok, Err, All, map}
 use Rattle.tb_base.specs.BestValues.{AreBestValues, ChoiceData, QueryData}
 use Rattle.tb_base.specs.JourneyRules.{HasNumbers, SpellSlot}
 use Rattle.tb_base.specs.Network.{NetData}
 use Rattle.tb_base.specs.Profiles.{IsProfile, OfferData, WindowData}
-use Rattle.tb_base.specs.TimetableData.{TimetableData, event_total}
-use Rattle.earliest_query.specs.Choices.{lines_near}
+use Rattle.tb_base.specs.TimetableData.{TimetableData}
+use Rattle.earliest_query.specs.Choices.{search_looks}
 use Rattle.plain_rounds.specs.Shown.{SpellShortest}
 use Rattle.segment_queue.specs.Queue.{DeskData}
 use Rattle.segment_queue.specs.Traced.{IsAnswered, LegsFollow}
@@ -71,17 +71,12 @@ IsProfileReply N q (Slots offers) =
 IsProfileReply N q (UnknownStop name) = ends_between N.table q.from q.to ≡ Err name
 IsProfileReply N q (Deferred number) = ⊥
 
--- the reply is an edition's answer, and the trips, stops and indices in all its legs exist
+-- the trips, stops and indices in all its legs exist
 abbrev pub HaveNumbers : TimetableData → Reply → Type 0
 HaveNumbers T (Values choices) = All (λ c. All (HasNumbers T) (ChoiceData.legs c)) choices.items
 HaveNumbers T (Slots offers) = All (λ o. All (HasNumbers T) (OfferData.legs o)) offers.items
 HaveNumbers T (UnknownStop name) = ⊤
-HaveNumbers T (Deferred number) = ⊥
-
--- the most looks of a search from these stops: one at each event, and one at each line of the stops
--- with a walk from an origin
-abbrev pub search_looks : NetData → List ℕ → ℕ
-search_looks N from = event_total N.table + lines_near N from
+HaveNumbers T (Deferred number) = ⊤
 
 -- the most looks for a question between two places: those of one search; none if a name is no place
 abbrev pub looks_between : NetData → Result Ends (List ℕ) → ℕ

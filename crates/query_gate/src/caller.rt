@@ -5,8 +5,8 @@ ghost use Rattle.edition_store.specs.Editions.{net_of};
 ghost use Rattle.edition_store.specs.Lists.{longer};
 ghost use Rattle.query_gate.specs.Callers.{AnswersAsk, AnswersProfile, CallerData};
 ghost use Rattle.query_gate.specs.Callers.{IsAnsweredBy, IsProfiledBy, LeavesAnsweredBy};
-ghost use Rattle.query_gate.specs.Callers.{HasLegNumbers, HasLegNumbersIn};
-ghost use Rattle.query_gate.specs.Replies.{LeavesAnswered};
+ghost use Rattle.query_gate.specs.Callers.{HasLegNumbersIn};
+ghost use Rattle.query_gate.specs.Replies.{HaveNumbers, LeavesAnswered};
 
 use crate::asking::AskText;
 use crate::profiling::ProfileText;
@@ -50,7 +50,7 @@ fn ask_of(
 ) -> Result<Reply, Memory>
     requires { text.now.leave ≤ℤ pos 359999 }
     ensures reply { IfOk result (AnswersAsk number edition.now text.now) }
-    ensures numbers { IfOk result (HasLegNumbers edition.now) }
+    ensures numbers { IfOk result (HaveNumbers edition.now.table) }
     ensures desk { IfOk result
         (λ reply. LeavesAnswered (net_of edition.now) text.now reply desk.new) }
 {
@@ -70,7 +70,7 @@ fn profile_of(
 ) -> Result<Reply, Memory>
     requires { text.now.last ≤ℤ pos 359999 }
     ensures reply { IfOk result (AnswersProfile number edition.now text.now) }
-    ensures numbers { IfOk result (HasLegNumbers edition.now) }
+    ensures numbers { IfOk result (HaveNumbers edition.now.table) }
 {
     if text.since > number {
         return Ok(Reply::Deferred(text.since));
@@ -79,7 +79,7 @@ fn profile_of(
 }
 
 impl<J: Naming> Caller<J> {
-    /// One who asks from a seat, with an empty desk. Takes no memory.
+    /// One who asks from a seat. Takes no memory.
     pub fn new(alloc: Global, seat: Seat<J>) -> Caller<J>
         ensures { CallerData.kept result ≡ seat }
     {

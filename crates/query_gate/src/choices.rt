@@ -4,7 +4,8 @@ ghost use Rattle.tb_base.specs.BestValues.{ChoiceData};
 ghost use Rattle.tb_base.specs.Sufficiency.{AreSufficient};
 ghost use Rattle.segment_queue.specs.Queue.{Fits};
 ghost use Rattle.segment_queue.specs.Traced.{IsAnswered};
-ghost use Rattle.query_gate.specs.Replies.{AreBestChoices, search_looks};
+ghost use Rattle.earliest_query.specs.Choices.{search_looks};
+ghost use Rattle.query_gate.specs.Replies.{AreBestChoices};
 
 use earliest_query::earliest;
 use journey_unfold::choices;

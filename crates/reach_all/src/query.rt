@@ -1,8 +1,7 @@
 ghost use Rattle.std.specs.Prelude.{◌+◌, ◌<◌, ◌≤◌, All, IfOk, length, map, pos, ◌≤ℤ◌};
 ghost use Rattle.tb_base.specs.Sufficiency.{AreSufficient};
-ghost use Rattle.tb_base.specs.TimetableData.{event_total};
 ghost use Rattle.segment_queue.specs.Queue.{Fits};
-ghost use Rattle.earliest_query.specs.Choices.{lines_near};
+ghost use Rattle.earliest_query.specs.Choices.{search_looks};
 ghost use Rattle.reach_all.specs.Reach.{IsReach};
 
 use super::arrivals::Arrivals;
@@ -34,8 +33,7 @@ pub fn reach_all<L: Ledger, S: Look<L>>(
     ensures reach { IfOk result (λ lists. IsReach (S.net scan.now).table from.now leave
         (map (λ list. list.items) lists.items)) }
     ensures fits { Fits (S.net scan.now).table desk.new }
-    ensures steps { steps.new ≤ steps.old
-        + (event_total (S.net scan.now).table + lines_near (S.net scan.now) from.now) }
+    ensures steps { steps.new ≤ steps.old + search_looks (S.net scan.now) from.now }
 {
     scan.soundness();
     let search = OneToAll { scan, from, leave };
