@@ -7,10 +7,11 @@ ghost use Rattle.mirror_table.specs.Mirror.{IsMirror};
 ghost use Rattle.arrive_by.specs.Latest.{AreLatestDepartures, DepartureData};
 
 use crate::departures::{Arrival, Departure};
-use crate::turned::{END, departures};
+use crate::turned::departures;
 use earliest_query::earliest;
 use edition_store::Edition;
 use journey_unfold::choices;
+use mirror_table::mirrored_time;
 use segment_queue::{Desk, Steps};
 use std::alloc::Global;
 use std::marker::Brand;
@@ -26,7 +27,7 @@ fn mirrored_query(alloc: Global, by: &Arrival) -> Result<Query, Memory>
     Ok(Query {
         from: Vec::from_slice(alloc, by.to.as_slice())?,
         to: Vec::from_slice(alloc, by.from.as_slice())?,
-        leave: END - by.by,
+        leave: mirrored_time(by.by),
     })
 }
 

@@ -7,12 +7,10 @@ ghost use Rattle.arrive_by.specs.Latest.{departure_from};
 
 use crate::departures::Departure;
 use edition_store::Edition;
+use mirror_table::mirrored_time;
 use segment_queue::Scan;
 use std::alloc::Global;
-use tb_base::{Choice, Leg, Memory, Sec};
-
-/// The time that is 0 in the mirror.
-pub(crate) const END: Sec = 273_599;
+use tb_base::{Choice, Leg, Memory};
 
 // A leg turned round.
 fn turned_leg(mirrored: &Edition, leg: Leg) -> Leg
@@ -60,7 +58,7 @@ fn departure(alloc: Global, mirrored: &Edition, choice: &Choice) -> Result<Depar
     ensures { IfOk result (λ d. d ≡ departure_from mirrored.now.table choice.now) }
 {
     Ok(Departure {
-        leave: END - choice.value.arrive,
+        leave: mirrored_time(choice.value.arrive),
         rides: choice.value.rides,
         legs: turned_legs(alloc, mirrored, choice.legs.as_slice())?,
     })

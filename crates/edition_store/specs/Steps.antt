@@ -10,7 +10,7 @@ pub data Step (A : Type 0) : Type 0 where
   Pin : ℕ → Step A
   Learn : ℕ → Shown A → Step A
 
--- the list, each list as it was after a publication, and what each seat knows
+-- the list, each list as it was after a publication or the end, and what each seat knows
 pub record Editions (A : Type 0) : Type 0 where
   pub now : Shown A
   pub told : List (Shown A)

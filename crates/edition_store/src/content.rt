@@ -72,7 +72,7 @@ impl<J: Naming> Content<J> {
         }
     }
 
-    /// Whether the other list is the longer one. Of two equal lists the closed one is the longer.
+    /// Whether the other list is closed, or the longer one.
     pub(crate) fn is_behind(&self, other: &Content<J>) -> bool
         ensures exact { result ≡ is_longer other.now self.now }
         ensures extends { MatchBool result (Extends other.now self.now)

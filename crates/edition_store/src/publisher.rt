@@ -1,4 +1,4 @@
-ghost use Rattle.std.specs.Prelude.{◌≡◌, ◌<◌, [], ◌∷◌, ◌++◌, length, true, false, IfOk};
+ghost use Rattle.std.specs.Prelude.{◌≡◌, ◌<◌, [], ◌∷◌, ◌++◌, length, false, IfOk};
 ghost use Rattle.std.specs.Arc.{arc_value};
 ghost use Rattle.history.specs.Lists.{Shown, Extends};
 
@@ -195,8 +195,9 @@ impl<J: Naming> Publishing<J, Writing<Content<J>>> {
     }
 
     /// Appends the edition to the list in one step. May wait for readers that are just entering.
-    /// Refused only for want of memory: the list stays as it was and never grows again, and the
-    /// publisher and the edition are dropped.
+    /// Refused only for want of memory; the publisher and the edition are dropped, so nobody
+    /// publishes any more. That seats go on to pin what was published before is so in the code and
+    /// in no clause.
     pub fn publish<R: Wait>(
         self,
         rt: &R,
@@ -227,8 +228,9 @@ impl<J: Naming> Publishing<J, Writing<Content<J>>> {
 
     /// Closes the list, to which nothing is added any more, and gives all of it. From then on no
     /// seat is let in: each pins what it keeps until it has learned the end. May wait for readers
-    /// that are just entering. Refused only for want of memory: the list stays as it was and never
-    /// grows again, and the publisher is dropped.
+    /// that are just entering. Refused only for want of memory; the publisher is dropped, so nobody
+    /// publishes any more. That seats go on to pin what was published before is so in the code and
+    /// in no clause.
     pub fn finish<R: Wait>(self, rt: &R) -> Result<Last<J>, Memory>
         ensures { IfOk result (λ l. l ≡ self) }
     {

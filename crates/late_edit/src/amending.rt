@@ -1,10 +1,10 @@
 //! An edition is amended by late trips.
-ghost use Rattle.std.specs.Prelude.{◌≡◌, ℕ, IfOk, MatchResult, Ok};
+ghost use Rattle.std.specs.Prelude.{◌≡◌, ℕ, IfErr, IfOk, MatchResult, Ok};
 ghost use Rattle.tb_base.specs.Transfers.{kept_hops};
 ghost use Rattle.transfer_pack.specs.Packed.{packed};
 ghost use Rattle.edition_store.specs.Editions.{EditionData, kept_count};
 ghost use Rattle.late_times.specs.Amended.{amended};
-ghost use Rattle.late_times.specs.Lates.{IsRefused};
+ghost use Rattle.late_times.specs.Lates.{IsOfLate, IsRefused};
 ghost use Rattle.touched_trips.specs.Retimed.{IsRetimed};
 ghost use Rattle.touched_trips.specs.Touched.{touched_count};
 ghost use Rattle.late_edit.specs.Amending.{network_of};
@@ -85,11 +85,13 @@ fn amended_over(
 }
 
 /// The edition of the timetable of an edition, amended by lates, and how many trips are touched by
-/// that; or exactly the first fault of a late. It starts no thread and waits for nobody.
+/// that; or exactly the first fault of a late, and none of a file. It starts no thread and waits for
+/// nobody.
 pub fn amend(alloc: Global, old: &Edition, lates: &[Late]) -> Result<Amended, LateFault>
     ensures table { MatchResult result
         (λ a. amended old.now.table lates.now ≡ Ok (EditionData.table a.edition))
         (λ f. IsRefused f (amended old.now.table lates.now)) }
+    ensures own { IfErr result IsOfLate }
     ensures redone { IfOk result
         (λ a. a.redone ≡ touched_count (network_of old.now) (network_of a.edition)) }
 {

@@ -152,7 +152,8 @@ impl Rows {
     }
 
     /// The kept transfers of a timetable with its lines, which has other times than that of an
-    /// edition. Only touched trips are reduced again. Refused only for want of memory.
+    /// edition. That only touched trips are reduced again is so in the code and in no clause. Refused
+    /// only for want of memory.
     pub(crate) fn of(
         alloc: Global,
         old: &Edition,

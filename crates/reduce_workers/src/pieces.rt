@@ -7,14 +7,14 @@ use super::trips::reduce_from;
 use line_split::Lines;
 use std::alloc::Global;
 use tb_base::{Memory, Timetable};
-use transfer_pack::Calls;
+use transfer_pack::FlatCalls;
 use transfer_reduce::Labels;
 
 /// How many trips a piece has. Only the last piece may be shorter.
 const PIECE: u32 = 64;
 
 /// How many pieces the trips of a timetable are.
-pub fn piece_count(table: &Timetable) -> u32
+pub(crate) fn piece_count(table: &Timetable) -> u32
     ensures { result ≡ piece_count (length table.now.trips) }
 {
     table.soundness();
@@ -22,36 +22,20 @@ pub fn piece_count(table: &Timetable) -> u32
 }
 
 /// Reduces the transfers of the trips of a piece, from trip `64 piece` to trip `64 piece + 63`, or
-/// to the last one. The lines are those of the timetable; the labels are for its stops, and may
-/// have served any piece before. Takes memory for the kept transfers, and for the candidates of one
-/// event besides. Refused only for want of memory; the labels may serve any piece then too.
-pub fn reduce_piece(
+/// to the last one. The lines and the calls are those of the timetable; the labels are for its
+/// stops, and may have served any piece before. Takes memory for the kept transfers, and for the
+/// candidates of one event besides. Refused only for want of memory; the labels may serve any piece
+/// then too.
+pub(crate) fn reduce_piece(
     alloc: Global,
     table: &Timetable,
     lines: &Lines,
+    calls: &FlatCalls,
     labels: &mut Labels,
     piece: u32,
 ) -> Result<Reduced, Memory>
     requires lines { lines.now.table ≡ table.now }
-    requires labels { labels.old.table ≡ table.now }
-    requires piece { piece < piece_count (length table.now.trips) }
-    ensures labels { labels.new.table ≡ table.now }
-    ensures reduced { IfOk result (λ r. r ≡ piece_reduced table.now lines.now.lines piece) }
-{
-    reduce_piece_by(alloc, table, lines, table, labels, piece)
-}
-
-/// The same, where events are read from calls, which are those of the timetable.
-pub(crate) fn reduce_piece_by<C: Calls>(
-    alloc: Global,
-    table: &Timetable,
-    lines: &Lines,
-    calls: &C,
-    labels: &mut Labels,
-    piece: u32,
-) -> Result<Reduced, Memory>
-    requires lines { lines.now.table ≡ table.now }
-    requires calls { C.table calls.now ≡ table.now }
+    requires calls { calls.now ≡ table.now }
     requires labels { labels.old.table ≡ table.now }
     requires piece { piece < piece_count (length table.now.trips) }
     ensures labels { labels.new.table ≡ table.now }

@@ -11,7 +11,7 @@ use line_split::Lines;
 use std::alloc::Global;
 use tb_base::{Memory, Timetable, Transfer, TripNo};
 use transfer_make::add_event;
-use transfer_pack::Calls;
+use transfer_pack::{Calls, FlatCalls};
 use transfer_reduce::{Labels, TRIED, Tried, begin_trip, reduce_event};
 use uturn_cut::cut_by;
 
@@ -26,11 +26,11 @@ struct TripReduced {
 impl TripReduced {
     // Adds what the reduction makes of the event before. The candidates of an event are looked at
     // while they are fresh: they stand in `found`, which is empty before and behind.
-    fn add<C: Calls>(
+    fn add(
         &mut self,
         table: &Timetable,
         lines: &Lines,
-        calls: &C,
+        calls: &FlatCalls,
         labels: &mut Labels,
         tried: &mut [Tried; TRIED],
         trip: TripNo,
@@ -38,7 +38,7 @@ impl TripReduced {
         found: &mut Vec<Transfer>,
     ) -> Result<(), Memory>
         requires lines { lines.now.table ≡ table.now }
-        requires calls { C.table calls.now ≡ table.now }
+        requires calls { calls.now ≡ table.now }
         requires labels { labels.old.table ≡ table.now }
         requires tried { AreTried table.now labels.old.times tried.old }
         requires trip { trip < length table.now.trips }
@@ -65,16 +65,16 @@ impl TripReduced {
 }
 
 // Reduces the transfers of one trip.
-fn reduce_trip<C: Calls>(
+fn reduce_trip(
     alloc: Global,
     table: &Timetable,
     lines: &Lines,
-    calls: &C,
+    calls: &FlatCalls,
     labels: &mut Labels,
     trip: TripNo,
 ) -> Result<TripReduced, Memory>
     requires lines { lines.now.table ≡ table.now }
-    requires calls { C.table calls.now ≡ table.now }
+    requires calls { calls.now ≡ table.now }
     requires labels { labels.old.table ≡ table.now }
     requires trip { trip < length table.now.trips }
     ensures labels { labels.new.table ≡ table.now }
@@ -105,17 +105,17 @@ fn reduce_trip<C: Calls>(
 
 impl Reduced {
     // Adds what the reduction makes of the trip that comes next.
-    fn add<C: Calls>(
+    fn add(
         &mut self,
         alloc: Global,
         table: &Timetable,
         lines: &Lines,
-        calls: &C,
+        calls: &FlatCalls,
         labels: &mut Labels,
         trip: TripNo,
     ) -> Result<(), Memory>
         requires lines { lines.now.table ≡ table.now }
-        requires calls { C.table calls.now ≡ table.now }
+        requires calls { calls.now ≡ table.now }
         requires labels { labels.old.table ≡ table.now }
         requires trip { trip < length table.now.trips }
         requires trips { self.old.trips ≤ trip }
@@ -142,17 +142,17 @@ impl Reduced {
 /// Reduces the transfers of `count` trips from trip `first` on. The lines and the calls are those
 /// of the timetable; the labels are for its stops, and serve all trips. Takes memory for the kept
 /// transfers, and for the candidates of one event besides. Refused only for want of memory.
-pub(crate) fn reduce_from<C: Calls>(
+pub(crate) fn reduce_from(
     alloc: Global,
     table: &Timetable,
     lines: &Lines,
-    calls: &C,
+    calls: &FlatCalls,
     labels: &mut Labels,
     first: u32,
     count: u32,
 ) -> Result<Reduced, Memory>
     requires lines { lines.now.table ≡ table.now }
-    requires calls { C.table calls.now ≡ table.now }
+    requires calls { calls.now ≡ table.now }
     requires labels { labels.old.table ≡ table.now }
     requires within { first + count ≤ length table.now.trips }
     ensures labels { labels.new.table ≡ table.now }

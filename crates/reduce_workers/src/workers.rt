@@ -6,7 +6,7 @@ ghost use Rattle.reduce_workers.specs.Seats.{IsOpen};
 ghost use Rattle.reduce_workers.specs.Work.{Worked};
 
 use crate::claim::Claim;
-use crate::pieces::{piece_count, reduce_piece_by};
+use crate::pieces::{piece_count, reduce_piece};
 use crate::places::{Brought, collect, join_pieces, place};
 use crate::reduced::Reduced;
 use crate::seat::ClaimSeat;
@@ -39,7 +39,7 @@ fn reduce_drawn<G: Gate>(
     let mut done = Vec::new(alloc);
     while let Some(n) = claim.draw(&mut seat) {
         gate.begin(Work::Piece(n));
-        let reduced = reduce_piece_by(alloc, table, lines, calls, &mut labels, n);
+        let reduced = reduce_piece(alloc, table, lines, calls, &mut labels, n);
         gate.done(Work::Piece(n));
         done.push((n, reduced?))?;
     }
@@ -47,12 +47,11 @@ fn reduce_drawn<G: Gate>(
 }
 
 /// Reduces the transfers of all trips by so many workers, of which there are at least one and at
-/// most 64. The workers draw pieces of 64 trips; the gate is told when one begins a piece and when
-/// it is done with it. The kept transfers and the counts are the same for every number of workers,
-/// whoever draws which piece. Where no thread can be started the caller does that worker's part
-/// itself. The lines are those of the timetable. Takes memory for the kept transfers, eight bytes an
-/// event, and for each worker one word a stop, the footpaths by the stop that they lead to, and the
-/// candidates of one event besides. Refused only for want of memory.
+/// most 64. The workers draw pieces of 64 trips. The kept transfers and the counts are the same for
+/// every number of workers, whoever draws which piece. The lines are those of the timetable. Takes
+/// memory for the kept transfers, and for each worker for its labels. Refused only for want of
+/// memory. So in the code and in no clause: the gate is told when a worker begins a piece and when
+/// it is done with it, and where no thread can be started the caller does that worker's part itself.
 pub fn reduce_all<G: Gate, R: Threads + Sync>(
     rt: &R,
     alloc: Global,

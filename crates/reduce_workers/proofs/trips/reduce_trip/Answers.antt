@@ -7,7 +7,7 @@ use Rattle.reduce_workers.proofs.EventSteps.{all_counted, none_counted}
 use Rattle.reduce_workers.proofs.trips.reduce_trip.Goals as goal
 
 pub loop-at-init : goal.loop-at-init
-loop-at-init g c =
+loop-at-init c =
     let T = c.args.table.now in
     let lines = c.args.lines.now.lines in
     let t = c.args.trip in
@@ -26,7 +26,7 @@ loop-at-init g c =
     }
 
 pub returns-clause-rows : goal.returns-clause-rows
-returns-clause-rows g c =
+returns-clause-rows c =
     let none : c.loop-at.at ≡ 0 = omega arith in
     let inv = c.loop-at.invariant in
     c.shrink_to_fit.ensures.items
@@ -34,11 +34,11 @@ returns-clause-rows g c =
     (subst (λ n. IsReducedTo c.args.table.now c.args.lines.now.lines c.args.trip n c.loop-at.done.rows.items c.loop-at.labels.times) none inv.done.reduced)
 
 pub returns-clause-generated : goal.returns-clause-generated
-returns-clause-generated g c =
+returns-clause-generated c =
     let none : c.loop-at.at ≡ 0 = omega arith in
     all_counted c.args.table.now c.args.trip (candidates c.args.table.now c.args.lines.now.lines c.args.trip) c.loop-at.at c.loop-at.done.generated none c.loop-at.invariant.done.generated_to
 
 pub returns-clause-after_uturn : goal.returns-clause-after_uturn
-returns-clause-after_uturn g c =
+returns-clause-after_uturn c =
     let none : c.loop-at.at ≡ 0 = omega arith in
     all_counted c.args.table.now c.args.trip (candidates_without_u_turns c.args.table.now c.args.lines.now.lines c.args.trip) c.loop-at.at c.loop-at.done.after_uturn none c.loop-at.invariant.done.cut_to

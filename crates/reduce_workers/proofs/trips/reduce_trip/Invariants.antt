@@ -5,7 +5,7 @@ use Rattle.reduce_workers.specs.Events.{IsDoneTo}
 use Rattle.reduce_workers.proofs.trips.reduce_trip.Given as goal
 
 abbrev pub invariant-loop-at : goal.invariant-loop-at
-invariant-loop-at g l = record {
+invariant-loop-at l = record {
   labels : l.labels.table ≡ l.table;
   tried : AreTried l.table l.labels.times l.tried;
   inside : l.at ≤ length (events_of l.table l.trip);
@@ -14,4 +14,4 @@ invariant-loop-at g l = record {
 }
 
 abbrev pub decreases-loop-at : goal.decreases-loop-at
-decreases-loop-at g l = l.at
+decreases-loop-at l = l.at

@@ -4,7 +4,7 @@ use Rattle.reduce_workers.proofs.workers.reduce_drawn.Goals as goal
 
 pub loop-n-preserved : goal.loop-n-preserved
 loop-n-preserved g c = record {
-  labels = c.reduce_piece_by-reduced.ensures.labels;
+  labels = c.reduce_piece-reduced.ensures.labels;
   works = works_more c.args.claim.now (piece_reduced c.args.table.now c.args.lines.now.lines) c.loop-n.seat c.draw.new.seat c.loop-n.done.items c.push.new.self.items c.in-Some.n c.in_ok-reduced.field-0
       c.loop-n.invariant.works c.in-Some.ensures.rising c.in-Some.ensures.seat c.in_ok-reduced.ensures.reduced c.in_ok-push.ensures.items;
 }

@@ -7,7 +7,7 @@ use Rattle.reduce_workers.proofs.MoreTrips.{more_trips, one_more_count, one_trip
 use Rattle.reduce_workers.proofs.reduced.Reduced.add.Goals as goal
 
 pub overflow_add-self : goal.overflow_add-self
-overflow_add-self g c =
+overflow_add-self c =
     let T = c.args.table.now in
     let lines = c.args.lines.now.lines in
     let n = c.args.self.now.trips in
@@ -17,7 +17,7 @@ overflow_add-self g c =
     omega (arith, before, c.in_ok-more.ensures.generated, more, few)
 
 pub overflow_add-self-2 : goal.overflow_add-self-2
-overflow_add-self-2 g c =
+overflow_add-self-2 c =
     let T = c.args.table.now in
     let lines = c.args.lines.now.lines in
     let n = c.args.self.now.trips in
@@ -27,7 +27,7 @@ overflow_add-self-2 g c =
     omega (arith, before, c.in_ok-more.ensures.after_uturn, more, few)
 
 pub overflow_add-self-3 : goal.overflow_add-self-3
-overflow_add-self-3 g c =
+overflow_add-self-3 c =
     let T = c.args.table.now in
     let lines = c.args.lines.now.lines in
     let n = c.args.self.now.trips in
@@ -38,7 +38,7 @@ overflow_add-self-3 g c =
     omega (arith, before, c.len.ensures, same, ap length c.in_ok-more.ensures.rows, more, few)
 
 pub returns-clause-after : goal.returns-clause-after
-returns-clause-after g c =
+returns-clause-after c =
     let T = c.args.table.now in
     let lines = c.args.lines.now.lines in
     let n = c.args.self.now.trips in

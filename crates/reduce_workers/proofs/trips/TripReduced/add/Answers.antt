@@ -9,7 +9,7 @@ use Rattle.reduce_workers.proofs.EventSteps.{counted_more, counted_most, event_c
 use Rattle.reduce_workers.proofs.trips.TripReduced.add.Goals as goal
 
 pub overflow_add-self : goal.overflow_add-self
-overflow_add-self g c =
+overflow_add-self c =
     let T = c.args.table.now in
     let lines = c.args.lines.now.lines in
     let t = c.args.trip in
@@ -22,7 +22,7 @@ overflow_add-self g c =
     omega (arith, few, most)
 
 pub overflow_add-self-2 : goal.overflow_add-self-2
-overflow_add-self-2 g c =
+overflow_add-self-2 c =
     let T = c.args.table.now in
     let lines = c.args.lines.now.lines in
     let t = c.args.trip in
@@ -37,7 +37,7 @@ overflow_add-self-2 g c =
     omega (arith, few, most)
 
 pub returns-clause-done : goal.returns-clause-done
-returns-clause-done g c =
+returns-clause-done c =
     let T = c.args.table.now in
     let lines = c.args.lines.now.lines in
     let t = c.args.trip in
