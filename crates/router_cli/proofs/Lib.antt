@@ -1,7 +1,6 @@
 pub mod AnswerLemmas
 pub mod Endings
 pub mod Runs
-pub mod ClaimLegs
 pub mod Claims
 pub mod LateEndings
 pub mod LastEdition
