@@ -3,7 +3,7 @@ use Rattle.std.proofs.lemmas.Result.{IfOk-weaker}
 use Rattle.tb_base.specs.OutSets.{AreRowsOf}
 use Rattle.reduce_workers.specs.Reductions.{ReducedData}
 use Rattle.edition_build.proofs.Named.{all_named}
-use Rattle.edition_build.proofs.Reporting.{report_listed, report_unlisted}
+use Rattle.edition_build.proofs.ReportTexts.{report_listed, report_unlisted}
 use Rattle.edition_build.proofs.reporting.report.Goals as goal
 
 pub build_list_text-requires : goal.build_list_text-requires

@@ -1,5 +1,5 @@
 use Rattle.std.proofs.Common.{◌∙◌, false, refl}
-use Rattle.edition_build.proofs.Reporting.{report_unlisted}
+use Rattle.edition_build.proofs.ReportTexts.{report_unlisted}
 use Rattle.router_cli.proofs.made_city.built_of.Goals as goal
 
 pub returns-in-Ok-assemble-clause-report : goal.returns-in-Ok-assemble-clause-report
