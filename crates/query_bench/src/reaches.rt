@@ -29,7 +29,6 @@ fn found_from(
     requires stop { stop < length edition.now.table.stops }
     requires leave { leave ≤ℤ pos 359999 }
 {
-    edition.soundness();
     let from = [StopNo(stop)];
     let lists = uncounted::reach_all(alloc, edition, from.as_slice(), leave, desk)?;
     let found = found_in(lists.as_slice());

@@ -34,7 +34,6 @@ fn reach(
     ensures { IfOk result (λ lists. IsReach edition.now.table from.now leave
         (map (λ list. list.items) lists.items)) }
 {
-    edition.soundness();
     let mut desk = Desk::new(alloc);
     let lists = uncounted::reach_all(alloc, edition, from, leave, &mut desk);
     drop(desk);

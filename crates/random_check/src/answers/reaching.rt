@@ -21,7 +21,6 @@ fn reach(
     requires origins { All (λ p. p < length edition.now.table.stops) from.now }
     requires leave { leave ≤ℤ pos 359999 }
 {
-    edition.soundness();
     uncounted::reach_all(alloc, edition, from, leave, desk)
 }
 
