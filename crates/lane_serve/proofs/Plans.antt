@@ -1,5 +1,5 @@
 -- A plan grows by one item.
-use Rattle.std.proofs.Common.{◌≡◌, ℕ, suc, ◌+◌, ◌<◌, ◌≤◌, List, [], ◌∷◌, ◌++◌, take, length, get_or, refl, sym, subst, ◌∙◌, Option, Result, Ok, Err, arith}
+use Rattle.std.proofs.Common.{◌≡◌, ℕ, suc, ◌+◌, ◌<◌, ◌≤◌, List, [], ◌∷◌, ◌++◌, take, length, get_or, refl, sym, ap, subst, ◌∙◌, Option, Result, Ok, Err, arith}
 use Rattle.std.specs.Prelude.{IfOk}
 use Rattle.gtfs_rows.specs.declared.fault.FeedFault.{FeedFault}
 use Rattle.std.proofs.lemmas.List.{take_more, length-take, append-nil}
@@ -33,6 +33,16 @@ few_editions files options n (x ∷ xs) [] es h = absurd h
 few_editions files options n (x ∷ xs) (Refused f ∷ os) es h = let r = few_editions files options n xs os es h.1 in omega arith
 few_editions files options n (x ∷ xs) (Published number trips lines kept ∷ os) [] h = absurd h
 few_editions files options n (x ∷ xs) (Published number trips lines kept ∷ os) (e ∷ es) h = let r = few_editions files options (n + 1) xs os es h.2 in omega arith
+
+-- there is one outcome for each item
+pub outcome_count : (files : Option FileList) (options : Options) (n : ℕ) (xs : List ItemData) (os : List Outcome) (es : List EditionData) →
+    AreOutcomes files options n xs os es → length os ≡ length xs
+outcome_count files options n [] [] es h = refl
+outcome_count files options n [] (o ∷ os) es h = absurd h
+outcome_count files options n (x ∷ xs) [] es h = absurd h
+outcome_count files options n (x ∷ xs) (Refused f ∷ os) es h = ap suc (outcome_count files options n xs os es h.1)
+outcome_count files options n (x ∷ xs) (Published number trips lines kept ∷ os) [] h = absurd h
+outcome_count files options n (x ∷ xs) (Published number trips lines kept ∷ os) (e ∷ es) h = ap suc (outcome_count files options (n + 1) xs os es h.2)
 
 -- there is room for one more edition
 pub has_room : (files : Option FileList) (options : Options) (plan : List ItemData) (i : ℕ) (os : List Outcome) (es : List EditionData) →

@@ -1,7 +1,8 @@
 -- A lane's run and its closing replies grow by one reply, and stay right over a longer list.
 use Rattle.std.proofs.Common.{◌≡◌, ℕ, zero, suc, ◌+◌, ◌-◌, ◌<◌, ◌≤◌, List, [], ◌∷◌, ◌++◌, Bool, true, false, take, drop, length, get_or, refl, sym, ap, subst, ◌∙◌, if◌then◌else◌, arith}
-use Rattle.std.specs.Prelude.{slice_get, Some}
+use Rattle.std.specs.Prelude.{All, slice_get, Some}
 use Rattle.std.proofs.lemmas.List.{append-nil, take_all, take_more, length-take}
+use Rattle.std.proofs.lemmas.List.Elements.{All-push}
 use Rattle.history.specs.Lists.{Shown, StartsWith}
 use Rattle.history.proofs.Lists.{rest_of}
 use Rattle.edition_store.specs.Editions.{EditionData}
@@ -82,6 +83,12 @@ so_far_more fs es s requests i d replies r h lt l n a =
 
 pub so_far_longer : (es : List EditionData) (requests : List Line) (i : ℕ) (replies : List ReplyText) → length requests ≤ i → IsSoFar es requests i replies → (fs : List EditionData) → StartsWith fs es → IsLaneRun fs requests replies
 so_far_longer es requests i replies le h fs s = runs_more fs es s 1 0 requests replies (subst (λ l. RunsFrom es 1 0 l replies) (take_all i requests le) h.run)
+
+-- one more reply, by the last edition of a list that begins with this one, is no earlier than it
+pub since_more : (fs es : List EditionData) → StartsWith fs es → (rs : List ReplyText) (r : ReplyText) → All (λ (p : ReplyText). length es ≤ p.edition) rs → r.edition ≡ length fs → All (λ (p : ReplyText). length es ≤ p.edition) (rs ++ r ∷ [])
+since_more fs es s rs r h n =
+    let le = starts_length fs es s in
+    All-push (λ (p : ReplyText). length es ≤ p.edition) rs r h (omega arith)
 
 closing_snoc : (es : List EditionData) (ds : List Due) (cs : List ReplyText) (d : Due) (c : ReplyText) → IsClosing es ds cs
     → c.line ≡ d.line → c.edition ≡ length es → IsAnswered es d.request c → IsClosing es (ds ++ d ∷ []) (cs ++ c ∷ [])

@@ -1,6 +1,7 @@
 -- What a run of lanes beside a publisher gives.
 use Rattle.std.specs.Prelude.{◌≡◌, ℕ, ◌<◌, List, [], ◌∷◌, length, Option, Some, None, Result, Ok, Err, Vec, ⊤}
 use Rattle.std.specs.Global.{Global}
+use Rattle.tb_base.specs.TimetableData.{TimetableData}
 use Rattle.tb_io.specs.Files.{FileList}
 use Rattle.gtfs_rows.specs.declared.fault.FeedFault.{FeedFault}
 use Rattle.footpaths.specs.declared.paths.Options.{Options}
@@ -53,17 +54,18 @@ pub record IsServed (files : Option FileList) (options : Options) (plan : List I
   pub last : s.last ≡ length editions
   pub lanes : AreServed editions script s.lanes s.closing
 
--- the first item of a plan gives this
-abbrev pub FirstGives : Option FileList → Options → List ItemData → FeedFault → Type 0
-FirstGives files options [] f = ⊥
-FirstGives files options (item ∷ items) f = ItemGives files options item (Err f)
+-- the first item of a plan gives this timetable or first fault
+abbrev pub FirstGives :
+    Option FileList → Options → List ItemData → Result TimetableData FeedFault → Type 0
+FirstGives files options [] result = ⊥
+FirstGives files options (item ∷ items) result = ItemGives files options item result
 
 -- Why there is no answer: the first item's first fault; or a failed read, where the count of faults
 -- rose; or want of memory.
 abbrev pub IsServeFault :
     Option FileList → Options → List ItemData → ℕ → ℕ → ServeFault → Type 0
 IsServeFault files options plan before now (fault.Feed f) =
-    FirstGives files options plan f × (now ≡ before)
+    FirstGives files options plan (Err f) × (now ≡ before)
 IsServeFault files options plan before now fault.ReadFault = before < now
 IsServeFault files options plan before now fault.Memory = now ≡ before
 

@@ -1,5 +1,5 @@
 //! One lane.
-ghost use Rattle.std.specs.Prelude.{◌≡◌, ◌<◌, ◌≤◌, ◌+◌, ◌^◌, ◌-◌, All, List, true, length, IfOk};
+ghost use Rattle.std.specs.Prelude.{◌≡◌, ◌<◌, ◌≤◌, ◌+◌, ◌-◌, All, List, true, length, IfOk};
 ghost use Rattle.history.specs.Lists.{Extends, StartsWith};
 ghost use Rattle.edition_store.specs.Editions.{EditionData};
 ghost use Rattle.query_gate.specs.Callers.{HasLegNumbersIn};
@@ -107,9 +107,10 @@ fn answer<J: Naming>(
 }
 
 /// Answers the requests of a lane in order. The replies are a lane's run over the list that the
-/// caller keeps afterwards, and over each longer one. Waits for nobody but the gate. Refused only
-/// for want of memory. That the gate is told of each request, before it is asked and when it is
-/// answered, is tested and in no clause.
+/// caller keeps afterwards, and over each longer one; none is of an earlier edition than the last
+/// one that the caller kept before. Waits for nobody but the gate. Its one refusal is want of
+/// memory, which may come at any time. That the gate is told of each request, before it is asked
+/// and when it is answered, is tested and in no clause.
 pub fn run_lane<J: Naming, G: Gate>(
     alloc: Global,
     gate: &G,
@@ -122,6 +123,8 @@ pub fn run_lane<J: Naming, G: Gate>(
     ensures run { IfOk result (λ v. IsLaneRun caller.new.kept.list requests.now v.items) }
     ensures longer { IfOk result (λ v. (es : List EditionData) →
         StartsWith es caller.new.kept.list → IsLaneRun es requests.now v.items) }
+    ensures since { IfOk result (λ v.
+        All (λ (r : ReplyText). length caller.old.kept.list ≤ r.edition) v.items) }
     ensures later { Extends caller.new.kept caller.old.kept }
 {
     let mut replies = Vec::new(alloc);
@@ -155,7 +158,8 @@ fn is_due(k: u32, request: &Line, reply: &ReplyText) -> bool
 }
 
 /// Answers the first request of a lane and each that was deferred once more, by the last edition.
-/// Waits for nobody. Refused only for want of memory.
+/// The caller then keeps the whole list. Waits for nobody. Its one refusal is want of memory, which
+/// may come at any time.
 pub fn close_lane<J: Naming>(
     alloc: Global,
     caller: &mut Caller<J>,
@@ -168,7 +172,9 @@ pub fn close_lane<J: Naming>(
     requires replies { length replies.now ≡ length requests.now }
     ensures closing { IfOk result
         (λ v. IsClosing last.now (to_close 1 requests.now replies.now) v.items) }
-    ensures known { IfOk result (λ _. StartsWith last.now caller.old.kept.list) }
+    ensures later { Extends caller.new.kept caller.old.kept }
+    ensures whole { IfOk result (λ _.
+        caller.new.kept ≡ record { list = last.now; closed = true }) }
 {
     caller.learn_last(last)?;
     let mut closing = Vec::new(alloc);

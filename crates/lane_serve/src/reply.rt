@@ -19,7 +19,7 @@ fn deferred_text(alloc: Global, number: u32) -> Result<Vec<u8>, Memory>
     }
 }
 
-/// The lines of an edition's reply. Refused only for want of memory.
+/// The lines of an edition's reply. Its one refusal is want of memory, which may come at any time.
 pub fn reply_text(alloc: Global, edition: &Edition, reply: &Reply) -> Result<Vec<u8>, Memory>
     requires { HaveNumbers edition.now.table reply.now }
     ensures { IfOk result (λ v. v.items ≡ reply_text edition.now.table reply.now) }

@@ -1,5 +1,5 @@
 //! The whole run: a publisher beside the lanes, and the closing part.
-ghost use Rattle.std.specs.Prelude.{◌≡◌, ◌<◌, ◌≤◌, ◌-◌, ◌^◌, ◌∷◌, [], All, IfErr, IfOk, IfSome, IsNone, IsSome, length, slice_index_or, take, vec_len};
+ghost use Rattle.std.specs.Prelude.{◌≡◌, ◌<◌, ◌≤◌, ◌-◌, ◌^◌, ◌∷◌, [], All, Err, IfErr, IfOk, IfSome, IsNone, IsSome, length, slice_index_or, take, vec_len};
 ghost use Rattle.std.specs.Thread.{IsSync};
 ghost use Rattle.gtfs_rows.specs.declared.fault.FeedFault.{FeedFault};
 ghost use Rattle.footpaths.specs.Limits.{AreWithinADay};
@@ -622,8 +622,9 @@ pub fn serve<F: Folder + Send, G: Gate, R: Threads + Wait + Sync>(
     ensures fault { IfErr result (IsServeFault (F.files folder.old) options.now plan.now
         (F.faults folder.old) (F.faults folder.new)) }
     ensures refused { IsSome (F.files folder.old) → F.faults folder.new ≡ F.faults folder.old →
-        (f : FeedFault) → FirstGives (F.files folder.old) options.now plan.now f →
+        (f : FeedFault) → FirstGives (F.files folder.old) options.now plan.now (Err f) →
         TellsFault f result }
+    ensures count { IfOk result (λ s. length (ServedData.outcomes s) ≡ length plan.now) }
 {
     timetable_determined();
     let building = Building {

@@ -129,7 +129,8 @@ fn add_closing(text: &mut Text, last: u32) -> Result<(), Memory>
 /// What a run gives, as lines of text. For each item of the plan `edition N WORD trips N lines N
 /// kept N`, or `refused WORD FAULT`; for each lane `lane NAME`, and for each of its requests `K
 /// edition N`, K being its number from 1, and the reply's lines; then `closing edition N`, and for
-/// each lane the same of its closing replies. Refused only for want of memory.
+/// each lane the same of its closing replies. Its one refusal is want of memory, which may come at
+/// any time.
 pub fn served_text(alloc: Global, plan: &[PlanItem], served: &Served) -> Result<Vec<u8>, Memory>
     requires { length served.now.outcomes ≡ length plan.now }
     ensures { IfOk result (λ v. v.items ≡ served_text plan.now served.now) }
