@@ -1,6 +1,7 @@
--- How the program ends about a claimed journey, and how many legs a claim has.
-use Rattle.std.proofs.Common.{◌≡◌, ℕ, inl, inr, List, Option, Some, None, Result, Ok, Err, refl, sym, subst}
-use Rattle.std.specs.Prelude.{IsSome}
+-- How the program ends about a claimed journey, and what it leaves of the source.
+use Rattle.std.proofs.Common.{◌≡◌, ℕ, inl, inr, List, [], Option, Some, None, Result, Ok, Err, refl, sym, subst, arith}
+use Rattle.std.specs.Prelude.{IfErr, IsSome}
+use Rattle.std.specs.Io.KnownBytes.{Consumes}
 use Rattle.tb_base.specs.BestValues.{ChoiceData}
 use Rattle.tb_base.specs.TimetableData.{TimetableData}
 use Rattle.gtfs_rows.specs.declared.fault.FeedFault.{FeedFault}
@@ -11,9 +12,43 @@ use Rattle.journey_read.specs.Claims.{claim_of}
 use Rattle.journey_read.specs.declared.claim.JourneyFault.{JourneyFault}
 use Rattle.command_line.specs.Verifications.{VerifyRequestData}
 use Rattle.router_cli.proofs.Endings.{IsDetermined}
-use Rattle.router_cli.specs.Verifying.{ClaimGives, IsClaimEnding, IsVerifyEnding, IsVerifyOutcome}
+use Rattle.router_cli.specs.Verifying.{ClaimGives, IsClaimEnding, IsNoClaim, IsVerifyEnding, IsVerifyOutcome, LeavesClaim}
 use Rattle.router_cli.specs.declared.status.Status.{Status}
 use Rattle.router_cli.specs.declared.status.Status.TheVariants as status
+
+pub none_taken : (told : Option (List ℕ)) → (bs : List ℕ) × Consumes told told bs
+none_taken None = ([], tt)
+none_taken (Some bytes) = ([], refl)
+
+-- a source of which nothing was read
+pub claim_unread : (s : Status) (told : Option (List ℕ)) (faults : ℕ) → LeavesClaim s told told faults faults
+claim_unread status.Done told faults = none_taken told
+claim_unread status.Usage told faults = none_taken told
+claim_unread (status.FeedRefused f) told faults = refl
+claim_unread status.ReadFault told faults = (λ still. refl, none_taken told)
+claim_unread status.WriteFault told faults = none_taken told
+claim_unread status.Memory told faults = none_taken told
+claim_unread (status.ScriptRefused f) told faults = none_taken told
+claim_unread (status.LateRefused f) told faults = none_taken told
+claim_unread (status.JourneyRefused f) told faults = none_taken told
+
+-- a source that gives no claim
+claim_read : (T : TimetableData) (s : Status) (told now : Option (List ℕ)) (faults risen : ℕ) → IsNoClaim T told faults risen s
+    → (bs : List ℕ) × Consumes told now bs → LeavesClaim s told now faults risen
+claim_read T status.Done told now faults risen why taken = taken
+claim_read T status.Usage told now faults risen why taken = taken
+claim_read T (status.FeedRefused f) told now faults risen why taken = absurd why
+claim_read T status.ReadFault told now faults risen why taken = (λ still. absurd (omega (arith, why, still)), taken)
+claim_read T status.WriteFault told now faults risen why taken = taken
+claim_read T status.Memory told now faults risen why taken = taken
+claim_read T (status.ScriptRefused f) told now faults risen why taken = taken
+claim_read T (status.LateRefused f) told now faults risen why taken = taken
+claim_read T (status.JourneyRefused f) told now faults risen why taken = taken
+
+pub claim_left : {A : Type 0} (T : TimetableData) (result : Result A Status) (told now : Option (List ℕ)) (faults risen : ℕ) → IfErr result (IsNoClaim T told faults risen)
+    → (bs : List ℕ) × Consumes told now bs → IfErr result (λ s. LeavesClaim s told now faults risen)
+claim_left T (Ok text) told now faults risen why taken = tt
+claim_left T (Err s) told now faults risen why taken = claim_read T s told now faults risen why taken
 
 for_memory : (m : Result ChoiceData JourneyFault) → IsClaimEnding m status.Memory
 for_memory (Ok claimed) = inr refl

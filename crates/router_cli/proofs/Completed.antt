@@ -1,12 +1,12 @@
 -- How the program ends about a request where nothing fails outside.
-use Rattle.std.proofs.Common.{◌≡◌, ℕ, ◌<◌, ◌⊎◌, inl, inr, List, [], Option, Some, None, refl, arith}
+use Rattle.std.proofs.Common.{◌≡◌, ℕ, ◌<◌, ◌⊎◌, inl, inr, List, Option, Some, None, refl, arith}
 use Rattle.std.specs.Prelude.{IfSome, IsSome}
 use Rattle.tb_io.specs.Files.{FileList}
 use Rattle.trip_table.specs.Answers.{feed_of}
 use Rattle.command_line.specs.declared.request.Request.{Request}
 use Rattle.command_line.specs.declared.request.Request.TheVariants as request
 use Rattle.router_cli.proofs.Endings.{IsDetermined, ending}
-use Rattle.router_cli.proofs.Claims.{verify_completed}
+use Rattle.router_cli.proofs.Claims.{claim_unread, none_taken, verify_completed}
 use Rattle.router_cli.proofs.LateEndings.{late_completed}
 use Rattle.router_cli.proofs.Runs.{run_completed}
 use Rattle.command_line.specs.Cities.{CityRequestData}
@@ -17,15 +17,13 @@ use Rattle.router_cli.specs.declared.status.Status.{Status}
 use Rattle.router_cli.specs.declared.status.Status.TheVariants as status
 
 -- a source of which nothing was read
-pub unread : (asked : Option Request) (told : Option (List ℕ)) → LeavesScript asked told told
-unread None told = refl
-unread (Some (request.Day r)) told = refl
-unread (Some (request.City r)) told = refl
-unread (Some (request.Late r)) told = refl
-unread (Some (request.Serve r)) None = ([], tt)
-unread (Some (request.Serve r)) (Some bytes) = ([], refl)
-unread (Some (request.Verify r)) None = ([], tt)
-unread (Some (request.Verify r)) (Some bytes) = ([], refl)
+pub unread : (asked : Option Request) (s : Status) (told : Option (List ℕ)) (faults : ℕ) → LeavesScript asked s told told faults faults
+unread None s told faults = (refl, refl)
+unread (Some (request.Day r)) s told faults = (refl, refl)
+unread (Some (request.City r)) s told faults = (refl, refl)
+unread (Some (request.Late r)) s told faults = (refl, refl)
+unread (Some (request.Serve r)) s told faults = none_taken told
+unread (Some (request.Verify r)) s told faults = claim_unread s told faults
 
 -- neither count rose
 none_rose : (a b c d : ℕ) → (a < b) ⊎ (c < d) → b ≡ a → d ≡ c → ⊥

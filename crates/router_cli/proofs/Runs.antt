@@ -1,5 +1,5 @@
 -- How the program ends about a run of several days.
-use Rattle.std.proofs.Common.{◌≡◌, ℕ, suc, ◌+◌, inl, inr, List, [], ◌∷◌, length, map, Option, Some, Result, Ok, Err, refl, sym, ap, subst}
+use Rattle.std.proofs.Common.{◌≡◌, ℕ, inl, inr, List, [], ◌∷◌, map, Option, Some, Result, Ok, Err, refl, sym, subst}
 use Rattle.std.specs.Prelude.{IsSome}
 use Rattle.tb_base.specs.TimetableData.{TimetableData}
 use Rattle.footpaths.specs.declared.paths.Options.{Options}
@@ -16,34 +16,18 @@ use Rattle.lane_serve.specs.declared.plan.Outcome.TheVariants.{Published, Refuse
 use Rattle.lane_serve.specs.declared.script.ScriptFault.{ScriptFault}
 use Rattle.router_cli.proofs.Endings.{IsDetermined, out_of_memory}
 use Rattle.router_cli.specs.Outcome.{IsEnding}
-use Rattle.router_cli.specs.Serving.{FirstDayGives, IsRunEnding, IsRunOutcome, item_of}
+use Rattle.router_cli.specs.Serving.{IsRunEnding, IsRunOutcome, item_of}
 use Rattle.router_cli.specs.declared.status.Status.{Status}
 use Rattle.router_cli.specs.declared.status.Status.TheVariants as status
 
--- there is one outcome for each item
-pub outcome_count : (files : Option FileList) (options : Options) (n : ℕ) (items : List ItemData) (os : List Outcome) (es : List EditionData) →
-    AreOutcomes files options n items os es → length os ≡ length items
-outcome_count files options n [] [] es h = refl
-outcome_count files options n [] (o ∷ os) es h = absurd h
-outcome_count files options n (item ∷ items) [] es h = absurd h
-outcome_count files options n (item ∷ items) (Refused f ∷ os) es h =
-    ap suc (outcome_count files options n items os es h.1)
-outcome_count files options n (item ∷ items) (Published number trips lines kept ∷ os) [] h = absurd h
-outcome_count files options n (item ∷ items) (Published number trips lines kept ∷ os) (e ∷ es) h =
-    ap suc (outcome_count files options (n + 1) items os es h.2)
-
 first_day : IsDetermined → (files : Option FileList) → IsSome files → (options : Options) (plan : List ItemData) (a b : Result TimetableData FeedFault) →
-    FirstDayGives files options plan a → FirstDayGives files options plan b → a ≡ b
+    FirstGives files options plan a → FirstGives files options plan b → a ≡ b
 first_day same files told options [] a b is other = absurd is
 first_day same files told options (item ∷ items) a b is other =
     same (feed_of files item.dir) item.day options a b (is told) (other told)
 
-first_fault : (files : Option FileList) (options : Options) (plan : List ItemData) (f : FeedFault) → FirstGives files options plan f → FirstDayGives files options plan (Err f)
-first_fault files options [] f h = h
-first_fault files options (item ∷ items) f h = h
-
 first_published : (files : Option FileList) (options : Options) (n : ℕ) (plan : List ItemData) (os : List Outcome) (es : List EditionData) →
-    AreOutcomes files options n plan os es → BeginsPublished os → (T : TimetableData) × FirstDayGives files options plan (Ok T)
+    AreOutcomes files options n plan os es → BeginsPublished os → (T : TimetableData) × FirstGives files options plan (Ok T)
 first_published files options n [] [] es h begins = absurd begins
 first_published files options n [] (o ∷ os) es h begins = absurd h
 first_published files options n (item ∷ items) [] es h begins = absurd begins
@@ -63,7 +47,7 @@ by_day day other s same h = subst (λ d. IsEnding d s) same h
 
 pub run_completed : IsDetermined → (files : Option FileList) → IsSome files → (bytes : List ℕ) (r : ServeRequestData) (s : Status) (before now : Option (List ℕ)) →
     IsRunOutcome files (Some bytes) r s before now → (s ≡ status.ReadFault → ⊥) → (s ≡ status.WriteFault → ⊥) →
-    (day : Result TimetableData FeedFault) → FirstDayGives files r.options (map item_of r.plan) day → IsRunEnding (script_of bytes) day s
+    (day : Result TimetableData FeedFault) → FirstGives files r.options (map item_of r.plan) day → IsRunEnding (script_of bytes) day s
 run_completed same files told bytes r status.Done before now (lanes, text, script, run, added) read write day is =
     let plan = map item_of r.plan in
     let first = first_published files r.options 0 plan run.served.outcomes run.run.editions run.run.outcomes run.run.first in
@@ -75,7 +59,7 @@ run_completed same files told bytes r (status.JourneyRefused f) before now h rea
 run_completed same files told bytes r (status.FeedRefused f) before now ((lanes, script), refused) read write day is =
     let plan = map item_of r.plan in
     by_script (script_of bytes) lanes day (status.FeedRefused f) script
-    (by_day day (Err f) (status.FeedRefused f) (first_day same files told r.options plan (Err f) day (first_fault files r.options plan f refused) is) (inl refl))
+    (by_day day (Err f) (status.FeedRefused f) (first_day same files told r.options plan (Err f) day refused is) (inl refl))
 run_completed same files told bytes r status.ReadFault before now h read write day is = absurd (read refl)
 run_completed same files told bytes r status.WriteFault before now h read write day is = absurd (write refl)
 run_completed same files told bytes r status.Memory before now h read write day is = for_memory (script_of bytes) day

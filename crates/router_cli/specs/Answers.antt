@@ -1,5 +1,5 @@
 -- What the program writes for a request.
-use Rattle.std.specs.Prelude.{◌≡◌, ◌<◌, ◌≤ℤ◌, ℕ, List, [], ℤ, pos, Bool, true, false, Option, Ok, Err, IfSome, MatchOption, MatchResult, All, length, map, ⊤}
+use Rattle.std.specs.Prelude.{◌≡◌, ◌<◌, ◌≤ℤ◌, ℕ, List, ℤ, pos, Bool, true, false, Option, Ok, Err, IfSome, MatchOption, MatchResult, All, length, map, ⊤}
 use Rattle.std.specs.Option.{option_map}
 use Rattle.tb_base.specs.declared.query.Leg.{Leg}
 use Rattle.tb_base.specs.declared.query.Value.{Value}

@@ -1,5 +1,5 @@
 -- What the program's status says of the words, the files and the bytes written.
-use Rattle.std.specs.Prelude.{◌≡◌, ℕ, ◌<◌, ◌≤◌, ◌⊎◌, List, [], ◌++◌, codes, length, take, Option, IsSome, Result, Err, Ok, IfOk, ⊤}
+use Rattle.std.specs.Prelude.{◌≡◌, ◌≢◌, ℕ, ◌<◌, ◌≤◌, ◌⊎◌, List, [], ◌++◌, codes, length, take, Option, IsSome, Result, Err, Ok, IfOk, ⊤}
 use Rattle.std.specs.Fmt.{decimal}
 use Rattle.std.specs.Io.KnownBytes.{Appends}
 use Rattle.tb_base.specs.Soundness.{IsSound}
@@ -77,6 +77,13 @@ status_text (status.LateRefused f) =
     codes "router: late refused: " ++ late_fault_text f ++ codes "\n"
 status_text (status.JourneyRefused f) =
     codes "router: journey refused: " ++ journey_fault_text f ++ codes "\n"
+
+-- want of memory is told by its own status, and by no fault in another one
+abbrev pub CarriesNoMemory : Status → Type 0
+CarriesNoMemory (status.ScriptRefused f) = f ≢ fault.Memory
+CarriesNoMemory (status.LateRefused f) = f ≢ late.Memory
+CarriesNoMemory (status.JourneyRefused f) = f ≢ claim.Memory
+CarriesNoMemory s = ⊤
 
 -- a day of a folder gives this: a sound timetable, that of the day where the folder tells its
 -- files; or, where it tells them, the feed's first fault

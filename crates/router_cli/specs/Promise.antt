@@ -7,11 +7,12 @@ use Rattle.tb_io.specs.Files.{FileList}
 use Rattle.command_line.specs.declared.request.Request.{Request}
 use Rattle.command_line.specs.declared.request.Request.TheVariants as request
 use Rattle.lane_serve.specs.Script.{script_of}
+use Rattle.lane_serve.specs.Served.{FirstGives}
 use Rattle.router_cli.specs.Cities.{IsCityEnding, IsCityOutcome}
 use Rattle.router_cli.specs.LateTrips.{IsLateEnding, IsLateOutcome}
 use Rattle.router_cli.specs.Outcome.{GivesDay, IsDayOf, IsEnding, IsOutcome, WritesAnswer}
-use Rattle.router_cli.specs.Serving.{FirstDayGives, IsRunEnding, IsRunOutcome, TellsScript, plan_of}
-use Rattle.router_cli.specs.Verifying.{DayGives, IsVerifyEnding, IsVerifyOutcome}
+use Rattle.router_cli.specs.Serving.{IsRunEnding, IsRunOutcome, TellsScript, plan_of}
+use Rattle.router_cli.specs.Verifying.{DayGives, IsVerifyEnding, IsVerifyOutcome, LeavesClaim}
 use Rattle.router_cli.specs.declared.status.Status.{Status}
 
 -- What a status says of a request, of the files of a folder, where it tells them, of the bytes of a
@@ -39,7 +40,7 @@ abbrev pub IsRequestEnding : Option FileList → Option (List ℕ) → Request �
 IsRequestEnding files told (request.Day r) s =
     (day : Result TimetableData FeedFault) → IsDayOf files r day → IsEnding day s
 IsRequestEnding files told (request.Serve r) s = IfSome told (λ bytes.
-    (day : Result TimetableData FeedFault) → FirstDayGives files r.options (plan_of r) day →
+    (day : Result TimetableData FeedFault) → FirstGives files r.options (plan_of r) day →
     IsRunEnding (script_of bytes) day s)
 IsRequestEnding files told (request.City r) s = IsCityEnding s
 IsRequestEnding files told (request.Verify r) s =
@@ -64,11 +65,18 @@ ReadsBehind files (request.City r) = ⊤
 ReadsBehind files (request.Verify r) = (T : TimetableData) × DayGives files r (Ok T)
 ReadsBehind files (request.Late r) = ⊤
 
--- only a run and a claim take bytes of a source
-abbrev pub LeavesScript : Option Request → Option (List ℕ) → Option (List ℕ) → Type 0
-LeavesScript None before now = now ≡ before
-LeavesScript (Some (request.Day r)) before now = now ≡ before
-LeavesScript (Some (request.Serve r)) before now = (bs : List ℕ) × Consumes before now bs
-LeavesScript (Some (request.City r)) before now = now ≡ before
-LeavesScript (Some (request.Verify r)) before now = (bs : List ℕ) × Consumes before now bs
-LeavesScript (Some (request.Late r)) before now = now ≡ before
+-- What is left of a source, and its count of faults, before and now: only a run and a claim take
+-- bytes of it, or meet its faults.
+abbrev pub LeavesScript : Option Request → Status → Option (List ℕ) → Option (List ℕ) → ℕ → ℕ
+    → Type 0
+LeavesScript None s before now faults risen = (now ≡ before) × (risen ≡ faults)
+LeavesScript (Some (request.Day r)) s before now faults risen =
+    (now ≡ before) × (risen ≡ faults)
+LeavesScript (Some (request.Serve r)) s before now faults risen =
+    (bs : List ℕ) × Consumes before now bs
+LeavesScript (Some (request.City r)) s before now faults risen =
+    (now ≡ before) × (risen ≡ faults)
+LeavesScript (Some (request.Verify r)) s before now faults risen =
+    LeavesClaim s before now faults risen
+LeavesScript (Some (request.Late r)) s before now faults risen =
+    (now ≡ before) × (risen ≡ faults)

@@ -1,12 +1,12 @@
 -- What the program's status says of a run of several days.
-use Rattle.std.specs.Prelude.{◌≡◌, ℕ, ◌<◌, ◌≤◌, ◌⊎◌, List, [], ◌∷◌, length, map, take, Option, IfSome, Result, Ok, Err, ⊤}
+use Rattle.std.specs.Prelude.{◌≡◌, ℕ, ◌<◌, ◌≤◌, ◌⊎◌, List, length, map, take, Option, IfSome, Result, Ok, Err, ⊤}
 use Rattle.std.specs.Io.KnownBytes.{Appends}
 use Rattle.tb_base.specs.TimetableData.{TimetableData}
 use Rattle.gtfs_rows.specs.declared.fault.FeedFault.{FeedFault}
 use Rattle.tb_io.specs.Files.{FileList}
 use Rattle.footpaths.specs.declared.paths.Options.{Options}
 use Rattle.command_line.specs.Plans.{PlannedDayData, ServeRequestData}
-use Rattle.lane_serve.specs.Plans.{ItemData, ItemGives}
+use Rattle.lane_serve.specs.Plans.{ItemData}
 use Rattle.lane_serve.specs.Script.{LaneData, script_of}
 use Rattle.lane_serve.specs.Served.{FirstGives, IsServed, ServedData}
 use Rattle.lane_serve.specs.Texts.{served_text}
@@ -52,18 +52,12 @@ IsRunOutcome files told r status.WriteFault before now =
 IsRunOutcome files told r (status.ScriptRefused f) before now = ScriptGives told (Err f)
 IsRunOutcome files told r (status.FeedRefused f) before now =
     ((lanes : List LaneData) × ScriptGives told (Ok lanes))
-    × FirstGives files r.options (plan_of r) f
+    × FirstGives files r.options (plan_of r) (Err f)
 IsRunOutcome files told r (status.LateRefused f) before now = ⊥
 IsRunOutcome files told r (status.JourneyRefused f) before now = ⊥
 IsRunOutcome files told r status.Usage before now = ⊥
 IsRunOutcome files told r status.ReadFault before now = ⊤
 IsRunOutcome files told r status.Memory before now = ⊤
-
--- the first day of a plan gives this timetable or first fault
-abbrev pub FirstDayGives : Option FileList → Options → List ItemData
-    → Result TimetableData FeedFault → Type 0
-FirstDayGives files options [] day = ⊥
-FirstDayGives files options (item ∷ items) day = ItemGives files options item day
 
 -- How a run may end where nothing fails outside: by the script's first fault; else, as a request
 -- about the first day, by that feed's first fault or with the text; or for want of memory.
@@ -92,7 +86,7 @@ IsNoScript told before now (status.JourneyRefused f) = ⊥
 -- why a run has no text, by the folder's count of faults before and now
 abbrev pub IsNoRun : Option FileList → Options → List ItemData → ℕ → ℕ → Status → Type 0
 IsNoRun files options plan before now (status.FeedRefused f) =
-    FirstGives files options plan f × (now ≡ before)
+    FirstGives files options plan (Err f) × (now ≡ before)
 IsNoRun files options plan before now status.ReadFault = before < now
 IsNoRun files options plan before now status.Memory = now ≡ before
 IsNoRun files options plan before now status.Done = ⊥

@@ -1,7 +1,7 @@
 -- What the program's status says of a claimed journey.
 use Rattle.std.specs.Prelude.{◌≡◌, ◌↔◌, ℕ, ◌<◌, ◌≤◌, ◌⊎◌, List, ◌++◌, codes, length, take, Option, IfSome, Result, Ok, Err, ⊤}
 use Rattle.std.specs.Fmt.{decimal}
-use Rattle.std.specs.Io.KnownBytes.{Appends}
+use Rattle.std.specs.Io.KnownBytes.{Appends, Consumes}
 use Rattle.tb_base.specs.BestValues.{ChoiceData, QueryData}
 use Rattle.tb_base.specs.JourneyRules.{SpellValue}
 use Rattle.tb_base.specs.TimetableData.{TimetableData}
@@ -100,6 +100,14 @@ IsVerifyOutcome files told r (status.ScriptRefused f) before now = ⊥
 IsVerifyOutcome files told r (status.LateRefused f) before now = ⊥
 IsVerifyOutcome files told r status.ReadFault before now = ⊤
 IsVerifyOutcome files told r status.Memory before now = ⊤
+
+-- What is left of a claim's source, and its count of faults, before and now: nothing is taken of it
+-- where the feed is refused, or a read failed and it was none of the source.
+abbrev pub LeavesClaim : Status → Option (List ℕ) → Option (List ℕ) → ℕ → ℕ → Type 0
+LeavesClaim (status.FeedRefused f) before now faults risen = now ≡ before
+LeavesClaim status.ReadFault before now faults risen =
+    (risen ≡ faults → now ≡ before) × ((bs : List ℕ) × Consumes before now bs)
+LeavesClaim s before now faults risen = (bs : List ℕ) × Consumes before now bs
 
 -- How a claim may end where nothing fails outside: by its first fault, or with what is written of
 -- it, or for want of memory.

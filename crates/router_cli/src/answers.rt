@@ -1,5 +1,5 @@
 //! The text of an answer over a timetable.
-ghost use Rattle.std.specs.Prelude.{◌≡◌, ◌<◌, ◌≤ℤ◌, All, IfOk, length, pos};
+ghost use Rattle.std.specs.Prelude.{◌<◌, ◌≤ℤ◌, All, IfOk, length, pos};
 ghost use Rattle.reduce_workers.specs.Workers.{AreWorkers};
 ghost use Rattle.router_cli.specs.Answers.{IsAnswer, IsInquiryText, IsLatestText, IsProfileText, IsReachText, ShowsKept, ShowsLatest};
 
@@ -107,7 +107,7 @@ fn reach_answer<G: Gate, R: Threads + Sync>(
 
 /// What is written for a request over the timetable of its day. Where transfers are reduced, the
 /// gate is told of the pieces.
-pub fn answer<G: Gate, R: Threads + Sync>(
+pub(crate) fn answer<G: Gate, R: Threads + Sync>(
     rt: &R,
     alloc: Global,
     table: Timetable,

@@ -5,7 +5,7 @@ ghost use Rattle.tb_base.specs.TimetableData.{TimetableData};
 ghost use Rattle.trip_table.specs.Answers.{IsFault, Leaves};
 ghost use Rattle.footpaths.specs.Limits.{AreWithinADay};
 ghost use Rattle.router_cli.specs.Answers.{IsAnswer};
-ghost use Rattle.router_cli.specs.Outcome.{GivesDay, IsDayOf, IsNoTable, IsOutcome, WritesAnswer};
+ghost use Rattle.router_cli.specs.Outcome.{CarriesNoMemory, GivesDay, IsDayOf, IsNoTable, IsOutcome, WritesAnswer};
 
 use crate::answers::answer;
 use crate::status::Status;
@@ -31,6 +31,7 @@ pub(crate) fn table_of<F: Folder>(
     ensures kept { IfOk result (λ _. F.faults folder.new ≡ F.faults folder.old) }
     ensures refused { IfErr result (IsNoTable (F.files folder.old) dir.now day.now options.now
         (F.faults folder.old) (F.faults folder.new)) }
+    ensures memory { IfErr result CarriesNoMemory }
     ensures files { F.files folder.new ≡ F.files folder.old }
 {
     match read_day(alloc, folder, dir, day, options) {
@@ -73,7 +74,8 @@ fn text_of<R: Threads + Sync, F: Folder, G: Gate>(
     }
 }
 
-/// Answers a request about one day of a feed. It has no handle that waits, so it returns.
+/// Answers a request about one day of a feed. Its own work ends; it joins the workers that it
+/// starts.
 pub(crate) fn day_outcome<R: Threads + Sync, F: Folder, K: Sink, G: Gate>(
     rt: &R,
     alloc: Global,
@@ -96,6 +98,7 @@ pub(crate) fn day_outcome<R: Threads + Sync, F: Folder, K: Sink, G: Gate>(
         ⊎ (F.faults folder.new ≡ F.faults folder.old) }
     ensures out_kept { (result ≡ Status.WriteFault) ⊎ (K.faults out.new ≡ K.faults out.old) }
     ensures files { F.files folder.new ≡ F.files folder.old }
+    ensures memory { CarriesNoMemory result }
 {
     match text_of(rt, alloc, folder, request, gate) {
         Ok(text) => match put_all(out, text.as_slice()) {

@@ -8,6 +8,7 @@ ghost use Rattle.late_edit.specs.Amending.{network_of};
 ghost use Rattle.query_gate.specs.Callers.{CallerData};
 ghost use Rattle.reduce_workers.specs.Workers.{AreWorkers};
 ghost use Rattle.router_cli.specs.Answers.{IsInquiryText, ShowsKept};
+ghost use Rattle.router_cli.specs.Outcome.{CarriesNoMemory};
 ghost use Rattle.router_cli.specs.LateTrips.{IsAmendedText, IsLateDay, IsLateOutcome, IsLateText, IsNoLateDay, IsNoLates, IsNotAmended, LatesGive, amended_text};
 
 use crate::day::table_of;
@@ -36,6 +37,7 @@ fn lates_from<F: Folder>(alloc: Global, folder: &mut F, path: &str) -> Result<Ve
     ensures kept { IfOk result (λ _. F.faults folder.new ≡ F.faults folder.old) }
     ensures refused { IfErr result (IsNoLates (F.files folder.old) path.now
         (F.faults folder.old) (F.faults folder.new)) }
+    ensures memory { IfErr result CarriesNoMemory }
     ensures files { F.files folder.new ≡ F.files folder.old }
 {
     match take_file(alloc, folder, path, MOST_BYTES) {
@@ -212,6 +214,7 @@ fn late_answer<R: Threads + Wait + Sync, G: Gate>(
     ensures text { IfOk result (λ text.
         IsLateText table lates.now request.now.inquiry text.items) }
     ensures refused { IfErr result (IsNotAmended table lates.now) }
+    ensures memory { IfErr result CarriesNoMemory }
 {
     match amended_answer(
         rt,
@@ -240,6 +243,7 @@ fn text_of<R: Threads + Wait + Sync, F: Folder, G: Gate>(
     ensures text { IfOk result (λ text.
         IsLateDay (F.files folder.old) request.now text.items) }
     ensures refused { IfErr result (IsNoLateDay (F.files folder.old) request.now) }
+    ensures memory { IfErr result CarriesNoMemory }
     ensures fault { result ≡ Err Status.ReadFault → F.faults folder.old < F.faults folder.new }
     ensures kept { (result ≡ Err Status.ReadFault)
         ⊎ (F.faults folder.new ≡ F.faults folder.old) }
@@ -280,6 +284,7 @@ pub(crate) fn late_outcome<R: Threads + Wait + Sync, F: Folder, K: Sink, G: Gate
         ⊎ (F.faults folder.new ≡ F.faults folder.old) }
     ensures out_kept { (result ≡ Status.WriteFault) ⊎ (K.faults out.new ≡ K.faults out.old) }
     ensures files { F.files folder.new ≡ F.files folder.old }
+    ensures memory { CarriesNoMemory result }
 {
     match text_of(rt, alloc, folder, request, gate) {
         Ok(text) => match put_all(out, text.as_slice()) {

@@ -9,6 +9,7 @@ ghost use Rattle.edition_build.specs.Reports.{IsReport};
 ghost use Rattle.command_line.specs.Cities.{IsSide};
 ghost use Rattle.reduce_workers.specs.Workers.{AreWorkers};
 ghost use Rattle.router_cli.specs.Answers.{ShowsKept};
+ghost use Rattle.router_cli.specs.Outcome.{CarriesNoMemory};
 ghost use Rattle.router_cli.specs.Cities.{IsCityOutcome, IsCityText, corner_query};
 
 use crate::status::Status;
@@ -171,8 +172,8 @@ fn city_text<G: Gate, R: Threads + Sync>(
     Ok(text)
 }
 
-/// Writes what is built of a made city. No folder and no script is read. It has no handle that
-/// waits, so it returns.
+/// Writes what is built of a made city. No folder and no script is read. Its own work ends; it
+/// joins the workers that it starts.
 pub(crate) fn city_outcome<R: Threads + Sync, K: Sink, G: Gate>(
     rt: &R,
     alloc: Global,
@@ -186,6 +187,7 @@ pub(crate) fn city_outcome<R: Threads + Sync, K: Sink, G: Gate>(
         ⊎ (K.written out.new ≡ K.written out.old) }
     ensures write { result ≡ Status.WriteFault → K.faults out.old < K.faults out.new }
     ensures out_kept { (result ≡ Status.WriteFault) ⊎ (K.faults out.new ≡ K.faults out.old) }
+    ensures memory { CarriesNoMemory result }
 {
     match city_text(rt, alloc, request.side, request.workers, gate) {
         Ok(text) => match put_all(out, text.as_slice()) {

@@ -1,6 +1,7 @@
 //! All that the program does.
 ghost use Rattle.std.specs.Prelude.{◌≡◌, ◌⊎◌, ◌<◌, ◌-◌, ◌^◌, IfSome, IsSome, None, map, string_bytes};
 ghost use Rattle.command_line.specs.Requests.{request_of};
+ghost use Rattle.router_cli.specs.Outcome.{CarriesNoMemory};
 ghost use Rattle.router_cli.specs.Promise.{IsRequestEnding, IsRequestOutcome, LeavesScript, ReadsBehind, TellsFirst, WritesRequest};
 
 use crate::day::day_outcome;
@@ -54,8 +55,9 @@ fn outcome<R: Threads + Wait + Sync, F: Folder + Send, S: Source, K: Sink, G: Ga
         ⊎ (S.faults script.new ≡ S.faults script.old) }
     ensures out_kept { (result ≡ Status.WriteFault) ⊎ (K.faults out.new ≡ K.faults out.old) }
     ensures files { F.files folder.new ≡ F.files folder.old }
-    ensures left { LeavesScript (request_of (map string_bytes words.now)) (S.left script.old)
-        (S.left script.new) }
+    ensures left { LeavesScript (request_of (map string_bytes words.now)) result
+        (S.left script.old) (S.left script.new) (S.faults script.old) (S.faults script.new) }
+    ensures memory { CarriesNoMemory result }
 {
     match request_of(alloc, words) {
         Ok(Some(Request::Day(request))) => {
@@ -90,10 +92,13 @@ fn outcome<R: Threads + Wait + Sync, F: Folder + Send, S: Source, K: Sink, G: Ga
 /// before its first byte is written. Whatever the folder is, what is written with `Done` is the
 /// answer over some sound timetable; where it tells its contents, over the timetable of the day. A
 /// script is read by a run of several days alone; its first fault comes before what the feeds give.
-/// A claim is read, from the same source, and a file of late trips, from the folder, once the
-/// timetable of its day is there. `Memory` is free. The gate is told of the pieces that workers
-/// reduce, and of the publications and requests of a run. A run, and a day with late trips, may
-/// wait.
+/// A claim is read from the same source, and nothing of it where the feed is refused. Its faults,
+/// and those of late trips, come only where the day has a timetable. `Memory` may come at any time,
+/// and no fault in another status tells of it.
+///
+/// That the gate is told of the pieces that workers reduce, and of the publications and requests of
+/// a run, is tested and in no clause. Its own work ends; it joins the workers that it starts. A
+/// run, and a day with late trips, which publish, may wait.
 pub fn route<R: Threads + Wait + Sync, F: Folder + Send, S: Source, K: Sink, G: Gate>(
     rt: &R,
     alloc: Global,
@@ -130,8 +135,9 @@ pub fn route<R: Threads + Wait + Sync, F: Folder + Send, S: Source, K: Sink, G: 
         ⊎ (S.faults script.new ≡ S.faults script.old) }
     ensures out_kept { (result ≡ Status.WriteFault) ⊎ (K.faults out.new ≡ K.faults out.old) }
     ensures files { F.files folder.new ≡ F.files folder.old }
-    ensures left { LeavesScript (request_of (map string_bytes words.now)) (S.left script.old)
-        (S.left script.new) }
+    ensures left { LeavesScript (request_of (map string_bytes words.now)) result
+        (S.left script.old) (S.left script.new) (S.faults script.old) (S.faults script.new) }
+    ensures memory { CarriesNoMemory result }
     ensures complete { IfSome (request_of (map string_bytes words.now)) (λ r.
         IsSome (F.files folder.old) → F.faults folder.new ≡ F.faults folder.old →
         S.faults script.new ≡ S.faults script.old → K.faults out.new ≡ K.faults out.old →

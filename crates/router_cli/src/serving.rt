@@ -4,6 +4,7 @@ ghost use Rattle.std.specs.Io.KnownBytes.{Consumes};
 ghost use Rattle.footpaths.specs.Limits.{AreWithinADay};
 ghost use Rattle.reduce_workers.specs.Workers.{AreWorkers};
 ghost use Rattle.lane_serve.specs.Script.{IsScript};
+ghost use Rattle.router_cli.specs.Outcome.{CarriesNoMemory};
 ghost use Rattle.router_cli.specs.Serving.{IsNoRun, IsNoScript, IsRunOutcome, IsRunText, ScriptGives, TellsScript, item_of, plan_of, status_for};
 
 use crate::status::Status;
@@ -26,6 +27,7 @@ fn script_from<S: Source>(alloc: Global, source: &mut S) -> Result<Script, Statu
     ensures kept { IfOk result (λ _. S.faults source.new ≡ S.faults source.old) }
     ensures refused { IfErr result
         (IsNoScript (S.left source.old) (S.faults source.old) (S.faults source.new)) }
+    ensures memory { IfErr result CarriesNoMemory }
     ensures read { (bs : List ℕ) × Consumes (S.left source.old) (S.left source.new) bs }
 {
     match take_source(alloc, source, MOST_BYTES) {
@@ -65,7 +67,8 @@ fn items_of(alloc: Global, days: Vec<PlannedDay>) -> Result<Vec<PlanItem>, Memor
 }
 
 fn status_of(fault: ServeFault) -> Status
-    ensures { result ≡ status_for fault }
+    ensures status { result ≡ status_for fault }
+    ensures memory { CarriesNoMemory result }
 {
     match fault {
         ServeFault::Feed(fault) => Status::FeedRefused(fault),
@@ -96,6 +99,7 @@ fn served_run<R: Threads + Wait + Sync, F: Folder + Send, G: Gate>(
     ensures kept { IfOk result (λ _. F.faults folder.new ≡ F.faults folder.old) }
     ensures stop { IfErr result (IsNoRun (F.files folder.old) options.now plan.now
         (F.faults folder.old) (F.faults folder.new)) }
+    ensures memory { IfErr result CarriesNoMemory }
     ensures files { F.files folder.new ≡ F.files folder.old }
 {
     match serve(rt, alloc, plan, options, workers, script, folder, gate) {
@@ -127,6 +131,7 @@ fn run_text<R: Threads + Wait + Sync, F: Folder + Send, G: Gate>(
     ensures kept { IfOk result (λ _. F.faults folder.new ≡ F.faults folder.old) }
     ensures stop { IfErr result (IsNoRun (F.files folder.old) request.entry.options
         (plan_of request.entry) (F.faults folder.old) (F.faults folder.new)) }
+    ensures memory { IfErr result CarriesNoMemory }
     ensures files { F.files folder.new ≡ F.files folder.old }
 {
     let ServeRequest {
@@ -172,6 +177,7 @@ pub(crate) fn run_outcome<R: Threads + Wait + Sync, F: Folder + Send, S: Source,
     ensures out_kept { (result ≡ Status.WriteFault) ⊎ (K.faults out.new ≡ K.faults out.old) }
     ensures files { F.files folder.new ≡ F.files folder.old }
     ensures taken { (bs : List ℕ) × Consumes (S.left script.old) (S.left script.new) bs }
+    ensures memory { CarriesNoMemory result }
 {
     let lanes = match script_from(alloc, script) {
         Ok(lanes) => lanes,

@@ -26,11 +26,11 @@ pub enum Status {
     Usage,
     /// The feed has this first fault.
     FeedRefused(FeedFault),
-    /// The folder failed.
+    /// The folder or the source failed: its count of faults rose.
     ReadFault,
     /// The sink failed; some first bytes of the answer were written.
     WriteFault,
-    /// There was no memory.
+    /// Want of memory, which may come at any time.
     Memory,
     /// The script has this first fault.
     ScriptRefused(ScriptFault),
@@ -78,7 +78,8 @@ pub fn status_text(alloc: Global, status: &Status) -> Result<Vec<u8>, Memory>
 }
 
 /// Writes how the program ended to standard error, and gives the number to end with. Where there is
-/// no memory for the line, or standard error fails, nothing is said.
+/// no memory for the line, or standard error fails, nothing is said. The number is in the clause;
+/// what is written is in none.
 pub fn end(rt: &(impl Eprint + AllocGlobal), status: Status) -> ExitCode
     ensures { exit_status result ≡ status_code status }
 {

@@ -3,7 +3,8 @@ ghost use Rattle.std.specs.Prelude.{◌≡◌, ◌⊎◌, ◌<◌, ◌-◌, ◌^
 ghost use Rattle.std.specs.Io.KnownBytes.{Consumes};
 ghost use Rattle.tb_base.specs.BestValues.{ChoiceData};
 ghost use Rattle.tb_base.specs.TimetableData.{TimetableData};
-ghost use Rattle.router_cli.specs.Verifying.{ClaimGives, DayGives, IsNoClaim, IsUnverified, IsVerified, IsVerifiedText, IsVerifyOutcome};
+ghost use Rattle.router_cli.specs.Outcome.{CarriesNoMemory};
+ghost use Rattle.router_cli.specs.Verifying.{ClaimGives, DayGives, IsNoClaim, IsUnverified, IsVerified, IsVerifiedText, IsVerifyOutcome, LeavesClaim};
 
 use crate::day::table_of;
 use crate::over_table::{Asked, query_of};
@@ -31,6 +32,7 @@ fn claim_from<S: Source>(
     ensures kept { IfOk result (λ _. S.faults source.new ≡ S.faults source.old) }
     ensures refused { IfErr result (IsNoClaim table.now (S.left source.old)
         (S.faults source.old) (S.faults source.new)) }
+    ensures memory { IfErr result CarriesNoMemory }
     ensures read { (bs : List ℕ) × Consumes (S.left source.old) (S.left source.new) bs }
 {
     match take_source(alloc, source, MOST_BYTES) {
@@ -76,6 +78,7 @@ fn claimed_text<S: Source>(
     ensures kept { IfOk result (λ _. S.faults source.new ≡ S.faults source.old) }
     ensures refused { IfErr result (IsNoClaim table.now (S.left source.old)
         (S.faults source.old) (S.faults source.new)) }
+    ensures memory { IfErr result CarriesNoMemory }
     ensures read { (bs : List ℕ) × Consumes (S.left source.old) (S.left source.new) bs }
 {
     let claimed = match claim_from(alloc, table, source) {
@@ -113,6 +116,9 @@ fn text_of<F: Folder, S: Source>(
         ⊎ (S.faults source.new ≡ S.faults source.old) }
     ensures files { F.files folder.new ≡ F.files folder.old }
     ensures read { (bs : List ℕ) × Consumes (S.left source.old) (S.left source.new) bs }
+    ensures left { IfErr result (λ s. LeavesClaim s (S.left source.old) (S.left source.new)
+        (S.faults source.old) (S.faults source.new)) }
+    ensures memory { IfErr result CarriesNoMemory }
 {
     let table = match table_of(alloc, folder, request.dir, &request.day, &request.options) {
         Ok(table) => table,
@@ -150,7 +156,9 @@ pub(crate) fn verify_outcome<F: Folder, S: Source, K: Sink>(
         ⊎ (S.faults source.new ≡ S.faults source.old) }
     ensures out_kept { (result ≡ Status.WriteFault) ⊎ (K.faults out.new ≡ K.faults out.old) }
     ensures files { F.files folder.new ≡ F.files folder.old }
-    ensures taken { (bs : List ℕ) × Consumes (S.left source.old) (S.left source.new) bs }
+    ensures left { LeavesClaim result (S.left source.old) (S.left source.new)
+        (S.faults source.old) (S.faults source.new) }
+    ensures memory { CarriesNoMemory result }
 {
     match text_of(alloc, folder, source, request) {
         Ok(text) => match put_all(out, text.as_slice()) {
