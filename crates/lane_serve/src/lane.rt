@@ -123,7 +123,7 @@ pub fn run_lane<J: Naming, G: Gate>(
     ensures run { IfOk result (λ v. IsLaneRun caller.new.kept.list requests.now v.items) }
     ensures longer { IfOk result (λ v. (es : List EditionData) →
         StartsWith es caller.new.kept.list → IsLaneRun es requests.now v.items) }
-    ensures since { IfOk result (λ v.
+    ensures known { IfOk result (λ v.
         All (λ (r : ReplyText). length caller.old.kept.list ≤ r.edition) v.items) }
     ensures later { Extends caller.new.kept caller.old.kept }
 {
@@ -158,8 +158,8 @@ fn is_due(k: u32, request: &Line, reply: &ReplyText) -> bool
 }
 
 /// Answers the first request of a lane and each that was deferred once more, by the last edition.
-/// The caller then keeps the whole list. Waits for nobody. Its one refusal is want of memory, which
-/// may come at any time.
+/// Where it isn't refused, the caller then keeps the whole list. Waits for nobody. Its one refusal
+/// is want of memory, which may come at any time.
 pub fn close_lane<J: Naming>(
     alloc: Global,
     caller: &mut Caller<J>,

@@ -3,12 +3,13 @@
 //! `read_script` gives the lanes that a script says, or exactly its first fault. `serve` reads,
 //! builds and publishes the items of a plan one after another, each a day of a feed by the GTFS
 //! Schedule Reference, while the lanes run: `run_lane` answers a lane's requests by a caller of its
-//! own, each by the last edition of the list that is pinned for it, or as deferred; `close_lane`
-//! answers again, by the last edition of all, the first request and each that was deferred. To the
-//! layer above the crate promises one outcome for each item of the plan, that each reply is exactly
-//! that of the edition that it names (best values as in Witt, Trip-Based Public Transit Routing,
-//! ESA 2015), that a lane's editions never go back, and that each closing reply is the last
-//! edition's. `served_text` shows all of it as lines, each reply as `reply_text` shows it.
+//! own, each by an edition of the list that the caller then keeps and none before those that it
+//! knew, or as deferred; `close_lane` answers again, by the last edition of all, the first request
+//! and each that was deferred. To the layer above the crate promises one outcome for each item of
+//! the plan, that each reply is exactly that of the edition that it names (best values as in Witt,
+//! Trip-Based Public Transit Routing, ESA 2015), that a lane's editions never go back, and that
+//! each closing reply is the last edition's. `served_text` shows all of it as lines, each reply as
+//! `reply_text` shows it.
 #![tactic(auto)]
 
 mod lane;

@@ -595,11 +595,11 @@ fn serve_plan<F: Folder, G: Gate, R: Threads + Wait + Sync>(
 /// Publishes the plan's items, each as it is read and built, while the lanes of a script are
 /// answered, each by a caller of its own, in threads where these can be started; in the end each
 /// lane's first request and each that was deferred is answered once more by the last edition.
-/// `workers` workers reduce the transfers of an item: 1 to 64. `Feed` comes exactly where the first
-/// item's feed is refused, the folder didn't fail and there was memory, `ReadFault` only where its
-/// count of faults rose. It may wait. That lanes and publisher are at work at once, and that the
-/// gate is told of pieces, publications and requests, and may hold them, is tested and in no
-/// clause.
+/// `workers` workers reduce the transfers of an item: 1 to 64. `Feed` comes only where the first
+/// item's feed is refused; where it is and the folder doesn't fail, nothing else comes but
+/// `Memory`. `ReadFault` comes only where the folder's count of faults rose. It may wait. That
+/// lanes and publisher are at work at once, and that the gate is told of pieces, publications and
+/// requests, and may hold them, is tested and in no clause.
 pub fn serve<F: Folder + Send, G: Gate, R: Threads + Wait + Sync>(
     rt: &R,
     alloc: Global,
@@ -624,7 +624,7 @@ pub fn serve<F: Folder + Send, G: Gate, R: Threads + Wait + Sync>(
     ensures refused { IsSome (F.files folder.old) → F.faults folder.new ≡ F.faults folder.old →
         (f : FeedFault) → FirstGives (F.files folder.old) options.now plan.now (Err f) →
         TellsFault f result }
-    ensures count { IfOk result (λ s. length (ServedData.outcomes s) ≡ length plan.now) }
+    ensures outcomes { IfOk result (λ s. length (ServedData.outcomes s) ≡ length plan.now) }
 {
     timetable_determined();
     let building = Building {

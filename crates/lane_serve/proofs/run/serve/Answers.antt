@@ -6,6 +6,6 @@ returns-clause-refused g c =
     told_fault c.timetable_determined.ensures (g.F.Folder.files c.args.folder.now) c.args.options.now c.args.plan.now c.args.script.now _ _ _
     c.serve_plan.ensures.served c.serve_plan.ensures.fault
 
-pub returns-clause-count : goal.returns-clause-count
-returns-clause-count g c =
+pub returns-clause-outcomes : goal.returns-clause-outcomes
+returns-clause-outcomes g c =
     outcome_each (g.F.Folder.files c.args.folder.now) c.args.options.now c.args.plan.now c.args.script.now _ c.serve_plan.ensures.served
