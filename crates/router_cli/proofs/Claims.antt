@@ -7,11 +7,11 @@ use Rattle.tb_base.specs.TimetableData.{TimetableData}
 use Rattle.gtfs_rows.specs.declared.fault.FeedFault.{FeedFault}
 use Rattle.tb_io.specs.Files.{FileList}
 use Rattle.trip_table.specs.Answers.{feed_of}
-use Rattle.trip_table.specs.Day.{IsTimetableOf}
 use Rattle.journey_read.specs.Claims.{claim_of}
 use Rattle.journey_read.specs.declared.claim.JourneyFault.{JourneyFault}
 use Rattle.command_line.specs.Verifications.{VerifyRequestData}
 use Rattle.router_cli.proofs.Endings.{IsDetermined}
+use Rattle.router_cli.specs.Outcome.{IsDayOf}
 use Rattle.router_cli.specs.Verifying.{ClaimGives, IsClaimEnding, IsNoClaim, IsVerifyEnding, IsVerifyOutcome, LeavesClaim}
 use Rattle.router_cli.specs.declared.status.Status.{Status}
 use Rattle.router_cli.specs.declared.status.Status.TheVariants as status
@@ -69,7 +69,7 @@ without_claim (Some bytes) T f h = subst (λ m. IsClaimEnding m (status.JourneyR
 
 pub verify_completed : IsDetermined → (files : Option FileList) → IsSome files → (told : Option (List ℕ)) (r : VerifyRequestData) (s : Status) (before now : Option (List ℕ)) →
     IsVerifyOutcome files told r s before now → (s ≡ status.ReadFault → ⊥) → (s ≡ status.WriteFault → ⊥) →
-    (day : Result TimetableData FeedFault) → IsTimetableOf (feed_of files r.dir) r.date r.options day → IsVerifyEnding told day s
+    (day : Result TimetableData FeedFault) → IsDayOf files r.dir r.date r.options day → IsVerifyEnding told day s
 verify_completed same files shown told r status.Done before now (bytes, is, added) read write day given =
     subst (λ d. IsVerifyEnding told d status.Done) (same (feed_of files r.dir) r.date r.options (Ok is.table) day (is.day.1 shown) given)
     (with_claim told is.table is.claimed is.claim)

@@ -2,16 +2,15 @@
 use Rattle.std.proofs.Common.{◌≡◌, ℕ, ◌<◌, ◌⊎◌, inl, inr, List, Option, Some, None, refl, arith}
 use Rattle.std.specs.Prelude.{IfSome, IsSome}
 use Rattle.tb_io.specs.Files.{FileList}
-use Rattle.trip_table.specs.Answers.{feed_of}
 use Rattle.command_line.specs.declared.request.Request.{Request}
 use Rattle.command_line.specs.declared.request.Request.TheVariants as request
-use Rattle.router_cli.proofs.Endings.{IsDetermined, ending}
+use Rattle.router_cli.proofs.Endings.{IsDetermined, day_completed}
 use Rattle.router_cli.proofs.Claims.{claim_unread, none_taken, verify_completed}
 use Rattle.router_cli.proofs.LateEndings.{late_completed}
 use Rattle.router_cli.proofs.Runs.{run_completed}
 use Rattle.command_line.specs.Cities.{CityRequestData}
-use Rattle.router_cli.specs.Cities.{IsCityEnding, IsCityOutcome}
-use Rattle.router_cli.specs.Outcome.{IsDayOf}
+use Rattle.router_cli.specs.Cities.{IsCityOutcome}
+use Rattle.router_cli.specs.Outcome.{EndsBy}
 use Rattle.router_cli.specs.Promise.{IsRequestEnding, IsRequestOutcome, LeavesScript}
 use Rattle.router_cli.specs.declared.status.Status.{Status}
 use Rattle.router_cli.specs.declared.status.Status.TheVariants as status
@@ -33,7 +32,7 @@ none_rose a b c d (inr rose) one other = absurd (omega (arith, rose, other))
 not_risen : (a b : ℕ) → a < b → b ≡ a → ⊥
 not_risen a b rose still = absurd (omega (arith, rose, still))
 
-city_ending : (r : CityRequestData) (s : Status) (before now : Option (List ℕ)) → IsCityOutcome r s before now → (s ≡ status.WriteFault → ⊥) → IsCityEnding s
+city_ending : (r : CityRequestData) (s : Status) (before now : Option (List ℕ)) → IsCityOutcome r s before now → (s ≡ status.WriteFault → ⊥) → EndsBy status.Done s
 city_ending r status.Done before now out write = inl refl
 city_ending r status.WriteFault before now out write = absurd (write refl)
 city_ending r status.Usage before now out write = absurd out
@@ -52,18 +51,18 @@ pub completed : IsDetermined → (asked : Option Request) (files : Option FileLi
 completed determined None files told s before now a b c d e f promise read write = tt
 completed determined (Some (request.Day r)) files told s before now a b c d e f promise read write =
     λ shown read_still take_still write_still day is.
-    ending (IsDayOf files r) (λ x y. determined (feed_of files r.dir) r.date r.options x y) r s before now (promise shown)
+    day_completed determined files shown r s before now promise
     (λ h. none_rose a b c d (read h) read_still take_still) (λ h. not_risen e f (write h) write_still) day is
 completed determined (Some (request.City r)) files told s before now a b c d e f promise read write =
     λ shown read_still take_still write_still. city_ending r s before now promise (λ h. not_risen e f (write h) write_still)
 completed determined (Some (request.Verify r)) files told s before now a b c d e f promise read write =
     λ shown read_still take_still write_still day is.
     verify_completed determined files shown told r s before now promise
-    (λ h. none_rose a b c d (read h) read_still take_still) (λ h. not_risen e f (write h) write_still) day (is.1 shown)
+    (λ h. none_rose a b c d (read h) read_still take_still) (λ h. not_risen e f (write h) write_still) day is
 completed determined (Some (request.Late r)) files told s before now a b c d e f promise read write =
     λ shown read_still take_still write_still day is.
     late_completed determined files shown r s before now promise
-    (λ h. none_rose a b c d (read h) read_still take_still) (λ h. not_risen e f (write h) write_still) day (is.1 shown)
+    (λ h. none_rose a b c d (read h) read_still take_still) (λ h. not_risen e f (write h) write_still) day is
 completed determined (Some (request.Serve r)) files None s before now a b c d e f promise read write =
     λ shown read_still take_still write_still. tt
 completed determined (Some (request.Serve r)) files (Some bytes) s before now a b c d e f promise read write =

@@ -6,12 +6,12 @@ use Rattle.gtfs_rows.specs.Steps.{and_then}
 use Rattle.gtfs_rows.specs.declared.fault.FeedFault.{FeedFault}
 use Rattle.tb_io.specs.Files.{FileList, file_at}
 use Rattle.trip_table.specs.Answers.{feed_of}
-use Rattle.trip_table.specs.Day.{IsTimetableOf}
 use Rattle.late_times.specs.Amended.{amended}
 use Rattle.late_times.specs.Lates.{LateData}
 use Rattle.late_times.specs.declared.late.LateFault.{LateFault}
 use Rattle.command_line.specs.LateTrips.{LateRequestData}
 use Rattle.router_cli.proofs.Endings.{IsDetermined}
+use Rattle.router_cli.specs.Outcome.{IsDayOf}
 use Rattle.router_cli.specs.LateTrips.{IsAmendEnding, IsLateEnding, IsLateOutcome, LatesGive, lates_in}
 use Rattle.router_cli.specs.declared.status.Status.{Status}
 use Rattle.router_cli.specs.declared.status.Status.TheVariants as status
@@ -56,7 +56,7 @@ refuses (Some fs) r T f (inr (lates, read, made)) = unmade (lates_in (file_at fs
 
 pub late_completed : IsDetermined → (files : Option FileList) → IsSome files → (r : LateRequestData) (s : Status) (before now : Option (List ℕ)) →
     IsLateOutcome files r s before now → (s ≡ status.ReadFault → ⊥) → (s ≡ status.WriteFault → ⊥) →
-    (day : Result TimetableData FeedFault) → IsTimetableOf (feed_of files r.dir) r.date r.options day → IsLateEnding files r day s
+    (day : Result TimetableData FeedFault) → IsDayOf files r.dir r.date r.options day → IsLateEnding files r day s
 late_completed same files shown r status.Done before now (bytes, is, added) read write day given =
     subst (λ d. IsLateEnding files r d status.Done) (same (feed_of files r.dir) r.date r.options (Ok is.table) day (is.day.1 shown) given)
     (amends files r is.table is.text.table is.lates is.file is.text.amended)

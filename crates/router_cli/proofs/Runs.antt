@@ -15,7 +15,7 @@ use Rattle.lane_serve.specs.declared.plan.Outcome.{Outcome}
 use Rattle.lane_serve.specs.declared.plan.Outcome.TheVariants.{Published, Refused}
 use Rattle.lane_serve.specs.declared.script.ScriptFault.{ScriptFault}
 use Rattle.router_cli.proofs.Endings.{IsDetermined, out_of_memory}
-use Rattle.router_cli.specs.Outcome.{IsEnding}
+use Rattle.router_cli.specs.Outcome.{IsDayEnding}
 use Rattle.router_cli.specs.Serving.{IsRunEnding, IsRunOutcome, item_of}
 use Rattle.router_cli.specs.declared.status.Status.{Status}
 use Rattle.router_cli.specs.declared.status.Status.TheVariants as status
@@ -39,19 +39,20 @@ for_memory : (m : Result (List LaneData) ScriptFault) (day : Result TimetableDat
 for_memory (Ok lanes) day = out_of_memory day
 for_memory (Err f) day = inr refl
 
-by_script : (m : Result (List LaneData) ScriptFault) (lanes : List LaneData) (day : Result TimetableData FeedFault) (s : Status) → m ≡ Ok lanes → IsEnding day s → IsRunEnding m day s
+by_script : (m : Result (List LaneData) ScriptFault) (lanes : List LaneData) (day : Result TimetableData FeedFault) (s : Status) → m ≡ Ok lanes → IsDayEnding day s → IsRunEnding m day s
 by_script m lanes day s is h = subst (λ n. IsRunEnding n day s) (sym is) h
 
-by_day : (day other : Result TimetableData FeedFault) (s : Status) → other ≡ day → IsEnding other s → IsEnding day s
-by_day day other s same h = subst (λ d. IsEnding d s) same h
+by_day : (day other : Result TimetableData FeedFault) (s : Status) → other ≡ day → IsDayEnding other s → IsDayEnding day s
+by_day day other s same h = subst (λ d. IsDayEnding d s) same h
 
 pub run_completed : IsDetermined → (files : Option FileList) → IsSome files → (bytes : List ℕ) (r : ServeRequestData) (s : Status) (before now : Option (List ℕ)) →
     IsRunOutcome files (Some bytes) r s before now → (s ≡ status.ReadFault → ⊥) → (s ≡ status.WriteFault → ⊥) →
     (day : Result TimetableData FeedFault) → FirstGives files r.options (map item_of r.plan) day → IsRunEnding (script_of bytes) day s
-run_completed same files told bytes r status.Done before now (lanes, text, script, run, added) read write day is =
+run_completed same files told bytes r status.Done before now (text, ran, added) read write day is =
     let plan = map item_of r.plan in
+    let run = ran.text in
     let first = first_published files r.options 0 plan run.served.outcomes run.run.editions run.run.outcomes run.run.first in
-    by_script (script_of bytes) lanes day status.Done script
+    by_script (script_of bytes) ran.lanes day status.Done ran.script
     (by_day day (Ok first.0) status.Done (first_day same files told r.options plan (Ok first.0) day first.1 is) (inl refl))
 run_completed same files told bytes r status.Usage before now h read write day is = absurd h
 run_completed same files told bytes r (status.LateRefused f) before now h read write day is = absurd h

@@ -1,11 +1,11 @@
 -- What the program writes for a made city.
-use Rattle.std.specs.Prelude.{◌≡◌, ℕ, ◌-◌, ◌≤◌, ◌⊎◌, List, [], ◌∷◌, ◌++◌, pos, false, length, take, Option, ⊤}
-use Rattle.std.specs.Io.KnownBytes.{Appends}
+use Rattle.std.specs.Prelude.{◌≡◌, ℕ, ◌-◌, List, [], ◌∷◌, ◌++◌, pos, false, Option, ⊤}
 use Rattle.tb_base.specs.BestValues.{QueryData}
 use Rattle.feed_maker.specs.City.{city, stop_number}
 use Rattle.edition_build.specs.Reports.{IsReport}
 use Rattle.command_line.specs.Cities.{CityRequestData}
 use Rattle.router_cli.specs.Answers.{ShowsKept}
+use Rattle.router_cli.specs.Outcome.{Writes}
 use Rattle.router_cli.specs.declared.status.Status.{Status}
 use Rattle.router_cli.specs.declared.status.Status.TheVariants as status
 
@@ -25,23 +25,11 @@ pub record IsCityText (n : ℕ) (bytes : List ℕ) : Type 0 where
   pub shown : ShowsKept (city n) (corner_query n) choices
   pub text : bytes ≡ report ++ choices
 
--- What a status says of a city, and of the bytes that a sink held before and holds now. Done: its
--- text was written whole. WriteFault: some first bytes of it. Of Memory no clause speaks here, and
--- nothing else comes here.
-abbrev pub IsCityOutcome : CityRequestData → Status → Option (List ℕ) → Option (List ℕ) → Type 0
-IsCityOutcome r status.Done before now =
-    (bytes : List ℕ) × IsCityText r.side bytes × Appends before now bytes
-IsCityOutcome r status.WriteFault before now =
-    (bytes : List ℕ) × (n : ℕ) × IsCityText r.side bytes × (n ≤ length bytes)
-    × Appends before now (take n bytes)
-IsCityOutcome r status.Usage before now = ⊥
-IsCityOutcome r (status.FeedRefused f) before now = ⊥
-IsCityOutcome r (status.ScriptRefused f) before now = ⊥
-IsCityOutcome r (status.LateRefused f) before now = ⊥
-IsCityOutcome r (status.JourneyRefused f) before now = ⊥
-IsCityOutcome r status.ReadFault before now = ⊥
-IsCityOutcome r status.Memory before now = ⊤
+-- why a city has no text: want of memory alone, of which nothing is said here
+abbrev pub IsNoCityText : Status → Type 0
+IsNoCityText status.Memory = ⊤
+IsNoCityText s = ⊥
 
--- how a city's text may end where nothing fails outside
-abbrev pub IsCityEnding : Status → Type 0
-IsCityEnding s = (s ≡ status.Done) ⊎ (s ≡ status.Memory)
+-- how a request for a city ends, and what it writes
+abbrev pub IsCityOutcome : CityRequestData → Status → Option (List ℕ) → Option (List ℕ) → Type 0
+IsCityOutcome r = Writes (IsCityText r.side) IsNoCityText

@@ -1,7 +1,6 @@
 -- What the program's status says of a day amended by late trips.
-use Rattle.std.specs.Prelude.{◌≡◌, ℕ, ◌<◌, ◌≤◌, ◌⊎◌, List, ◌++◌, codes, length, nat_lt, take, Option, Some, None, IfSome, Result, Ok, Err, if◌then◌else◌, ⊤}
+use Rattle.std.specs.Prelude.{◌≡◌, ℕ, ◌<◌, ◌⊎◌, List, ◌++◌, codes, length, nat_lt, Option, Some, None, IfSome, Result, Ok, Err, if◌then◌else◌, ⊤}
 use Rattle.std.specs.Fmt.{decimal}
-use Rattle.std.specs.Io.KnownBytes.{Appends}
 use Rattle.tb_base.specs.Lines.{AreLines}
 use Rattle.tb_base.specs.Soundness.{IsSound}
 use Rattle.tb_base.specs.TimetableData.{TimetableData}
@@ -17,7 +16,7 @@ use Rattle.edition_store.specs.Editions.{kept_count}
 use Rattle.command_line.specs.Inquiries.{InquiryData}
 use Rattle.command_line.specs.LateTrips.{LateRequestData}
 use Rattle.router_cli.specs.Answers.{IsInquiryText, ShowsKept}
-use Rattle.router_cli.specs.Outcome.{GivesDay}
+use Rattle.router_cli.specs.Outcome.{EndsBy, GivesDay, Writes}
 use Rattle.router_cli.specs.declared.status.Status.{Status}
 use Rattle.router_cli.specs.declared.status.Status.TheVariants as status
 
@@ -31,10 +30,6 @@ lates_in (Some bytes) =
 -- where the folder tells its files, the one at this path says this of late trips
 abbrev pub LatesGive : Option FileList → List ℕ → Result (List LateData) LateFault → Type 0
 LatesGive files path lates = IfSome files (λ fs. lates_in (file_at fs path) ≡ lates)
-
--- the timetable of a request's day, or the feed's first fault
-abbrev pub DayGives : Option FileList → LateRequestData → Result TimetableData FeedFault → Type 0
-DayGives files r = GivesDay files r.dir r.date r.options
 
 -- what is told of the second edition: how many trips are touched, and how many transfers are kept
 abbrev pub amended_text : ℕ → ℕ → List ℕ
@@ -64,10 +59,10 @@ pub record IsLateText (T : TimetableData) (lates : List LateData) (i : InquiryDa
   pub text : IsAmendedText T table i bytes
 
 -- the bytes are what is written over the day's timetable, amended by what the file says
-pub record IsLateDay (files : Option FileList) (r : LateRequestData) (bytes : List ℕ)
+pub record IsLateAnswer (files : Option FileList) (r : LateRequestData) (bytes : List ℕ)
     : Type 0 where
   pub table : TimetableData
-  pub day : DayGives files r (Ok table)
+  pub day : GivesDay files r.dir r.date r.options (Ok table)
   pub lates : List LateData
   pub file : LatesGive files r.file (Ok lates)
   pub text : IsLateText table lates r.inquiry bytes
@@ -75,35 +70,29 @@ pub record IsLateDay (files : Option FileList) (r : LateRequestData) (bytes : Li
 -- the fault is the first one of the file, or the file is good and it is the first one of a late
 abbrev pub LateRefused : Option FileList → LateRequestData → LateFault → Type 0
 LateRefused files r f =
-    (T : TimetableData) × DayGives files r (Ok T)
+    (T : TimetableData) × GivesDay files r.dir r.date r.options (Ok T)
     × (LatesGive files r.file (Err f)
     ⊎ ((lates : List LateData) × LatesGive files r.file (Ok lates) × (amended T lates ≡ Err f)))
 
--- What a status says of such a day, and of the bytes that a sink held before and holds now. Done:
--- what is written of it was written whole. WriteFault: some first bytes of that. FeedRefused: the
--- fault is the day's. LateRefused: the day has a timetable, and the fault is the first one of its
--- late trips. Usage and the other refusals don't come here. Of ReadFault and Memory no clause
--- speaks here.
+-- Why nothing is written of such a day: the feed is refused; or the day has a timetable, and its
+-- late trips are refused. Of ReadFault and Memory nothing is said here.
+abbrev pub IsNoLateAnswer : Option FileList → LateRequestData → Status → Type 0
+IsNoLateAnswer files r (status.FeedRefused f) = GivesDay files r.dir r.date r.options (Err f)
+IsNoLateAnswer files r (status.LateRefused f) = LateRefused files r f
+IsNoLateAnswer files r status.ReadFault = ⊤
+IsNoLateAnswer files r status.Memory = ⊤
+IsNoLateAnswer files r s = ⊥
+
+-- how a request about such a day ends, and what it writes
 abbrev pub IsLateOutcome : Option FileList → LateRequestData → Status → Option (List ℕ)
     → Option (List ℕ) → Type 0
-IsLateOutcome files r status.Done before now =
-    (bytes : List ℕ) × IsLateDay files r bytes × Appends before now bytes
-IsLateOutcome files r status.WriteFault before now =
-    (bytes : List ℕ) × (n : ℕ) × IsLateDay files r bytes × (n ≤ length bytes)
-    × Appends before now (take n bytes)
-IsLateOutcome files r (status.FeedRefused f) before now = DayGives files r (Err f)
-IsLateOutcome files r (status.LateRefused f) before now = LateRefused files r f
-IsLateOutcome files r status.Usage before now = ⊥
-IsLateOutcome files r (status.ScriptRefused f) before now = ⊥
-IsLateOutcome files r (status.JourneyRefused f) before now = ⊥
-IsLateOutcome files r status.ReadFault before now = ⊤
-IsLateOutcome files r status.Memory before now = ⊤
+IsLateOutcome files r = Writes (IsLateAnswer files r) (IsNoLateAnswer files r)
 
 -- How late trips may end where nothing fails outside: by their first fault, or with what is written
--- of the timetable that they make, or for want of memory.
+-- of the timetable that they make; or for want of memory.
 abbrev pub IsAmendEnding : Result TimetableData LateFault → Status → Type 0
-IsAmendEnding (Ok U) s = (s ≡ status.Done) ⊎ (s ≡ status.Memory)
-IsAmendEnding (Err f) s = (s ≡ status.LateRefused f) ⊎ (s ≡ status.Memory)
+IsAmendEnding (Ok U) = EndsBy status.Done
+IsAmendEnding (Err f) = EndsBy (status.LateRefused f)
 
 -- The same of a request: by the feed's first fault; else as the late trips of the file, over the
 -- day's timetable.
@@ -111,7 +100,7 @@ abbrev pub IsLateEnding : Option FileList → LateRequestData → Result Timetab
     → Status → Type 0
 IsLateEnding files r (Ok T) s = IfSome files (λ fs.
     IsAmendEnding (and_then (lates_in (file_at fs r.file)) (λ lates. amended T lates)) s)
-IsLateEnding files r (Err f) s = (s ≡ status.FeedRefused f) ⊎ (s ≡ status.Memory)
+IsLateEnding files r (Err f) s = EndsBy (status.FeedRefused f) s
 
 -- why a file gives no late trips, by the folder's count of faults before and now
 abbrev pub IsNoLates : Option FileList → List ℕ → ℕ → ℕ → Status → Type 0
@@ -119,33 +108,10 @@ IsNoLates files path before now (status.LateRefused f) =
     LatesGive files path (Err f) × (now ≡ before)
 IsNoLates files path before now status.ReadFault = before < now
 IsNoLates files path before now status.Memory = now ≡ before
-IsNoLates files path before now status.Done = ⊥
-IsNoLates files path before now status.Usage = ⊥
-IsNoLates files path before now status.WriteFault = ⊥
-IsNoLates files path before now (status.FeedRefused f) = ⊥
-IsNoLates files path before now (status.ScriptRefused f) = ⊥
-IsNoLates files path before now (status.JourneyRefused f) = ⊥
+IsNoLates files path before now s = ⊥
 
 -- why late trips make no text of a timetable
 abbrev pub IsNotAmended : TimetableData → List LateData → Status → Type 0
 IsNotAmended T lates (status.LateRefused f) = amended T lates ≡ Err f
 IsNotAmended T lates status.Memory = ⊤
-IsNotAmended T lates status.Done = ⊥
-IsNotAmended T lates status.Usage = ⊥
-IsNotAmended T lates status.ReadFault = ⊥
-IsNotAmended T lates status.WriteFault = ⊥
-IsNotAmended T lates (status.FeedRefused f) = ⊥
-IsNotAmended T lates (status.ScriptRefused f) = ⊥
-IsNotAmended T lates (status.JourneyRefused f) = ⊥
-
--- why nothing is written of such a day
-abbrev pub IsNoLateDay : Option FileList → LateRequestData → Status → Type 0
-IsNoLateDay files r (status.FeedRefused f) = DayGives files r (Err f)
-IsNoLateDay files r (status.LateRefused f) = LateRefused files r f
-IsNoLateDay files r status.ReadFault = ⊤
-IsNoLateDay files r status.Memory = ⊤
-IsNoLateDay files r status.Done = ⊥
-IsNoLateDay files r status.Usage = ⊥
-IsNoLateDay files r status.WriteFault = ⊥
-IsNoLateDay files r (status.ScriptRefused f) = ⊥
-IsNoLateDay files r (status.JourneyRefused f) = ⊥
+IsNotAmended T lates s = ⊥

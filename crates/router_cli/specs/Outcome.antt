@@ -85,60 +85,33 @@ CarriesNoMemory (status.LateRefused f) = f ≢ late.Memory
 CarriesNoMemory (status.JourneyRefused f) = f ≢ claim.Memory
 CarriesNoMemory s = ⊤
 
+-- What a status says of the bytes that a sink held before and holds now. Done: a text of this kind
+-- was written whole. WriteFault: some first bytes of one. Any other status comes as Comes says.
+abbrev pub Writes : (List ℕ → Type 0) → (Status → Type 0) → Status → Option (List ℕ)
+    → Option (List ℕ) → Type 0
+Writes IsText Comes status.Done before now =
+    (bytes : List ℕ) × IsText bytes × Appends before now bytes
+Writes IsText Comes status.WriteFault before now =
+    (bytes : List ℕ) × (n : ℕ) × IsText bytes × (n ≤ length bytes)
+    × Appends before now (take n bytes)
+Writes IsText Comes s before now = Comes s
+
+-- the status is the expected one, or it tells of want of memory
+abbrev pub EndsBy : Status → Status → Type 0
+EndsBy expected s = (s ≡ expected) ⊎ (s ≡ status.Memory)
+
+-- what becomes of a day, by the files that a folder tells: its timetable, or the first thing that
+-- is wrong with the feed
+abbrev pub IsDayOf : Option FileList → List ℕ → ℕ → Options → Result TimetableData FeedFault
+    → Type 0
+IsDayOf files dir date options = IsTimetableOf (feed_of files dir) date options
+
 -- a day of a folder gives this: a sound timetable, that of the day where the folder tells its
 -- files; or, where it tells them, the feed's first fault
 abbrev pub GivesDay : Option FileList → List ℕ → ℕ → Options → Result TimetableData FeedFault
     → Type 0
 GivesDay files dir date options day =
-    IfOk day IsSound × (IsSome files → IsTimetableOf (feed_of files dir) date options day)
-
--- what becomes of the day of a request: its timetable, or the first thing that is wrong with the
--- feed
-abbrev pub IsDayOf : Option FileList → DayRequestData → Result TimetableData FeedFault → Type 0
-IsDayOf files r = IsTimetableOf (feed_of files r.dir) r.date r.options
-
--- What a status says of a request, of the day's timetable or first fault, and of the bytes that a
--- sink held before and holds now. Done: the answer was written whole. WriteFault: some first bytes
--- of it. FeedRefused: the fault is the day's. Usage and the other refusals don't come here. Of
--- ReadFault and Memory no clause speaks here.
-abbrev pub IsOutcome : (Result TimetableData FeedFault → Type 0) → DayRequestData → Status
-    → Option (List ℕ) → Option (List ℕ) → Type 0
-IsOutcome IsDay r status.Done before now =
-    (T : TimetableData) × (bytes : List ℕ) × IsDay (Ok T) × IsAnswer T r bytes
-    × Appends before now bytes
-IsOutcome IsDay r status.WriteFault before now =
-    (T : TimetableData) × (bytes : List ℕ) × (n : ℕ) × IsDay (Ok T) × IsAnswer T r bytes
-    × (n ≤ length bytes) × Appends before now (take n bytes)
-IsOutcome IsDay r (status.FeedRefused f) before now = IsDay (Err f)
-IsOutcome IsDay r status.Usage before now = ⊥
-IsOutcome IsDay r (status.ScriptRefused f) before now = ⊥
-IsOutcome IsDay r (status.LateRefused f) before now = ⊥
-IsOutcome IsDay r (status.JourneyRefused f) before now = ⊥
-IsOutcome IsDay r status.ReadFault before now = ⊤
-IsOutcome IsDay r status.Memory before now = ⊤
-
--- How the program may end where nothing fails outside: with the answer or for want of memory on a
--- lawful day, and else with the feed's first fault or for want of memory.
-abbrev pub IsEnding : Result TimetableData FeedFault → Status → Type 0
-IsEnding (Ok T) s = (s ≡ status.Done) ⊎ (s ≡ status.Memory)
-IsEnding (Err f) s = (s ≡ status.FeedRefused f) ⊎ (s ≡ status.Memory)
-
--- Whatever the folder tells: with Done the answer over a sound timetable was written whole, with
--- WriteFault some first bytes of it. Usage and other refusals than of the feed don't come here.
-abbrev pub WritesAnswer : DayRequestData → Status → Option (List ℕ) → Option (List ℕ) → Type 0
-WritesAnswer r status.Done before now =
-    (T : TimetableData) × (bytes : List ℕ) × IsSound T × IsAnswer T r bytes
-    × Appends before now bytes
-WritesAnswer r status.WriteFault before now =
-    (T : TimetableData) × (bytes : List ℕ) × (n : ℕ) × IsSound T × IsAnswer T r bytes
-    × (n ≤ length bytes) × Appends before now (take n bytes)
-WritesAnswer r (status.FeedRefused f) before now = ⊤
-WritesAnswer r status.Usage before now = ⊥
-WritesAnswer r (status.ScriptRefused f) before now = ⊥
-WritesAnswer r (status.LateRefused f) before now = ⊥
-WritesAnswer r (status.JourneyRefused f) before now = ⊥
-WritesAnswer r status.ReadFault before now = ⊤
-WritesAnswer r status.Memory before now = ⊤
+    IfOk day IsSound × (IsSome files → IsDayOf files dir date options day)
 
 -- why a day gives no timetable, by the folder's count of faults before and now
 abbrev pub IsNoTable : Option FileList → List ℕ → ℕ → Options → ℕ → ℕ → Status → Type 0
@@ -146,9 +119,29 @@ IsNoTable files dir date options before now (status.FeedRefused f) =
     GivesDay files dir date options (Err f) × (now ≡ before)
 IsNoTable files dir date options before now status.ReadFault = before < now
 IsNoTable files dir date options before now status.Memory = now ≡ before
-IsNoTable files dir date options before now status.Done = ⊥
-IsNoTable files dir date options before now status.Usage = ⊥
-IsNoTable files dir date options before now status.WriteFault = ⊥
-IsNoTable files dir date options before now (status.ScriptRefused f) = ⊥
-IsNoTable files dir date options before now (status.LateRefused f) = ⊥
-IsNoTable files dir date options before now (status.JourneyRefused f) = ⊥
+IsNoTable files dir date options before now s = ⊥
+
+-- the bytes are the answer to the request over a timetable that its day gives
+pub record IsDayAnswer (files : Option FileList) (r : DayRequestData) (bytes : List ℕ) : Type 0 where
+  pub table : TimetableData
+  pub day : GivesDay files r.dir r.date r.options (Ok table)
+  pub answer : IsAnswer table r bytes
+
+-- Why a request about a day has no answer: the feed is refused. Of ReadFault and Memory nothing is
+-- said here.
+abbrev pub IsNoDayAnswer : Option FileList → DayRequestData → Status → Type 0
+IsNoDayAnswer files r (status.FeedRefused f) = GivesDay files r.dir r.date r.options (Err f)
+IsNoDayAnswer files r status.ReadFault = ⊤
+IsNoDayAnswer files r status.Memory = ⊤
+IsNoDayAnswer files r s = ⊥
+
+-- how a request about a day ends, and what it writes
+abbrev pub IsDayOutcome : Option FileList → DayRequestData → Status → Option (List ℕ)
+    → Option (List ℕ) → Type 0
+IsDayOutcome files r = Writes (IsDayAnswer files r) (IsNoDayAnswer files r)
+
+-- How the program may end where nothing fails outside: with the answer on a lawful day, and else
+-- with the feed's first fault; or for want of memory.
+abbrev pub IsDayEnding : Result TimetableData FeedFault → Status → Type 0
+IsDayEnding (Ok T) = EndsBy status.Done
+IsDayEnding (Err f) = EndsBy (status.FeedRefused f)

@@ -1,5 +1,5 @@
 -- What the program promises of a request.
-use Rattle.std.specs.Prelude.{◌≡◌, ℕ, List, Option, Some, None, IfSome, IsSome, Result, Ok, ⊤}
+use Rattle.std.specs.Prelude.{◌≡◌, ℕ, List, Option, Some, IfSome, Result, ⊤}
 use Rattle.std.specs.Io.KnownBytes.{Consumes}
 use Rattle.tb_base.specs.TimetableData.{TimetableData}
 use Rattle.gtfs_rows.specs.declared.fault.FeedFault.{FeedFault}
@@ -8,75 +8,56 @@ use Rattle.command_line.specs.declared.request.Request.{Request}
 use Rattle.command_line.specs.declared.request.Request.TheVariants as request
 use Rattle.lane_serve.specs.Script.{script_of}
 use Rattle.lane_serve.specs.Served.{FirstGives}
-use Rattle.router_cli.specs.Cities.{IsCityEnding, IsCityOutcome}
+use Rattle.router_cli.specs.Cities.{IsCityOutcome}
 use Rattle.router_cli.specs.LateTrips.{IsLateEnding, IsLateOutcome}
-use Rattle.router_cli.specs.Outcome.{GivesDay, IsDayOf, IsEnding, IsOutcome, WritesAnswer}
+use Rattle.router_cli.specs.Outcome.{EndsBy, IsDayEnding, IsDayOf, IsDayOutcome}
 use Rattle.router_cli.specs.Serving.{IsRunEnding, IsRunOutcome, TellsScript, plan_of}
-use Rattle.router_cli.specs.Verifying.{DayGives, IsVerifyEnding, IsVerifyOutcome, LeavesClaim}
+use Rattle.router_cli.specs.Verifying.{HasDay, IsVerifyEnding, IsVerifyOutcome, LeavesClaim}
 use Rattle.router_cli.specs.declared.status.Status.{Status}
+use Rattle.router_cli.specs.declared.status.Status.TheVariants as status
 
 -- What a status says of a request, of the files of a folder, where it tells them, of the bytes of a
 -- script, where its source tells them, and of the bytes that a sink held before and holds now.
 abbrev pub IsRequestOutcome : Option FileList → Option (List ℕ) → Request → Status
     → Option (List ℕ) → Option (List ℕ) → Type 0
-IsRequestOutcome files told (request.Day r) s before now =
-    IsSome files → IsOutcome (IsDayOf files r) r s before now
-IsRequestOutcome files told (request.Serve r) s before now = IsRunOutcome files told r s before now
-IsRequestOutcome files told (request.City r) s before now = IsCityOutcome r s before now
-IsRequestOutcome files told (request.Verify r) s before now =
-    IsVerifyOutcome files told r s before now
-IsRequestOutcome files told (request.Late r) s before now = IsLateOutcome files r s before now
-
--- How a request about a day ends, whatever the folder tells. Of others the outcome says it.
-abbrev pub WritesRequest : Request → Status → Option (List ℕ) → Option (List ℕ) → Type 0
-WritesRequest (request.Day r) s before now = WritesAnswer r s before now
-WritesRequest (request.Serve r) s before now = ⊤
-WritesRequest (request.City r) s before now = ⊤
-WritesRequest (request.Verify r) s before now = ⊤
-WritesRequest (request.Late r) s before now = ⊤
+IsRequestOutcome files told (request.Day r) = IsDayOutcome files r
+IsRequestOutcome files told (request.Serve r) = IsRunOutcome files told r
+IsRequestOutcome files told (request.City r) = IsCityOutcome r
+IsRequestOutcome files told (request.Verify r) = IsVerifyOutcome files told r
+IsRequestOutcome files told (request.Late r) = IsLateOutcome files r
 
 -- how a request may end where nothing fails outside, by what its day or its first day gives
 abbrev pub IsRequestEnding : Option FileList → Option (List ℕ) → Request → Status → Type 0
 IsRequestEnding files told (request.Day r) s =
-    (day : Result TimetableData FeedFault) → IsDayOf files r day → IsEnding day s
+    (day : Result TimetableData FeedFault) → IsDayOf files r.dir r.date r.options day →
+    IsDayEnding day s
 IsRequestEnding files told (request.Serve r) s = IfSome told (λ bytes.
     (day : Result TimetableData FeedFault) → FirstGives files r.options (plan_of r) day →
     IsRunEnding (script_of bytes) day s)
-IsRequestEnding files told (request.City r) s = IsCityEnding s
+IsRequestEnding files told (request.City r) s = EndsBy status.Done s
 IsRequestEnding files told (request.Verify r) s =
-    (day : Result TimetableData FeedFault) → DayGives files r day → IsVerifyEnding told day s
+    (day : Result TimetableData FeedFault) → IsDayOf files r.dir r.date r.options day →
+    IsVerifyEnding told day s
 IsRequestEnding files told (request.Late r) s =
-    (day : Result TimetableData FeedFault) → GivesDay files r.dir r.date r.options day →
+    (day : Result TimetableData FeedFault) → IsDayOf files r.dir r.date r.options day →
     IsLateEnding files r day s
 
 -- a script's first fault comes before what the feeds give
 abbrev pub TellsFirst : Option (List ℕ) → Request → Status → Type 0
-TellsFirst told (request.Day r) s = ⊤
 TellsFirst told (request.Serve r) s = TellsScript told s
-TellsFirst told (request.City r) s = ⊤
-TellsFirst told (request.Verify r) s = ⊤
-TellsFirst told (request.Late r) s = ⊤
+TellsFirst told r s = ⊤
 
--- a claim is read where the day has a timetable
+-- what holds where a source failed: a claim is read only once the day has a timetable
 abbrev pub ReadsBehind : Option FileList → Request → Type 0
-ReadsBehind files (request.Day r) = ⊤
-ReadsBehind files (request.Serve r) = ⊤
-ReadsBehind files (request.City r) = ⊤
-ReadsBehind files (request.Verify r) = (T : TimetableData) × DayGives files r (Ok T)
-ReadsBehind files (request.Late r) = ⊤
+ReadsBehind files (request.Verify r) = HasDay files r
+ReadsBehind files r = ⊤
 
 -- What is left of a source, and its count of faults, before and now: only a run and a claim take
 -- bytes of it, or meet its faults.
 abbrev pub LeavesScript : Option Request → Status → Option (List ℕ) → Option (List ℕ) → ℕ → ℕ
     → Type 0
-LeavesScript None s before now faults risen = (now ≡ before) × (risen ≡ faults)
-LeavesScript (Some (request.Day r)) s before now faults risen =
-    (now ≡ before) × (risen ≡ faults)
 LeavesScript (Some (request.Serve r)) s before now faults risen =
     (bs : List ℕ) × Consumes before now bs
-LeavesScript (Some (request.City r)) s before now faults risen =
-    (now ≡ before) × (risen ≡ faults)
 LeavesScript (Some (request.Verify r)) s before now faults risen =
     LeavesClaim s before now faults risen
-LeavesScript (Some (request.Late r)) s before now faults risen =
-    (now ≡ before) × (risen ≡ faults)
+LeavesScript asked s before now faults risen = (now ≡ before) × (risen ≡ faults)

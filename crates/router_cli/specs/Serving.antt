@@ -1,6 +1,5 @@
 -- What the program's status says of a run of several days.
-use Rattle.std.specs.Prelude.{◌≡◌, ℕ, ◌<◌, ◌≤◌, ◌⊎◌, List, length, map, take, Option, IfSome, Result, Ok, Err, ⊤}
-use Rattle.std.specs.Io.KnownBytes.{Appends}
+use Rattle.std.specs.Prelude.{◌≡◌, ℕ, ◌<◌, List, map, Option, IfSome, Result, Ok, Err, ⊤}
 use Rattle.tb_base.specs.TimetableData.{TimetableData}
 use Rattle.gtfs_rows.specs.declared.fault.FeedFault.{FeedFault}
 use Rattle.tb_io.specs.Files.{FileList}
@@ -13,7 +12,7 @@ use Rattle.lane_serve.specs.Texts.{served_text}
 use Rattle.lane_serve.specs.declared.run.ServeFault.{ServeFault}
 use Rattle.lane_serve.specs.declared.run.ServeFault.TheVariants as serve
 use Rattle.lane_serve.specs.declared.script.ScriptFault.{ScriptFault}
-use Rattle.router_cli.specs.Outcome.{IsEnding}
+use Rattle.router_cli.specs.Outcome.{EndsBy, IsDayEnding, Writes}
 use Rattle.router_cli.specs.declared.status.Status.{Status}
 use Rattle.router_cli.specs.declared.status.Status.TheVariants as status
 
@@ -35,53 +34,47 @@ pub record IsRunText (files : Option FileList) (options : Options) (plan : List 
   pub run : IsServed files options plan lanes served
   pub text : bytes ≡ served_text plan served
 
--- What a status says of a run, of the script and of the bytes that a sink held before and holds
--- now. Done: the text of a run was written whole. WriteFault: some first bytes of it.
--- ScriptRefused: the fault is the script's. FeedRefused: the script is good, and the fault is the
--- first day's. Usage and the other refusals don't come here. Of ReadFault and Memory no clause
--- speaks here.
-abbrev pub IsRunOutcome : Option FileList → Option (List ℕ) → ServeRequestData → Status
-    → Option (List ℕ) → Option (List ℕ) → Type 0
-IsRunOutcome files told r status.Done before now =
-    (lanes : List LaneData) × (bytes : List ℕ) × ScriptGives told (Ok lanes)
-    × IsRunText files r.options (plan_of r) lanes bytes × Appends before now bytes
-IsRunOutcome files told r status.WriteFault before now =
-    (lanes : List LaneData) × (bytes : List ℕ) × (n : ℕ) × ScriptGives told (Ok lanes)
-    × IsRunText files r.options (plan_of r) lanes bytes × (n ≤ length bytes)
-    × Appends before now (take n bytes)
-IsRunOutcome files told r (status.ScriptRefused f) before now = ScriptGives told (Err f)
-IsRunOutcome files told r (status.FeedRefused f) before now =
+-- the bytes are the text of a run of the request's days beside the lanes of the script
+pub record IsRunAnswer (files : Option FileList) (told : Option (List ℕ)) (r : ServeRequestData)
+    (bytes : List ℕ) : Type 0 where
+  pub lanes : List LaneData
+  pub script : ScriptGives told (Ok lanes)
+  pub text : IsRunText files r.options (plan_of r) lanes bytes
+
+-- Why a request for a run has no answer: the script is refused; or it is good, and the feed of the
+-- first day is refused. Of ReadFault and Memory nothing is said here.
+abbrev pub IsNoRunAnswer : Option FileList → Option (List ℕ) → ServeRequestData → Status → Type 0
+IsNoRunAnswer files told r (status.ScriptRefused f) = ScriptGives told (Err f)
+IsNoRunAnswer files told r (status.FeedRefused f) =
     ((lanes : List LaneData) × ScriptGives told (Ok lanes))
     × FirstGives files r.options (plan_of r) (Err f)
-IsRunOutcome files told r (status.LateRefused f) before now = ⊥
-IsRunOutcome files told r (status.JourneyRefused f) before now = ⊥
-IsRunOutcome files told r status.Usage before now = ⊥
-IsRunOutcome files told r status.ReadFault before now = ⊤
-IsRunOutcome files told r status.Memory before now = ⊤
+IsNoRunAnswer files told r status.ReadFault = ⊤
+IsNoRunAnswer files told r status.Memory = ⊤
+IsNoRunAnswer files told r s = ⊥
+
+-- how a request for a run ends, and what it writes
+abbrev pub IsRunOutcome : Option FileList → Option (List ℕ) → ServeRequestData → Status
+    → Option (List ℕ) → Option (List ℕ) → Type 0
+IsRunOutcome files told r = Writes (IsRunAnswer files told r) (IsNoRunAnswer files told r)
 
 -- How a run may end where nothing fails outside: by the script's first fault; else, as a request
 -- about the first day, by that feed's first fault or with the text; or for want of memory.
 abbrev pub IsRunEnding : Result (List LaneData) ScriptFault → Result TimetableData FeedFault
     → Status → Type 0
-IsRunEnding (Err f) day s = (s ≡ status.ScriptRefused f) ⊎ (s ≡ status.Memory)
-IsRunEnding (Ok lanes) day s = IsEnding day s
+IsRunEnding (Err f) day = EndsBy (status.ScriptRefused f)
+IsRunEnding (Ok lanes) day = IsDayEnding day
 
 -- where the source tells a script with a fault, the run ends by it or for want of memory
 abbrev pub TellsScript : Option (List ℕ) → Status → Type 0
 TellsScript told s = IfSome told (λ bytes. (f : ScriptFault) → script_of bytes ≡ Err f →
-    (s ≡ status.ScriptRefused f) ⊎ (s ≡ status.Memory))
+    EndsBy (status.ScriptRefused f) s)
 
 -- why a source gives no script, by its count of faults before and now
 abbrev pub IsNoScript : Option (List ℕ) → ℕ → ℕ → Status → Type 0
 IsNoScript told before now (status.ScriptRefused f) = ScriptGives told (Err f) × (now ≡ before)
 IsNoScript told before now status.ReadFault = before < now
 IsNoScript told before now status.Memory = now ≡ before
-IsNoScript told before now status.Done = ⊥
-IsNoScript told before now status.Usage = ⊥
-IsNoScript told before now status.WriteFault = ⊥
-IsNoScript told before now (status.FeedRefused f) = ⊥
-IsNoScript told before now (status.LateRefused f) = ⊥
-IsNoScript told before now (status.JourneyRefused f) = ⊥
+IsNoScript told before now s = ⊥
 
 -- why a run has no text, by the folder's count of faults before and now
 abbrev pub IsNoRun : Option FileList → Options → List ItemData → ℕ → ℕ → Status → Type 0
@@ -89,12 +82,7 @@ IsNoRun files options plan before now (status.FeedRefused f) =
     FirstGives files options plan (Err f) × (now ≡ before)
 IsNoRun files options plan before now status.ReadFault = before < now
 IsNoRun files options plan before now status.Memory = now ≡ before
-IsNoRun files options plan before now status.Done = ⊥
-IsNoRun files options plan before now status.Usage = ⊥
-IsNoRun files options plan before now status.WriteFault = ⊥
-IsNoRun files options plan before now (status.ScriptRefused f) = ⊥
-IsNoRun files options plan before now (status.LateRefused f) = ⊥
-IsNoRun files options plan before now (status.JourneyRefused f) = ⊥
+IsNoRun files options plan before now s = ⊥
 
 -- the status that a fault of a run is told as
 abbrev pub status_for : ServeFault → Status

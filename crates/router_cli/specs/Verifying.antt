@@ -1,7 +1,7 @@
 -- What the program's status says of a claimed journey.
-use Rattle.std.specs.Prelude.{◌≡◌, ◌↔◌, ℕ, ◌<◌, ◌≤◌, ◌⊎◌, List, ◌++◌, codes, length, take, Option, IfSome, Result, Ok, Err, ⊤}
+use Rattle.std.specs.Prelude.{◌≡◌, ◌↔◌, ℕ, ◌<◌, List, ◌++◌, codes, Option, IfSome, Result, Ok, Err, ⊤}
 use Rattle.std.specs.Fmt.{decimal}
-use Rattle.std.specs.Io.KnownBytes.{Appends, Consumes}
+use Rattle.std.specs.Io.KnownBytes.{Consumes}
 use Rattle.tb_base.specs.BestValues.{ChoiceData, QueryData}
 use Rattle.tb_base.specs.JourneyRules.{SpellValue}
 use Rattle.tb_base.specs.TimetableData.{TimetableData}
@@ -19,7 +19,7 @@ use Rattle.query_gate.specs.Questions.{query_at}
 use Rattle.command_line.specs.Inquiries.{InquiryData}
 use Rattle.command_line.specs.Verifications.{VerifyRequestData}
 use Rattle.router_cli.specs.Answers.{IsTextBetween}
-use Rattle.router_cli.specs.Outcome.{GivesDay}
+use Rattle.router_cli.specs.Outcome.{EndsBy, GivesDay, Writes}
 use Rattle.router_cli.specs.declared.status.Status.{Status}
 use Rattle.router_cli.specs.declared.status.Status.TheVariants as status
 
@@ -58,48 +58,42 @@ abbrev pub IsVerifiedText : TimetableData → InquiryData → ChoiceData → Lis
 IsVerifiedText T i claimed =
     IsTextBetween T i.from i.to (λ ends. ShowsVerdict T claimed (query_at ends i.time))
 
--- the timetable of a request's day, or the feed's first fault
-abbrev pub DayGives : Option FileList → VerifyRequestData → Result TimetableData FeedFault
-    → Type 0
-DayGives files r = GivesDay files r.dir r.date r.options
-
 -- where the source tells its bytes, they claim this over the timetable
 abbrev pub ClaimGives : TimetableData → Option (List ℕ) → Result ChoiceData JourneyFault → Type 0
 ClaimGives T told result = IfSome told (λ bytes. claim_of T bytes ≡ result)
 
 -- the bytes are what is written of the claim over the timetable of the day
-pub record IsVerified (files : Option FileList) (told : Option (List ℕ)) (r : VerifyRequestData)
+pub record IsVerifyAnswer (files : Option FileList) (told : Option (List ℕ)) (r : VerifyRequestData)
     (bytes : List ℕ) : Type 0 where
   pub table : TimetableData
-  pub day : DayGives files r (Ok table)
+  pub day : GivesDay files r.dir r.date r.options (Ok table)
   pub claimed : ChoiceData
   pub claim : ClaimGives table told (Ok claimed)
   pub text : IsVerifiedText table r.inquiry claimed bytes
+
+-- the day of a request has a timetable: any sound one, where the folder doesn't tell its files
+abbrev pub HasDay : Option FileList → VerifyRequestData → Type 0
+HasDay files r = (T : TimetableData) × GivesDay files r.dir r.date r.options (Ok T)
 
 -- the timetable of the day is there, and over it the claim has this first fault
 abbrev pub ClaimRefused : Option FileList → Option (List ℕ) → VerifyRequestData → JourneyFault
     → Type 0
 ClaimRefused files told r f =
-    (T : TimetableData) × DayGives files r (Ok T) × ClaimGives T told (Err f)
+    (T : TimetableData) × GivesDay files r.dir r.date r.options (Ok T) × ClaimGives T told (Err f)
 
--- What a status says of a claim, and of the bytes that a sink held before and holds now. Done: what
--- is written of it was written whole. WriteFault: some first bytes of that. FeedRefused: the fault
--- is the day's. JourneyRefused: the day has a timetable, and the fault is the claim's. Usage and
--- the other refusals don't come here. Of ReadFault and Memory no clause speaks here.
+-- Why nothing is written of a claim: the feed is refused; or the day has a timetable, and the claim
+-- is refused over it. Of ReadFault and Memory nothing is said here.
+abbrev pub IsNoVerifyAnswer : Option FileList → Option (List ℕ) → VerifyRequestData → Status → Type 0
+IsNoVerifyAnswer files told r (status.FeedRefused f) = GivesDay files r.dir r.date r.options (Err f)
+IsNoVerifyAnswer files told r (status.JourneyRefused f) = ClaimRefused files told r f
+IsNoVerifyAnswer files told r status.ReadFault = ⊤
+IsNoVerifyAnswer files told r status.Memory = ⊤
+IsNoVerifyAnswer files told r s = ⊥
+
+-- how a request about a claim ends, and what it writes
 abbrev pub IsVerifyOutcome : Option FileList → Option (List ℕ) → VerifyRequestData → Status
     → Option (List ℕ) → Option (List ℕ) → Type 0
-IsVerifyOutcome files told r status.Done before now =
-    (bytes : List ℕ) × IsVerified files told r bytes × Appends before now bytes
-IsVerifyOutcome files told r status.WriteFault before now =
-    (bytes : List ℕ) × (n : ℕ) × IsVerified files told r bytes × (n ≤ length bytes)
-    × Appends before now (take n bytes)
-IsVerifyOutcome files told r (status.FeedRefused f) before now = DayGives files r (Err f)
-IsVerifyOutcome files told r (status.JourneyRefused f) before now = ClaimRefused files told r f
-IsVerifyOutcome files told r status.Usage before now = ⊥
-IsVerifyOutcome files told r (status.ScriptRefused f) before now = ⊥
-IsVerifyOutcome files told r (status.LateRefused f) before now = ⊥
-IsVerifyOutcome files told r status.ReadFault before now = ⊤
-IsVerifyOutcome files told r status.Memory before now = ⊤
+IsVerifyOutcome files told r = Writes (IsVerifyAnswer files told r) (IsNoVerifyAnswer files told r)
 
 -- What is left of a claim's source, and its count of faults, before and now: nothing is taken of it
 -- where the feed is refused, or a read failed and it was none of the source.
@@ -110,15 +104,15 @@ LeavesClaim status.ReadFault before now faults risen =
 LeavesClaim s before now faults risen = (bs : List ℕ) × Consumes before now bs
 
 -- How a claim may end where nothing fails outside: by its first fault, or with what is written of
--- it, or for want of memory.
+-- it; or for want of memory.
 abbrev pub IsClaimEnding : Result ChoiceData JourneyFault → Status → Type 0
-IsClaimEnding (Ok claimed) s = (s ≡ status.Done) ⊎ (s ≡ status.Memory)
-IsClaimEnding (Err f) s = (s ≡ status.JourneyRefused f) ⊎ (s ≡ status.Memory)
+IsClaimEnding (Ok claimed) = EndsBy status.Done
+IsClaimEnding (Err f) = EndsBy (status.JourneyRefused f)
 
 -- The same of a request: by the feed's first fault; else as the claim over the day's timetable.
 abbrev pub IsVerifyEnding : Option (List ℕ) → Result TimetableData FeedFault → Status → Type 0
 IsVerifyEnding told (Ok T) s = IfSome told (λ bytes. IsClaimEnding (claim_of T bytes) s)
-IsVerifyEnding told (Err f) s = (s ≡ status.FeedRefused f) ⊎ (s ≡ status.Memory)
+IsVerifyEnding told (Err f) s = EndsBy (status.FeedRefused f) s
 
 -- why a source gives no claim, by its count of faults before and now
 abbrev pub IsNoClaim : TimetableData → Option (List ℕ) → ℕ → ℕ → Status → Type 0
@@ -126,21 +120,4 @@ IsNoClaim T told before now (status.JourneyRefused f) =
     ClaimGives T told (Err f) × (now ≡ before)
 IsNoClaim T told before now status.ReadFault = before < now
 IsNoClaim T told before now status.Memory = now ≡ before
-IsNoClaim T told before now status.Done = ⊥
-IsNoClaim T told before now status.Usage = ⊥
-IsNoClaim T told before now status.WriteFault = ⊥
-IsNoClaim T told before now (status.FeedRefused f) = ⊥
-IsNoClaim T told before now (status.ScriptRefused f) = ⊥
-IsNoClaim T told before now (status.LateRefused f) = ⊥
-
--- why nothing is written of a claim
-abbrev pub IsUnverified : Option FileList → Option (List ℕ) → VerifyRequestData → Status → Type 0
-IsUnverified files told r (status.FeedRefused f) = DayGives files r (Err f)
-IsUnverified files told r (status.JourneyRefused f) = ClaimRefused files told r f
-IsUnverified files told r status.ReadFault = ⊤
-IsUnverified files told r status.Memory = ⊤
-IsUnverified files told r status.Done = ⊥
-IsUnverified files told r status.Usage = ⊥
-IsUnverified files told r status.WriteFault = ⊥
-IsUnverified files told r (status.ScriptRefused f) = ⊥
-IsUnverified files told r (status.LateRefused f) = ⊥
+IsNoClaim T told before now s = ⊥

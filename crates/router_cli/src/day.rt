@@ -1,18 +1,14 @@
 //! What the program does about one day of a feed.
-ghost use Rattle.std.specs.Prelude.{◌≡◌, ◌⊎◌, ◌<◌, ◌-◌, ◌^◌, IfErr, IfOk, IsSome, MatchResult, Ok};
-ghost use Rattle.tb_base.specs.Soundness.{IsSound};
-ghost use Rattle.tb_base.specs.TimetableData.{TimetableData};
-ghost use Rattle.trip_table.specs.Answers.{IsFault, Leaves};
+ghost use Rattle.std.specs.Prelude.{◌≡◌, ◌⊎◌, ◌<◌, ◌-◌, ◌^◌, IfErr, IfOk, Ok};
 ghost use Rattle.footpaths.specs.Limits.{AreWithinADay};
-ghost use Rattle.router_cli.specs.Answers.{IsAnswer};
-ghost use Rattle.router_cli.specs.Outcome.{CarriesNoMemory, GivesDay, IsDayOf, IsNoTable, IsOutcome, WritesAnswer};
+ghost use Rattle.router_cli.specs.Outcome.{CarriesNoMemory, GivesDay, IsDayOutcome, IsDayAnswer, IsNoTable};
 
 use crate::answers::answer;
 use crate::status::Status;
 use command_line::DayRequest;
 use std::alloc::Global;
 use std::thread::Threads;
-use tb_base::{Gate, Timetable};
+use tb_base::{Gate, Memory, Timetable};
 use tb_io::{Folder, Sink, put_all};
 use trip_table::{Day, DayFault, Options, read_day};
 
@@ -52,25 +48,22 @@ fn text_of<R: Threads + Sync, F: Folder, G: Gate>(
     folder: &mut F,
     request: &DayRequest,
     gate: &G,
-) -> Result<Vec<u8>, DayFault>
+) -> Result<Vec<u8>, Status>
     requires { F.faults folder.old < 2 ^ 64 - 1 }
-    ensures text { IsSome (F.files folder.old) → MatchResult result
-        (λ text. (T : TimetableData) × IsDayOf (F.files folder.old) request.now (Ok T)
-        × IsAnswer T request.now text.items)
-        (IsFault (IsDayOf (F.files folder.old) request.now)) }
-    ensures answer { IfOk result (λ text.
-        (T : TimetableData) × IsSound T × IsAnswer T request.now text.items) }
-    ensures leaves { Leaves (F.files folder.old) (F.files folder.new) (F.faults folder.old)
-        (F.faults folder.new) result }
+    ensures text { IfOk result (λ text. IsDayAnswer (F.files folder.old) request.now text.items) }
+    ensures kept { IfOk result (λ _. F.faults folder.new ≡ F.faults folder.old) }
+    ensures refused { IfErr result (IsNoTable (F.files folder.old) request.now.dir request.now.date
+        request.now.options (F.faults folder.old) (F.faults folder.new)) }
+    ensures memory { IfErr result CarriesNoMemory }
+    ensures files { F.files folder.new ≡ F.files folder.old }
 {
-    let table = match read_day(alloc, folder, request.dir, &request.day, &request.options) {
+    let table = match table_of(alloc, folder, request.dir, &request.day, &request.options) {
         Ok(table) => table,
-        Err(fault) => return Err(fault),
+        Err(status) => return Err(status),
     };
-    table.soundness();
     match answer(rt, alloc, table, request, gate) {
         Ok(text) => Ok(text),
-        Err(_) => Err(DayFault::Memory),
+        Err(Memory) => Err(Status::Memory),
     }
 }
 
@@ -86,10 +79,8 @@ pub(crate) fn day_outcome<R: Threads + Sync, F: Folder, K: Sink, G: Gate>(
 ) -> Status
     requires folder { F.faults folder.old < 2 ^ 64 - 1 }
     requires out { K.faults out.old < 2 ^ 64 - 1 }
-    ensures promise { IsSome (F.files folder.old) →
-        IsOutcome (IsDayOf (F.files folder.old) request.now) request.now result
-        (K.written out.old) (K.written out.new) }
-    ensures answers { WritesAnswer request.now result (K.written out.old) (K.written out.new) }
+    ensures promise { IsDayOutcome (F.files folder.old) request.now result (K.written out.old)
+        (K.written out.new) }
     ensures quiet { (result ≡ Status.Done) ⊎ (result ≡ Status.WriteFault)
         ⊎ (K.written out.new ≡ K.written out.old) }
     ensures read { result ≡ Status.ReadFault → F.faults folder.old < F.faults folder.new }
@@ -105,8 +96,6 @@ pub(crate) fn day_outcome<R: Threads + Sync, F: Folder, K: Sink, G: Gate>(
             Ok(()) => Status::Done,
             Err(_) => Status::WriteFault,
         },
-        Err(DayFault::Feed(fault)) => Status::FeedRefused(fault),
-        Err(DayFault::ReadFault) => Status::ReadFault,
-        Err(DayFault::Memory) => Status::Memory,
+        Err(status) => status,
     }
 }

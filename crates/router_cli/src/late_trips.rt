@@ -9,7 +9,7 @@ ghost use Rattle.query_gate.specs.Callers.{CallerData};
 ghost use Rattle.reduce_workers.specs.Workers.{AreWorkers};
 ghost use Rattle.router_cli.specs.Answers.{IsInquiryText, ShowsKept};
 ghost use Rattle.router_cli.specs.Outcome.{CarriesNoMemory};
-ghost use Rattle.router_cli.specs.LateTrips.{IsAmendedText, IsLateDay, IsLateOutcome, IsLateText, IsNoLateDay, IsNoLates, IsNotAmended, LatesGive, amended_text};
+ghost use Rattle.router_cli.specs.LateTrips.{IsAmendedText, IsLateAnswer, IsLateOutcome, IsLateText, IsNoLateAnswer, IsNoLates, IsNotAmended, LatesGive, amended_text};
 
 use crate::day::table_of;
 use crate::over_edition::ask_by;
@@ -241,8 +241,8 @@ fn text_of<R: Threads + Wait + Sync, F: Folder, G: Gate>(
 ) -> Result<Vec<u8>, Status>
     requires { F.faults folder.old < 2 ^ 64 - 1 }
     ensures text { IfOk result (λ text.
-        IsLateDay (F.files folder.old) request.now text.items) }
-    ensures refused { IfErr result (IsNoLateDay (F.files folder.old) request.now) }
+        IsLateAnswer (F.files folder.old) request.now text.items) }
+    ensures refused { IfErr result (IsNoLateAnswer (F.files folder.old) request.now) }
     ensures memory { IfErr result CarriesNoMemory }
     ensures fault { result ≡ Err Status.ReadFault → F.faults folder.old < F.faults folder.new }
     ensures kept { (result ≡ Err Status.ReadFault)

@@ -2,7 +2,7 @@
 ghost use Rattle.std.specs.Prelude.{◌≡◌, ◌⊎◌, ◌<◌, ◌-◌, ◌^◌, IfSome, IsSome, None, map, string_bytes};
 ghost use Rattle.command_line.specs.Requests.{request_of};
 ghost use Rattle.router_cli.specs.Outcome.{CarriesNoMemory};
-ghost use Rattle.router_cli.specs.Promise.{IsRequestEnding, IsRequestOutcome, LeavesScript, ReadsBehind, TellsFirst, WritesRequest};
+ghost use Rattle.router_cli.specs.Promise.{IsRequestEnding, IsRequestOutcome, LeavesScript, ReadsBehind, TellsFirst};
 
 use crate::day::day_outcome;
 use crate::late_trips::late_outcome;
@@ -18,8 +18,24 @@ use tb_base::{Gate, Memory};
 use tb_io::{Folder, Sink, Source};
 use trip_table::laws::timetable_determined;
 
-// Does all that the program does. Only a run and a day with late trips have a handle that waits.
-fn outcome<R: Threads + Wait + Sync, F: Folder + Send, S: Source, K: Sink, G: Gate>(
+/// Does all that the program does: from the words, the files of the folder and the bytes of the
+/// script to the bytes written to `out`. The order is: words, script, feeds, work, output.
+///
+/// `Usage` comes only where the words have no meaning, and there nothing comes but it and `Memory`.
+/// With any status but `Done` and `WriteFault` nothing is written, since the whole text is gathered
+/// before its first byte is written; with `WriteFault` a first part of it. Whatever the folder is,
+/// what is written is the answer over sound timetables; where it tells its contents, over those of
+/// the days. A script is read by a run of several days alone; its first fault comes before what the
+/// feeds give. A claim is read from the same source, and nothing of it where the feed is refused.
+/// Its faults, and those of late trips, come only where the day has a timetable. Where a read fails,
+/// it is of the folder or of the source, and never of both. `Memory` may come at any time, and no
+/// fault in another status tells of it. Where contents are told and no count of faults rises, the
+/// end is the first fault, or `Done` where there is none; or `Memory`.
+///
+/// That the gate is told of the pieces that workers reduce, and of the publications and requests of
+/// a run, is tested and in no clause. Its own work ends; it joins the workers that it starts. A
+/// run, and a day with late trips, which publish, may wait.
+pub fn route<R: Threads + Wait + Sync, F: Folder + Send, S: Source, K: Sink, G: Gate>(
     rt: &R,
     alloc: Global,
     words: &[String],
@@ -37,8 +53,6 @@ fn outcome<R: Threads + Wait + Sync, F: Folder + Send, S: Source, K: Sink, G: Ga
     ensures promise { IfSome (request_of (map string_bytes words.now)) (λ r.
         IsRequestOutcome (F.files folder.old) (S.left script.old) r result (K.written out.old)
         (K.written out.new)) }
-    ensures answers { IfSome (request_of (map string_bytes words.now)) (λ r.
-        WritesRequest r result (K.written out.old) (K.written out.new)) }
     ensures script { IfSome (request_of (map string_bytes words.now)) (λ r.
         S.faults script.new ≡ S.faults script.old → TellsFirst (S.left script.old) r result) }
     ensures later { IfSome (request_of (map string_bytes words.now)) (λ r.
@@ -48,6 +62,8 @@ fn outcome<R: Threads + Wait + Sync, F: Folder + Send, S: Source, K: Sink, G: Ga
         ⊎ (K.written out.new ≡ K.written out.old) }
     ensures read { result ≡ Status.ReadFault → (F.faults folder.old < F.faults folder.new)
         ⊎ (S.faults script.old < S.faults script.new) }
+    ensures alone { (F.faults folder.new ≡ F.faults folder.old)
+        ⊎ (S.faults script.new ≡ S.faults script.old) }
     ensures write { result ≡ Status.WriteFault → K.faults out.old < K.faults out.new }
     ensures folder_kept { (result ≡ Status.ReadFault)
         ⊎ (F.faults folder.new ≡ F.faults folder.old) }
@@ -58,7 +74,12 @@ fn outcome<R: Threads + Wait + Sync, F: Folder + Send, S: Source, K: Sink, G: Ga
     ensures left { LeavesScript (request_of (map string_bytes words.now)) result
         (S.left script.old) (S.left script.new) (S.faults script.old) (S.faults script.new) }
     ensures memory { CarriesNoMemory result }
+    ensures complete { IfSome (request_of (map string_bytes words.now)) (λ r.
+        IsSome (F.files folder.old) → F.faults folder.new ≡ F.faults folder.old →
+        S.faults script.new ≡ S.faults script.old → K.faults out.new ≡ K.faults out.old →
+        IsRequestEnding (F.files folder.old) (S.left script.old) r result) }
 {
+    timetable_determined();
     match request_of(alloc, words) {
         Ok(Some(Request::Day(request))) => {
             let status = day_outcome(rt, alloc, &request, folder, out, gate);
@@ -82,67 +103,4 @@ fn outcome<R: Threads + Wait + Sync, F: Folder + Send, S: Source, K: Sink, G: Ga
         Ok(None) => Status::Usage,
         Err(Memory) => Status::Memory,
     }
-}
-
-/// Does all that the program does: from the words, the files of the folder and the bytes of the
-/// script to the bytes written to `out`. The order is: words, script, feeds, work, output.
-///
-/// `Usage` comes only where the words have no meaning, and there nothing comes but it and `Memory`.
-/// With any status but `Done` and `WriteFault` nothing is written, since the whole text is gathered
-/// before its first byte is written. Whatever the folder is, what is written with `Done` is the
-/// answer over some sound timetable; where it tells its contents, over the timetable of the day. A
-/// script is read by a run of several days alone; its first fault comes before what the feeds give.
-/// A claim is read from the same source, and nothing of it where the feed is refused. Its faults,
-/// and those of late trips, come only where the day has a timetable. `Memory` may come at any time,
-/// and no fault in another status tells of it.
-///
-/// That the gate is told of the pieces that workers reduce, and of the publications and requests of
-/// a run, is tested and in no clause. Its own work ends; it joins the workers that it starts. A
-/// run, and a day with late trips, which publish, may wait.
-pub fn route<R: Threads + Wait + Sync, F: Folder + Send, S: Source, K: Sink, G: Gate>(
-    rt: &R,
-    alloc: Global,
-    words: &[String],
-    folder: &mut F,
-    script: &mut S,
-    out: &mut K,
-    gate: &G,
-) -> Status
-    requires folder { F.faults folder.old < 2 ^ 64 - 1 }
-    requires script { S.faults script.old < 2 ^ 64 - 1 }
-    requires out { K.faults out.old < 2 ^ 64 - 1 }
-    ensures usage { result ≡ Status.Usage → request_of (map string_bytes words.now) ≡ None }
-    ensures wrong_words { request_of (map string_bytes words.now) ≡ None →
-        (result ≡ Status.Usage) ⊎ (result ≡ Status.Memory) }
-    ensures promise { IfSome (request_of (map string_bytes words.now)) (λ r.
-        IsRequestOutcome (F.files folder.old) (S.left script.old) r result (K.written out.old)
-        (K.written out.new)) }
-    ensures answers { IfSome (request_of (map string_bytes words.now)) (λ r.
-        WritesRequest r result (K.written out.old) (K.written out.new)) }
-    ensures script { IfSome (request_of (map string_bytes words.now)) (λ r.
-        S.faults script.new ≡ S.faults script.old → TellsFirst (S.left script.old) r result) }
-    ensures later { IfSome (request_of (map string_bytes words.now)) (λ r.
-        result ≡ Status.ReadFault → F.faults folder.new ≡ F.faults folder.old →
-        ReadsBehind (F.files folder.old) r) }
-    ensures quiet { (result ≡ Status.Done) ⊎ (result ≡ Status.WriteFault)
-        ⊎ (K.written out.new ≡ K.written out.old) }
-    ensures read { result ≡ Status.ReadFault → (F.faults folder.old < F.faults folder.new)
-        ⊎ (S.faults script.old < S.faults script.new) }
-    ensures write { result ≡ Status.WriteFault → K.faults out.old < K.faults out.new }
-    ensures folder_kept { (result ≡ Status.ReadFault)
-        ⊎ (F.faults folder.new ≡ F.faults folder.old) }
-    ensures script_kept { (result ≡ Status.ReadFault)
-        ⊎ (S.faults script.new ≡ S.faults script.old) }
-    ensures out_kept { (result ≡ Status.WriteFault) ⊎ (K.faults out.new ≡ K.faults out.old) }
-    ensures files { F.files folder.new ≡ F.files folder.old }
-    ensures left { LeavesScript (request_of (map string_bytes words.now)) result
-        (S.left script.old) (S.left script.new) (S.faults script.old) (S.faults script.new) }
-    ensures memory { CarriesNoMemory result }
-    ensures complete { IfSome (request_of (map string_bytes words.now)) (λ r.
-        IsSome (F.files folder.old) → F.faults folder.new ≡ F.faults folder.old →
-        S.faults script.new ≡ S.faults script.old → K.faults out.new ≡ K.faults out.old →
-        IsRequestEnding (F.files folder.old) (S.left script.old) r result) }
-{
-    timetable_determined();
-    outcome(rt, alloc, words, folder, script, out, gate)
 }

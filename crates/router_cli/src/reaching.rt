@@ -1,5 +1,5 @@
 //! The text of the best values to every stop.
-ghost use Rattle.std.specs.Prelude.{◌≡◌, ◌<◌, ◌≤ℤ◌, IfOk, All, length, map, option_map, pos};
+ghost use Rattle.std.specs.Prelude.{◌<◌, ◌≤ℤ◌, IfOk, All, length, map, option_map, pos};
 ghost use Rattle.reach_all.specs.Reach.{IsReach};
 ghost use Rattle.router_cli.specs.Answers.{AreStopsNamed, IsReachText};
 

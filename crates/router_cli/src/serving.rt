@@ -169,6 +169,8 @@ pub(crate) fn run_outcome<R: Threads + Wait + Sync, F: Folder + Send, S: Source,
         ⊎ (K.written out.new ≡ K.written out.old) }
     ensures read { result ≡ Status.ReadFault → (F.faults folder.old < F.faults folder.new)
         ⊎ (S.faults script.old < S.faults script.new) }
+    ensures alone { (F.faults folder.new ≡ F.faults folder.old)
+        ⊎ (S.faults script.new ≡ S.faults script.old) }
     ensures write { result ≡ Status.WriteFault → K.faults out.old < K.faults out.new }
     ensures folder_kept { (result ≡ Status.ReadFault)
         ⊎ (F.faults folder.new ≡ F.faults folder.old) }

@@ -17,7 +17,7 @@ use tb_base::Memory;
 const USAGE: &[u8] =
     b"usage: router [--change SECS] [--station SECS] [--close] [--workers N] [--plain] COMMAND WORDS\n";
 
-/// How the program ends. Want of memory anywhere in it is `Memory`.
+/// How the program ends. No status but `Memory` tells of want of memory.
 #[derive(Debug, Drop)]
 pub enum Status {
     /// The answer was written whole.

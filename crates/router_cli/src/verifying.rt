@@ -2,9 +2,8 @@
 ghost use Rattle.std.specs.Prelude.{◌≡◌, ◌⊎◌, ◌<◌, ◌-◌, ◌^◌, Err, IfErr, IfOk, List, Ok, length, ℕ};
 ghost use Rattle.std.specs.Io.KnownBytes.{Consumes};
 ghost use Rattle.tb_base.specs.BestValues.{ChoiceData};
-ghost use Rattle.tb_base.specs.TimetableData.{TimetableData};
 ghost use Rattle.router_cli.specs.Outcome.{CarriesNoMemory};
-ghost use Rattle.router_cli.specs.Verifying.{ClaimGives, DayGives, IsNoClaim, IsUnverified, IsVerified, IsVerifiedText, IsVerifyOutcome, LeavesClaim};
+ghost use Rattle.router_cli.specs.Verifying.{ClaimGives, HasDay, IsNoClaim, IsNoVerifyAnswer, IsVerifyAnswer, IsVerifiedText, IsVerifyOutcome, LeavesClaim};
 
 use crate::day::table_of;
 use crate::over_table::{Asked, query_of};
@@ -103,13 +102,15 @@ fn text_of<F: Folder, S: Source>(
     requires folder { F.faults folder.old < 2 ^ 64 - 1 }
     requires source { S.faults source.old < 2 ^ 64 - 1 }
     ensures text { IfOk result (λ text.
-        IsVerified (F.files folder.old) (S.left source.old) request.now text.items) }
+        IsVerifyAnswer (F.files folder.old) (S.left source.old) request.now text.items) }
     ensures refused { IfErr result
-        (IsUnverified (F.files folder.old) (S.left source.old) request.now) }
+        (IsNoVerifyAnswer (F.files folder.old) (S.left source.old) request.now) }
     ensures fault { result ≡ Err Status.ReadFault → (F.faults folder.old < F.faults folder.new)
         ⊎ (S.faults source.old < S.faults source.new) }
+    ensures alone { (F.faults folder.new ≡ F.faults folder.old)
+        ⊎ (S.faults source.new ≡ S.faults source.old) }
     ensures later { result ≡ Err Status.ReadFault → F.faults folder.new ≡ F.faults folder.old →
-        (T : TimetableData) × DayGives (F.files folder.old) request.now (Ok T) }
+        HasDay (F.files folder.old) request.now }
     ensures folder_kept { (result ≡ Err Status.ReadFault)
         ⊎ (F.faults folder.new ≡ F.faults folder.old) }
     ensures source_kept { (result ≡ Err Status.ReadFault)
@@ -144,11 +145,13 @@ pub(crate) fn verify_outcome<F: Folder, S: Source, K: Sink>(
     ensures promise { IsVerifyOutcome (F.files folder.old) (S.left source.old) request.now result
         (K.written out.old) (K.written out.new) }
     ensures later { result ≡ Status.ReadFault → F.faults folder.new ≡ F.faults folder.old →
-        (T : TimetableData) × DayGives (F.files folder.old) request.now (Ok T) }
+        HasDay (F.files folder.old) request.now }
     ensures quiet { (result ≡ Status.Done) ⊎ (result ≡ Status.WriteFault)
         ⊎ (K.written out.new ≡ K.written out.old) }
     ensures read { result ≡ Status.ReadFault → (F.faults folder.old < F.faults folder.new)
         ⊎ (S.faults source.old < S.faults source.new) }
+    ensures alone { (F.faults folder.new ≡ F.faults folder.old)
+        ⊎ (S.faults source.new ≡ S.faults source.old) }
     ensures write { result ≡ Status.WriteFault → K.faults out.old < K.faults out.new }
     ensures folder_kept { (result ≡ Status.ReadFault)
         ⊎ (F.faults folder.new ≡ F.faults folder.old) }
