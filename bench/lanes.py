@@ -68,7 +68,7 @@ def measure_feed(name, feed, folder):
 
 
 def main(words):
-    print("| feed | lanes | editions | s by the clock | requests a second | processor ms a request | memory MB |\n" + "|---" * 7 + "|")
+    print("| feed | lanes | editions | s by the clock | requests a second | processor ms a request | memory MiB |\n" + "|---" * 7 + "|")
     for word in words or ["city:20000"]:
         with feed_of(word) as (name, feed), tempfile.TemporaryDirectory() as folder:
             measure_feed(name, feed, folder)

@@ -2,7 +2,7 @@
 """Writes the feed of a made city: make_city.py FOLDER TRIPS [SEED]
 
 Stations with two platforms each stand in a square grid. Lines wander over it, 100 trips each, about
-25 calls a trip. There are services by weekday with exceptions, times that are left out between two
+23 calls a trip. There are services by weekday with exceptions, times that are left out between two
 that stand, marks of boarding and alighting, and transfers that keep the footpath law. The same
 words give the same bytes.
 """

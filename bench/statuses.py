@@ -25,7 +25,7 @@ def cases(folder):
     yield "no standard input for a script", 4, "", "router: read fault\n", Run(serve, before=lambda: os.close(0))
     with open("/dev/full", "wb") as full:
         yield "a full disk behind standard output", 5, "", "router: write fault\n", Run(ask, out=full)
-    yield "30 MB for a made city that takes 46", 6, "", "router: out of memory\n", Run(["--workers", "1", "city", "40"], memory=30_000_000)
+    yield "30 MB for a made city that takes more", 6, "", "router: out of memory\n", Run(["--workers", "1", "city", "40"], memory=30_000_000)
     yield "a bad line in a script", 7, "", "router: script refused: 1 BadLine line 4\n", Run(serve, f"{SCRIPT}more\n".encode())
     with open(os.path.join(folder, "late"), "w") as late:
         late.write("late T1 1 120\nlate T9 0 60\n")
