@@ -2,10 +2,12 @@
 """Runs the examples of README.md and docs/COMMANDS.md: documents.py
 
 An example is a line `$ COMMAND` of an indented block, with what it prints below it. Each command is
-run at the top of the checkout, `./router` as the proved program where it is built, and the lines
-that it prints have to be those of the document. Prints one line for each command.
+run at the top of the checkout, `./router` as the proved program where it is built, also where a
+source is newer, and the lines that it prints have to be those of the document. Prints one line for
+each command.
 """
 import os
+import shlex
 import subprocess
 import sys
 
@@ -32,7 +34,7 @@ def examples(document):
 def printed(command):
     """What a command prints, line by line; `./router` is the proved program where it is built."""
     if os.access(PROGRAM, os.X_OK):
-        command = command.replace("./router", PROGRAM, 1)
+        command = command.replace("./router", shlex.quote(PROGRAM), 1)
     run = subprocess.run(["sh", "-c", command], cwd=TOP, capture_output=True, text=True)
     return run.stdout.removesuffix("\n").split("\n")
 
