@@ -240,7 +240,7 @@ class Progress:
         elif waits:
             self.say(f"waiting for another run on this machine that proves {waits[1]}")
         elif line.startswith("rt: note: "):
-            self.notes.append(line.removeprefix("rt: note: "))
+            self.notes.append(line[len("rt: note: ") :])
 
     def count(self):
         return f"{len(self.done)} of {len(self.names)} proved"
