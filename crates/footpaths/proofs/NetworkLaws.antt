@@ -7,7 +7,7 @@ use Rattle.std.proofs.lemmas.Bool.Decides.{nat_tests}
 use Rattle.std.proofs.lemmas.List.Elements.{All-filter, All-map, All-weaker}
 use Rattle.std.proofs.lemmas.List.Kept.{AllPairs-filter}
 use Rattle.std.proofs.lemmas.List.FromFn.{length-range_with_len, get_or-range_with_len, get_or-map-range_with_len, length-map-range_with_len}
-use Rattle.groups.specs.Places.{places_of}
+use Rattle.tb_base.specs.KeyPlaces.{places_of}
 use Rattle.gtfs_rows.specs.StopsFile.{StopData, is_platform, is_station}
 use Rattle.footpaths.specs.declared.found.Found.{Found}
 use Rattle.footpaths.specs.declared.found.Found.TheVariants as found

@@ -4,8 +4,8 @@ use Rattle.std.specs.Prelude.{◌==◌, filter, is_some}
 use Rattle.std.proofs.lemmas.Bool.{cases_Bool, ne_eqb}
 use Rattle.std.proofs.lemmas.Bool.Decides.{nat_tests}
 use Rattle.std.proofs.lemmas.List.{length-map, get_or-map, get_or-set_same, get_or-set_other}
-use Rattle.groups.specs.Places.{places_of}
-use Rattle.groups.proofs.ByPlaces.{rows_by_places}
+use Rattle.tb_base.specs.KeyPlaces.{places_of}
+use Rattle.tb_base.proofs.ByPlaces.{rows_by_places}
 use Rattle.gtfs_rows.specs.StopsFile.{StopData, is_platform}
 use Rattle.footpaths.specs.declared.found.Found.{Found}
 use Rattle.footpaths.specs.declared.found.Found.TheVariants as found

@@ -9,7 +9,7 @@ use Rattle.std.proofs.lemmas.List.Quantifiers.{position-Some}
 use Rattle.std.proofs.lemmas.Slice.Eq.{bytes_eq-Decides}
 use Rattle.std.proofs.lemmas.Bool.{and_from, and_parts}
 use Rattle.tb_base.proofs.Lists.{list_any-over_map}
-use Rattle.names.proofs.Found.{found}
+use Rattle.tb_base.proofs.Found.{found}
 use Rattle.gtfs_rows.specs.StopsFile.{StopData}
 use Rattle.gtfs_rows.specs.TransfersFile.{TakesAtMostADay, TransferData}
 use Rattle.gtfs_rows.specs.declared.fault.FeedFile.TheVariants as file

@@ -1,6 +1,6 @@
 -- Rows by the stop or station that they lead to, and platforms by their station.
 use Rattle.std.specs.Prelude.{◌≡◌, ℕ, ◌+◌, ◌<◌, List, [], length, map, None, unwrap_or, slice_index_or, All, ⊤, get_or}
-use Rattle.groups.specs.Places.{places_of}
+use Rattle.tb_base.specs.KeyPlaces.{places_of}
 use Rattle.gtfs_rows.specs.StopsFile.{StopData}
 use Rattle.footpaths.specs.declared.found.Found.{Found}
 use Rattle.footpaths.specs.declared.found.Found.TheVariants as found

@@ -8,10 +8,9 @@ ghost use Rattle.footpaths.specs.Network.{link_at, IsEnd, HasLinkEnds, HasPlaces
 use crate::best_rules::BestRules;
 use crate::found::{Found, Link};
 use crate::{Options, StopTable};
-use groups::Groups;
 use std::alloc::{AllocError, Global};
 use std::marker::Model;
-use tb_base::{Memory, StopNo};
+use tb_base::{Groups, Memory, StopNo};
 
 // The ranks of the defaults, behind those of rows, which are how many stations a row names.
 const DEFAULT_CHANGE: u8 = 3;

@@ -6,10 +6,9 @@ ghost use Rattle.footpaths.specs.Stops.{stop_id, has_stop_id, lacks_parent, plat
 
 use crate::{Found, StopsFault};
 use gtfs_rows::StopRow;
-use names::NameIndex;
 use std::alloc::Global;
 use std::marker::Model;
-use tb_base::{Memory, Name, StopNo};
+use tb_base::{Memory, Name, NameIndex, StopNo};
 
 // The ids of all rows, where an id that stands twice counts once.
 fn known_ids(alloc: Global, rows: &[StopRow]) -> Result<NameIndex, Memory>

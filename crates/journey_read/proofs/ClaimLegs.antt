@@ -4,7 +4,7 @@ use Rattle.std.specs.Prelude.{IfOk, MatchResult, ⊤}
 use Rattle.std.proofs.lemmas.List.{length-append}
 use Rattle.gtfs_rows.specs.Steps.{and_then, prepend}
 use Rattle.tb_base.specs.BestValues.{ChoiceData}
-use Rattle.tb_base.specs.LineWords.{line_words}
+use Rattle.text_lines.specs.LineWords.{line_words}
 use Rattle.tb_base.specs.TimetableData.{TimetableData}
 use Rattle.tb_base.specs.declared.query.Leg.{Leg}
 use Rattle.tb_base.specs.declared.query.Value.{Value}

@@ -4,7 +4,7 @@ use Rattle.std.specs.Option.{ok_or, option_and_then, option_map}
 use Rattle.gtfs_rows.specs.Numbers.{number_of}
 use Rattle.gtfs_rows.specs.Steps.{and_then, prepend}
 use Rattle.tb_base.specs.BestValues.{ChoiceData}
-use Rattle.tb_base.specs.LineWords.{line_words}
+use Rattle.text_lines.specs.LineWords.{line_words}
 use Rattle.tb_base.specs.TimetableData.{TimetableData}
 use Rattle.tb_base.specs.declared.query.Leg.{Leg}
 use Rattle.tb_base.specs.declared.query.Leg.TheVariants.{Walk as WalkLeg}

@@ -1,6 +1,6 @@
 //! Claims are read line by line.
 ghost use Rattle.std.specs.Prelude.{◌≡◌, ◌<◌, ◌≤◌, ◌^◌, ◌+◌, ◌-◌, [], IfOk, MatchResult, None, Ok, length};
-ghost use Rattle.tb_base.specs.LineWords.{line_words};
+ghost use Rattle.text_lines.specs.LineWords.{line_words};
 ghost use Rattle.tb_base.specs.TimetableData.{TimetableData};
 ghost use Rattle.journey_read.specs.Claims.{IsRefused, Reads, ReadsWords, claim_from, claim_of, claim_so_far};
 ghost use Rattle.text_lines.specs.Lines.{lines_of};
@@ -9,8 +9,8 @@ use crate::claim::{Claimed, JourneyFault};
 use crate::legs::{leg_of, value_of};
 use std::alloc::Global;
 use std::marker::Model;
-use tb_base::{Name, Timetable, line_words};
-use text_lines::first_line;
+use tb_base::{Name, Timetable};
+use text_lines::{first_line, line_words};
 
 const MOST_BYTES: usize = 1_048_576;
 

@@ -3,7 +3,7 @@ use Rattle.std.specs.Prelude.{◌≡◌, ℕ, ◌+◌, ◌<◌, ◌≤◌, ◌==
 use Rattle.std.specs.Option.{option_and_then, option_map}
 use Rattle.gtfs_rows.specs.Numbers.{number_of, time_of}
 use Rattle.gtfs_rows.specs.Steps.{and_then}
-use Rattle.tb_base.specs.LineWords.{line_words}
+use Rattle.text_lines.specs.LineWords.{line_words}
 use Rattle.text_lines.specs.Lines.{lines_of}
 use Rattle.lane_serve.specs.declared.said.Said.{Said}
 use Rattle.lane_serve.specs.declared.said.Said.TheVariants as said

@@ -1,15 +1,15 @@
 //! Scripts.
 ghost use Rattle.std.specs.Prelude.{◌≡◌, ◌<◌, ◌^◌, ◌+◌, ◌-◌, [], Ok, IfOk, IfSome, OnErr, OnOk, MatchResult, length};
 ghost use Rattle.std.specs.Option.{option_and_then};
-ghost use Rattle.tb_base.specs.LineWords.{line_words};
+ghost use Rattle.text_lines.specs.LineWords.{line_words};
 ghost use Rattle.lane_serve.specs.Script.{HasTimes, IsRefused, IsScript, Reads, SaysTimes, after_lane, after_line, after_request, after_said, at_end, said_of, script_of, with_request};
 
 use crate::said::{Said, said_of};
 use query_gate::{AskText, ProfileText};
 use std::alloc::Global;
 use std::marker::Model;
-use tb_base::{Memory, Name, line_words};
-use text_lines::first_line;
+use tb_base::{Memory, Name};
+use text_lines::{first_line, line_words};
 
 const MOST_BYTES: usize = 33_554_432;
 

@@ -3,7 +3,7 @@ use Rattle.std.specs.Prelude.{◌≡◌, ℕ, ◌+◌, ◌==◌, List, [], ◌�
 use Rattle.std.specs.Option.{ok_or, option_and_then, option_map, option_to_list}
 use Rattle.gtfs_rows.specs.Numbers.{number_of}
 use Rattle.gtfs_rows.specs.Steps.{and_then, prepend}
-use Rattle.tb_base.specs.LineWords.{line_words}
+use Rattle.text_lines.specs.LineWords.{line_words}
 use Rattle.text_lines.specs.Lines.{lines_of}
 use Rattle.late_times.specs.declared.late.LateFault.{LateFault}
 use Rattle.late_times.specs.declared.late.LateFault.TheVariants as fault

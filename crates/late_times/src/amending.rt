@@ -5,7 +5,6 @@ ghost use Rattle.late_times.specs.Lates.{IsOfLate, IsRefused};
 use crate::late::{Late, LateFault};
 use crate::moving::MovingTrips;
 use std::alloc::Global;
-use table_copies::{change_times, paths, stations, stops};
 use tb_base::{Parts, Timetable};
 
 /// The timetable amended by lates, each of which moves what those before it left, or exactly the
@@ -22,11 +21,11 @@ pub fn amended(alloc: Global, table: &Timetable, lates: &[Late]) -> Result<Timet
     }
     table.soundness();
     let parts = Parts {
-        stops: stops(alloc, table)?,
-        stations: stations(alloc, table)?,
+        stops: table.copy_stops(alloc)?,
+        stations: table.copy_stations(alloc)?,
         trips: trips.into_trips(),
-        change: change_times(alloc, table)?,
-        paths: paths(alloc, table)?,
+        change: table.copy_change_times(alloc)?,
+        paths: table.copy_paths(alloc)?,
     };
     Ok(Timetable::new(alloc, parts)?)
 }

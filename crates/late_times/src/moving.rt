@@ -8,7 +8,6 @@ use crate::late::{Late, LateFault};
 use crate::moves::move_events;
 use std::alloc::Global;
 use std::marker::Model;
-use table_copies::trips;
 use tb_base::{Memory, Timetable, Trip};
 
 /// The trips of a timetable, each found by its name and day, while lates move them.
@@ -36,7 +35,7 @@ impl MovingTrips {
         ensures { IfOk result (λ moving. moving ≡ table.now.trips) }
     {
         table.soundness();
-        let trips = trips(alloc, table)?;
+        let trips = table.copy_trips(alloc)?;
         let first = FirstTrips::of(alloc, trips.as_slice())?;
         Ok(MovingTrips { trips, first })
     }

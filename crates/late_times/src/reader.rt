@@ -1,13 +1,13 @@
 //! A file of late trips is read line by line.
 ghost use Rattle.std.specs.Prelude.{◌≡◌, ◌++◌, ◌≤◌, MatchResult, Ok, OnOk, length, option_to_list};
-ghost use Rattle.tb_base.specs.LineWords.{line_words};
+ghost use Rattle.text_lines.specs.LineWords.{line_words};
 ghost use Rattle.late_times.specs.Lates.{IsRefused, late_on, lates_of};
 
 use crate::late::{Late, LateFault};
 use crate::words::late_of;
 use std::alloc::Global;
-use tb_base::{Memory, line_words};
-use text_lines::first_line;
+use tb_base::Memory;
+use text_lines::{first_line, line_words};
 
 // What a line says: nothing where it has no words.
 fn late_on(alloc: Global, line: u32, text: &[u8]) -> Result<Option<Late>, LateFault>

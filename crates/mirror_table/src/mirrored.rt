@@ -3,7 +3,6 @@ ghost use Rattle.mirror_table.specs.Mirror.{IsMirror};
 
 use crate::turned_trips::mirrored_trips;
 use std::alloc::Global;
-use table_copies::{change_times, stations, stops};
 use tb_base::{Memory, Parts, Timetable};
 use transfer_pack::PathsInto;
 
@@ -15,10 +14,10 @@ pub fn mirror(alloc: Global, table: &Timetable) -> Result<Timetable, Memory>
 {
     table.soundness();
     let parts = Parts {
-        stops: stops(alloc, table)?,
-        stations: stations(alloc, table)?,
+        stops: table.copy_stops(alloc)?,
+        stations: table.copy_stations(alloc)?,
         trips: mirrored_trips(alloc, table)?,
-        change: change_times(alloc, table)?,
+        change: table.copy_change_times(alloc)?,
         paths: PathsInto::of(alloc, table)?.into_rows(),
     };
     Timetable::new(alloc, parts)

@@ -5,10 +5,9 @@ ghost use Rattle.service_day.specs.Running.{says, holds, runs};
 
 use crate::Day;
 use gtfs_rows::{CalendarRow, DateRow};
-use names::NameIndex;
 use std::alloc::Global;
 use std::marker::Model;
-use tb_base::Memory;
+use tb_base::{Memory, NameIndex};
 
 /// The services that run on a day, seen as their ids.
 #[derive(Drop)]

@@ -5,8 +5,8 @@ use Rattle.std.specs.List.{range_with_len}
 use Rattle.std.proofs.lemmas.List.{length-map, get_or-map}
 use Rattle.std.proofs.lemmas.List.Elements.{All-filter}
 use Rattle.std.proofs.lemmas.List.FromFn.{get_or-range_with_len, length-range_with_len}
-use Rattle.groups.specs.Places.{places_of}
-use Rattle.groups.proofs.ByPlaces.{rows_by_places}
+use Rattle.tb_base.specs.KeyPlaces.{places_of}
+use Rattle.tb_base.proofs.ByPlaces.{rows_by_places}
 use Rattle.service_trips.specs.declared.frequency.TripFrequency.{TripFrequency}
 use Rattle.service_trips.specs.Starts.{Frequencies, AreIndexed, is_of_trip, frequency_at}
 

@@ -1,7 +1,7 @@
 -- The rows of frequencies.txt, and when trips start by them.
 use Rattle.std.specs.Prelude.{◌≡◌, ℕ, ◌+◌, ◌*◌, ◌-◌, ◌/◌, ◌==◌, ◌<◌, ◌≤◌, All, List, [], length, map, filter, get_or, slice_index_or, nat_lt, nat_le, Bool}
 use Rattle.std.specs.List.{range_with_len}
-use Rattle.groups.specs.Places.{places_of}
+use Rattle.tb_base.specs.KeyPlaces.{places_of}
 use Rattle.service_trips.specs.declared.frequency.TripFrequency.{TripFrequency}
 
 -- the rows of frequencies.txt, whose trips are named by numbers below a number of trips

@@ -2,10 +2,9 @@
 ghost use Rattle.std.specs.Prelude.{◌≡◌, ◌≤◌, ◌<◌, All, IfOk, length, map, filter};
 ghost use Rattle.service_trips.specs.Starts.{IsGoodFrequency, is_of_trip, frequency_at};
 
-use groups::Groups;
 use std::alloc::Global;
 use std::marker::Model;
-use tb_base::Memory;
+use tb_base::{Groups, Memory};
 
 /// A row of frequencies.txt whose trip is named by a number. Times are in seconds since noon minus
 /// twelve hours.

@@ -31,11 +31,3 @@ module _ {X : Type 0} (name : X → List ℕ) where
   pub name_added : (xs : List X) (i : ℕ) (x : X) (old new : List (List ℕ)) (id : List ℕ) → i < length xs → x ≡ get_or xs i x → id ≡ name x → old ≡ map name (take i xs) → new ≡ old ++ id ∷ [] → new ≡ map name (take (i + 1) xs)
   name_added xs i x old new id inside at is so_far e =
       e ∙ (ap (λ ns. ns ++ id ∷ []) so_far ∙ (ap (λ (n : List ℕ). map name (take i xs) ++ n ∷ []) (is ∙ ap name at) ∙ sym (map_more name xs i x inside)))
-
--- a key that isn't there goes behind the others
-pub key_added : {V : Type 0} (items : V → List ℕ) (keys new : List V) (v : V) (name : List ℕ) → items v ≡ name → list_any (bytes_eq name) (map items keys) ≡ false
-    → new ≡ cond (list_any (λ k. bytes_eq (items v) (items k)) keys) keys (keys ++ v ∷ []) → map items new ≡ map items keys ++ name ∷ []
-key_added items keys new v name is none e =
-    let absent : list_any (λ k. bytes_eq (items v) (items k)) keys ≡ false =
-    sym (list_any-over_map (bytes_eq (items v)) items keys) ∙ (ap (λ (n : List ℕ). list_any (bytes_eq n) (map items keys)) is ∙ none) in
-    ap (map items) (e ∙ ap (λ b. cond b keys (keys ++ v ∷ [])) absent) ∙ (map-append items keys (v ∷ []) ∙ ap (λ (n : List ℕ). map items keys ++ n ∷ []) is)

@@ -9,7 +9,9 @@
 //! events count from 0.
 #![tactic(auto)]
 
+mod copies;
 mod gate;
+mod groups;
 mod memory;
 mod name_index;
 mod numbers;
@@ -22,10 +24,11 @@ mod rule;
 mod table;
 mod timetable;
 mod transfer;
-mod words;
 
 pub use gate::{Gate, IdleGate, Work};
+pub use groups::Groups;
 pub use memory::Memory;
+pub use name_index::NameIndex;
 pub use numbers::{LineNo, Sec, StopNo, TripNo};
 pub use out_set::OutSet;
 pub use paths::{path_secs, secs_between};
@@ -36,4 +39,3 @@ pub use rule::{Rule, RuleBroken};
 pub use table::{Event, Name, Parts, Path, Station, Stop, Trip};
 pub use timetable::Timetable;
 pub use transfer::{Hop, Transfer};
-pub use words::line_words;

@@ -1,6 +1,6 @@
-//! Names with their places.
-ghost use Rattle.std.specs.Prelude.{◌≡◌, ◌≢◌, ◌<◌, ◌++◌, ◌∷◌, [], ℕ, List, AllPairs, IfOk, IfSome, OnOk, false, bytes_eq, length, map, position};
+//! Names, numbered in the order in which they came.
 ghost use Rattle.std.specs.List.{list_any};
+ghost use Rattle.std.specs.Prelude.{not, ◌≡◌, ◌≢◌, ◌+◌, ◌<◌, ◌++◌, ◌||◌, ◌∷◌, [], ℕ, OnOk, List, AllPairs, map, position, bytes_eq, IfOk, OnErr, MatchBool, Some, false};
 
 use super::memory::Memory;
 use super::table::{Station, Stop};
@@ -8,19 +8,34 @@ use indexmap::IndexSet;
 use std::alloc::Global;
 use std::marker::Model;
 
-/// Names that differ, each with its place, counted from 0.
+/// Names that differ, each with its position, from 0, found by a hash. Contracts see it as the list
+/// of the names.
 #[derive(Drop)]
-pub(crate) struct NameIndex {
-    names: IndexSet<Vec<u8>>,
+pub struct NameIndex {
+    ids: IndexSet<Vec<u8>>,
 }
 
 impl Model for NameIndex {
+    ghost use Rattle.std.specs.Prelude.{List, ℕ, map};
+    ghost use Rattle.tb_base.specs.Distinct.{AreDistinct};
+
     ghost Value = { List (List ℕ) };
 
-    ghost view = { λ a. map (λ v. v.items) a.names.keys };
+    ghost view = { λ a. map (λ v. v.items) a.ids.keys };
+
+    ghost invariant = { λ a. AreDistinct (map (λ v. v.items) a.ids.keys) };
 }
 
 impl NameIndex {
+    /// No name.
+    pub fn new(alloc: Global) -> NameIndex
+        ensures { result ≡ [] }
+    {
+        NameIndex {
+            ids: IndexSet::new(alloc),
+        }
+    }
+
     /// The names of stops.
     pub(crate) fn of_stops(alloc: Global, stops: &[Stop]) -> Result<NameIndex, Memory>
         requires { AllPairs (λ m n. m ≢ n) (map (λ s. s.name) stops.now) }
@@ -45,12 +60,58 @@ impl NameIndex {
         Ok(index)
     }
 
-    // No name.
-    fn new(alloc: Global) -> NameIndex
-        ensures { result ≡ [] }
+    /// The position of a name. No memory is taken.
+    pub fn find(&self, id: &[u8]) -> Option<usize>
+        ensures { result ≡ position (bytes_eq id.now) self.now }
     {
-        NameIndex {
-            names: IndexSet::new(alloc),
+        self.ids.get_index_of(id)
+    }
+
+    /// The same, where one position is looked at first: quicker where the name stands there.
+    pub fn find_near(&self, guess: usize, id: &[u8]) -> Option<usize>
+        ensures { result ≡ position (bytes_eq id.now) self.now }
+    {
+        match self.ids.get_index(guess) {
+            Some(name) if id == name.as_slice() => Some(guess),
+            _ => self.find(id),
+        }
+    }
+
+    /// Whether a name is there. No memory is taken.
+    pub fn contains(&self, id: &[u8]) -> bool
+        ensures { result ≡ list_any (bytes_eq id.now) self.now }
+    {
+        self.ids.contains(id)
+    }
+
+    /// Adds a name at the end, unless it is there, and answers whether it was added.
+    pub fn add(&mut self, alloc: Global, id: &[u8]) -> Result<bool, Memory>
+        ensures members { OnOk result ((name : List ℕ) →
+            list_any (bytes_eq name) self.new
+            ≡ (list_any (bytes_eq name) self.old || bytes_eq name id.now)) }
+        ensures added { IfOk result
+            (λ fresh. MatchBool fresh (self.new ≡ self.old ++ id.now ∷ []) (self.new ≡ self.old)) }
+        ensures fresh { IfOk result (λ fresh. fresh ≡ not (list_any (bytes_eq id.now) self.old)) }
+        ensures memory { OnErr result (self.new ≡ self.old) }
+    {
+        let mut own: Vec<u8> = Vec::new(alloc);
+        if own.extend_from_slice(id).is_err() {
+            return Err(Memory);
+        }
+        self.insert(own)
+    }
+
+    // Adds a name at the end, unless it is there.
+    fn insert(&mut self, id: Vec<u8>) -> Result<bool, Memory>
+        ensures added { IfOk result
+            (λ fresh.
+            MatchBool fresh (self.new ≡ self.old ++ id.items ∷ []) (self.new ≡ self.old)) }
+        ensures fresh { IfOk result (λ fresh. fresh ≡ not (list_any (bytes_eq id.items) self.old)) }
+        ensures memory { OnErr result (self.new ≡ self.old) }
+    {
+        match self.ids.insert_full(id) {
+            Ok((_, fresh)) => Ok(fresh),
+            Err(_) => Err(Memory),
         }
     }
 
@@ -59,16 +120,7 @@ impl NameIndex {
         requires { list_any (bytes_eq name.now) self.old ≡ false }
         ensures { OnOk result (self.new ≡ self.old ++ name.now ∷ []) }
     {
-        let copy = Vec::from_slice(alloc, name)?;
-        self.names.insert(copy)?;
+        let _fresh = self.add(alloc, name)?;
         Ok(())
-    }
-
-    /// The place of a name.
-    pub(crate) fn find(&self, name: &[u8]) -> Option<usize>
-        ensures place { result ≡ position (bytes_eq name.now) self.now }
-        ensures within { IfSome result (λ n. n < length self.now) }
-    {
-        self.names.get_index_of(name)
     }
 }

@@ -1,4 +1,4 @@
-//! The lines of a text.
+//! The lines of a text, and the words of a line.
 //!
 //! [`first_line`] cuts the first line off a text. Whoever reads a text line by line relies on that
 //! alone: the lines of the text are that line and those of what stands behind it. A line runs up to
@@ -9,6 +9,10 @@ ghost use Rattle.std.specs.Prelude.{◌≡◌, ◌∷◌, ◌-◌, ◌<◌, [], 
 ghost use Rattle.text_lines.specs.Lines.{lines_of, without_cr};
 
 use memchr::memchr;
+
+mod words;
+
+pub use words::line_words;
 
 /// A line of a text, and what stands behind it.
 #[derive(Clone, Copy)]

@@ -7,8 +7,8 @@ ghost use Rattle.trip_table.specs.References.{service_id, duplicate_service, tri
 
 use crate::feed::spot;
 use gtfs_rows::{CalendarRow, FeedFault, FeedFile, RowsFault, TripRow};
-use names::NameIndex;
 use std::alloc::Global;
+use tb_base::NameIndex;
 
 /// A row with an id that no other row of its file may have.
 pub trait Identified {

@@ -1,5 +1,5 @@
 use Rattle.tb_base.proofs.Lists.{row_added}
-use Rattle.groups.proofs.Nested.{row_kept}
+use Rattle.tb_base.proofs.Nested.{row_kept}
 use Rattle.footpaths.proofs.path_rows.push_to.Goals as goal
 
 pub returns-in-Ok-clause-added : goal.returns-in-Ok-clause-added

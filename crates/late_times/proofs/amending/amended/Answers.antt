@@ -20,4 +20,4 @@ new-requires c =
     let end : length lates ≤ c.loop-late.late-index = c.loop-late-test.false in
     let trips = c.into_trips.result.items in
     let h = all_taken T lates c.loop-late.trips c.loop-late.late-index c.loop-late.invariant end ∙ ap (λ ts. Ok ts) (sym c.into_trips.ensures) in
-    subst IsSound (sym (parts_are T _ _ trips _ _ c.in_ok-stops.ensures c.in_ok-stations.ensures c.in_ok-change_times.ensures c.in_ok-paths.ensures)) (sound_amended T lates trips c.soundness.ensures h)
+    subst IsSound (sym (parts_are T _ _ trips _ _ c.in_ok-copy_stops.ensures c.in_ok-copy_stations.ensures c.in_ok-copy_change_times.ensures c.in_ok-copy_paths.ensures)) (sound_amended T lates trips c.soundness.ensures h)

@@ -2,7 +2,7 @@ use Rattle.std.proofs.Common.{◌≡◌, ◌∙◌, ap, sym, length, ◌<◌, �
 use Rattle.std.specs.Prelude.{◌==◌}
 use Rattle.std.specs.List.{list_any}
 use Rattle.std.proofs.lemmas.Result.{on_ok_weaker}
-use Rattle.groups.specs.Places.{places_of}
+use Rattle.tb_base.specs.KeyPlaces.{places_of}
 use Rattle.footpaths.specs.Stops.{platforms, station_of}
 use Rattle.footpaths.specs.Footpaths.{is_number}
 use Rattle.footpaths.specs.BestRules.{slot, marked}

@@ -1,7 +1,7 @@
 use Rattle.std.proofs.Common.{◌≡◌, ◌∙◌, ap, sym, length, ◌<◌, [], get_or, arith, Some, None}
 use Rattle.std.proofs.lemmas.List.{length-map}
 use Rattle.std.proofs.lemmas.Result.{on_ok_weaker}
-use Rattle.groups.specs.Places.{places_of}
+use Rattle.tb_base.specs.KeyPlaces.{places_of}
 use Rattle.footpaths.specs.declared.found.Link.{Link}
 use Rattle.footpaths.specs.Stops.{station_of}
 use Rattle.footpaths.specs.BestRules.{slot}

@@ -1,6 +1,6 @@
 use Rattle.std.proofs.Common.{◌∙◌, ap}
 use Rattle.std.specs.Prelude.{is_some}
-use Rattle.names.proofs.Found.{found}
+use Rattle.tb_base.proofs.Found.{found}
 use Rattle.footpaths.specs.Stops.{has_stop_id}
 use Rattle.footpaths.proofs.StopPlaces.{row_place, few_rows, place_below}
 use Rattle.footpaths.proofs.stop_table.StopTable.place.Goals as goal

@@ -1,6 +1,6 @@
 use Rattle.std.proofs.Common.{◌≡◌, ◌<◌, ◌∙◌, ◌∷◌, Some, length, ap, sym, subst, arith}
 use Rattle.std.proofs.lemmas.Bool.Decides.{nat_tests}
-use Rattle.tb_base.specs.LineWords.{line_words}
+use Rattle.text_lines.specs.LineWords.{line_words}
 use Rattle.journey_read.specs.Claims.{IsRefused, SoFar, claim_so_far}
 use Rattle.journey_read.proofs.LineSteps.{has_words, words_found}
 use Rattle.journey_read.proofs.reader.ClaimReader.take.Goals as goal
