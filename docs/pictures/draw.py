@@ -1,9 +1,10 @@
 #!/usr/bin/env python3
-"""Draws the pictures of the documents, as SVG files beside this script: draw.py
+"""Draws the pictures of the documents, as SVG files beside this script: draw.py [--levels]
 
 The diagrams come from the feeds in examples/, by a plain reading of the definitions that docs/DEFINITIONS.md describes:
 lines, candidate transfers, U-turns, kept transfers, and a search round by round. The map of the crates comes from
-crates.txt; a crate that stands in no box, or in two, is an error.
+crates.txt; a crate that stands in no box, or in two, is an error. With --levels it draws nothing, and prints the crates
+level by level: each stands on at least one of the level before.
 """
 import csv
 import os
@@ -351,8 +352,21 @@ WHAT_FLOWS = ["rows", "timetable", "kept transfers", "network", "hits", "journey
 
 
 def crates():
+    """The crates, each with its direct dependencies."""
     with open(os.path.join(TOP, "crates.txt"), encoding="utf-8") as file:
-        return [line.split(":")[0].split()[0] for line in file if line.strip() and not line.startswith("#")]
+        lines = [line.split("#")[0].partition(":") for line in file]
+    return {head.split()[0]: names.split() for head, colon, names in lines if colon}
+
+
+def print_levels():
+    below, levels = crates(), {}
+
+    def level(crate):
+        return levels.setdefault(crate, 1 + max((level(name) for name in below[crate] if name in below), default=0))
+
+    deepest = max(level(crate) for crate in below)
+    for number in range(1, deepest + 1):
+        print(number, *(crate for crate in below if levels[crate] == number))
 
 
 def draw_house(name):
@@ -388,6 +402,9 @@ def bar(svg, y, width, x, content, fill):
 
 
 def main():
+    if "--levels" in sys.argv[1:]:
+        print_levels()
+        return
     eight = 8 * 3600
     draw_transfers(Timetable("f1"), "f1.svg", eight, eight + 3600, 12)
     draw_transfers(Timetable("town", station_secs=120), "town.svg", eight - 3600, eight - 1800, 22)
