@@ -203,7 +203,8 @@ class Svg:
 
     def arc(self, start, end, lift, color, width=2.0, dash=""):
         (x, y), (u, v) = start, end
-        self.path(f"M{x:.1f} {y:.1f} Q{(x + u) / 2:.1f} {min(y, v) - lift:.1f} {u:.1f} {v:.1f}", color, width, dash, True)
+        bend = f"Q{(x + u) / 2:.1f} {min(y, v) - lift:.1f} {u:.1f} {v:.1f}"
+        self.path(f"M{x:.1f} {y:.1f} {bend}", color, width, dash, True)
 
     def path(self, path, color, width, dash, arrow):
         extra = f' stroke-dasharray="{dash}"' if dash else ""
@@ -214,7 +215,8 @@ class Svg:
         self.parts.append(f'<circle cx="{point[0]:.1f}" cy="{point[1]:.1f}" r="{radius}" fill="{color}"/>')
 
     def box(self, x, y, width, height, color, fill="#ffffff"):
-        self.parts.append(f'<rect x="{x}" y="{y}" width="{width}" height="{height}" rx="6" fill="{fill}" stroke="{color}"/>')
+        self.parts.append(f'<rect x="{x}" y="{y}" width="{width}" height="{height}" rx="6" fill="{fill}" '
+                          f'stroke="{color}"/>')
 
     def text(self, point, words, color=INK, size=13, anchor="start", bold=False):
         weight = ' font-weight="bold"' if bold else ""
@@ -292,14 +294,16 @@ class Diagram:
 
 
 def draw_transfers(table, name, first, last, minute):
+    """The trips of a feed with all candidate transfers: kept ones, U-turns, and those that the reduction drops."""
     lines = lines_of(table)
     kept, turns, dropped = sorted_transfers(table, lines)
     diagram = Diagram(table, first, last, minute)
+    entries = []
     for trip in table.trips:
         diagram.ride(trip, 0, len(table.events[trip]) - 1, INK, 1.6)
-    entries = []
-    for transfers, color, dash, words in [
-            (kept, GREEN, "", "kept"), (turns, RED, "5 3", "U-turn"), (dropped, GREY, "2 3", "dropped by the reduction")]:
+    kinds = [(kept, GREEN, "", "kept"), (turns, RED, "5 3", "U-turn"),
+             (dropped, GREY, "2 3", "dropped by the reduction")]
+    for transfers, color, dash, words in kinds:
         for transfer in transfers:
             diagram.transfer(transfer, color, dash)
         if transfers:
@@ -309,6 +313,7 @@ def draw_transfers(table, name, first, last, minute):
 
 
 def draw_search(table, name, query, first, last, minute):
+    """The segments of a search, a color for each round, with its hits and the transfers that it follows."""
     lines = lines_of(table)
     rounds = search(table, lines, sorted_transfers(table, lines)[0], *query)
     diagram = Diagram(table, first, last, minute)
@@ -330,7 +335,6 @@ def draw_search(table, name, query, first, last, minute):
     entries = [(f"round {number}", color, "") for number, color in zip(range(1, len(rounds) + 1), ROUND_COLORS)]
     diagram.legend([*entries, ("enters nothing", GREY, "2 3")])
     diagram.svg.write(name)
-    return rounds
 
 
 # The map of the crates.
@@ -370,6 +374,7 @@ def print_levels():
 
 
 def draw_house(name):
+    """The stages from reading to text, with the crates in each."""
     placed = [crate for box in [*BOXES.values(), BELOW[1], ABOVE[1], TESTS[1]] for crate in box]
     wrong = sorted(set(crates()) ^ set(placed)) + sorted({crate for crate in placed if placed.count(crate) > 1})
     if wrong:
