@@ -1,7 +1,7 @@
 #!/usr/bin/env python3
 """Proves and builds the program alone; `./router --build` runs this.
 
-Copies the crate `router` and the crates below it, without their wrong bodies, to a folder of its
+Copies the crate `router` and the crates below it, without their mutants, to a folder of its
 own and runs a whole `rt ci` there, which proves as many crates at once as there are processors. The
 sources are copied as they are, also those of unit tests. The toolchain keeps what passes by
 checksum, so a run that was stopped goes on where it was, and what the gate passed on this machine

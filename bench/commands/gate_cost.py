@@ -1,21 +1,21 @@
-#!/usr/bin/env python3
-"""What the gate costs, crate by crate: gate_cost.py [--watch FOLDER]
+"""What the gate costs, crate by crate.
 
 Runs `rt ci` at the top of this checkout, with `--anew` where the toolchain knows that word, so that
 everything is proved from nothing, and prints a table: for each crate the processor seconds of its
-code, of its tests and of its must-fail edits, and the most memory that one prover held. With
-`--watch` it starts nothing, and watches a gate that runs in another checkout until that ends. It
-samples the prover's processes twice a second; what a process used after its last sample is missed.
+code, of its tests and of its mutants, and the most memory that one prover held. With --watch
+it starts nothing, and watches a gate that runs in another checkout until that ends. It samples the
+prover's processes twice a second; what a process used after its last sample is missed.
 """
 import collections
 import os
+import shutil
 import subprocess
-import sys
 import time
 
-HERE = os.path.dirname(os.path.abspath(__file__))
+from harness import TOP, BenchError, Table
+
 TICKS = os.sysconf("SC_CLK_TCK")
-CODE, TESTS, EDITS = "code", "tests", "edits"
+KINDS = CODE, TESTS, EDITS = "code", "tests", "edits"
 
 
 def read(path):
@@ -30,6 +30,8 @@ def gate_words():
     """The words that prove everything from nothing: a toolchain that keeps what passed is told not
     to use it.
     """
+    if not shutil.which("rt"):
+        raise BenchError("the toolchain's command 'rt' isn't on the path")
     help_text = subprocess.run(["rt", "help"], capture_output=True, text=True).stderr
     return ["rt", "ci", "--anew"] if "--anew" in help_text else ["rt", "ci"]
 
@@ -93,38 +95,36 @@ def gate_in(top):
     return None
 
 
-def table(seen):
+def print_table(seen):
     rows = collections.defaultdict(lambda: {CODE: 0.0, TESTS: 0.0, EDITS: 0.0, "held": 0.0})
     for (crate, kind), seconds, held in seen.values():
         rows[crate][kind] += seconds
         rows[crate]["held"] = max(rows[crate]["held"], held)
-    print("| crate | code s | tests s | edits s | all s | most MB |")
-    print("|---|---|---|---|---|---|")
-    total = collections.Counter()
-    for crate, row in sorted(rows.items(), key=lambda item: -sum(item[1][kind] for kind in (CODE, TESTS, EDITS))):
-        spent = sum(row[kind] for kind in (CODE, TESTS, EDITS))
-        print(f"| {crate} | {row[CODE]:.0f} | {row[TESTS]:.0f} | {row[EDITS]:.0f} | {spent:.0f} | {row['held']:.0f} |")
-        total.update({kind: row[kind] for kind in (CODE, TESTS, EDITS)})
-    print(f"| all | {total[CODE]:.0f} | {total[TESTS]:.0f} | {total[EDITS]:.0f} | {sum(total.values()):.0f} | |")
+    spent = {crate: sum(row[kind] for kind in KINDS) for crate, row in rows.items()}
+    table = Table("crate", "code s", "tests s", "mutants s", "all s", "most MB")
+    for crate in sorted(rows, key=lambda crate: -spent[crate]):
+        seconds = (*(rows[crate][kind] for kind in KINDS), spent[crate], rows[crate]["held"])
+        table.row(crate, *(f"{number:.0f}" for number in seconds))
+    whole = [sum(row[kind] for row in rows.values()) for kind in KINDS]
+    table.row("all", *(f"{number:.0f}" for number in (*whole, sum(whole))), "")
 
 
-def main(words):
-    if words[:1] == ["--watch"]:
-        top = os.path.realpath(words[1])
-        gate, child = gate_in(top), None
+def add_arguments(parser):
+    parser.add_argument("--watch", metavar="FOLDER", help="the top of the other checkout")
+
+
+def run(words):
+    if words.watch:
+        top, child = os.path.realpath(words.watch), None
+        gate = gate_in(top)
         if gate is None:
-            sys.exit(f"gate_cost: no gate runs in {top}")
+            raise BenchError(f"no gate runs in {top}")
     else:
-        top = os.path.realpath(os.path.join(HERE, ".."))
-        child = subprocess.Popen(gate_words(), cwd=top, stdout=subprocess.DEVNULL)
+        child = subprocess.Popen(gate_words(), cwd=TOP, stdout=subprocess.DEVNULL)
         gate = child.pid
     seen = {}
     while (child.poll() is None) if child else os.path.exists(f"/proc/{gate}"):
         sample(gate, seen)
         time.sleep(0.5)
-    table(seen)
-    sys.exit(child.returncode if child else 0)
-
-
-if __name__ == "__main__":
-    main(sys.argv[1:])
+    print_table(seen)
+    return child.returncode if child else 0

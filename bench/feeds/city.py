@@ -1,5 +1,4 @@
-#!/usr/bin/env python3
-"""Writes the feed of a made city: make_city.py FOLDER TRIPS [SEED]
+"""The feed of a made city.
 
 Stations with two platforms each stand in a square grid. Lines wander over it, 100 trips each, about
 23 calls a trip. There are services by weekday with exceptions, times that are left out between two
@@ -8,9 +7,15 @@ words give the same bytes.
 """
 import os
 import random
-import sys
 
-from runs import clock, write_lines
+from harness import clock, write_lines
+
+TIMES_HEADER = (
+    "trip_id,arrival_time,departure_time,stop_id,stop_sequence,pickup_type,drop_off_type"
+)
+DAYS = "monday,tuesday,wednesday,thursday,friday,saturday,sunday"
+CALENDAR_HEADER = f"service_id,{DAYS},start_date,end_date"
+YEAR = "20260101,20261231"
 
 TRIPS_PER_LINE = 100
 TRIPS_PER_STATION = 20
@@ -61,7 +66,7 @@ def path(side):
 
 
 def stop_times(lines, trips):
-    yield "trip_id,arrival_time,departure_time,stop_id,stop_sequence,pickup_type,drop_off_type,timepoint"
+    yield f"{TIMES_HEADER},timepoint"
     for trip in range(trips):
         line = lines[trip // TRIPS_PER_LINE]
         track = 1 + trip % 2
@@ -76,36 +81,25 @@ def stop_times(lines, trips):
             secs += DWELL + 60 + random.randrange(60)
 
 
-def main(folder, trips, seed):
+def side_of(trips):
+    """The stations of a side of the grid."""
+    return max(round((trips / TRIPS_PER_STATION) ** 0.5), 3)
+
+
+def make(folder, trips, seed=7):
+    """Writes the feed of a city into a folder."""
     random.seed(seed)
     os.makedirs(folder, exist_ok=True)
-    side = max(round((trips / TRIPS_PER_STATION) ** 0.5), 3)
+    side = side_of(trips)
     lines = [path(side) for _ in range(-(-trips // TRIPS_PER_LINE))]
     services = random.choices(("WD", "SA", "SU"), (8, 1, 1), k=trips)
     write_lines(folder, "stops.txt", stops(side))
     write_lines(folder, "transfers.txt", transfers(side))
-    write_lines(
-        folder,
-        "calendar.txt",
-        [
-            "service_id,monday,tuesday,wednesday,thursday,friday,saturday,sunday,start_date,end_date",
-            "WD,1,1,1,1,1,0,0,20260101,20261231",
-            "SA,0,0,0,0,0,1,0,20260101,20261231",
-            "SU,0,0,0,0,0,0,1,20260101,20261231",
-        ],
-    )
-    write_lines(
-        folder,
-        "calendar_dates.txt",
-        ["service_id,date,exception_type", "WD,20260406,2", "SU,20260406,1"],
-    )
-    write_lines(
-        folder,
-        "trips.txt",
-        ["route_id,service_id,trip_id", *(f"R{trip // TRIPS_PER_LINE},{services[trip]},T{trip}" for trip in range(trips))],
-    )
+    days = {"WD": "1,1,1,1,1,0,0", "SA": "0,0,0,0,0,1,0", "SU": "0,0,0,0,0,0,1"}
+    calendar = (f"{service},{marks},{YEAR}" for service, marks in days.items())
+    write_lines(folder, "calendar.txt", [CALENDAR_HEADER, *calendar])
+    exceptions = ["service_id,date,exception_type", "WD,20260406,2", "SU,20260406,1"]
+    write_lines(folder, "calendar_dates.txt", exceptions)
+    rows = (f"R{trip // TRIPS_PER_LINE},{services[trip]},T{trip}" for trip in range(trips))
+    write_lines(folder, "trips.txt", ["route_id,service_id,trip_id", *rows])
     write_lines(folder, "stop_times.txt", stop_times(lines, trips))
-
-
-if __name__ == "__main__":
-    main(sys.argv[1], int(sys.argv[2]), int(sys.argv[3]) if len(sys.argv) > 3 else 7)

@@ -1,6 +1,4 @@
-#!/usr/bin/env python3
-"""Writes a feed with the density of a real network:
-make_network.py FOLDER PATTERNS [SEED] [frequencies|written|without]
+"""A feed with the density of a real network.
 
 Stations stand in a square grid, with two to six platforms each: as many as their routes need,
 joined by footpaths. A route runs both ways over the same stations, by way of a hub, some 28 calls a
@@ -9,15 +7,17 @@ peaks, when they are slower too, and seldom in the evening. No trip overtakes an
 pattern. Where routes meet one can change, to some nine lines from an event. The same words give the
 same bytes.
 
-With the word `frequencies` every second route runs by rows of frequencies.txt: the times of one
+With the half `frequencies` every second route runs by rows of frequencies.txt: the times of one
 trip a pattern and service, and the same number of departures a headway apart. With `written` the
 same trips are written out, with `without` they are left out.
 """
 import os
 import random
-import sys
 
-from runs import clock, write_lines
+from feeds.city import CALENDAR_HEADER, TIMES_HEADER, YEAR
+from harness import clock, write_lines
+
+HALVES = ("frequencies", "written", "without")
 
 PATTERNS_PER_STATION = 0.15
 CALLS = 28
@@ -87,7 +87,8 @@ def transfers(side, platforms):
         for one in range(count):
             for other in range(count):
                 if one != other:
-                    yield f"S{station}:{one},S{station}:{other},2,{STAIR + PLATFORM * abs(one - other)}"
+                    secs = STAIR + PLATFORM * abs(one - other)
+                    yield f"S{station}:{one},S{station}:{other},2,{secs}"
         # every twentieth station and its neighbour, in pairs that share no station
         if station % 20 == 0 and station % side + 1 < side:
             yield f"S{station},S{station + 1},2,{BETWEEN}"
@@ -98,7 +99,8 @@ def crowd(secs):
     """How crowded a time is, from 0 to 1: it rises and falls within an hour at both ends of a peak.
     """
     hour = secs / 3600
-    return max(max(0.0, min(1.0, hour - first + 0.5, last + 0.5 - hour)) for first, last in PEAKS)
+    in_peak = (min(1.0, hour - first + 0.5, last + 0.5 - hour) for first, last in PEAKS)
+    return max(max(0.0, share) for share in in_peak)
 
 
 def departures(share):
@@ -149,7 +151,7 @@ class Trips:
 
     def __init__(self):
         self.trips = ["route_id,service_id,trip_id"]
-        self.times = ["trip_id,arrival_time,departure_time,stop_id,stop_sequence,pickup_type,drop_off_type"]
+        self.times = [TIMES_HEADER]
         self.frequencies = ["trip_id,start_time,end_time,headway_secs"]
 
     def add(self, pattern, service, name, calls, run):
@@ -159,7 +161,8 @@ class Trips:
         self.trips.append(f"R{pattern.partition(':')[0]},{service},{trip}")
         for at, (secs, platform) in enumerate(zip(run, calls)):
             marks = f"{int(at == last)},{int(at == 0)}"
-            self.times.append(f"{trip},{clock(secs)},{clock(secs + DWELL)},{platform},{at + 1},{marks}")
+            times = f"{clock(secs)},{clock(secs + DWELL)}"
+            self.times.append(f"{trip},{times},{platform},{at + 1},{marks}")
 
     def add_by_frequency(self, pattern, departs, calls, legs):
         """Of each service one trip, and the departures of a pattern by headways."""
@@ -170,22 +173,30 @@ class Trips:
                 self.frequencies.append(f"T{pattern}:{service},{clock(first)},{clock(end)},{gap}")
 
 
-def main(folder, patterns, seed, half=None):
-    random.seed(seed)
-    os.makedirs(folder, exist_ok=True)
-    side = max(round((patterns / PATTERNS_PER_STATION) ** 0.5), 36)
-    hubs = [(random.randrange(side), random.randrange(side)) for _ in range(max(patterns // 6, 4))]
-    routes = [route(side, hubs) for _ in range(patterns // 2)]
-    called = [0] * (side * side)
-    for stations in routes:
-        for station in stations:
+    def add_direction(self, pattern, departs, calls, legs, half):
+        """The trips of a pattern, written as its half is: None is a half of its own, with peaks."""
+        if half == "frequencies":
+            self.add_by_frequency(pattern, departs, calls, legs)
+        elif half != "without":
+            for place, (depart, service) in enumerate(departs):
+                self.add(pattern, service, place, calls, ride(legs, depart, half is None))
+
+
+def platforms_of(routes, stations):
+    """How many platforms each station has, by the number of routes that call there."""
+    called = [0] * stations
+    for route_stations in routes:
+        for station in route_stations:
             called[station] += 1
-    platforms = [2 if count < 3 else 4 if count < 6 else 6 for count in called]
+    return [2 if count < 3 else 4 if count < 6 else 6 for count in called]
+
+
+def trips_of(routes, platforms, half):
+    """The trips of all routes, both ways."""
     trips = Trips()
     for number, stations in enumerate(routes):
         outward = [60 + random.randrange(90) for _ in stations[1:]]
         share = random.choice((0.6, 0.8, 1.0, 1.0, 1.3, 1.6))
-        by = half if number % 2 else None
         for direction in (0, 1):
             # each direction has half of the platforms, and a route has one of them
             calls = [
@@ -193,30 +204,25 @@ def main(folder, patterns, seed, half=None):
                 for station in (stations if direction == 0 else reversed(stations))
             ]
             legs = outward if direction == 0 else outward[::-1]
-            departs = departures(share)
-            if by == "frequencies":
-                trips.add_by_frequency(f"{number}:{direction}", departs, calls, legs)
-            elif by != "without":
-                for place, (depart, service) in enumerate(departs):
-                    trips.add(f"{number}:{direction}", service, place, calls, ride(legs, depart, by is None))
+            written = half if number % 2 else None
+            trips.add_direction(f"{number}:{direction}", departures(share), calls, legs, written)
+    return trips
+
+
+def make(folder, patterns, seed=7, half=None):
+    """Writes the feed of a network into a folder."""
+    random.seed(seed)
+    os.makedirs(folder, exist_ok=True)
+    side = max(round((patterns / PATTERNS_PER_STATION) ** 0.5), 36)
+    hubs = [(random.randrange(side), random.randrange(side)) for _ in range(max(patterns // 6, 4))]
+    routes = [route(side, hubs) for _ in range(patterns // 2)]
+    platforms = platforms_of(routes, side * side)
+    trips = trips_of(routes, platforms, half)
     write_lines(folder, "stops.txt", stops(platforms))
     write_lines(folder, "transfers.txt", transfers(side, platforms))
-    write_lines(
-        folder,
-        "calendar.txt",
-        [
-            "service_id,monday,tuesday,wednesday,thursday,friday,saturday,sunday,start_date,end_date",
-            "ALL,1,1,1,1,1,1,1,20260101,20261231",
-            "WD,1,1,1,1,1,0,0,20260101,20261231",
-        ],
-    )
+    services = [f"ALL,1,1,1,1,1,1,1,{YEAR}", f"WD,1,1,1,1,1,0,0,{YEAR}"]
+    write_lines(folder, "calendar.txt", [CALENDAR_HEADER, *services])
     write_lines(folder, "trips.txt", trips.trips)
     write_lines(folder, "stop_times.txt", trips.times)
     if half == "frequencies":
         write_lines(folder, "frequencies.txt", trips.frequencies)
-
-
-if __name__ == "__main__":
-    HALVES = ("frequencies", "written", "without")
-    numbers = [word for word in sys.argv[2:] if word not in HALVES]
-    main(sys.argv[1], int(numbers[0]), int(numbers[1]) if len(numbers) > 1 else 7, next((word for word in sys.argv if word in HALVES), None))

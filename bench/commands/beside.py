@@ -1,0 +1,58 @@
+"""Two builds of the program, measured by turns.
+
+OTHER is another build of the program, as of an earlier state. Both read each feed by `direct` and
+make its transfers by `build`, in turn. Prints the least processor seconds of `direct` and of what
+`build` takes more, of both, and their ratios; and how many megabytes of stop_times.txt `direct`
+gets through in a second.
+"""
+import os
+
+from feeds import add_feed_argument, feed_of
+from harness import DAY, BenchError, Table, count, done, megabytes_of, router
+
+
+def add_arguments(parser):
+    parser.add_argument("other", metavar="OTHER", help="the path of the other build")
+    add_feed_argument(parser, "network:300", "city:20000")
+    parser.add_argument("--runs", type=count, default=5, help="runs of each, the least counts (5)")
+
+
+def ends_of(feed):
+    """The first and the last stop of a feed."""
+    with open(os.path.join(feed, "stops.txt"), encoding="utf-8") as file:
+        ids = [line.split(",")[0] for line in file]
+    return ids[1], ids[-1]
+
+
+def least(feed, programs, runs):
+    """Of each program the least seconds of `direct`, and those of `build` less these."""
+    direct = ["direct", feed, DAY, *ends_of(feed), "08:00:00"]
+    took = {program: ([], []) for program in programs}
+    for _ in range(runs):
+        for program, seconds in took.items():
+            for words, found in zip((direct, ["build", feed, DAY]), seconds):
+                found.append(done(program, ["--change", "60", *words]).seconds)
+    return [(min(reads), min(builds) - min(reads)) for reads, builds in took.values()]
+
+
+def run(words):
+    if not os.access(words.other, os.X_OK):
+        raise BenchError(f"there is no program {words.other}")
+    programs = [os.path.realpath(words.other), router()]
+    table = Table(
+        "feed",
+        "`direct` s, other",
+        "this",
+        "ratio",
+        "MB/s",
+        "`build` less `direct` s, other",
+        "this",
+        "ratio",
+    )
+    for word in words.feeds:
+        with feed_of(word) as (name, feed):
+            (old_read, old_made), (read, made) = least(feed, programs, words.runs)
+            size = megabytes_of(os.path.join(feed, "stop_times.txt"))
+            reads = f"{old_read:.3f}", f"{read:.3f}", f"{read / old_read:.2f}", f"{size / read:.0f}"
+            table.row(name, *reads, f"{old_made:.2f}", f"{made:.2f}", f"{made / old_made:.2f}")
+    return 0

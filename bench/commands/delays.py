@@ -1,0 +1,53 @@
+"""A late file from trip updates of GTFS Realtime.
+
+Reads a feed message in protobuf's JSON form, which any protobuf library writes of the binary one,
+and writes the file of delays that `./router late FEED DATE FILE ..` reads: the updates of trips
+that began on DATE or the day before. How much of it the file can't say, as cancelled and added
+trips, skipped stops and other platforms, is said on standard error, with counts. Arrival and
+departure at a stop have one delay in the file; where they differ it is the arrival's.
+"""
+import argparse
+import json
+import sys
+
+from harness import BenchError
+from realtime import Converter
+from schedule import date_of
+
+
+def a_date(text):
+    try:
+        return date_of(text)
+    except ValueError:
+        raise argparse.ArgumentTypeError(f"{text} is no day as YYYYMMDD") from None
+
+
+def add_arguments(parser):
+    parser.add_argument("feed", metavar="FEED", help="the folder of the unpacked feed")
+    parser.add_argument("date", metavar="DATE", type=a_date, help="the service day, as YYYYMMDD")
+    parser.add_argument("updates", metavar="UPDATES", help="the message; - is standard input")
+
+
+def message_of(path):
+    try:
+        if path == "-":
+            return json.load(sys.stdin)
+        with open(path, encoding="utf-8") as file:
+            return json.load(file)
+    except (OSError, ValueError) as error:
+        raise BenchError(f"{path} can't be read as JSON: {error}") from None
+
+
+def run(words):
+    message = message_of(words.updates)
+    try:
+        converter = Converter(words.feed, words.date, message)
+        lines = list(converter.lines())
+    except (AttributeError, TypeError, ValueError) as error:
+        raise BenchError(f"{words.updates} is no message of trip updates: {error}") from None
+    for line in lines:
+        print(line)
+    print(f"delays: {len(converter.updates)} trip updates, {len(lines)} lines", file=sys.stderr)
+    for what, count in converter.unsaid.most_common():
+        print(f"delays: not in the file: {count} {what}", file=sys.stderr)
+    return 0

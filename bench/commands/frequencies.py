@@ -1,0 +1,65 @@
+"""Reading trips by frequency, beside the same trips written out.
+
+Writes each network three times: every second route by rows of frequencies.txt, with the same trips
+written out, and without them. Reads each and makes the timetable of a weekday, the least of all
+runs, and prints seconds of processor time, and microseconds for each trip of the half by frequency
+and of the half written out, beside those of the other half. Both have to give the same answers.
+"""
+import os
+import tempfile
+
+from feeds import network
+from harness import BenchError, Table, asking, asking_words, count, done, rows_of
+
+
+def add_arguments(parser):
+    parser.add_argument("--patterns", type=count, nargs="+", default=[300, 3000])
+    parser.add_argument("--runs", type=count, default=5, help="runs of each, the least counts (5)")
+
+
+def answers(program, folder):
+    return done(program, asking_words(folder, 100, "plain"), out=None).out
+
+
+def measure(program, table, patterns, runs, folder):
+    folders = {half: os.path.join(folder, half) for half in network.HALVES}
+    for half, path in folders.items():
+        network.make(path, patterns, half=half)
+    if answers(program, folders["frequencies"]) != answers(program, folders["written"]):
+        raise BenchError(f"{patterns} patterns: trips by frequency have other answers")
+    taken = {
+        half: min(done(program, asking_words(path, 0, "plain")).seconds for _ in range(runs))
+        for half, path in folders.items()
+    }
+    without = taken["without"]
+    others = rows_of(folders["without"], "trips.txt")
+    trips = rows_of(folders["written"], "trips.txt") - others
+    seconds = [taken[half] for half in ("frequencies", "written")]
+    table.row(
+        f"{patterns:,}",
+        f"{trips:,}",
+        f"{rows_of(folders['frequencies'], 'frequencies.txt'):,}",
+        f"{without:.3f}",
+        *(f"{secs:.3f}" for secs in seconds),
+        f"{without * 1e6 / others:.1f}",
+        *(f"{(secs - without) * 1e6 / trips:.1f}" for secs in seconds),
+    )
+
+
+def run(words):
+    program = asking()
+    table = Table(
+        "patterns",
+        "trips of the half",
+        "rows of frequencies.txt",
+        "without it s",
+        "by frequency s",
+        "written out s",
+        "other half, us a trip",
+        "by frequency",
+        "written out",
+    )
+    for patterns in words.patterns:
+        with tempfile.TemporaryDirectory() as folder:
+            measure(program, table, patterns, words.runs, folder)
+    return 0

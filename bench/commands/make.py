@@ -1,0 +1,52 @@
+"""Writes a made feed into a folder.
+
+The same words give the same bytes.
+"""
+from feeds import city, limits, network, shapes
+from harness import count
+
+
+def add_arguments(parser):
+    kinds = parser.add_subparsers(metavar="KIND", required=True)
+    add_city(kinds.add_parser("city", help="a city of some thousands of trips and more"))
+    add_network(kinds.add_parser("network", help="a feed with the density of a real network"))
+    add_shape(kinds.add_parser("shape", help="a feed of a shape that is made to cost time"))
+    add_limit(kinds.add_parser("limit", help="a feed just at a limit of the program"))
+
+
+def add_city(parser):
+    parser.description = city.__doc__
+    parser.add_argument("folder", metavar="FOLDER")
+    parser.add_argument("size", metavar="TRIPS", type=count)
+    parser.add_argument("--seed", type=int, default=7)
+    parser.set_defaults(make=lambda words: city.make(words.folder, words.size, words.seed))
+
+
+def add_network(parser):
+    parser.description = network.__doc__
+    parser.add_argument("folder", metavar="FOLDER")
+    parser.add_argument("size", metavar="PATTERNS", type=count)
+    parser.add_argument("--seed", type=int, default=7)
+    parser.add_argument("--half", choices=network.HALVES, help="how every second route runs")
+    parser.set_defaults(
+        make=lambda words: network.make(words.folder, words.size, words.seed, words.half)
+    )
+
+
+def add_shape(parser):
+    parser.add_argument("folder", metavar="FOLDER")
+    parser.add_argument("name", metavar="NAME", choices=shapes.SHAPES, help=" ".join(shapes.SHAPES))
+    parser.add_argument("--size", type=count, default=1_000_000, help="1,000,000: some 100 MB")
+    parser.set_defaults(make=lambda words: shapes.SHAPES[words.name](words.folder, words.size))
+
+
+def add_limit(parser):
+    parser.add_argument("folder", metavar="FOLDER")
+    parser.add_argument("name", metavar="NAME", choices=limits.FEEDS, help=" ".join(limits.FEEDS))
+    parser.add_argument("--past", action="store_true", help="one more than the limit")
+    parser.set_defaults(make=lambda words: limits.FEEDS[words.name](words.folder, int(words.past)))
+
+
+def run(words):
+    words.make(words)
+    return 0

@@ -1,0 +1,129 @@
+"""Each call for memory refused once.
+
+Runs four commands on the example once for each of their calls for memory, and refuses that one
+call. A small library that is put before the C library counts the calls and refuses the one with the
+number; it needs a C compiler. Each run has to end with status 6 and nothing written, or with an
+answer that the command may give. Prints how many calls there are and how the runs ended.
+"""
+import collections
+import os
+import re
+import shutil
+import subprocess
+import sys
+import tempfile
+
+from harness import BEST, DAY, FEEDS, SCRIPT, BenchError, Run, Table, router, write
+
+SHIM = r"""
+#define _GNU_SOURCE
+#include <dlfcn.h>
+#include <errno.h>
+#include <fcntl.h>
+#include <stdlib.h>
+#include <sys/mman.h>
+#include <unistd.h>
+static unsigned long without_file, refused, *calls = &without_file;
+static void *(*next_malloc)(size_t), *(*next_realloc)(void *, size_t);
+__attribute__((constructor)) static void begin(void) {
+    next_malloc = dlsym(RTLD_NEXT, "malloc");
+    next_realloc = dlsym(RTLD_NEXT, "realloc");
+    const char *name = getenv("CALLS_FILE"), *number = getenv("REFUSED_CALL");
+    int file = name ? open(name, O_RDWR) : -1;
+    void *page = MAP_FAILED;
+    if (file >= 0) page = mmap(0, sizeof *calls, PROT_READ | PROT_WRITE, MAP_SHARED, file, 0);
+    if (page != MAP_FAILED) calls = page;
+    __atomic_store_n(calls, 0, __ATOMIC_SEQ_CST);
+    refused = number ? strtoul(number, 0, 10) : 0;
+}
+static int fails(void) {
+    return __atomic_add_fetch(calls, 1, __ATOMIC_SEQ_CST) == refused && (errno = ENOMEM);
+}
+void *malloc(size_t size) { return !next_malloc || fails() ? 0 : next_malloc(size); }
+void *realloc(void *old, size_t size) {
+    return !next_realloc || fails() ? 0 : next_realloc(old, size);
+}
+"""
+
+BUILT = """stops 5 trips 3 events 7 footpaths 0
+lines 3 generated 1 after_uturn 1 kept 1
+T1@1 T2@0
+"""
+SLOTS = BEST.replace("arrive 08:5", "leave 08:05:00 arrive 08:5")
+SLOTS = SLOTS.replace("arrive 08:3", "leave 08:00:00 arrive 08:3")
+LATER = BEST.replace("08:30:00", "08:25:00")
+# The replies by either edition, and whichever the closing ones are, as an expression.
+SERVED = f"""edition 1 f1@20260302 trips 3 lines 3 kept 1
+edition 2 f2@20260302 trips 3 lines 3 kept 1
+lane a
+(1 edition 1
+{BEST}|1 edition 2
+{LATER})(2 edition 1
+deferred 2
+|2 edition 2
+{LATER})closing edition 2
+lane a
+1 edition 2
+{LATER}(2 edition 2
+{LATER})?"""
+COMMANDS = [
+    (["ask", "f1", DAY, "A", "D", "08:00:00"], b"", BEST),
+    (["build", "f1", DAY, "list"], b"", BUILT),
+    (["serve", f"f1@{DAY}", f"f2@{DAY}"], SCRIPT.encode(), SERVED),
+    (["profile", "f1", DAY, "A", "D", "07:00:00", "08:05:00"], b"", SLOTS),
+]
+
+
+def add_arguments(parser):
+    pass
+
+
+def is_allowed(run, answer):
+    if run.status == 6:
+        return run.out == "" and run.err == "router: out of memory\n"
+    return run.status == 0 and run.err == "" and re.fullmatch(answer, run.out) is not None
+
+
+def library(folder):
+    if not shutil.which("cc"):
+        raise BenchError("there is no C compiler 'cc'")
+    write(folder, "refuse.c", SHIM)
+    words = ["cc", "-O1", "-shared", "-fPIC", "-o", "refuse.so", "refuse.c", "-ldl"]
+    if subprocess.run(words, cwd=folder).returncode:
+        raise BenchError("the C compiler doesn't compile the library that refuses memory")
+    return os.path.join(folder, "refuse.so")
+
+
+def calls_of(program, words, given, answer, env):
+    """How many calls for memory a run makes of which none is refused."""
+    counts = env["CALLS_FILE"]
+    with open(counts, "wb") as file:
+        file.write(bytes(8))
+    run = Run(program, words, given, cwd=FEEDS, env=env)
+    if run.status != 0 or not is_allowed(run, answer):
+        raise BenchError(f"{' '.join(words)} ended with {run.status}: {run.first_line()}")
+    with open(counts, "rb") as file:
+        return int.from_bytes(file.read(8), sys.byteorder)
+
+
+def run(words):
+    bad = 0
+    program = router()
+    with tempfile.TemporaryDirectory() as folder:
+        env = {"LD_PRELOAD": library(folder), "CALLS_FILE": os.path.join(folder, "calls")}
+        table = Table(
+            "command", "calls for memory", "status 6, nothing written", "the answer all the same"
+        )
+        for command, given, answer in COMMANDS:
+            calls = calls_of(program, command, given, answer, env)
+            ended = collections.Counter()
+            for number in range(1, calls + 1):
+                how = {"cwd": FEEDS, "env": {**env, "REFUSED_CALL": str(number)}}
+                one = Run(program, command, given, **how)
+                ended[one.status] += 1
+                if not is_allowed(one, answer):
+                    bad += 1
+                    said = f"call {number} of {' '.join(command)}: status {one.status}"
+                    print(f"{said}\n{one.out}{one.err}", file=sys.stderr)
+            table.row(f"`{' '.join(command)}`", calls, ended[6], ended[0])
+    return 1 if bad else 0
