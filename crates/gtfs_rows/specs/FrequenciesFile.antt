@@ -7,6 +7,7 @@ use Rattle.gtfs_rows.specs.Fields.{column, id_of, code_of}
 use Rattle.gtfs_rows.specs.declared.fault.FeedFile.TheVariants as file
 use Rattle.gtfs_rows.specs.declared.fault.FeedFault.{FeedFault}
 use Rattle.gtfs_rows.specs.declared.fault.FeedFault.TheVariants as fault
+use Rattle.gtfs_rows.specs.declared.columns.frequencies.TheConstants as frequencies
 
 -- a row of frequencies.txt: the trip starts at `start` and every `headway` seconds after it, as
 -- long as that is before `end`; times are seconds from noon minus twelve hours
@@ -33,11 +34,13 @@ exact_times text = option_and_then exact_code (code_of text)
 
 abbrev pub frequency_row : RawRow → Result (Option FrequencyData) FeedFault
 frequency_row raw =
-    and_then (column file.Frequencies raw 1 id_of fault.EmptyId) (λ trip.
-    and_then (column file.Frequencies raw 2 time_secs fault.BadTime) (λ start.
-    and_then (column file.Frequencies raw 3 time_secs fault.BadTime) (λ end.
-    and_then (column file.Frequencies raw 4 headway_of fault.BadNumber) (λ headway.
-    and_then (column file.Frequencies raw 5 exact_times fault.BadCode) (λ exact.
+    and_then (column file.Frequencies raw frequencies.TRIP_ID id_of fault.EmptyId) (λ trip.
+    and_then (column file.Frequencies raw frequencies.START_TIME time_secs fault.BadTime) (λ start.
+    and_then (column file.Frequencies raw frequencies.END_TIME time_secs fault.BadTime) (λ end.
+    and_then (column file.Frequencies raw frequencies.HEADWAY_SECS headway_of fault.BadNumber)
+    (λ headway.
+    and_then (column file.Frequencies raw frequencies.EXACT_TIMES exact_times fault.BadCode)
+    (λ exact.
     Ok (Some (record {
       row = raw.row;
       trip = trip;

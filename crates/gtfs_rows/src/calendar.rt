@@ -5,6 +5,7 @@ ghost use Rattle.gtfs_rows.specs.Refused.{IsRefused, Yields};
 ghost use Rattle.gtfs_rows.specs.declared.fault.FeedFile.TheVariants as file;
 
 use crate::civil::date_of;
+use crate::columns::calendar;
 use crate::fields::{digit_of, id_of, spot};
 use crate::{FeedFault, FeedFile, Name, RowCursor, RowReader, RowsFault, typed_rows};
 use std::alloc::Global;
@@ -55,13 +56,13 @@ fn flag_in(cursor: &RowCursor, column: u8) -> Result<bool, RowsFault>
 fn week_in(cursor: &RowCursor) -> Result<[bool; 7], RowsFault>
     ensures { Yields IsRefused result (λ x. x) (week_in cursor.now.current) }
 {
-    let monday = flag_in(cursor, 2)?;
-    let tuesday = flag_in(cursor, 3)?;
-    let wednesday = flag_in(cursor, 4)?;
-    let thursday = flag_in(cursor, 5)?;
-    let friday = flag_in(cursor, 6)?;
-    let saturday = flag_in(cursor, 7)?;
-    let sunday = flag_in(cursor, 8)?;
+    let monday = flag_in(cursor, calendar::MONDAY)?;
+    let tuesday = flag_in(cursor, calendar::TUESDAY)?;
+    let wednesday = flag_in(cursor, calendar::WEDNESDAY)?;
+    let thursday = flag_in(cursor, calendar::THURSDAY)?;
+    let friday = flag_in(cursor, calendar::FRIDAY)?;
+    let saturday = flag_in(cursor, calendar::SATURDAY)?;
+    let sunday = flag_in(cursor, calendar::SUNDAY)?;
     Ok([
         monday, tuesday, wednesday, thursday, friday, saturday, sunday,
     ])
@@ -84,15 +85,23 @@ impl RowReader for CalendarReader {
 
     fn read(&self, alloc: Global, cursor: &RowCursor) -> Result<Option<CalendarRow>, RowsFault> {
         let file = FeedFile::Calendar;
-        let Some(service) = id_of(cursor.cell(1)) else {
-            return Err(RowsFault::Feed(FeedFault::EmptyId(spot(cursor, file, 1))));
+        let Some(service) = id_of(cursor.cell(calendar::SERVICE_ID)) else {
+            return Err(RowsFault::Feed(FeedFault::EmptyId(spot(
+                cursor,
+                file,
+                calendar::SERVICE_ID,
+            ))));
         };
         let days = week_in(cursor)?;
-        let Some(start) = date_of(cursor.cell(9)) else {
-            return Err(RowsFault::Feed(FeedFault::BadDate(spot(cursor, file, 9))));
+        let Some(start) = date_of(cursor.cell(calendar::START_DATE)) else {
+            return Err(RowsFault::Feed(FeedFault::BadDate(spot(
+                cursor,
+                file,
+                calendar::START_DATE,
+            ))));
         };
-        let Some(end) = date_of(cursor.cell(10)) else {
-            return Err(RowsFault::Feed(FeedFault::BadDate(spot(cursor, file, 10))));
+        let Some(end) = date_of(cursor.cell(calendar::END_DATE)) else {
+            return Err(RowsFault::Feed(FeedFault::BadDate(spot(cursor, file, calendar::END_DATE))));
         };
         Ok(Some(CalendarRow {
             row: cursor.row(),

@@ -4,6 +4,7 @@ ghost use Rattle.gtfs_rows.specs.FrequenciesFile.{exact_times, frequency_row, fr
 ghost use Rattle.gtfs_rows.specs.Refused.{IsRefused, Yields};
 ghost use Rattle.gtfs_rows.specs.declared.fault.FeedFile.TheVariants as file;
 
+use crate::columns::frequencies;
 use crate::fields::{code_of, id_of, spot};
 use crate::numbers::{number_of, time_secs};
 use crate::{FeedFault, FeedFile, Name, RowCursor, RowReader, RowsFault, typed_rows};
@@ -77,20 +78,40 @@ impl RowReader for FrequencyReader {
 
     fn read(&self, alloc: Global, cursor: &RowCursor) -> Result<Option<FrequencyRow>, RowsFault> {
         let file = FeedFile::Frequencies;
-        let Some(trip) = id_of(cursor.cell(1)) else {
-            return Err(RowsFault::Feed(FeedFault::EmptyId(spot(cursor, file, 1))));
+        let Some(trip) = id_of(cursor.cell(frequencies::TRIP_ID)) else {
+            return Err(RowsFault::Feed(FeedFault::EmptyId(spot(
+                cursor,
+                file,
+                frequencies::TRIP_ID,
+            ))));
         };
-        let Some(start) = time_secs(cursor.cell(2)) else {
-            return Err(RowsFault::Feed(FeedFault::BadTime(spot(cursor, file, 2))));
+        let Some(start) = time_secs(cursor.cell(frequencies::START_TIME)) else {
+            return Err(RowsFault::Feed(FeedFault::BadTime(spot(
+                cursor,
+                file,
+                frequencies::START_TIME,
+            ))));
         };
-        let Some(end) = time_secs(cursor.cell(3)) else {
-            return Err(RowsFault::Feed(FeedFault::BadTime(spot(cursor, file, 3))));
+        let Some(end) = time_secs(cursor.cell(frequencies::END_TIME)) else {
+            return Err(RowsFault::Feed(FeedFault::BadTime(spot(
+                cursor,
+                file,
+                frequencies::END_TIME,
+            ))));
         };
-        let Some(headway) = headway_of(cursor.cell(4)) else {
-            return Err(RowsFault::Feed(FeedFault::BadNumber(spot(cursor, file, 4))));
+        let Some(headway) = headway_of(cursor.cell(frequencies::HEADWAY_SECS)) else {
+            return Err(RowsFault::Feed(FeedFault::BadNumber(spot(
+                cursor,
+                file,
+                frequencies::HEADWAY_SECS,
+            ))));
         };
-        let Some(_) = exact_times(cursor.cell(5)) else {
-            return Err(RowsFault::Feed(FeedFault::BadCode(spot(cursor, file, 5))));
+        let Some(_) = exact_times(cursor.cell(frequencies::EXACT_TIMES)) else {
+            return Err(RowsFault::Feed(FeedFault::BadCode(spot(
+                cursor,
+                file,
+                frequencies::EXACT_TIMES,
+            ))));
         };
         Ok(Some(FrequencyRow {
             row: cursor.row(),

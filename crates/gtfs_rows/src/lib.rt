@@ -13,6 +13,7 @@
 
 mod calendar;
 mod civil;
+pub mod columns;
 mod cursor;
 mod dates;
 mod fault;
