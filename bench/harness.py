@@ -7,8 +7,8 @@ import resource
 import shutil
 import signal
 import subprocess
+import sys
 import tempfile
-import time
 
 TOP = os.path.dirname(os.path.dirname(os.path.realpath(__file__)))
 FEEDS = os.path.join(TOP, "crates", "case_check", "data", "feeds")
@@ -55,10 +55,50 @@ def asking_words(feed, count, method):
     return [feed, DAY, str(count), method]
 
 
+# What a process holds at most counts from the one that it was forked of, and this one may hold the
+# text of a feed: so a small one starts the program, and writes what that took.
+STARTER = """
+import os, sys, time
+report, count, *words = sys.argv[1:]
+os.set_inheritable(int(report), False)
+env = dict(word.split("=", 1) for word in words[: int(count)])
+words = words[int(count) :]
+start = time.perf_counter()
+child = os.posix_spawn(words[0], words, {**os.environ, **env})
+_, status, used = os.wait4(child, 0)
+took = time.perf_counter() - start, used.ru_utime + used.ru_stime, used.ru_maxrss
+os.write(int(report), " ".join(map(str, (status, *took))).encode())
+"""
+
+
+def run_by_starter(command, env, **how):
+    """Runs a command, and returns its status as the system gives it, and what it took: seconds by
+    the clock and of processor time, and kilobytes that it held at most.
+    """
+    given = [f"{name}={value}" for name, value in (env or {}).items()]
+    with tempfile.TemporaryFile() as report:
+        number = report.fileno()
+        starter = [sys.executable, "-I", "-S", "-c", STARTER, str(number), str(len(given))]
+        subprocess.run([*starter, *given, *command], pass_fds=[number], **how)
+        fields = text_of(report).split()
+    if not fields:
+        raise BenchError(f"{command[0]} can't be run")
+    return int(fields[0]), float(fields[1]), float(fields[2]), int(fields[3])
+
+
+def run_after(before, command, **how):
+    """Runs a command after a call in the child, and returns its status as the system gives it."""
+    child = subprocess.Popen(command, preexec_fn=before, **how)
+    _, status = os.waitpid(child.pid, 0)
+    child.returncode = 0
+    return status
+
+
 class Run:
     """A run that has ended: its status, or the name of the signal that killed it, and what it
-    wrote and took: seconds by the clock and of processor time, and the memory that it held at
-    most, in units of 1,000 and of 1,024 kilobytes.
+    wrote; and where nothing is called in the child before it, seconds by the clock and of processor
+    time, and the memory that it held at most, in units of 1,000 and of 1,024 kilobytes. Of memory
+    that is told only from some ten megabytes on, which is what starts it.
     """
 
     def __init__(self, program, words, given=b"", cwd=None, out=None, env=None, before=None):
@@ -66,22 +106,13 @@ class Run:
             stdin, stdout, stderr = (files.enter_context(tempfile.TemporaryFile()) for _ in "012")
             stdin.write(given)
             stdin.seek(0)
-            start = time.perf_counter()
-            child = subprocess.Popen(
-                [program, *words],
-                stdin=stdin,
-                stdout=out or stdout,
-                stderr=stderr,
-                cwd=cwd,
-                env={**os.environ, **(env or {})},
-                preexec_fn=before,
-            )
-            _, status, used = os.wait4(child.pid, 0)
-            child.returncode = 0
-            self.clock = time.perf_counter() - start
-            self.seconds = used.ru_utime + used.ru_stime
-            self.megabytes = used.ru_maxrss / 1000
-            self.mebibytes = used.ru_maxrss / 1024
+            how = {"stdin": stdin, "stdout": out or stdout, "stderr": stderr, "cwd": cwd}
+            if before:
+                status = run_after(before, [program, *words], **how)
+            else:
+                status, *took = run_by_starter([program, *words], env, **how)
+                self.clock, self.seconds, kilobytes = took
+                self.megabytes, self.mebibytes = kilobytes / 1000, kilobytes / 1024
             if os.WIFSIGNALED(status):
                 self.status = signal.Signals(os.WTERMSIG(status)).name
             else:

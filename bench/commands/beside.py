@@ -27,12 +27,12 @@ def ends_of(feed):
 def least(feed, programs, runs):
     """Of each program the least seconds of `direct`, and those of `build` less these."""
     direct = ["direct", feed, DAY, *ends_of(feed), "08:00:00"]
-    took = {program: ([], []) for program in programs}
+    took = [([], []) for _ in programs]
     for _ in range(runs):
-        for program, seconds in took.items():
+        for program, seconds in zip(programs, took):
             for words, found in zip((direct, ["build", feed, DAY]), seconds):
                 found.append(done(program, ["--change", "60", *words]).seconds)
-    return [(min(reads), min(builds) - min(reads)) for reads, builds in took.values()]
+    return [(min(reads), min(builds) - min(reads)) for reads, builds in took]
 
 
 def run(words):

@@ -17,9 +17,8 @@ NO_DAY = "20300101"
 
 
 def add_arguments(parser):
-    parser.add_argument(
-        "--trips", type=count, nargs="+", default=[2_000, 20_000, 200_000], help="sizes of the cities"
-    )
+    sizes = [2_000, 20_000, 200_000]
+    parser.add_argument("--trips", type=count, nargs="+", default=sizes, help="of each city")
 
 
 def copy_seconds(folder):

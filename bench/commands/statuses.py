@@ -60,6 +60,6 @@ def run(words):
             said = f"{err}\n" if err else ""
             is_right = (ended.status, ended.out, ended.err) == (status, out, said)
             bad += not is_right
-            text = outcome(is_right, f"`{ended.err.strip() or 'nothing'}`")
-            table.row(what, ended.status, status, text)
+            line = f"`{ended.err.splitlines()[0]}`" if ended.err else "nothing"
+            table.row(what, ended.status, status, outcome(is_right, line))
     return 1 if bad else 0
