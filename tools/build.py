@@ -187,7 +187,7 @@ class Progress:
     def __init__(self, tree, names, estimate):
         self.tree, self.names, self.estimate = tree, names, estimate
         self.begin = time.monotonic()
-        self.begun, self.done, self.took, self.failed, self.notes = {}, [], {}, [], []
+        self.begun, self.done, self.took, self.failed = {}, [], {}, []
         self.is_terminal, self.shown_at = sys.stdout.isatty(), self.begin
 
     def look(self):
@@ -240,7 +240,7 @@ class Progress:
         elif waits:
             self.say(f"waiting for another run on this machine that proves {waits[1]}")
         elif line.startswith("rt: note: "):
-            self.notes.append(line[len("rt: note: ") :])
+            self.say(line[len("rt: ") :])
 
     def count(self):
         return f"{len(self.done)} of {len(self.names)} proved"
@@ -264,9 +264,8 @@ def end_run(child):
 def follow(tree, progress, log):
     """Runs `rt ci` in the tree, shows how it goes, and returns its status."""
     how = {"stdin": subprocess.DEVNULL, "stdout": subprocess.PIPE, "stderr": subprocess.STDOUT}
-    child = subprocess.Popen(
-        ["rt", "ci"], cwd=tree, text=True, errors="replace", start_new_session=True, **how
-    )
+    how.update({"encoding": "utf-8", "errors": "replace", "start_new_session": True})
+    child = subprocess.Popen(["rt", "ci"], cwd=tree, **how)
     lines = queue.SimpleQueue()
 
     def read():
@@ -343,8 +342,6 @@ def build_in(cache, top, names, lines, libraries):
     try:
         with open(log_file, "w", encoding="utf-8", buffering=1) as log:
             status = follow(tree, progress, log)
-        for note in progress.notes:
-            progress.say(f"note: {note}")
         if status or not os.path.isfile(built_program(tree)):
             why = f"not proved: {' '.join(progress.failed)}" if progress.failed else "no program"
             raise BuildError(f"{why}; what the toolchain said stands in {log_file}")
@@ -388,7 +385,7 @@ def main():
         signal.signal(number, interrupt)
     try:
         build(arguments.top)
-    except BuildError as error:
+    except (BuildError, OSError) as error:
         print(f"router: {error}", file=sys.stderr)
         return 1
     except KeyboardInterrupt:

@@ -113,7 +113,7 @@ class Lines(unittest.TestCase):
             ):
                 progress.take(line)
         self.assertEqual((["low", "mid"], ["router"]), (progress.done, progress.failed))
-        self.assertEqual(["the disk has 100 MB left"], progress.notes)
+        self.assertIn("note: the disk has 100 MB left\n", out.getvalue())
         self.assertIn("1 of 3 proved, low in an earlier run\n", out.getvalue())
         self.assertIn("2 of 3 proved, mid 0 s; 0 s so far\n", out.getvalue())
 

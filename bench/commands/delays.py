@@ -47,7 +47,7 @@ def run(words):
         raise BenchError(f"{words.updates} is no message of trip updates: {error}") from None
     for line in lines:
         print(line)
-    print(f"delays: {len(converter.updates)} trip updates, {len(lines)} lines", file=sys.stderr)
+    print(f"trip updates: {len(converter.updates)}; lines: {len(lines)}", file=sys.stderr)
     for what, count in converter.unsaid.most_common():
-        print(f"delays: not in the file: {count} {what}", file=sys.stderr)
+        print(f"not in the file: {what}: {count}", file=sys.stderr)
     return 0
