@@ -113,6 +113,9 @@ class Schedule:
     """The trips with certain ids on a date and on the day before."""
 
     def __init__(self, feed, date, ids):
+        for name in ("trips.txt", "stop_times.txt"):
+            if not os.path.isfile(os.path.join(feed, name)):
+                raise BenchError(f"{feed} has no {name}")
         try:
             rows_of_trips = [row for row in rows(feed, "trips.txt") if row["trip_id"] in ids]
             self.service = {row["trip_id"]: row["service_id"] for row in rows_of_trips}
