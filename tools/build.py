@@ -151,8 +151,9 @@ def shown(seconds):
 
 
 class Estimate:
-    """How long what is left will take, by the seconds that each crate took in the last run. A crate
-    that never ran here takes as much for each of its lines as the others do.
+    """How long what is left will take, by the seconds that each crate took in the last run, all of
+    them as much longer or shorter now as the crates that are done took. A crate that never ran here
+    takes as much for each of its lines as the others do.
     """
 
     def __init__(self, libraries, lines, figures, processors):
@@ -160,19 +161,26 @@ class Estimate:
         self.figures = {name: figures[name] for name in lines if name in figures}
 
     def expected(self, name):
+        """The seconds of the last run; a second a line where there was none."""
         known = sum(self.lines[it] for it in self.figures)
-        rate = sum(self.figures.values()) / known if known else 0
+        rate = sum(self.figures.values()) / known if known else 1
         return self.figures.get(name, rate * self.lines[name])
 
-    def left(self, done, running):
+    def pace(self, took):
+        """How much longer crates take than expected; 0 where nothing is known."""
+        expected = sum(self.expected(name) for name in took)
+        return sum(took.values()) / expected if expected else int(bool(self.figures))
+
+    def left(self, done, took, running):
         """Seconds until the last crate is proved, or 0 where nothing is known. `done` has the names
-        that are proved, `running` the seconds that crates have taken up to now.
+        that are proved, `took` the seconds of those that this run proved, `running` the seconds
+        that others have taken up to now.
         """
-        work, ends = 0, {}
+        work, ends, pace = 0, {}, self.pace(took)
         # a crate stands below those that stand on it
         for name in self.lines:
             if name not in done:
-                rest = max(self.expected(name) - running.get(name, 0), 0)
+                rest = max(pace * self.expected(name) - running.get(name, 0), 0)
                 before = max((ends.get(it, 0) for it in self.libraries[name]), default=0)
                 ends[name] = before + rest
                 work += rest
@@ -212,9 +220,9 @@ class Progress:
         print(text[:width], end="", flush=True)
 
     def times(self, now):
-        left = self.estimate.left(self.done, self.running(now))
+        left = self.estimate.left(self.done, self.took, self.running(now))
         so_far = f"{shown(now - self.begin)} so far"
-        return f"{so_far}, about {shown(left)} left" if left else so_far
+        return f"{so_far}, about {shown(left)} left" if left >= 1 else so_far
 
     def clear(self):
         print("\r\033[K" if self.is_terminal else "", end="", flush=True)

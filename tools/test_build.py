@@ -81,18 +81,23 @@ class Left(unittest.TestCase):
 
     def test_longest_chain(self):
         seconds = self.estimate({"low": 10, "mid": 20, "side": 30, "router": 5})
-        self.assertEqual(45, seconds.left([], {}))
-        self.assertEqual(41, seconds.left([], {"low": 4}))
-        self.assertEqual(25, seconds.left(["low"], {"side": 10, "mid": 90}))
-        self.assertEqual(0, seconds.left(list(self.LINES), {}))
+        self.assertEqual(45, seconds.left([], {}, {}))
+        self.assertEqual(41, seconds.left([], {}, {"low": 4}))
+        self.assertEqual(25, seconds.left(["low"], {}, {"side": 10, "mid": 90}))
+        self.assertEqual(0, seconds.left(list(self.LINES), {}, {}))
 
     def test_one_processor(self):
         seconds = self.estimate({"low": 10, "mid": 20, "side": 30, "router": 5}, processors=1)
-        self.assertEqual(65, seconds.left([], {}))
+        self.assertEqual(65, seconds.left([], {}, {}))
+
+    def test_a_slower_machine(self):
+        seconds = self.estimate({"low": 10, "mid": 20, "side": 30, "router": 5})
+        self.assertEqual(70, seconds.left(["low"], {"low": 20}, {}))
 
     def test_crates_that_never_ran(self):
-        self.assertEqual(0, self.estimate({}).left([], {}))
-        self.assertEqual(40, self.estimate({"low": 10}).left([], {}))
+        self.assertEqual(0, self.estimate({}).left([], {}, {}))
+        self.assertEqual(40, self.estimate({"low": 10}).left([], {}, {}))
+        self.assertEqual(60, self.estimate({}).left(["low"], {"low": 20}, {}))
 
 
 class Lines(unittest.TestCase):
