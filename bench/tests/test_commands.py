@@ -1,0 +1,105 @@
+"""Tests of what the commands share, with programs of the system in place of the proved ones."""
+import contextlib
+import io
+import os
+import subprocess
+import sys
+import tempfile
+import unittest
+
+from commands import documents
+from feeds import city, network, shapes
+from harness import TOP, BenchError, Run, Table, done, limited
+
+
+class Runs(unittest.TestCase):
+    def test_what_a_run_wrote_and_took(self):
+        run = Run("/bin/sh", ["-c", "cat; echo $A >&2; exit 3"], given=b"in\n", env={"A": "b c"})
+        self.assertEqual((3, "in\n", "b c\n"), (run.status, run.out, run.err))
+        self.assertEqual("b c", run.first_line())
+        self.assertTrue(0 <= run.seconds and 0 < run.clock < 10)
+
+    def test_a_signal(self):
+        self.assertEqual("SIGKILL", Run("/bin/sh", ["-c", "kill -9 $$"]).status)
+
+    def test_a_call_before(self):
+        self.assertEqual(3, Run("/bin/sh", ["-c", "exit 3"], before=limited(10**9)).status)
+
+    def test_memory_is_not_that_of_the_script(self):
+        text = "x" * 200_000_000
+        self.assertLess(Run("/bin/sh", ["-c", ":"]).megabytes, len(text) / 1e6 / 2)
+
+    def test_a_run_without_the_answer(self):
+        with self.assertRaisesRegex(BenchError, "sh -c exit 3 ended with 3: nothing"):
+            done("/bin/sh", ["-c", "exit 3"])
+        with self.assertRaises(BenchError):
+            Run("/nowhere", [])
+
+
+class Tables(unittest.TestCase):
+    def test_the_form_of_the_documents(self):
+        out = io.StringIO()
+        with contextlib.redirect_stdout(out):
+            Table("feed", "s").row("city", 1)
+        stamp, *lines = out.getvalue().split("\n")
+        self.assertRegex(stamp, r"^\S.*, \d{4}-\d\d-\d\d, .+, \d+ at work$")
+        self.assertEqual(["", "| feed | s |", "|---|---|", "| city | 1 |", ""], lines)
+
+
+class Examples(unittest.TestCase):
+    def test_commands_of_a_document(self):
+        lines = ["A text", "", "    $ one", "    a", "      b", "    $ two", "", "    no command"]
+        wanted = [("one", ["a", "  b"]), ("two", []), ("three", ["c"])]
+        found = documents.examples([*lines, "", "    $ three", "    c"])
+        self.assertEqual(wanted, list(found))
+
+    def test_lines_of_a_command(self):
+        self.assertEqual(["a", "", "b"], documents.run_command("printf 'a\\n\\nb\\n'"))
+
+
+class Feeds(unittest.TestCase):
+    def rows(self, make, *words, **named):
+        """The number of lines of each file that is written, and the text of all files."""
+        with tempfile.TemporaryDirectory() as folder:
+            make(folder, *words, **named)
+            texts = {}
+            for name in sorted(os.listdir(folder)):
+                with open(os.path.join(folder, name), encoding="ascii") as file:
+                    texts[name] = file.read()
+        return {name: text.count("\n") for name, text in texts.items()}, texts
+
+    def test_the_same_words_give_the_same_bytes(self):
+        self.assertEqual(self.rows(city.make, 100), self.rows(city.make, 100))
+        self.assertNotEqual(self.rows(city.make, 100), self.rows(city.make, 100, seed=8))
+
+    def test_halves_of_a_network(self):
+        halves = [self.rows(network.make, 8, half=half)[0] for half in network.HALVES]
+        frequencies, written, without = (half["trips.txt"] for half in halves)
+        self.assertTrue(without < frequencies < written)
+        self.assertIn("frequencies.txt", halves[0])
+
+    def test_shapes_grow(self):
+        for make in shapes.SHAPES.values():
+            small, large = (sum(map(len, self.rows(make, n)[1].values())) for n in (200, 400))
+            self.assertLess(small, large)
+
+
+class Words(unittest.TestCase):
+    def ended(self, *words):
+        command = [sys.executable, os.path.join(TOP, "bench"), *words]
+        return subprocess.run(command, capture_output=True, text=True)
+
+    def test_bad_words_end_in_a_line(self):
+        for words in ([], ["beside"], ["queries", "--feed", "nope:3"], ["make", "city", "x", "0"]):
+            run = self.ended(*words)
+            self.assertEqual(2, run.returncode, words)
+            self.assertIn("error: ", run.stderr)
+            self.assertNotIn("Traceback", run.stderr)
+
+    def test_help(self):
+        self.assertEqual(0, self.ended("--help").returncode)
+        self.assertIn("--seed", self.ended("make", "city", "--help").stdout)
+
+
+if __name__ == "__main__":
+    unittest.main()
