@@ -91,7 +91,7 @@ def stamp_file(top):
 
 def is_current(top):
     """Whether the stamp is the built program's and has the sum of the sources as they are now."""
-    program, stamp = built_program(top), stamp_file(top)
+    program, stamp, now = built_program(top), stamp_file(top), time.time()
     try:
         if os.stat(stamp).st_mtime_ns < os.stat(program).st_mtime_ns:
             return False
@@ -103,8 +103,13 @@ def is_current(top):
         return False
     # so that the launcher needs no sum next time
     with contextlib.suppress(OSError):
-        os.utime(stamp)
+        date_stamp(stamp, now)
     return True
+
+
+def date_stamp(stamp, now):
+    """Has a stamp say that it was true at a time, less what a file's time may be behind."""
+    os.utime(stamp, (now - 1, now - 1))
 
 
 def commit_of(top):
@@ -312,14 +317,18 @@ def write_whole(path, text):
     os.replace(f"{path}.new", path)
 
 
-def place(tree, top, stamp):
-    """Puts the program where the launcher finds it, and its stamp beside it."""
+def place(tree, top, stamp, copied):
+    """Puts the program where the launcher finds it, and its stamp beside it, which is as old as the
+    copy of the sources: a source may have changed since then.
+    """
     to = built_program(top)
     os.makedirs(os.path.dirname(to), exist_ok=True)
     shutil.copyfile(built_program(tree), f"{to}.new")
     os.chmod(f"{to}.new", 0o755)
+    os.utime(f"{to}.new", (copied - 2, copied - 2))
     os.replace(f"{to}.new", to)
     write_whole(stamp_file(top), stamp)
+    date_stamp(stamp_file(top), copied)
 
 
 @contextlib.contextmanager
@@ -339,6 +348,7 @@ def build_in(cache, top, names, lines, libraries):
     tree, figures_file = os.path.join(cache, "tree"), os.path.join(cache, "..", "seconds.json")
     log_file = os.path.join(cache, "build.log")
     shutil.rmtree(tree, ignore_errors=True)
+    copied = time.time()
     copy_sources(top, tree, names, lines)
     stamp = f"commit {commit_of(top)}\nsources {sum_of_sources(tree)}\n"
     sizes = {name: line_count(os.path.join(tree, "crates", name)) for name in names}
@@ -353,7 +363,7 @@ def build_in(cache, top, names, lines, libraries):
         if status or not os.path.isfile(built_program(tree)):
             why = f"not proved: {' '.join(progress.failed)}" if progress.failed else "no program"
             raise BuildError(f"{why}; what the toolchain said stands in {log_file}")
-        place(tree, top, stamp)
+        place(tree, top, stamp, copied)
         took = shown(time.monotonic() - progress.begin)
         progress.say(f"router: the proved program is built, in {took}")
     except KeyboardInterrupt:

@@ -3,6 +3,7 @@ import contextlib
 import io
 import os
 import tempfile
+import time
 import unittest
 
 import build
@@ -31,8 +32,10 @@ class Sources(unittest.TestCase):
         write(self.top, "crates/low/proofs/out/Answers.antt", "\n")
 
     def build(self):
-        write(self.top, "crates/router/out/router", "program")
-        build.write_whole(build.stamp_file(self.top), f"sources {build.sum_of_sources(self.top)}\n")
+        tree = os.path.join(self.top, "tree")
+        write(tree, "crates/router/out/router", "program")
+        stamp = f"sources {build.sum_of_sources(self.top)}\n"
+        build.place(tree, self.top, stamp, time.time())
 
     def test_crates_below(self):
         libraries = build.crate_lines(self.top)[1]
@@ -65,6 +68,11 @@ class Sources(unittest.TestCase):
         self.assertTrue(build.is_current(self.top))
         write(self.top, "HANDLES", "Handles allowed: Threads.\n")
         self.assertFalse(build.is_current(self.top))
+
+    def test_sources_that_change_during_a_build(self):
+        self.build()
+        times = [os.stat(it).st_mtime for it in (build.stamp_file(self.top), self.top)]
+        self.assertLess(times[0], times[1])
 
     def test_program_that_something_else_built(self):
         self.build()
