@@ -1,5 +1,5 @@
 """Tests of the command `delays`: python3 -m unittest discover bench"""
-import os
+import sys
 import tempfile
 import unittest
 
@@ -108,6 +108,7 @@ class Delays(unittest.TestCase):
         bad = [update(stops, "F1", startTime="08:00:00"), update(stops, "F1")]
         self.check([], absent, *bad)
 
+    @unittest.skipIf(sys.version_info < (3, 9), "time zones came with Python 3.9")
     def test_times_in_place_of_delays(self):
         # 07:12 UTC is 08:12 in Zürich, where B is reached at 08:10
         stops = [{"stopSequence": 3, "arrival": {"time": "1772435520"}}]
