@@ -7,7 +7,6 @@ with one request a lane, and the most memory. Requests a second are by the clock
 """
 import os
 import random
-import tempfile
 
 from feeds import add_feed_argument, feed_of
 from harness import Table, clock, count, done, router
