@@ -1,7 +1,7 @@
 -- Times of a file as numbers of 32 bits.
 use Rattle.std.proofs.Common.{ℤ, rules, w32}
 use Rattle.std.specs.Prelude.{FitsSigned}
-use Rattle.trip_rides.specs.Times.{IsFileTime}
+use Rattle.service_trips.specs.Times.{IsFileTime}
 
 -- a time of a file fits 32 bits
 pub file_time-fits : (z : ℤ) → IsFileTime z → FitsSigned w32 z

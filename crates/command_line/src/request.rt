@@ -15,7 +15,7 @@ pub struct Inquiry<'a> {
 }
 
 impl<'a> Model for Inquiry<'a> {
-    ghost use Rattle.trip_rides.specs.Times.{IsFileTime};
+    ghost use Rattle.service_trips.specs.Times.{IsFileTime};
     ghost use Rattle.command_line.specs.Inquiries.{InquiryData};
 
     ghost Value = { InquiryData };
@@ -38,7 +38,7 @@ pub struct WindowInquiry<'a> {
 }
 
 impl<'a> Model for WindowInquiry<'a> {
-    ghost use Rattle.trip_rides.specs.Times.{IsFileTime};
+    ghost use Rattle.service_trips.specs.Times.{IsFileTime};
     ghost use Rattle.command_line.specs.Inquiries.{WindowInquiryData};
 
     ghost Value = { WindowInquiryData };
@@ -83,7 +83,7 @@ pub struct OriginInquiry<'a> {
 }
 
 impl<'a> Model for OriginInquiry<'a> {
-    ghost use Rattle.trip_rides.specs.Times.{IsFileTime};
+    ghost use Rattle.service_trips.specs.Times.{IsFileTime};
     ghost use Rattle.command_line.specs.Inquiries.{OriginInquiryData};
 
     ghost Value = { OriginInquiryData };

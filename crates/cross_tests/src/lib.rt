@@ -4,7 +4,7 @@
 //! `files` tests `tb_io`, of what no clause says: real files and output, that nothing is called
 //! after a failure, and that calls that take memory succeed with ample memory. `readers` tests that
 //! the readers of `gtfs_rows` give the rows of a small file each with ample memory. `journeys`
-//! tests `journey_rules` and `journey_read` over a small town, which is read from a feed in memory:
+//! tests `journey_read` over a small town, which is read from a feed in memory:
 //! the rules of a journey, each broken once, and claimed journeys. `marks` tests what is kept of
 //! the marks of a search where their floors come to their end, `workers` the workers that share a
 //! reduction, over a made city. `stores` tests editions that are published while others ask: what a

@@ -1,3 +1,5 @@
+pub mod Passes
+pub mod Faults
 pub mod Hours
 pub mod RideSteps
 pub mod LineSteps

@@ -6,7 +6,7 @@ use Rattle.tb_base.specs.declared.query.Value.{Value}
 use Rattle.tb_base.specs.BestValues.{ChoiceData, QueryData}
 use Rattle.tb_base.specs.JourneyRules.{BreaksFirst, SpellValue}
 use Rattle.tb_base.specs.TimetableData.{TimetableData, arrival_at}
-use Rattle.journey_rules.specs.Known.{IsKnownLeg}
+use Rattle.journey_read.specs.Known.{IsKnownLeg}
 use Rattle.journey_read.specs.declared.verdict.Verdict.{Verdict}
 use Rattle.journey_read.specs.declared.verdict.Verdict.TheVariants as verdict
 

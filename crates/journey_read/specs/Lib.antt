@@ -1,3 +1,4 @@
+pub mod Known
 pub mod Times
 pub mod Rides
 pub mod Claims

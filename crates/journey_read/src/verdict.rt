@@ -1,12 +1,12 @@
 //! Judging a claim.
 ghost use Rattle.std.specs.Prelude.{◌≡◌, ◌+◌, ◌-◌, ◌<◌, ◌^◌, ◌↔◌, ◌≤ℤ◌, All, Decides, length, pos};
 ghost use Rattle.tb_base.specs.JourneyRules.{SpellValue};
-ghost use Rattle.journey_rules.specs.Known.{IsKnownLeg};
+ghost use Rattle.journey_read.specs.Known.{IsKnownLeg};
 ghost use Rattle.journey_read.specs.Judging.{IsVerdict, GoesOn, rides_on, time_after, value_after};
 ghost use Rattle.journey_read.specs.declared.verdict.Verdict.TheVariants as verdict;
 
 use crate::claim::Claimed;
-use journey_rules::fault;
+use crate::rules::fault;
 use tb_base::{Leg, Query, RuleBroken, Sec, Timetable, Value};
 
 /// What is said of a claim.

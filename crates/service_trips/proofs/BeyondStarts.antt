@@ -14,7 +14,7 @@ use Rattle.tb_base.specs.TimetableData.{no_event}
 use Rattle.service_trips.specs.declared.frequency.TripFrequency.{TripFrequency}
 use Rattle.service_trips.specs.Starts.{starts, starts_from}
 use Rattle.service_trips.specs.ServiceDay.{moved, first_departure, starting_at}
-use Rattle.service_trips.specs.Rides.{IsRide, begin_from, end_from}
+use Rattle.service_trips.specs.ShownRides.{IsRide, begin_from, end_from}
 use Rattle.service_trips.specs.Limits.{has_beyond, is_beyond, moves_beyond}
 
 -- a trip that starts at a time begins before the day

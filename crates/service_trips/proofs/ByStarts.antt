@@ -14,7 +14,7 @@ use Rattle.service_trips.specs.declared.frequency.TripFrequency.{TripFrequency}
 use Rattle.service_trips.specs.Starts.{starts, starts_from, frequency_at}
 use Rattle.service_trips.specs.ServiceDay.{starting_at, trip_starting_at}
 use Rattle.service_trips.specs.DayBefore.{shown}
-use Rattle.service_trips.specs.Rides.{is_shown, as_shown}
+use Rattle.service_trips.specs.ShownRides.{is_shown, as_shown}
 use Rattle.service_trips.proofs.Shown.{late_starts, shown-append, shown-nil}
 
 -- a start of a run is before the end

@@ -14,7 +14,7 @@ use Rattle.service_trips.specs.declared.frequency.TripFrequency.{TripFrequency}
 use Rattle.service_trips.specs.Starts.{starts, starts_from}
 use Rattle.service_trips.specs.ServiceDay.{moved, trip_starting_at, trips_of, starting_at}
 use Rattle.service_trips.specs.DayBefore.{shown, lowered, is_under_way}
-use Rattle.service_trips.specs.Rides.{is_shown, as_shown}
+use Rattle.service_trips.specs.ShownRides.{is_shown, as_shown}
 use Rattle.service_trips.specs.Sizes.{event_count}
 use Rattle.service_trips.proofs.Shown.{late_starts}
 

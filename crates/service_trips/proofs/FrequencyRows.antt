@@ -8,15 +8,15 @@ use Rattle.std.proofs.lemmas.List.FromFn.{get_or-range_with_len, length-range_wi
 use Rattle.tb_base.specs.KeyPlaces.{places_of}
 use Rattle.tb_base.proofs.ByPlaces.{rows_by_places}
 use Rattle.service_trips.specs.declared.frequency.TripFrequency.{TripFrequency}
-use Rattle.service_trips.specs.Starts.{Frequencies, AreIndexed, is_of_trip, frequency_at}
+use Rattle.service_trips.specs.Starts.{Frequencies, AreIndexed, names_trip, frequency_at}
 
 -- the number of a row's trip
 abbrev key : TripFrequency → ℕ
 key f = f.trip_row
 
-places_rows : (rows : List TripFrequency) (trip : ℕ) → map (frequency_at rows) (places_of (map key rows) trip) ≡ filter (is_of_trip trip) rows
+places_rows : (rows : List TripFrequency) (trip : ℕ) → map (frequency_at rows) (places_of (map key rows) trip) ≡ filter (names_trip trip) rows
 places_rows rows trip =
-    rows_by_places (is_of_trip trip) rows (map key rows) trip (record { row = 0; trip_row = 0; start = 0; end = 0; headway = 0 }) (length-map rows key) (λ i h. ap (λ k. k == trip) (get_or-map key rows i _ 0 h))
+    rows_by_places (names_trip trip) rows (map key rows) trip (record { row = 0; trip_row = 0; start = 0; end = 0; headway = 0 }) (length-map rows key) (λ i h. ap (λ k. k == trip) (get_or-map key rows i _ 0 h))
 
 below : (n : ℕ) → All (λ p. p < n) (range_with_len 0 n)
 below n i d within = omega (arith, get_or-range_with_len 0 n i d, length-range_with_len 0 n)
@@ -27,7 +27,7 @@ places_within rows trip =
     (All-filter (λ i. slice_index (map key rows) i == trip) (λ p. p < length (map key rows)) (range_with_len 0 (length (map key rows))) (below (length (map key rows))))
 
 pub trip_rows : (rows : List TripFrequency) (by_trip : List (List ℕ)) (table : Frequencies) (trip : ℕ) (places : List ℕ) → AreIndexed rows by_trip → record { trips = length by_trip; rows = rows } ≡ table
-    → trip < table.trips → places ≡ get_or by_trip trip [] → map (frequency_at table.rows) places ≡ filter (is_of_trip trip) table.rows
+    → trip < table.trips → places ≡ get_or by_trip trip [] → map (frequency_at table.rows) places ≡ filter (names_trip trip) table.rows
 trip_rows rows by_trip table trip places indexed is below at =
     rw (← is, at, indexed.places trip (rw (← is) at below)) (places_rows rows trip)
 

@@ -1,3 +1,15 @@
+pub mod Interpolation
+pub mod Timed
+pub mod FirstWrong
+pub mod InSequence
+pub mod Sorted
+pub mod ChainSteps
+pub mod TripRows
+pub mod TripSteps
+pub mod TimedEvents
+pub mod Walk
+pub mod Parts
+pub mod SoundRides
 pub mod Runs
 pub mod StartRuns
 pub mod RideTimes

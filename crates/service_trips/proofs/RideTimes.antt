@@ -8,7 +8,7 @@ use Rattle.tb_base.specs.declared.table.Event.{Event}
 use Rattle.tb_base.specs.TimetableData.{no_event}
 use Rattle.service_trips.specs.ServiceDay.{moved, first_departure, starting_at}
 use Rattle.service_trips.specs.DayBefore.{last_arrival}
-use Rattle.service_trips.specs.Rides.{IsRide, is_shown}
+use Rattle.service_trips.specs.ShownRides.{IsRide, is_shown}
 
 -- a trip departs before it arrives
 pub first_before_last : (ride : List Event) → IsRide ride → first_departure ride ≤ℤ last_arrival ride

@@ -8,7 +8,7 @@ use Rattle.std.proofs.lemmas.List.FromFn.{map-range_with_len_more}
 use Rattle.tb_base.specs.declared.table.Event.{Event}
 use Rattle.tb_base.specs.TimetableData.{TripData}
 use Rattle.gtfs_rows.specs.TripsFile as row
-use Rattle.service_trips.specs.Starts.{is_of_trip}
+use Rattle.service_trips.specs.Starts.{names_trip}
 use Rattle.service_trips.specs.ServiceDay.{FeedTrips, id_of, ride_of, trips_where, trips_at, service_trips}
 use Rattle.service_trips.specs.DayBefore.{shown}
 use Rattle.service_trips.proofs.Shown.{shown-append, shown-nil}
@@ -38,7 +38,7 @@ trips_added before feed runs n done new added so_far is same = is ∙ rw (so_far
 
 -- the trips of the row with a number
 pub row_at : (before : Bool) (feed : FeedTrips) (runs : List Bool) (k : ℕ) (id : List ℕ) (ride : List Event) → id ≡ id_of feed k → ride ≡ ride_of feed k
-    → shown before (trips_where (slice_index_or runs k false) id (filter (is_of_trip k) feed.frequencies) ride) ≡ shown before (trips_at feed runs k)
+    → shown before (trips_where (slice_index_or runs k false) id (filter (names_trip k) feed.frequencies) ride) ≡ shown before (trips_at feed runs k)
 row_at before feed runs k id ride i r = rw (i, r) refl
 
 -- the id of a row

@@ -10,7 +10,7 @@ use Rattle.tb_base.specs.TimetableData.{TripData}
 use Rattle.answer_text.specs.Times.{time_text}
 use Rattle.service_trips.specs.ServiceDay.{moved, first_departure, trip_starting_at}
 use Rattle.service_trips.specs.DayBefore.{shown, lowered, is_under_way}
-use Rattle.service_trips.specs.Rides.{is_shown, as_shown, shift}
+use Rattle.service_trips.specs.ShownRides.{is_shown, as_shown, shift}
 
 -- events moved twice
 pub moved_twice : (a b c : ℤ) (events : List Event) → a +ℤ b ≡ c → map (moved b) (map (moved a) events) ≡ map (moved c) events

@@ -10,10 +10,10 @@ use Rattle.tb_base.specs.declared.table.Event.{Event}
 use Rattle.tb_base.specs.TimetableData.{TripData}
 use Rattle.service_trips.specs.declared.frequency.TripFrequency.{TripFrequency}
 use Rattle.service_trips.specs.declared.size.Size.{Size}
-use Rattle.service_trips.specs.Starts.{is_of_trip, frequency_at, starts_from}
+use Rattle.service_trips.specs.Starts.{names_trip, frequency_at, starts_from}
 use Rattle.service_trips.specs.ServiceDay.{FeedTrips, id_of, starting_at, trips_of, trips_where, trips_at, service_trips}
 use Rattle.service_trips.specs.DayBefore.{shown, is_under_way}
-use Rattle.service_trips.specs.Rides.{is_shown}
+use Rattle.service_trips.specs.ShownRides.{is_shown}
 use Rattle.service_trips.specs.Sizes.{IsSize, event_count}
 use Rattle.service_trips.proofs.Shown.{shown-nil}
 use Rattle.service_trips.proofs.Counts.{starts_counted, row_events, min_times}
@@ -107,7 +107,7 @@ both_sizes xs ys a b c x y trips events =
 -- the size with one row more
 pub size_more : (before : Bool) (feed : FeedTrips) (runs : List Bool) (n : ℕ) (ride : List Event) (so_far one size : Size) → ride ≡ slice_index_or feed.rides n []
     → ((xs ys : List TripData) → IsSize xs so_far → IsSize ys one → IsSize (xs ++ ys) size) → IsSize (shown before (flat_map (trips_at feed runs) (range_with_len 0 n))) so_far
-    → ((id : List ℕ) → IsSize (shown before (trips_where (slice_index_or runs n false) id (filter (is_of_trip n) feed.frequencies) ride)) one)
+    → ((id : List ℕ) → IsSize (shown before (trips_where (slice_index_or runs n false) id (filter (names_trip n) feed.frequencies) ride)) one)
     → IsSize (shown before (flat_map (trips_at feed runs) (range_with_len 0 (n + 1)))) size
 unfolding first_trips
 size_more before feed runs n ride so_far one size at plus is more =

@@ -12,12 +12,12 @@ use Rattle.tb_base.specs.declared.table.Event.{Event}
 use Rattle.tb_base.specs.TimetableData.{TripData}
 use Rattle.tb_base.specs.Soundness.{IsSoundTrip}
 use Rattle.gtfs_rows.specs.Faults.{unless_wrong}
-use Rattle.trip_rides.specs.Rides.{AreSoundEvents, IsSoundRide}
+use Rattle.service_trips.specs.Rides.{AreSoundEvents, IsSoundRide}
 use Rattle.service_trips.specs.declared.frequency.TripFrequency.{TripFrequency}
-use Rattle.service_trips.specs.Starts.{is_of_trip, starts}
+use Rattle.service_trips.specs.Starts.{names_trip, starts}
 use Rattle.service_trips.specs.ServiceDay.{FeedTrips, ride_of, id_of, moved, first_departure, starting_at, trip_starting_at, trips_of, trips_where, trips_at, service_trips}
 use Rattle.service_trips.specs.DayBefore.{shown, lowered, is_under_way, timetable_trips}
-use Rattle.service_trips.specs.Rides.{IsRideOrNone}
+use Rattle.service_trips.specs.ShownRides.{IsRideOrNone}
 use Rattle.service_trips.specs.Limits.{has_beyond, is_beyond, moves_beyond, wrong_frequency, check_frequencies}
 
 -- the events of a sound ride are those of a day
@@ -116,7 +116,7 @@ checked feed (f ∷ fs) rows rows' ok =
     ]
 
 -- the rows that name a trip keep its times within
-of_trip_within : (feed : FeedTrips) (trip : ℕ) (fs : List TripFrequency) → All (λ f. moves_beyond (ride_of feed (TripFrequency.trip_row f)) f ≡ false) fs → All (KeepsWithin (ride_of feed trip)) (filter (is_of_trip trip) fs)
+of_trip_within : (feed : FeedTrips) (trip : ℕ) (fs : List TripFrequency) → All (λ f. moves_beyond (ride_of feed (TripFrequency.trip_row f)) f ≡ false) fs → All (KeepsWithin (ride_of feed trip)) (filter (names_trip trip) fs)
 of_trip_within feed trip [] keeps = All-nil (KeepsWithin (ride_of feed trip))
 of_trip_within feed trip (f ∷ fs) keeps =
     let rest = of_trip_within feed trip fs (All-tail (λ f. moves_beyond (ride_of feed (TripFrequency.trip_row f)) f ≡ false) f fs keeps) in
@@ -124,7 +124,7 @@ of_trip_within feed trip (f ∷ fs) keeps =
     elim (cases_Bool (f.trip_row == trip)) [
       | inl t ↦
           let same : f.trip_row ≡ trip = grind (arith, nat_tests, t) in
-          rw t (All-cons (KeepsWithin (ride_of feed trip)) f (filter (is_of_trip trip) fs) (rw same at here) rest)
+          rw t (All-cons (KeepsWithin (ride_of feed trip)) f (filter (names_trip trip) fs) (rw same at here) rest)
       | inr e ↦ rw e rest
     ]
 
@@ -138,7 +138,7 @@ rows_sound : (n : ℕ) (feed : FeedTrips) (runs : List Bool) (ks : List ℕ) →
 rows_sound n feed runs [] sound keeps = All-nil (HasSound n)
 rows_sound n feed runs (k ∷ ks) sound keeps =
     All-append (HasSound n) (trips_at feed runs k) (flat_map (trips_at feed runs) ks)
-    (where_sound n (slice_index_or runs k false) (id_of feed k) (filter (is_of_trip k) feed.frequencies) (ride_of feed k) (sound_ride_at n feed.rides k sound) (of_trip_within feed k feed.frequencies keeps))
+    (where_sound n (slice_index_or runs k false) (id_of feed k) (filter (names_trip k) feed.frequencies) (ride_of feed k) (sound_ride_at n feed.rides k sound) (of_trip_within feed k feed.frequencies keeps))
     (rows_sound n feed runs ks sound keeps)
 
 own_sound : (n : ℕ) (trips : List TripData) → All (HasSound n) trips → All (IsSoundTrip n) trips

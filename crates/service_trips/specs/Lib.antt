@@ -1,6 +1,12 @@
+pub mod StopTimes
+pub mod Times
+pub mod Faults
+pub mod TimeFaults
+pub mod Rides
+pub mod Chains
 pub mod Starts
 pub mod ServiceDay
 pub mod DayBefore
-pub mod Rides
+pub mod ShownRides
 pub mod Sizes
 pub mod Limits

@@ -1,47 +1,54 @@
--- The events of trips, as a timetable shows them.
-use Rattle.std.specs.Prelude.{ℕ, ◌-◌, ◌<◌, ◌≤◌, List, length, slice_index_or, All, AllPairs, Bool, true, false, not, ℤ, pos, int_lt, ◌≤ℤ◌, ◌-ℤ◌, ◌+ℤ◌}
+-- The events that the stop times of each trip give.
+use Rattle.std.specs.Prelude.{ℕ, ◌+◌, ◌<◌, ◌≤◌, ◌&&◌, List, [], ◌∷◌, length, map, slice_index_or, nat_le, Bool, false, Option, Result, if◌then◌else◌, All, AllPairs, pos, ◌≤ℤ◌}
+use Rattle.std.specs.List.{range_with_len}
 use Rattle.tb_base.specs.declared.table.Event.{Event}
-use Rattle.tb_base.specs.TimetableData.{TripData, no_event}
-use Rattle.service_trips.specs.ServiceDay.{first_departure}
-use Rattle.service_trips.specs.DayBefore.{last_arrival, lowered}
+use Rattle.tb_base.specs.Soundness.{IsSoundEvent}
+use Rattle.gtfs_rows.specs.declared.fault.FeedFault.{FeedFault}
+use Rattle.service_trips.specs.declared.stop_time.StopTime.{StopTime}
+use Rattle.service_trips.specs.declared.times.Times.{Times}
+use Rattle.gtfs_rows.specs.Faults.{unless_wrong}
+use Rattle.service_trips.specs.StopTimes.{stop_times}
+use Rattle.service_trips.specs.TimeFaults.{wrong_trips}
+use Rattle.service_trips.specs.Times.{times_of, times_at}
 
--- an event within the limits of a file's times, not left before it is reached
-pub record IsDayEvent (e : Event) : Type 0 where
-  pub since : pos 0 ≤ℤ e.arr
-  pub waits : e.arr ≤ℤ e.dep
-  pub latest : e.dep ≤ℤ pos 359999
+-- the event that a row gives
+abbrev pub event_of : StopTime → Times → Event
+event_of r t =
+    record { stop = r.stop; arr = t.arr; dep = t.dep; board = r.board; alight = r.alight }
 
--- at least two such events, each left before a later one is reached
-pub record IsRide (ride : List Event) : Type 0 where
+-- the events of rows, of which the first stands at a place
+abbrev pub events_from : List (Option Times) → ℕ → List StopTime → List Event
+events_from times k [] = []
+events_from times k (r ∷ rest) = event_of r (times_at times k) ∷ events_from times (k + 1) rest
+
+-- the events of a trip whose rows stand in order
+abbrev pub events_in : List StopTime → List Event
+events_in ordered = events_from (map times_of ordered) 0 ordered
+
+-- the events of a trip that runs and has at least two stop times; no other trip has any
+abbrev pub ride_in : Bool → List StopTime → List Event
+ride_in runs ordered = if runs && nat_le 2 (length ordered) then events_in ordered else []
+
+-- the events of a trip of the feed
+abbrev pub ride_on : List StopTime → List Bool → ℕ → List Event
+ride_on rows runs trip = ride_in (slice_index_or runs trip false) (stop_times rows trip)
+
+-- the events of each of the first so many trips
+abbrev pub rides_on : List StopTime → List Bool → ℕ → List (List Event)
+rides_on rows runs count = map (ride_on rows runs) (range_with_len 0 count)
+
+-- the events of each trip, or the first thing that is wrong with one, whether it runs or not
+abbrev pub checked_rides : List StopTime → List Bool → Result (List (List Event)) FeedFault
+checked_rides rows runs =
+    unless_wrong (wrong_trips rows 0 (length runs)) (rides_on rows runs (length runs))
+
+-- the events of a sound trip among so many stops, none of them before the day
+pub record AreSoundEvents (stops : ℕ) (ride : List Event) : Type 0 where
   pub long : 2 ≤ length ride
-  pub events : All IsDayEvent ride
+  pub events : All (IsSoundEvent stops) ride
   pub onward : AllPairs (λ e f. e.dep ≤ℤ f.arr) ride
+  pub since : All (λ e. pos 0 ≤ℤ Event.arr e) ride
 
--- no events, or those of a trip
-abbrev pub IsRideOrNone : List Event → Type 0
-IsRideOrNone ride = 0 < length ride → IsRide ride
-
--- a timetable shows events: those of its day, and those of the day before that are under way
-abbrev pub is_shown : Bool → List Event → Bool
-is_shown false events = true
-is_shown true events = not (int_lt (last_arrival events) (pos 86400))
-
--- a trip as it is shown: lowered, where it is one of the day before
-abbrev pub as_shown : Bool → TripData → TripData
-as_shown false t = t
-as_shown true t = lowered t
-
--- the seconds by which a trip is moved that starts at a time, and is shown
-abbrev pub shift : Bool → List Event → ℕ → ℤ
-shift false ride start = pos start -ℤ first_departure ride
-shift true ride start = pos start -ℤ first_departure ride -ℤ pos 86400
-
--- when a trip that starts at a time arrives at its first stop, and departs from its last
-abbrev pub begin_from : List Event → ℕ → ℤ
-begin_from ride start =
-    Event.arr (slice_index_or ride 0 no_event) +ℤ (pos start -ℤ first_departure ride)
-
-abbrev pub end_from : List Event → ℕ → ℤ
-end_from ride start =
-    Event.dep (slice_index_or ride (length ride - 1) no_event)
-    +ℤ (pos start -ℤ first_departure ride)
+-- the events, where there are any, are sound
+abbrev pub IsSoundRide : ℕ → List Event → Type 0
+IsSoundRide stops ride = 0 < length ride → AreSoundEvents stops ride

@@ -6,7 +6,7 @@ use Rattle.tb_base.specs.TimetableData.{TripData, no_event}
 use Rattle.gtfs_rows.specs.TripsFile as row
 use Rattle.answer_text.specs.Times.{time_text}
 use Rattle.service_trips.specs.declared.frequency.TripFrequency.{TripFrequency}
-use Rattle.service_trips.specs.Starts.{is_of_trip, starts}
+use Rattle.service_trips.specs.Starts.{names_trip, starts}
 
 -- what a feed says of its trips: the rows of trips.txt, the events of each, none for a trip of
 -- fewer than two stop times, and the rows of frequencies.txt
@@ -69,7 +69,7 @@ trips_where true id frequencies events = trips_of id frequencies events
 abbrev pub trips_at : FeedTrips → List Bool → ℕ → List TripData
 trips_at feed runs trip =
     trips_where (slice_index_or runs trip false) (id_of feed trip)
-    (filter (is_of_trip trip) feed.frequencies) (ride_of feed trip)
+    (filter (names_trip trip) feed.frequencies) (ride_of feed trip)
 
 -- The trips of a service day, in the order of trips.txt, by whether the service of each row runs on
 -- it.

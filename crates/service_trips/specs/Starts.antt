@@ -10,8 +10,8 @@ pub record Frequencies : Type 0 where
   pub rows : List TripFrequency
 
 -- the row names the trip
-abbrev pub is_of_trip : ℕ → TripFrequency → Bool
-is_of_trip trip f = f.trip_row == trip
+abbrev pub names_trip : ℕ → TripFrequency → Bool
+names_trip trip f = f.trip_row == trip
 
 -- When trips start by a row: at its first start, and at each headway after it that is before its
 -- end. A headway is at least a second, so there are no more starts than the end has seconds.

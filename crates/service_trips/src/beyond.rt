@@ -2,10 +2,10 @@
 ghost use Rattle.std.specs.Prelude.{◌≡◌, ◌<◌, ◌≤◌, List, All, MatchOption, Ok, Err, length, map, pos, int_lt, ◌||◌};
 ghost use Rattle.gtfs_rows.specs.TripsFile as row;
 ghost use Rattle.service_trips.specs.Starts.{IsGoodFrequency};
-ghost use Rattle.service_trips.specs.Rides.{IsRide, IsRideOrNone, begin_from, end_from};
+ghost use Rattle.service_trips.specs.ShownRides.{IsRide, IsRideOrNone, begin_from, end_from};
 ghost use Rattle.service_trips.specs.Limits.{moves_beyond, check_frequencies};
 
-use crate::ride::shift;
+use crate::moved_rides::shift;
 use crate::starts::starts_from;
 use crate::{FrequencyTable, TripFrequency};
 use gtfs_rows::{FeedFault, FeedFile, Spot};

@@ -2,12 +2,12 @@
 ghost use Rattle.std.specs.Prelude.{◌≡◌, ◌<◌, ◌≤◌, ◌++◌, IfOk, OnOk, map, filter, pos, codes};
 ghost use Rattle.std.specs.List.{flat_map};
 ghost use Rattle.answer_text.specs.Times.{time_text};
-ghost use Rattle.service_trips.specs.Rides.{IsRide, as_shown};
-ghost use Rattle.service_trips.specs.Starts.{IsGoodFrequency, is_of_trip, starts};
+ghost use Rattle.service_trips.specs.ShownRides.{IsRide, as_shown};
+ghost use Rattle.service_trips.specs.Starts.{IsGoodFrequency, names_trip, starts};
 ghost use Rattle.service_trips.specs.ServiceDay.{trip_starting_at};
 ghost use Rattle.service_trips.specs.DayBefore.{shown};
 
-use crate::ride::{least_start, moved_ride, shift};
+use crate::moved_rides::{least_start, moved_ride, shift};
 use crate::starts::starts_from;
 use crate::{FrequencyTable, TripFrequency};
 use answer_text::time_text;
@@ -87,7 +87,7 @@ pub(crate) fn add_by_starts(
     ensures { OnOk result (trips.new.items
         ≡ trips.old.items ++ shown before
         (map (trip_starting_at id.now ride.now)
-        (flat_map starts (filter (is_of_trip trip) table.now.rows)))) }
+        (flat_map starts (filter (names_trip trip) table.now.rows)))) }
 {
     let rows = table.rows();
     let places = table.places(trip);

@@ -1,6 +1,6 @@
 //! The rows of frequencies.txt, by the numbers of their trips.
 ghost use Rattle.std.specs.Prelude.{◌≡◌, ◌≤◌, ◌<◌, All, IfOk, length, map, filter};
-ghost use Rattle.service_trips.specs.Starts.{IsGoodFrequency, is_of_trip, frequency_at};
+ghost use Rattle.service_trips.specs.Starts.{IsGoodFrequency, names_trip, frequency_at};
 
 use std::alloc::Global;
 use std::marker::Model;
@@ -84,7 +84,7 @@ impl FrequencyTable {
     pub fn places(&self, trip: usize) -> &[u32]
         requires { trip < self.now.trips }
         ensures rows { map (frequency_at self.now.rows) result.now
-            ≡ filter (is_of_trip trip) self.now.rows }
+            ≡ filter (names_trip trip) self.now.rows }
         ensures within { All (λ place. place < length self.now.rows) result.now }
     {
         self.by_trip.of(trip)

@@ -2,14 +2,14 @@
 ghost use Rattle.std.specs.Prelude.{◌≡◌, ◌<◌, ◌++◌, ◌-◌, ◌^◌, ℕ, List, All, MatchOption, Ok, Err, filter, length, map, min, sum_by};
 ghost use Rattle.tb_base.specs.TimetableData.{TripData};
 ghost use Rattle.gtfs_rows.specs.TripsFile as row;
-ghost use Rattle.service_trips.specs.Starts.{is_of_trip, starts_from};
-ghost use Rattle.service_trips.specs.Rides.{IsRide, IsRideOrNone, is_shown};
+ghost use Rattle.service_trips.specs.Starts.{names_trip, starts_from};
+ghost use Rattle.service_trips.specs.ShownRides.{IsRide, IsRideOrNone, is_shown};
 ghost use Rattle.service_trips.specs.ServiceDay.{trips_of, trips_where, service_trips};
 ghost use Rattle.service_trips.specs.DayBefore.{shown};
 ghost use Rattle.service_trips.specs.Sizes.{IsSize, check_size};
 
 use crate::FrequencyTable;
-use crate::ride::{DAY, last_arrival, least_start};
+use crate::moved_rides::{DAY, last_arrival, least_start};
 use crate::starts::starts_from;
 use gtfs_rows::{FeedFault, Many};
 use tb_base::Event;
@@ -56,7 +56,7 @@ impl Size {
 fn count_starts(table: &FrequencyTable, trip: usize, least: u32) -> u64
     requires { trip < table.now.trips }
     ensures { result
-        ≡ min (sum_by (λ f. length (starts_from least f)) (filter (is_of_trip trip) table.now.rows))
+        ≡ min (sum_by (λ f. length (starts_from least f)) (filter (names_trip trip) table.now.rows))
         (2 ^ 64 - 1) }
 {
     let rows = table.rows();
@@ -83,7 +83,7 @@ fn count_trips(table: &FrequencyTable, trip: usize, ride: &[Event], before: bool
     requires trip { trip < table.now.trips }
     ensures { (id : List ℕ) →
         result ≡ min (length (shown before
-        (trips_of id (filter (is_of_trip trip) table.now.rows) ride.now))) (2 ^ 64 - 1) }
+        (trips_of id (filter (names_trip trip) table.now.rows) ride.now))) (2 ^ 64 - 1) }
 {
     if table.places(trip).is_empty() {
         return is_shown(ride, before) as u64;
@@ -97,7 +97,7 @@ fn row_size(table: &FrequencyTable, trip: usize, ride: &[Event], runs: bool, bef
     requires trip { trip < table.now.trips }
     ensures { (id : List ℕ) →
         IsSize
-        (shown before (trips_where runs id (filter (is_of_trip trip) table.now.rows) ride.now))
+        (shown before (trips_where runs id (filter (names_trip trip) table.now.rows) ride.now))
         result }
 {
     if !runs || ride.is_empty() {

@@ -3,8 +3,8 @@ ghost use Rattle.std.specs.Prelude.{◌≡◌, ◌≤◌, ℕ, All, IfOk, length
 ghost use Rattle.tb_base.specs.TimetableData.{TripData};
 ghost use Rattle.tb_base.specs.Soundness.{IsSoundTrip};
 ghost use Rattle.gtfs_rows.specs.Refused.{IsRefused, Yields};
-ghost use Rattle.trip_rides.specs.Rides.{IsSoundRide};
-ghost use Rattle.service_trips.specs.Rides.{IsRideOrNone};
+ghost use Rattle.service_trips.specs.Rides.{IsSoundRide};
+ghost use Rattle.service_trips.specs.ShownRides.{IsRideOrNone};
 ghost use Rattle.service_trips.specs.DayBefore.{timetable_trips};
 ghost use Rattle.service_trips.specs.Limits.{checked_trips};
 

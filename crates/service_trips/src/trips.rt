@@ -1,13 +1,13 @@
 //! The trips of a timetable.
 ghost use Rattle.std.specs.Prelude.{◌≡◌, ◌<◌, ◌++◌, All, IfOk, OnOk, true, filter, length, map};
-ghost use Rattle.service_trips.specs.Starts.{is_of_trip};
-ghost use Rattle.service_trips.specs.Rides.{IsRideOrNone};
+ghost use Rattle.service_trips.specs.Starts.{names_trip};
+ghost use Rattle.service_trips.specs.ShownRides.{IsRideOrNone};
 ghost use Rattle.service_trips.specs.ServiceDay.{trips_where, service_trips};
 ghost use Rattle.service_trips.specs.DayBefore.{shown};
 
 use crate::FrequencyTable;
 use crate::by_starts::add_by_starts;
-use crate::ride::{DAY, last_arrival, moved_ride};
+use crate::moved_rides::{DAY, last_arrival, moved_ride};
 use gtfs_rows::TripRow;
 use std::alloc::Global;
 use std::mem;
@@ -28,7 +28,7 @@ fn add_own(
     requires trip { trip < table.now.trips }
     ensures { OnOk result (trips.new.items
         ≡ trips.old.items
-        ++ trips_where runs id.now (filter (is_of_trip trip) table.now.rows) ride.items) }
+        ++ trips_where runs id.now (filter (names_trip trip) table.now.rows) ride.items) }
 {
     if !runs || ride.is_empty() {
         return Ok(());
@@ -60,7 +60,7 @@ fn add_earlier(
     ensures { OnOk result (trips.new.items
         ≡ trips.old.items
         ++ shown true
-        (trips_where runs id.now (filter (is_of_trip trip) table.now.rows) ride.now)) }
+        (trips_where runs id.now (filter (names_trip trip) table.now.rows) ride.now)) }
 {
     if !runs || ride.is_empty() {
         return Ok(());

@@ -4,9 +4,9 @@ use Rattle.std.proofs.lemmas.List.FromFn.{length-map-range_with_len}
 use Rattle.tb_base.specs.declared.table.Event.{Event}
 use Rattle.gtfs_rows.specs.Faults.{unless_wrong}
 use Rattle.gtfs_rows.specs.declared.fault.FeedFault.{FeedFault}
-use Rattle.trip_rides.specs.declared.stop_time.StopTime.{StopTime}
-use Rattle.trip_rides.specs.Rides.{checked_rides, ride_on, rides_on}
-use Rattle.trip_rides.specs.TimeFaults.{wrong_trips}
+use Rattle.service_trips.specs.declared.stop_time.StopTime.{StopTime}
+use Rattle.service_trips.specs.Rides.{checked_rides, ride_on, rides_on}
+use Rattle.service_trips.specs.TimeFaults.{wrong_trips}
 use Rattle.service_day.specs.DayBefore.{day_before}
 use Rattle.trip_table.specs.References.{Rows}
 use Rattle.trip_table.specs.Day.{runs_on, runs_if, runs_before}

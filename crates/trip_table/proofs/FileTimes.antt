@@ -10,7 +10,7 @@ use Rattle.gtfs_rows.specs.Numbers.{number_of, sixtieth, after_hours, clock_of, 
 use Rattle.gtfs_rows.specs.Fields.{or_empty}
 use Rattle.gtfs_rows.proofs.NumberTests.{is_number}
 use Rattle.gtfs_rows.proofs.Digits.{small}
-use Rattle.trip_rides.specs.Times.{IsFileTime}
+use Rattle.service_trips.specs.Times.{IsFileTime}
 
 -- where a test chooses a value, it passed
 pub chosen : {A : Type 0} (b : Bool) (o : Option A) (x : A) → (if b then o else None) ≡ Some x → (b ≡ true) × (o ≡ Some x)

@@ -17,8 +17,8 @@ use Rattle.gtfs_rows.specs.TimesFile.{TimeData, time_row}
 use Rattle.gtfs_rows.specs.declared.fault.FeedFile.TheVariants as file
 use Rattle.gtfs_rows.specs.declared.fault.FeedFault.{FeedFault}
 use Rattle.footpaths.specs.Stops.{platforms}
-use Rattle.trip_rides.specs.declared.stop_time.StopTime.{StopTime}
-use Rattle.trip_rides.specs.Times.{IsFileTime, HasFileTimes}
+use Rattle.service_trips.specs.declared.stop_time.StopTime.{StopTime}
+use Rattle.service_trips.specs.Times.{IsFileTime, HasFileTimes}
 use Rattle.trip_table.specs.References.{numbered, numbered_row, wrong_names, wrong_time, repeats}
 use Rattle.trip_table.specs.GoodTimes.{AreGoodTimes}
 use Rattle.trip_table.proofs.RowFacts.{rows_all}

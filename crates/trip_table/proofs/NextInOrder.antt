@@ -10,7 +10,7 @@ use Rattle.gtfs_rows.specs.Faults.{unless_wrong, wrong_after}
 use Rattle.gtfs_rows.specs.StopsFile.{StopData}
 use Rattle.gtfs_rows.specs.TripsFile.{TripData}
 use Rattle.trip_table.specs.References.{repeats, wrong_time, wrong_names}
-use Rattle.trip_rides.specs.declared.stop_time.StopTime.{StopTime}
+use Rattle.service_trips.specs.declared.stop_time.StopTime.{StopTime}
 
 -- the row's number is below the least that the next row of its trip may have
 abbrev pub IsBelow : List ℕ → StopTime → Type 0

@@ -11,7 +11,7 @@ use Rattle.gtfs_rows.specs.declared.fault.FeedFault.TheVariants as fault
 use Rattle.gtfs_rows.specs.StopsFile.{StopData}
 use Rattle.gtfs_rows.specs.TripsFile.{TripData}
 use Rattle.trip_table.specs.References.{same_key, key_of, repeats, wrong_time, wrong_names}
-use Rattle.trip_rides.specs.declared.stop_time.StopTime.{StopTime}
+use Rattle.service_trips.specs.declared.stop_time.StopTime.{StopTime}
 use Rattle.trip_table.specs.declared.seen.SequenceKey.{SequenceKey}
 
 -- where a walk over stop times stands: the keys so far, and the row at hand, whose ids are good, with whether its key is fresh

@@ -3,9 +3,9 @@ use Rattle.std.specs.Prelude.{◌<◌, ◌≤◌, List, length, All}
 use Rattle.gtfs_rows.specs.StopsFile.{StopData}
 use Rattle.gtfs_rows.specs.TripsFile.{TripData}
 use Rattle.footpaths.specs.Stops.{platforms}
-use Rattle.trip_rides.specs.declared.stop_time.StopTime.{StopTime}
-use Rattle.trip_rides.specs.StopTimes.{DifferWithinTrips}
-use Rattle.trip_rides.specs.Times.{HasFileTimes}
+use Rattle.service_trips.specs.declared.stop_time.StopTime.{StopTime}
+use Rattle.service_trips.specs.StopTimes.{DifferWithinTrips}
+use Rattle.service_trips.specs.Times.{HasFileTimes}
 
 -- each names a trip and a platform that are there, has times of a file, and no two of a trip have
 -- one number

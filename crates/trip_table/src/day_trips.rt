@@ -6,7 +6,7 @@ ghost use Rattle.tb_base.specs.TimetableData.{TripData};
 ghost use Rattle.gtfs_rows.specs.TripsFile as row;
 ghost use Rattle.gtfs_rows.specs.Refused.{IsRefused, Yields};
 ghost use Rattle.footpaths.specs.Stops.{platforms};
-ghost use Rattle.trip_rides.specs.Rides.{IsSoundRide};
+ghost use Rattle.service_trips.specs.Rides.{IsSoundRide};
 ghost use Rattle.trip_table.specs.Day.{runs_on, runs_before, rides_of, trips_on};
 
 use crate::rows::FeedRows;
@@ -15,7 +15,7 @@ use service_day::{Day, Services, running};
 use service_trips::{FrequencyTable, timetable_trips};
 use std::alloc::Global;
 use tb_base::{Event, Memory, Trip};
-use trip_rides::rides_of;
+use service_trips::rides_of;
 
 // Whether the service of each row runs.
 fn services_run(alloc: Global, services: &Services, trips: &[TripRow]) -> Result<Vec<bool>, Memory>

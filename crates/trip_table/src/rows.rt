@@ -15,7 +15,7 @@ use footpaths::StopTable;
 use std::alloc::Global;
 use std::marker::Model;
 use tb_io::Folder;
-use trip_rides::StopTime;
+use service_trips::StopTime;
 
 /// The rows of a feed with which nothing is wrong up to the times of its trips. Contracts see it as
 /// the rows of each file, the stop times by the numbers of their trips and platforms.

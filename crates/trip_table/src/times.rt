@@ -19,7 +19,7 @@ use std::alloc::Global;
 use std::cell::Cell;
 use tb_base::{Memory, StopNo};
 use tb_io::Folder;
-use trip_rides::StopTime;
+use service_trips::StopTime;
 
 // What the next row may name: the trip of the row before, and the stop that followed the stop of
 // that row the last time. It decides only where one looks first.

@@ -1,8 +1,7 @@
 //! Choices that are judged as claims, and claims that differ from one in a single field.
 ghost use Rattle.std.specs.Prelude.{◌<◌, ◌≤ℤ◌, pos, All, length};
 
-use journey_read::{Claimed, Verdict, judge};
-use journey_rules::fault;
+use journey_read::{Claimed, Verdict, fault, judge};
 use std::alloc::Global;
 use tb_base::{Choice, Leg, Memory, Query, Sec, StopNo, Timetable, TripNo, Value};
 

@@ -2,7 +2,7 @@
 ghost use Rattle.std.specs.Prelude.{◌<◌, ◌^◌, length};
 
 use super::{ON_FOOT, between, ride};
-use journey_rules::fault;
+use journey_read::fault;
 use made_feeds::town;
 use std::alloc::Global;
 use std::test::Fail;

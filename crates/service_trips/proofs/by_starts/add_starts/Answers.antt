@@ -1,6 +1,6 @@
 use Rattle.std.proofs.Common.{◌+◌, ◌*◌, arith}
 use Rattle.service_trips.specs.ServiceDay.{trip_starting_at}
-use Rattle.service_trips.specs.Rides.{as_shown}
+use Rattle.service_trips.specs.ShownRides.{as_shown}
 use Rattle.service_trips.proofs.ByStarts.{start_below, one_more, starts_done}
 use Rattle.service_trips.proofs.by_starts.add_starts.Goals as goal
 

@@ -1,7 +1,7 @@
 use Rattle.std.proofs.Common.{◌≡◌, ◌+◌, ◌*◌, ◌++◌, map}
 use Rattle.std.specs.List.{range_with_len}
 use Rattle.service_trips.specs.ServiceDay.{trip_starting_at}
-use Rattle.service_trips.specs.Rides.{as_shown}
+use Rattle.service_trips.specs.ShownRides.{as_shown}
 use Rattle.service_trips.proofs.by_starts.add_starts.Given as goal
 
 abbrev pub invariant-loop-k : goal.invariant-loop-k

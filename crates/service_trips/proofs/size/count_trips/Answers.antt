@@ -1,7 +1,7 @@
 use Rattle.std.proofs.Common.{◌∙◌, ◌-◌, ◌^◌, ap, sym, refl, min, arith, inl, inr}
 use Rattle.std.proofs.lemmas.Bool.{cases_Bool}
 use Rattle.std.proofs.lemmas.Bool.Decides.{nat_tests}
-use Rattle.service_trips.specs.Rides.{is_shown}
+use Rattle.service_trips.specs.ShownRides.{is_shown}
 use Rattle.service_trips.proofs.SizeSteps.{plain_count, named_count}
 use Rattle.service_trips.proofs.size.count_trips.Goals as goal
 

@@ -2,7 +2,7 @@ use Rattle.std.proofs.Common.{map, true, Vec, Global}
 use Rattle.std.specs.Prelude.{Ok, Err}
 use Rattle.std.proofs.lemmas.List.Elements.{All-map}
 use Rattle.tb_base.specs.declared.table.Event.{Event}
-use Rattle.trip_rides.specs.Rides.{IsSoundRide}
+use Rattle.service_trips.specs.Rides.{IsSoundRide}
 use Rattle.service_trips.specs.ServiceDay.{FeedTrips, service_trips}
 use Rattle.service_trips.specs.DayBefore.{shown, timetable_trips}
 use Rattle.service_trips.proofs.Meant.{beyond_meant, size_meant}

@@ -3,7 +3,7 @@ use Rattle.std.proofs.lemmas.List.{get_or-map}
 use Rattle.tb_base.specs.declared.table.Event.{Event}
 use Rattle.gtfs_rows.specs.TripsFile.{TripData}
 use Rattle.service_trips.specs.ServiceDay.{FeedTrips}
-use Rattle.service_trips.specs.Rides.{IsRideOrNone}
+use Rattle.service_trips.specs.ShownRides.{IsRideOrNone}
 use Rattle.service_trips.proofs.Rows.{no_trips, trips_added, row_at, id_at, left_at, left_more, all_trips}
 use Rattle.service_trips.proofs.trips.own_trips.Goals as goal
 

@@ -3,7 +3,7 @@ use Rattle.std.specs.Prelude.{All}
 use Rattle.std.proofs.lemmas.List.{length-map}
 use Rattle.tb_base.specs.declared.table.Event.{Event}
 use Rattle.footpaths.specs.Stops.{platforms}
-use Rattle.trip_rides.specs.declared.stop_time.StopTime.{StopTime}
+use Rattle.service_trips.specs.declared.stop_time.StopTime.{StopTime}
 use Rattle.trip_table.proofs.DayTrips.{as_many}
 use Rattle.trip_table.proofs.day_trips.all_rides.Goals as goal
 

@@ -1,6 +1,0 @@
-use Rattle.std.proofs.Common.{refl}
-use Rattle.trip_rides.proofs.Sorted.{pairs_from_neighbours}
-use Rattle.trip_rides.proofs.order.ascends.Goals as goal
-
-pub returns : goal.returns
-returns c = (λ _. pairs_from_neighbours c.args.rows.now c.loop-k.k c.loop-k-test.false c.loop-k.invariant, λ _. refl)

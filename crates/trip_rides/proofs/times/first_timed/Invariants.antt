@@ -1,7 +1,0 @@
-use Rattle.std.proofs.Common.{◌≡◌, drop, map}
-use Rattle.trip_rides.specs.Times.{times_of, first_timed}
-use Rattle.trip_rides.proofs.times.first_timed.Given as goal
-
-abbrev pub invariant-loop-k : goal.invariant-loop-k
-invariant-loop-k l =
-    first_timed l.from (drop l.from (map times_of l.rows)) ≡ first_timed l.k (drop l.k (map times_of l.rows))
