@@ -7,7 +7,7 @@ use Rattle.tb_base.specs.Profiles.{OfferData}
 use Rattle.tb_base.specs.declared.query.Leg.{Leg}
 use Rattle.tb_base.specs.declared.query.Leg.TheVariants as leg
 use Rattle.tb_base.specs.declared.table.Stop.{Stop}
-use Rattle.answer_text.specs.Times.{time_text}
+use Rattle.tb_base.specs.Clock.{time_text}
 
 abbrev pub stop_name : TimetableData → ℕ → List ℕ
 stop_name T p = Stop.name (slice_index_or T.stops p (record { name = [] }))

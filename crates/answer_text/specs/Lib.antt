@@ -1,4 +1,3 @@
-pub mod Times
 pub mod Journeys
 pub mod Faults
 pub mod Builds

@@ -11,10 +11,9 @@ mod builds;
 mod faults;
 mod journeys;
 mod text;
-mod times;
 
 pub use builds::{BuildCounts, build_list_text, build_text};
 pub use faults::fault_text;
 pub use journeys::{NO_JOURNEY, arrival_text, choices_text, offers_text, unknown_text};
+pub use tb_base::time_text;
 pub use text::Text;
-pub use times::time_text;

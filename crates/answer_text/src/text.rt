@@ -1,11 +1,11 @@
 //! A text that grows.
-ghost use Rattle.std.specs.Prelude.{◌≡◌, ◌++◌, ◌<◌, [], OnErr, OnOk};
+ghost use Rattle.std.specs.Prelude.{◌≡◌, ◌++◌, [], OnErr, OnOk};
 ghost use Rattle.std.specs.Fmt.{decimal};
-ghost use Rattle.answer_text.specs.Times.{two_digits, padded, clock_text, time_text};
+ghost use Rattle.tb_base.specs.Clock.{time_text};
 
 use std::alloc::Global;
 use std::marker::Model;
-use tb_base::{Memory, Sec};
+use tb_base::{Memory, Sec, add_time};
 
 /// A text that grows at its end, seen as its bytes. What adds to it is refused only for want of
 /// memory.
@@ -71,45 +71,10 @@ impl Text {
         self.count(u64::from(n))
     }
 
-    // Adds a number below 100, in two digits.
-    fn two_digits(&mut self, n: u32) -> Result<(), Memory>
-        requires { n < 100 }
-        ensures { OnOk result (self.new ≡ self.old ++ two_digits n) }
-    {
-        let tens = b'0' + (n / 10) as u8;
-        let ones = b'0' + (n % 10) as u8;
-        self.add(&[tens, ones])
-    }
-
-    // Adds a number in at least two digits.
-    fn padded(&mut self, n: u32) -> Result<(), Memory>
-        ensures { OnOk result (self.new ≡ self.old ++ padded n) }
-    {
-        if n < 100 {
-            self.two_digits(n)
-        } else {
-            self.number(n)
-        }
-    }
-
-    // Adds seconds as hours, minutes and seconds.
-    fn clock(&mut self, secs: u32) -> Result<(), Memory>
-        ensures { OnOk result (self.new ≡ self.old ++ clock_text secs) }
-    {
-        self.padded(secs / 3600)?;
-        self.add(b":")?;
-        self.two_digits(secs / 60 % 60)?;
-        self.add(b":")?;
-        self.two_digits(secs % 60)
-    }
-
     /// Adds a time, in seconds from noon minus twelve hours, as `time_text` shows it.
     pub fn time(&mut self, time: Sec) -> Result<(), Memory>
         ensures { OnOk result (self.new ≡ self.old ++ time_text time) }
     {
-        if time < 0 {
-            self.add(b"-")?;
-        }
-        self.clock(time.unsigned_abs())
+        add_time(self.alloc, &mut self.bytes, time)
     }
 }

@@ -3,7 +3,7 @@ use Rattle.std.specs.Prelude.{ℕ, List, [], ◌∷◌, ◌++◌, codes, flat_ma
 use Rattle.std.specs.Fmt.{decimal}
 use Rattle.tb_base.specs.TimetableData.{TimetableData}
 use Rattle.answer_text.specs.Journeys.{legs_text, no_journey}
-use Rattle.answer_text.specs.Times.{time_text}
+use Rattle.tb_base.specs.Clock.{time_text}
 use Rattle.arrive_by.specs.Latest.{DepartureData}
 
 -- `leave TIME rides N`, then the legs

@@ -1,5 +1,4 @@
 pub mod Parsed
 pub mod LastAt
-pub mod Times
 pub mod Days
 pub mod Named

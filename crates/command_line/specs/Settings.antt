@@ -6,7 +6,7 @@ use Rattle.footpaths.specs.declared.paths.Options.{Options}
 use Rattle.footpaths.specs.Limits.{AreWithinADay}
 use Rattle.gtfs_rows.specs.Fields.{secs_of}
 use Rattle.gtfs_rows.specs.Numbers.{number_of}
-use Rattle.reduce_workers.specs.Workers.{AreWorkers}
+use Rattle.tb_base.specs.Workers.{AreWorkers}
 use Rattle.command_line.specs.declared.settings.Settings.{Settings}
 
 pub record AreSettings (s : Settings) : Type 0 where

@@ -15,7 +15,7 @@ pub struct Inquiry<'a> {
 }
 
 impl<'a> Model for Inquiry<'a> {
-    ghost use Rattle.service_trips.specs.Times.{IsFileTime};
+    ghost use Rattle.gtfs_rows.specs.Numbers.{IsFileTime};
     ghost use Rattle.command_line.specs.Inquiries.{InquiryData};
 
     ghost Value = { InquiryData };
@@ -38,7 +38,7 @@ pub struct WindowInquiry<'a> {
 }
 
 impl<'a> Model for WindowInquiry<'a> {
-    ghost use Rattle.service_trips.specs.Times.{IsFileTime};
+    ghost use Rattle.gtfs_rows.specs.Numbers.{IsFileTime};
     ghost use Rattle.command_line.specs.Inquiries.{WindowInquiryData};
 
     ghost Value = { WindowInquiryData };
@@ -83,7 +83,7 @@ pub struct OriginInquiry<'a> {
 }
 
 impl<'a> Model for OriginInquiry<'a> {
-    ghost use Rattle.service_trips.specs.Times.{IsFileTime};
+    ghost use Rattle.gtfs_rows.specs.Numbers.{IsFileTime};
     ghost use Rattle.command_line.specs.Inquiries.{OriginInquiryData};
 
     ghost Value = { OriginInquiryData };
@@ -130,7 +130,7 @@ pub struct DayRequest<'a> {
 impl<'a> Model for DayRequest<'a> {
     ghost use Rattle.command_line.specs.DayCommands.{DayRequestData};
     ghost use Rattle.footpaths.specs.Limits.{AreWithinADay};
-    ghost use Rattle.reduce_workers.specs.Workers.{AreWorkers};
+    ghost use Rattle.tb_base.specs.Workers.{AreWorkers};
 
     ghost Value = { DayRequestData };
 
@@ -189,7 +189,7 @@ pub struct LateRequest<'a> {
 impl<'a> Model for LateRequest<'a> {
     ghost use Rattle.command_line.specs.LateTrips.{LateRequestData};
     ghost use Rattle.footpaths.specs.Limits.{AreWithinADay};
-    ghost use Rattle.reduce_workers.specs.Workers.{AreWorkers};
+    ghost use Rattle.tb_base.specs.Workers.{AreWorkers};
 
     ghost Value = { LateRequestData };
 
@@ -234,7 +234,7 @@ pub struct ServeRequest<'a> {
 impl<'a> Model for ServeRequest<'a> {
     ghost use Rattle.command_line.specs.Plans.{IsPlan, ServeRequestData};
     ghost use Rattle.footpaths.specs.Limits.{AreWithinADay};
-    ghost use Rattle.reduce_workers.specs.Workers.{AreWorkers};
+    ghost use Rattle.tb_base.specs.Workers.{AreWorkers};
 
     ghost Value = { ServeRequestData };
 
@@ -259,7 +259,7 @@ pub struct CityRequest {
 
 impl Model for CityRequest {
     ghost use Rattle.command_line.specs.Cities.{CityRequestData, IsSide};
-    ghost use Rattle.reduce_workers.specs.Workers.{AreWorkers};
+    ghost use Rattle.tb_base.specs.Workers.{AreWorkers};
 
     ghost Value = { CityRequestData };
 

@@ -3,7 +3,7 @@ ghost use Rattle.std.specs.Prelude.{◌≡◌, ◌≤◌, IfSome, option_map};
 ghost use Rattle.clap.specs.Words.{first_of, found_of, rows_of};
 ghost use Rattle.gtfs_rows.specs.Fields.{secs_of};
 ghost use Rattle.footpaths.specs.Limits.{AreWithinADay};
-ghost use Rattle.reduce_workers.specs.Workers.{AreWorkers};
+ghost use Rattle.tb_base.specs.Workers.{AreWorkers};
 ghost use Rattle.command_line.specs.Settings.{AreSettings, change_given, is_given, options_given, settings_given, station_given, worker_count, workers_given};
 
 use clap::ArgMatches;

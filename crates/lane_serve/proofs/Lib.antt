@@ -1,5 +1,4 @@
 mod Scripts
-pub mod Times
 mod Runs
 pub mod Answering
 mod Plans

@@ -5,7 +5,7 @@ use Rattle.tb_io.specs.Files.{FileList}
 use Rattle.gtfs_rows.specs.declared.fault.FeedFault.{FeedFault}
 use Rattle.footpaths.specs.Limits.{AreWithinADay}
 use Rattle.footpaths.specs.declared.paths.Options.{Options}
-use Rattle.reduce_workers.specs.Workers.{AreWorkers}
+use Rattle.tb_base.specs.Workers.{AreWorkers}
 use Rattle.trip_table.specs.Answers.{feed_of}
 use Rattle.trip_table.specs.Day.{IsTimetableOf}
 use Rattle.edition_store.specs.Editions.{EditionData, IsEdition}

@@ -3,7 +3,7 @@ ghost use Rattle.std.specs.Prelude.{◌≡◌, ◌<◌, ◌≤◌, ◌-◌, ◌^
 ghost use Rattle.std.specs.Thread.{IsSync};
 ghost use Rattle.gtfs_rows.specs.declared.fault.FeedFault.{FeedFault};
 ghost use Rattle.footpaths.specs.Limits.{AreWithinADay};
-ghost use Rattle.reduce_workers.specs.Workers.{AreWorkers};
+ghost use Rattle.tb_base.specs.Workers.{AreWorkers};
 ghost use Rattle.lane_serve.specs.Plans.{AreOutcomes, BeginsPublished, HasStopped, IsGoodBuilding, outcome_of};
 ghost use Rattle.lane_serve.specs.Script.{HasTimes, IsScript, LaneData};
 ghost use Rattle.lane_serve.specs.Seats.{HaveRun};

@@ -5,7 +5,7 @@ use Rattle.tb_base.specs.declared.query.Value.{Value}
 use Rattle.tb_base.specs.TimetableData.{TimetableData}
 use Rattle.tb_base.specs.Transfers.{numbers_below}
 use Rattle.answer_text.specs.Journeys.{stop_name}
-use Rattle.answer_text.specs.Times.{time_text}
+use Rattle.tb_base.specs.Clock.{time_text}
 use Rattle.reach_all.specs.Reach.{values_at}
 
 -- ` TIME/N`

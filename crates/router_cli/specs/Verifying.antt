@@ -7,7 +7,7 @@ use Rattle.tb_base.specs.JourneyRules.{SpellValue}
 use Rattle.tb_base.specs.TimetableData.{TimetableData}
 use Rattle.tb_base.specs.declared.rule.Rule.{Rule}
 use Rattle.tb_base.specs.declared.rule.Rule.TheVariants as rule
-use Rattle.answer_text.specs.Times.{time_text}
+use Rattle.tb_base.specs.Clock.{time_text}
 use Rattle.gtfs_rows.specs.declared.fault.FeedFault.{FeedFault}
 use Rattle.tb_io.specs.Files.{FileList}
 use Rattle.journey_read.specs.Claims.{claim_of}

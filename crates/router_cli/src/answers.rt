@@ -1,6 +1,6 @@
 //! The text of an answer over a timetable.
 ghost use Rattle.std.specs.Prelude.{◌<◌, ◌≤ℤ◌, All, IfOk, length, pos};
-ghost use Rattle.reduce_workers.specs.Workers.{AreWorkers};
+ghost use Rattle.tb_base.specs.Workers.{AreWorkers};
 ghost use Rattle.router_cli.specs.Answers.{IsAnswer, IsInquiryText, IsLatestText, IsProfileText, IsReachText, ShowsKept, ShowsLatest};
 
 use crate::departing::{Sought, arrival_of, latest_text};

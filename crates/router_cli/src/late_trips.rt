@@ -6,7 +6,7 @@ ghost use Rattle.late_times.specs.Lates.{IsRefused};
 ghost use Rattle.touched_trips.specs.Touched.{touched_count};
 ghost use Rattle.late_edit.specs.Amending.{network_of};
 ghost use Rattle.query_gate.specs.Callers.{CallerData};
-ghost use Rattle.reduce_workers.specs.Workers.{AreWorkers};
+ghost use Rattle.tb_base.specs.Workers.{AreWorkers};
 ghost use Rattle.router_cli.specs.Answers.{IsInquiryText, ShowsKept};
 ghost use Rattle.router_cli.specs.Outcome.{CarriesNoMemory};
 ghost use Rattle.router_cli.specs.LateTrips.{IsAmendedText, IsLateAnswer, IsLateOutcome, IsLateText, IsNoLateAnswer, IsNoLates, IsNotAmended, LatesGive, amended_text};

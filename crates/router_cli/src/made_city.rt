@@ -7,7 +7,7 @@ ghost use Rattle.query_gate.specs.Replies.{AreBestChoices};
 ghost use Rattle.reduce_workers.specs.Reductions.{reduced};
 ghost use Rattle.edition_build.specs.Reports.{IsReport};
 ghost use Rattle.command_line.specs.Cities.{IsSide};
-ghost use Rattle.reduce_workers.specs.Workers.{AreWorkers};
+ghost use Rattle.tb_base.specs.Workers.{AreWorkers};
 ghost use Rattle.router_cli.specs.Answers.{ShowsKept};
 ghost use Rattle.router_cli.specs.Outcome.{CarriesNoMemory};
 ghost use Rattle.router_cli.specs.Cities.{IsCityOutcome, IsCityText, corner_query};

@@ -2,7 +2,7 @@
 ghost use Rattle.std.specs.Prelude.{◌≡◌, ◌⊎◌, ◌<◌, ◌≤◌, ◌-◌, ◌^◌, Err, IfErr, IfOk, List, Ok, length, map, ℕ};
 ghost use Rattle.std.specs.Io.KnownBytes.{Consumes};
 ghost use Rattle.footpaths.specs.Limits.{AreWithinADay};
-ghost use Rattle.reduce_workers.specs.Workers.{AreWorkers};
+ghost use Rattle.tb_base.specs.Workers.{AreWorkers};
 ghost use Rattle.lane_serve.specs.Script.{IsScript};
 ghost use Rattle.router_cli.specs.Outcome.{CarriesNoMemory};
 ghost use Rattle.router_cli.specs.Serving.{IsNoRun, IsNoScript, IsRunOutcome, IsRunText, ScriptGives, TellsScript, item_of, plan_of, status_for};

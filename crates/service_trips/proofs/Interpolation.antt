@@ -7,7 +7,8 @@ use mir.Val.{SFits, of_z, to_z}
 use mir.Syntax.{w32}
 use Rattle.service_trips.specs.declared.times.Times.{Times}
 use Rattle.service_trips.specs.declared.times.Timepoint.{Timepoint}
-use Rattle.service_trips.specs.Times.{IsFileTime, between}
+use Rattle.gtfs_rows.specs.Numbers.{IsFileTime}
+use Rattle.service_trips.specs.Times.{between}
 
 pub fits : (t : ℤ) → IsFileTime t → SFits w32 t
 fits t h = let a = h.least in let b = h.most in omega (arith, ints, a, b)

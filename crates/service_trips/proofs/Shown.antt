@@ -7,7 +7,7 @@ use Rattle.std.proofs.lemmas.List.{map-append}
 use Rattle.std.proofs.lemmas.List.Elements.{filter-append}
 use Rattle.tb_base.specs.declared.table.Event.{Event}
 use Rattle.tb_base.specs.TimetableData.{TripData}
-use Rattle.answer_text.specs.Times.{time_text}
+use Rattle.tb_base.specs.Clock.{time_text}
 use Rattle.service_trips.specs.ServiceDay.{moved, first_departure, trip_starting_at}
 use Rattle.service_trips.specs.DayBefore.{shown, lowered, is_under_way}
 use Rattle.service_trips.specs.ShownRides.{is_shown, as_shown, shift}

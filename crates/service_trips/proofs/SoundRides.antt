@@ -21,7 +21,8 @@ use Rattle.service_trips.specs.declared.times.Timepoint.{Timepoint}
 use Rattle.service_trips.specs.Faults.{first_wrong}
 use Rattle.service_trips.specs.StopTimes.{stop_times}
 use Rattle.service_trips.specs.TimeFaults.{wrong_times, departed_by, wrong_along, last_row, wrong_trip_times, wrong_trips}
-use Rattle.service_trips.specs.Times.{IsFileTime, AreFileTimes, HasFileTimes, times_of, timed_or, first_timed, between, own_or}
+use Rattle.gtfs_rows.specs.Numbers.{IsFileTime}
+use Rattle.service_trips.specs.Times.{AreFileTimes, HasFileTimes, times_of, timed_or, first_timed, between, own_or}
 use Rattle.service_trips.specs.Rides.{event_of, events_in, ride_in, ride_on, rides_on, checked_rides, IsSoundRide}
 use Rattle.service_trips.proofs.FirstWrong.{first_wrong-append, first_wrong-none, unless_wrong-none}
 use Rattle.service_trips.proofs.TripRows.{All-stop_times}

@@ -6,7 +6,8 @@ use Rattle.std.proofs.lemmas.List.{drop_more, drop-map, get_or-map, length-map}
 use Rattle.service_trips.specs.declared.stop_time.StopTime.{StopTime}
 use Rattle.service_trips.specs.declared.times.Times.{Times}
 use Rattle.service_trips.specs.declared.times.Timepoint.{Timepoint}
-use Rattle.service_trips.specs.Times.{IsFileTime, HasFileTimes, AreFileTimes, times_by, times_of, timed_or, first_timed, nearest_before, nearest_after}
+use Rattle.gtfs_rows.specs.Numbers.{IsFileTime}
+use Rattle.service_trips.specs.Times.{HasFileTimes, AreFileTimes, times_by, times_of, timed_or, first_timed, nearest_before, nearest_after}
 
 -- what the times of the rows give at a place
 pub times_here : (rows : List StopTime) (k : ℕ) (r : StopTime) → k < length rows → r ≡ get_or rows k r → get_or (map times_of rows) k None ≡ times_of r

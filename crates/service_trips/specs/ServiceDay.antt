@@ -4,7 +4,7 @@ use Rattle.std.specs.List.{flat_map, range_with_len}
 use Rattle.tb_base.specs.declared.table.Event.{Event}
 use Rattle.tb_base.specs.TimetableData.{TripData, no_event}
 use Rattle.gtfs_rows.specs.TripsFile as row
-use Rattle.answer_text.specs.Times.{time_text}
+use Rattle.tb_base.specs.Clock.{time_text}
 use Rattle.service_trips.specs.declared.frequency.TripFrequency.{TripFrequency}
 use Rattle.service_trips.specs.Starts.{names_trip, starts}
 

@@ -1,14 +1,11 @@
 -- When a trip arrives and departs at each of its stop times.
-use Rattle.std.specs.Prelude.{ℕ, zero, suc, ◌+◌, ◌-◌, ◌*◌, ◌/◌, List, [], ◌∷◌, drop, slice_index_or, Option, Some, None, IfSome, ℤ, pos, ◌+ℤ◌, ◌-ℤ◌, ◌≤ℤ◌, unsigned_abs}
+use Rattle.std.specs.Prelude.{ℕ, zero, suc, ◌+◌, ◌-◌, ◌*◌, ◌/◌, List, [], ◌∷◌, drop, slice_index_or, Option, Some, None, IfSome, ℤ, pos, ◌+ℤ◌, ◌-ℤ◌, unsigned_abs}
+use Rattle.gtfs_rows.specs.Numbers.{IsFileTime}
 use Rattle.service_trips.specs.declared.stop_time.StopTime.{StopTime}
 use Rattle.service_trips.specs.declared.times.Times.{Times}
 use Rattle.service_trips.specs.declared.times.Timepoint.{Timepoint}
 
--- a time that a file may give: at most 99:59:59
-pub record IsFileTime (t : ℤ) : Type 0 where
-  pub least : pos 0 ≤ℤ t
-  pub most : t ≤ℤ pos 359999
-
+-- what times a row gives are those of a file
 pub record HasFileTimes (r : StopTime) : Type 0 where
   pub arr : IfSome r.arr IsFileTime
   pub dep : IfSome r.dep IsFileTime

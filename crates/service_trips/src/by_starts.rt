@@ -1,7 +1,7 @@
 //! The trips that the rows of frequencies.txt give a trip.
 ghost use Rattle.std.specs.Prelude.{◌≡◌, ◌<◌, ◌≤◌, ◌++◌, IfOk, OnOk, map, filter, pos, codes};
 ghost use Rattle.std.specs.List.{flat_map};
-ghost use Rattle.answer_text.specs.Times.{time_text};
+ghost use Rattle.tb_base.specs.Clock.{time_text};
 ghost use Rattle.service_trips.specs.ShownRides.{IsRide, as_shown};
 ghost use Rattle.service_trips.specs.Starts.{IsGoodFrequency, names_trip, starts};
 ghost use Rattle.service_trips.specs.ServiceDay.{trip_starting_at};
@@ -10,9 +10,8 @@ ghost use Rattle.service_trips.specs.DayBefore.{shown};
 use crate::moved_rides::{least_start, moved_ride, shift};
 use crate::starts::starts_from;
 use crate::{FrequencyTable, TripFrequency};
-use answer_text::time_text;
 use std::alloc::Global;
-use tb_base::{Event, Memory, Name, Trip};
+use tb_base::{Event, Memory, Name, Trip, time_text};
 
 // The name of a trip that starts at a time: the trip's id, `#` and the time.
 fn start_name(alloc: Global, id: &Name, start: u32) -> Result<Name, Memory>

@@ -26,8 +26,8 @@ mod rides;
 mod size;
 mod starts;
 mod stop_time;
-mod timetable;
 mod times;
+mod timetable;
 mod trips;
 
 pub use frequency::{FrequencyTable, TripFrequency};

@@ -9,6 +9,7 @@
 //! events count from 0.
 #![tactic(auto)]
 
+mod clock;
 mod copies;
 mod gate;
 mod groups;
@@ -25,6 +26,7 @@ mod table;
 mod timetable;
 mod transfer;
 
+pub use clock::{add_time, time_text};
 pub use gate::{Gate, IdleGate, Work};
 pub use groups::Groups;
 pub use memory::Memory;

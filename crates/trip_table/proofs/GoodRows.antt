@@ -9,7 +9,7 @@ use Rattle.tb_base.proofs.Ordered.{Member}
 use Rattle.gtfs_rows.specs.Steps.{and_then}
 use Rattle.gtfs_rows.specs.Faults.{unless_wrong, wrong_after, fault_if, check_rows}
 use Rattle.gtfs_rows.specs.RawRows.{RawRow, cell, typed_rows}
-use Rattle.gtfs_rows.specs.Numbers.{number_of, time_of}
+use Rattle.gtfs_rows.specs.Numbers.{IsFileTime, number_of, time_of}
 use Rattle.gtfs_rows.specs.Fields.{id_of, or_empty, mark_of}
 use Rattle.gtfs_rows.specs.StopsFile.{StopData}
 use Rattle.gtfs_rows.specs.TripsFile.{TripData}
@@ -18,11 +18,11 @@ use Rattle.gtfs_rows.specs.declared.fault.FeedFile.TheVariants as file
 use Rattle.gtfs_rows.specs.declared.fault.FeedFault.{FeedFault}
 use Rattle.footpaths.specs.Stops.{platforms}
 use Rattle.service_trips.specs.declared.stop_time.StopTime.{StopTime}
-use Rattle.service_trips.specs.Times.{IsFileTime, HasFileTimes}
+use Rattle.service_trips.specs.Times.{HasFileTimes}
 use Rattle.trip_table.specs.References.{numbered, numbered_row, wrong_names, wrong_time, repeats}
 use Rattle.trip_table.specs.GoodTimes.{AreGoodTimes}
 use Rattle.trip_table.proofs.RowFacts.{rows_all}
-use Rattle.trip_table.proofs.FileTimes.{time_or_none}
+use Rattle.gtfs_rows.proofs.FileTimes.{time_or_none}
 
 pub opened : {A B : Type 0} (o : Option A) (f : FeedFault) (next : A → Result B FeedFault) (y : B) → and_then (ok_or o f) next ≡ Ok y → (x : A) × (o ≡ Some x) × (next x ≡ Ok y)
 opened None f next y e = absurd (cc)

@@ -10,7 +10,7 @@ use Rattle.gtfs_rows.specs.TransfersFile.{TakesAtMostADay, TransferData, is_pass
 use Rattle.gtfs_rows.specs.declared.fault.FeedFile.TheVariants as file
 use Rattle.gtfs_rows.specs.declared.fault.FeedFault.{FeedFault}
 use Rattle.trip_table.proofs.RowFacts.{rows_all}
-use Rattle.trip_table.proofs.FileTimes.{chosen, followed, mapped}
+use Rattle.gtfs_rows.proofs.FileTimes.{chosen, followed, mapped}
 use Rattle.trip_table.proofs.GoodRows.{opened, inner}
 
 secs_day : (text : List ℕ) (n : ℕ) → secs_of text ≡ Some n → n ≤ 86400

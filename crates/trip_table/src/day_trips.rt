@@ -12,10 +12,9 @@ ghost use Rattle.trip_table.specs.Day.{runs_on, runs_before, rides_of, trips_on}
 use crate::rows::FeedRows;
 use gtfs_rows::{RowsFault, TripRow};
 use service_day::{Day, Services, running};
-use service_trips::{FrequencyTable, timetable_trips};
+use service_trips::{FrequencyTable, rides_of, timetable_trips};
 use std::alloc::Global;
 use tb_base::{Event, Memory, Trip};
-use service_trips::rides_of;
 
 // Whether the service of each row runs.
 fn services_run(alloc: Global, services: &Services, trips: &[TripRow]) -> Result<Vec<bool>, Memory>

@@ -12,10 +12,10 @@ use crate::stops::read_stops;
 use crate::times::read_times;
 use crate::trips::{TripTable, read_trips};
 use footpaths::StopTable;
+use service_trips::StopTime;
 use std::alloc::Global;
 use std::marker::Model;
 use tb_io::Folder;
-use service_trips::StopTime;
 
 /// The rows of a feed with which nothing is wrong up to the times of its trips. Contracts see it as
 /// the rows of each file, the stop times by the numbers of their trips and platforms.

@@ -15,11 +15,11 @@ use crate::seen::{SeenKeys, SequenceKey};
 use crate::trips::TripTable;
 use footpaths::{Found, StopTable};
 use gtfs_rows::{FeedFault, FeedFile, RowCursor, RowReader, RowsFault, TimeFields, time_fields};
+use service_trips::StopTime;
 use std::alloc::Global;
 use std::cell::Cell;
 use tb_base::{Memory, StopNo};
 use tb_io::Folder;
-use service_trips::StopTime;
 
 // What the next row may name: the trip of the row before, and the stop that followed the stop of
 // that row the last time. It decides only where one looks first.

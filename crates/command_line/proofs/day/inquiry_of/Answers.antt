@@ -1,7 +1,6 @@
 use Rattle.std.proofs.Common.{sym, w32}
 use Rattle.std.proofs.lemmas.Int.{to_z-of_z}
-use Rattle.trip_table.proofs.FileTimes.{file_time}
-use Rattle.command_line.proofs.Times.{file_time-fits}
+use Rattle.gtfs_rows.proofs.FileTimes.{file_time, file_time-fits}
 use Rattle.command_line.proofs.day.inquiry_of.Goals as goal
 
 pub invariant_of-result : goal.invariant_of-result

@@ -1,7 +1,6 @@
 use Rattle.std.proofs.Common.{sym, w32}
 use Rattle.std.proofs.lemmas.Int.{to_z-of_z}
-use Rattle.trip_table.proofs.FileTimes.{file_time}
-use Rattle.lane_serve.proofs.Times.{file_time-fits}
+use Rattle.gtfs_rows.proofs.FileTimes.{file_time, file_time-fits}
 use Rattle.lane_serve.proofs.said.profile_of.Goals as goal
 
 pub returns-clause-times : goal.returns-clause-times

@@ -1,4 +1,4 @@
--- Numbers and times as texts.
+-- Times as texts.
 use Rattle.std.specs.Prelude.{ℕ, ◌+◌, ◌/◌, ◌%◌, List, [], ◌∷◌, ◌++◌, ℤ, pos, negsuc, nat_lt, suc, if◌then◌else◌}
 use Rattle.std.specs.Fmt.{decimal}
 

@@ -1,16 +1,15 @@
 -- A time of a file is at most 99:59:59.
-use Rattle.std.proofs.Common.{◌≡◌, refl, ℕ, ◌+◌, ◌-◌, ◌*◌, ◌<◌, ◌≤◌, List, [], ◌∷◌, length, take, drop, Option, Some, None, Bool, true, false, arith, ◌&&◌, length-take}
-use Rattle.std.specs.Prelude.{◌==◌, nat_le, pos, ℤ, option_map, option_and_then, IfSome}
+use Rattle.std.proofs.Common.{◌≡◌, refl, ℕ, ◌+◌, ◌-◌, ◌*◌, ◌<◌, ◌≤◌, List, [], ◌∷◌, length, take, drop, Option, Some, None, Bool, true, false, arith, rules, w32, ◌&&◌, length-take}
+use Rattle.std.specs.Prelude.{◌==◌, nat_le, pos, ℤ, option_map, option_and_then, IfSome, FitsSigned}
 use Rattle.std.specs.Char.{is_ascii_digit}
 use Rattle.std.specs.Bool.{if◌then◌else◌}
 use Rattle.std.proofs.lemmas.Bool.Decides.{nat_tests}
 use Rattle.std.proofs.lemmas.Int.{ints}
 use Rattle.std.proofs.lemmas.Bool.{and_parts}
-use Rattle.gtfs_rows.specs.Numbers.{number_of, sixtieth, after_hours, clock_of, time_of}
+use Rattle.gtfs_rows.specs.Numbers.{IsFileTime, number_of, sixtieth, after_hours, clock_of, time_of}
 use Rattle.gtfs_rows.specs.Fields.{or_empty}
 use Rattle.gtfs_rows.proofs.NumberTests.{is_number}
 use Rattle.gtfs_rows.proofs.Digits.{small}
-use Rattle.service_trips.specs.Times.{IsFileTime}
 
 -- where a test chooses a value, it passed
 pub chosen : {A : Type 0} (b : Bool) (o : Option A) (x : A) → (if b then o else None) ≡ Some x → (b ≡ true) × (o ≡ Some x)
@@ -76,6 +75,9 @@ file_time text z e =
     let l : length text ≤ 8 = grind (arith, nat_tests, t.1) in
     let k = length-take (length text - 6) text in
     clock (take (length text - 6) text) (drop (length text - 6) text) z (omega (arith, l, k)) c.1
+
+pub file_time-fits : (z : ℤ) → IsFileTime z → FitsSigned w32 z
+file_time-fits z h = let least = h.least in let most = h.most in search (rules, least, most)
 
 pub time_or_none : (text : List ℕ) (o : Option ℤ) → or_empty time_of text ≡ Some o → IfSome o IsFileTime
 time_or_none [] o e = by_none o (let q : Some None ≡ Some o = e in cc)
