@@ -1,7 +1,7 @@
 use Rattle.std.proofs.Common.{◌∙◌, ap, w32}
 use Rattle.std.proofs.lemmas.Int.{to_z-of_z}
 use Rattle.command_line.specs.Inquiries.{WindowInquiryData}
-use Rattle.lane_serve.proofs.Times.{file_time-fits}
+use Rattle.gtfs_rows.proofs.FileTimes.{file_time-fits}
 use Rattle.router_cli.proofs.AnswerLemmas.{same_profile}
 use Rattle.router_cli.proofs.over_edition.profile_question.Goals as goal
 

@@ -4,7 +4,7 @@ use Rattle.query_gate.specs.Questions.{Ends, query_at}
 use Rattle.query_gate.specs.Replies.{AreWithin, IsBetween}
 use Rattle.query_gate.proofs.NamedEnds.{between_by}
 use Rattle.command_line.specs.Inquiries.{InquiryData}
-use Rattle.lane_serve.proofs.Times.{file_time-fits}
+use Rattle.gtfs_rows.proofs.FileTimes.{file_time-fits}
 use Rattle.router_cli.proofs.over_table.query_of.Goals as goal
 
 pub returns-in-Stops : goal.returns-in-Stops

@@ -9,7 +9,7 @@ use Rattle.reach_all.specs.Reach.{IsReach}
 use Rattle.reach_all.specs.Text.{reach_text}
 use Rattle.command_line.specs.Inquiries.{OriginInquiryData}
 use Rattle.router_cli.specs.Answers.{AreStopsNamed}
-use Rattle.lane_serve.proofs.Times.{file_time-fits}
+use Rattle.gtfs_rows.proofs.FileTimes.{file_time-fits}
 use Rattle.router_cli.proofs.AnswerLemmas.{named_by, reach_shown, reach_unknown}
 use Rattle.router_cli.proofs.reaching.reach_text.Goals as goal
 
