@@ -17,6 +17,7 @@ use Rattle.footpaths.specs.declared.found.Link.{Link}
 use Rattle.footpaths.specs.declared.paths.PathsFault.{PathsFault}
 use Rattle.footpaths.specs.declared.paths.PathsFault.TheVariants as why
 use Rattle.footpaths.specs.Stops.{has_stop_id, find_stop}
+use Rattle.gtfs_rows.specs.declared.columns.transfers.TheConstants as transfers
 
 -- the seconds that a row gives, and none where it forbids the way
 abbrev pub secs_by : ℕ → PathRule → Option ℕ
@@ -45,11 +46,11 @@ abbrev pub wrong_transfer : List StopData → List TransferData → List Transfe
     List (Option FeedFault)
 wrong_transfer stops rows earlier r =
     fault_if (not (list_any (has_stop_id r.from) stops))
-    (fault.UnknownStop (spot file.Transfers r.row 1))
+    (fault.UnknownStop (spot file.Transfers r.row transfers.FROM_STOP_ID))
     ∷ fault_if (not (list_any (has_stop_id r.to) stops))
-    (fault.UnknownStop (spot file.Transfers r.row 2))
+    (fault.UnknownStop (spot file.Transfers r.row transfers.TO_STOP_ID))
     ∷ fault_if (list_any (λ e. bytes_eq r.from e.from && bytes_eq r.to e.to) earlier)
-    (fault.DuplicateTransfer (spot file.Transfers r.row 1))
+    (fault.DuplicateTransfer (spot file.Transfers r.row transfers.FROM_STOP_ID))
     ∷ []
 
 -- the rows of transfers.txt, or the first thing that is wrong with them
@@ -60,7 +61,7 @@ check_transfers stops = check_rows (wrong_transfer stops)
 -- a refusal tells the first thing that is wrong, and want of memory says nothing
 abbrev pub IsPathsRefused : {A : Type 0} → Result A FeedFault → PathsFault → Type 0
 IsPathsRefused checked (why.DuplicateTransfer row) =
-    checked ≡ Err (fault.DuplicateTransfer (spot file.Transfers row 1))
+    checked ≡ Err (fault.DuplicateTransfer (spot file.Transfers row transfers.FROM_STOP_ID))
 IsPathsRefused checked (why.UnknownStop row column) =
     checked ≡ Err (fault.UnknownStop (spot file.Transfers row column))
 IsPathsRefused checked why.TooMany = checked ≡ Err (fault.TooMany many.Footpaths 0)
@@ -74,8 +75,10 @@ pub record HasEnds (stops : List StopData) (r : TransferData) : Type 0 where
 -- the fault of a row of which an end isn't there
 abbrev pub LacksEnd : List StopData → TransferData → PathsFault → Type 0
 LacksEnd stops r f =
-    ((f ≡ why.UnknownStop r.row 1) × (list_any (has_stop_id r.from) stops ≡ false))
-    ⊎ ((f ≡ why.UnknownStop r.row 2) × (list_any (has_stop_id r.from) stops ≡ true)
+    ((f ≡ why.UnknownStop r.row transfers.FROM_STOP_ID)
+    × (list_any (has_stop_id r.from) stops ≡ false))
+    ⊎ ((f ≡ why.UnknownStop r.row transfers.TO_STOP_ID)
+    × (list_any (has_stop_id r.from) stops ≡ true)
     × (list_any (has_stop_id r.to) stops ≡ false))
 
 -- a number for the two ends of a row, by their places among at most 100,000 rows of stops.txt

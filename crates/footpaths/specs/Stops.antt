@@ -12,6 +12,7 @@ use Rattle.footpaths.specs.declared.found.Found.{Found}
 use Rattle.footpaths.specs.declared.found.Found.TheVariants as found
 use Rattle.footpaths.specs.declared.found.StopsFault.{StopsFault}
 use Rattle.footpaths.specs.declared.found.StopsFault.TheVariants as why
+use Rattle.gtfs_rows.specs.declared.columns.stops.TheConstants as columns
 
 abbrev pub stop_id : StopData → List ℕ
 stop_id s = s.id
@@ -49,8 +50,10 @@ lacks_parent stops r = is_filled r.parent && not (list_any (has_stop_id r.parent
 -- a row may have the id of an earlier row, or lack its parent
 abbrev pub wrong_stop : List StopData → List StopData → StopData → List (Option FeedFault)
 wrong_stop stops earlier r =
-    fault_if (list_any (has_stop_id r.id) earlier) (fault.DuplicateId (spot file.Stops r.row 1))
-    ∷ fault_if (lacks_parent stops r) (fault.UnknownStop (spot file.Stops r.row 3))
+    fault_if (list_any (has_stop_id r.id) earlier)
+    (fault.DuplicateId (spot file.Stops r.row columns.STOP_ID))
+    ∷ fault_if (lacks_parent stops r)
+    (fault.UnknownStop (spot file.Stops r.row columns.PARENT_STATION))
     ∷ []
 
 -- the rows of stops.txt, or the first thing that is wrong with them
@@ -60,9 +63,9 @@ check_stops = check_rows wrong_stop
 -- a refusal tells the first thing that is wrong, and want of memory says nothing
 abbrev pub IsStopsRefused : Result (List StopData) FeedFault → StopsFault → Type 0
 IsStopsRefused checked (why.DuplicateId row) =
-    checked ≡ Err (fault.DuplicateId (spot file.Stops row 1))
+    checked ≡ Err (fault.DuplicateId (spot file.Stops row columns.STOP_ID))
 IsStopsRefused checked (why.UnknownStop row) =
-    checked ≡ Err (fault.UnknownStop (spot file.Stops row 3))
+    checked ≡ Err (fault.UnknownStop (spot file.Stops row columns.PARENT_STATION))
 IsStopsRefused checked why.Memory = ⊤
 
 -- what a table of stops keeps beside its rows: their ids, those of each kind, and the station of

@@ -7,6 +7,7 @@ ghost use Rattle.footpaths.specs.Links.{secs_by, end_of, link_of, links_of, chec
 
 use crate::found::{Found, Link};
 use crate::{PathsFault, StopTable};
+use gtfs_rows::columns::transfers;
 use gtfs_rows::{PathRule, TransferRow};
 use indexmap::IndexSet;
 use std::alloc::{AllocError, Global};
@@ -70,13 +71,13 @@ fn pair_of(row: &TransferRow, stops: &StopTable) -> Result<u64, PathsFault>
     let Some(from) = stops.place(row.from.bytes()) else {
         return Err(PathsFault::UnknownStop {
             row: row.row,
-            column: 1,
+            column: transfers::FROM_STOP_ID,
         });
     };
     let Some(to) = stops.place(row.to.bytes()) else {
         return Err(PathsFault::UnknownStop {
             row: row.row,
-            column: 2,
+            column: transfers::TO_STOP_ID,
         });
     };
     Ok(u64::from(from) * 100_000 + u64::from(to))

@@ -13,6 +13,7 @@ use Rattle.service_trips.specs.Starts.{starts}
 use Rattle.service_trips.specs.ServiceDay.{FeedTrips, ride_of, starting_at}
 use Rattle.service_trips.specs.DayBefore.{timetable_trips}
 use Rattle.service_trips.specs.Sizes.{check_size}
+use Rattle.gtfs_rows.specs.declared.columns.frequencies.TheConstants as frequencies
 
 -- a time before the day, or after 99:59:59
 abbrev pub is_beyond : ℤ → Bool
@@ -30,7 +31,7 @@ moves_beyond ride f = list_any (λ start. list_any has_beyond (starting_at ride 
 abbrev pub wrong_frequency : FeedTrips → TripFrequency → Option FeedFault
 wrong_frequency feed f =
     fault_if (moves_beyond (ride_of feed f.trip_row) f)
-    (fault.BeyondDay (spot file.Frequencies f.row 2))
+    (fault.BeyondDay (spot file.Frequencies f.row frequencies.START_TIME))
 
 -- the rows of frequencies.txt, or the first fault of one
 abbrev pub check_frequencies : FeedTrips → Result (List TripFrequency) FeedFault

@@ -9,10 +9,12 @@ use Rattle.service_trips.specs.declared.times.Times.{Times}
 use Rattle.gtfs_rows.specs.Faults.{spot, fault_if}
 use Rattle.service_trips.specs.StopTimes.{stop_times}
 use Rattle.service_trips.specs.Times.{times_of}
+use Rattle.gtfs_rows.specs.declared.columns.stop_times.TheConstants as stop_times
 
 -- the first row, or the last, of a trip has no time
 abbrev pub wrong_end : StopTime → Option FeedFault
-wrong_end r = fault_if (is_none (times_of r)) (fault.NoEndTime (spot file.StopTimes r.row 2))
+wrong_end r = fault_if (is_none (times_of r))
+    (fault.NoEndTime (spot file.StopTimes r.row stop_times.ARRIVAL_TIME))
 
 -- a time is less than the departure of the timed row before it
 abbrev pub is_before : ℤ → Option ℤ → Bool
@@ -23,8 +25,10 @@ is_before time (Some departed) = int_lt time departed
 abbrev pub wrong_times : Option ℤ → StopTime → Option Times → List (Option FeedFault)
 wrong_times departed r None = []
 wrong_times departed r (Some t) =
-    fault_if (is_before t.arr departed) (fault.TimeRunsBack (spot file.StopTimes r.row 2))
-    ∷ fault_if (int_lt t.dep t.arr) (fault.TimeRunsBack (spot file.StopTimes r.row 3))
+    fault_if (is_before t.arr departed)
+    (fault.TimeRunsBack (spot file.StopTimes r.row stop_times.ARRIVAL_TIME))
+    ∷ fault_if (int_lt t.dep t.arr)
+    (fault.TimeRunsBack (spot file.StopTimes r.row stop_times.DEPARTURE_TIME))
     ∷ []
 
 -- the departure of the last timed row

@@ -8,6 +8,7 @@ ghost use Rattle.service_trips.specs.Limits.{moves_beyond, check_frequencies};
 use crate::moved_rides::shift;
 use crate::starts::starts_from;
 use crate::{FrequencyTable, TripFrequency};
+use gtfs_rows::columns::frequencies;
 use gtfs_rows::{FeedFault, FeedFile, Spot};
 use tb_base::{Event, Sec};
 
@@ -86,7 +87,7 @@ pub(crate) fn first_beyond(rides: &[Vec<Event>], table: &FrequencyTable) -> Opti
             return Some(FeedFault::BeyondDay(Spot {
                 file: FeedFile::Frequencies,
                 row: frequency.row,
-                column: 2,
+                column: frequencies::START_TIME,
             }));
         }
     }

@@ -7,6 +7,7 @@ ghost use Rattle.service_trips.specs.TimeFaults.{wrong_end, wrong_times, departe
 
 use crate::StopTime;
 use crate::times::{Times, times_of};
+use gtfs_rows::columns::stop_times;
 use gtfs_rows::{FeedFault, FeedFile, Spot};
 use tb_base::Sec;
 
@@ -33,7 +34,7 @@ fn end_fault(row: &StopTime) -> Option<FeedFault>
 {
     match times_of(row) {
         Some(_) => None,
-        None => Some(FeedFault::NoEndTime(time_spot(row, 2))),
+        None => Some(FeedFault::NoEndTime(time_spot(row, stop_times::ARRIVAL_TIME))),
     }
 }
 
@@ -61,11 +62,11 @@ fn times_fault(row: &StopTime, times: Option<Times>, departed: Option<Sec>) -> O
     };
     if let Some(departed) = departed {
         if times.arr < departed {
-            return Some(FeedFault::TimeRunsBack(time_spot(row, 2)));
+            return Some(FeedFault::TimeRunsBack(time_spot(row, stop_times::ARRIVAL_TIME)));
         }
     }
     if times.dep < times.arr {
-        return Some(FeedFault::TimeRunsBack(time_spot(row, 3)));
+        return Some(FeedFault::TimeRunsBack(time_spot(row, stop_times::DEPARTURE_TIME)));
     }
     None
 }

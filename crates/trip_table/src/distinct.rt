@@ -6,6 +6,7 @@ ghost use Rattle.gtfs_rows.specs.declared.fault.FeedFault.{FeedFault};
 ghost use Rattle.trip_table.specs.References.{service_id, duplicate_service, trip_id, duplicate_trip, wrong_twice};
 
 use crate::feed::spot;
+use gtfs_rows::columns::{calendar, trips};
 use gtfs_rows::{CalendarRow, FeedFault, FeedFile, RowsFault, TripRow};
 use std::alloc::Global;
 use tb_base::NameIndex;
@@ -35,7 +36,7 @@ impl Identified for CalendarRow {
     }
 
     fn duplicate(&self) -> FeedFault {
-        FeedFault::DuplicateId(spot(FeedFile::Calendar, self.row, 1))
+        FeedFault::DuplicateId(spot(FeedFile::Calendar, self.row, calendar::SERVICE_ID))
     }
 }
 
@@ -49,7 +50,7 @@ impl Identified for TripRow {
     }
 
     fn duplicate(&self) -> FeedFault {
-        FeedFault::DuplicateId(spot(FeedFile::Trips, self.row, 2))
+        FeedFault::DuplicateId(spot(FeedFile::Trips, self.row, trips::TRIP_ID))
     }
 }
 

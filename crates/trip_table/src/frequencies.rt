@@ -9,6 +9,7 @@ ghost use Rattle.trip_table.specs.References.{numbered_frequency, check_named, f
 use crate::DayFault;
 use crate::feed::{file_rows, spot};
 use crate::trips::TripTable;
+use gtfs_rows::columns::frequencies;
 use gtfs_rows::{FeedFault, FeedFile, FrequencyReader, FrequencyRow, RowsFault};
 use service_trips::{FrequencyTable, TripFrequency};
 use std::alloc::Global;
@@ -74,7 +75,11 @@ fn name_fault(trips: &TripTable, rows: &[TripFrequency]) -> Option<FeedFault>
     let count = trips.rows().len();
     for row in rows {
         if row.trip_row as usize >= count {
-            return Some(FeedFault::UnknownTrip(spot(FeedFile::Frequencies, row.row, 1)));
+            return Some(FeedFault::UnknownTrip(spot(
+                FeedFile::Frequencies,
+                row.row,
+                frequencies::TRIP_ID,
+            )));
         }
     }
     None

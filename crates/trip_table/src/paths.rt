@@ -15,6 +15,7 @@ ghost use Rattle.trip_table.specs.References.{transfer_rows_of, transfers_of};
 use crate::DayFault;
 use crate::feed::{file_rows, spot};
 use footpaths::{Options, Paths, PathsFault, StopTable, build_paths};
+use gtfs_rows::columns::transfers;
 use gtfs_rows::{FeedFault, FeedFile, RowsFault, TransferReader, TransferRow};
 use std::alloc::Global;
 use tb_io::Folder;
@@ -60,7 +61,7 @@ fn given_footpaths(
         Ok(paths) => Ok(Some(paths)),
         Err(PathsFault::TooMany) => Ok(None),
         Err(PathsFault::DuplicateTransfer(row)) => Err(RowsFault::Feed(FeedFault::DuplicateTransfer(
-            spot(FeedFile::Transfers, row, 1),
+            spot(FeedFile::Transfers, row, transfers::FROM_STOP_ID),
         ))),
         Err(PathsFault::UnknownStop { row, column }) => Err(RowsFault::Feed(FeedFault::UnknownStop(
             spot(FeedFile::Transfers, row, column),

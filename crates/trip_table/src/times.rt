@@ -14,6 +14,7 @@ use crate::feed::{file_rows, spot};
 use crate::seen::{SeenKeys, SequenceKey};
 use crate::trips::TripTable;
 use footpaths::{Found, StopTable};
+use gtfs_rows::columns::stop_times;
 use gtfs_rows::{FeedFault, FeedFile, RowCursor, RowReader, RowsFault, TimeFields, time_fields};
 use service_trips::StopTime;
 use std::alloc::Global;
@@ -184,7 +185,7 @@ fn check_keys(
         match seen.add(key_of(row)) {
             Ok(true) => {}
             Ok(false) => {
-                let spot = spot(FeedFile::StopTimes, row.row, 5);
+                let spot = spot(FeedFile::StopTimes, row.row, stop_times::STOP_SEQUENCE);
                 return Err(RowsFault::Feed(FeedFault::DuplicateSequence(spot)));
             }
             Err(_) => return Err(RowsFault::Memory),
@@ -198,14 +199,26 @@ fn name_fault(stops: &StopTable, trips: &TripTable, row: &StopTime) -> Option<Fe
     ensures { result ≡ wrong_names stops.now trips.now row.now }
 {
     if row.trip_row as usize >= trips.rows().len() {
-        return Some(FeedFault::UnknownTrip(spot(FeedFile::StopTimes, row.row, 1)));
+        return Some(FeedFault::UnknownTrip(spot(
+            FeedFile::StopTimes,
+            row.row,
+            stop_times::TRIP_ID,
+        )));
     }
     let platforms = stops.platforms();
     if row.stop.0 == platforms {
-        return Some(FeedFault::UnknownStop(spot(FeedFile::StopTimes, row.row, 4)));
+        return Some(FeedFault::UnknownStop(spot(
+            FeedFile::StopTimes,
+            row.row,
+            stop_times::STOP_ID,
+        )));
     }
     if row.stop.0 > platforms {
-        return Some(FeedFault::NotAPlatform(spot(FeedFile::StopTimes, row.row, 4)));
+        return Some(FeedFault::NotAPlatform(spot(
+            FeedFile::StopTimes,
+            row.row,
+            stop_times::STOP_ID,
+        )));
     }
     None
 }
