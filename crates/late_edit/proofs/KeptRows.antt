@@ -12,9 +12,9 @@ use Rattle.line_split.specs.LinesData.{LinesData}
 use Rattle.reduce_workers.specs.Reductions.{rows_from}
 use Rattle.reduce_workers.proofs.Counts.{rows_more}
 use Rattle.reduce_workers.proofs.MoreTrips.{one_more_count}
-use Rattle.touched_trips.specs.Touched.{is_touched, touched_count}
-use Rattle.touched_trips.specs.Retimed.{IsRetimed, untimed_event}
-use Rattle.touched_trips.proofs.Retimings.{same_length, untimed_events}
+use Rattle.late_edit.specs.Touched.{is_touched, touched_count}
+use Rattle.late_edit.specs.Retimed.{IsRetimed, untimed_event}
+use Rattle.late_edit.proofs.Retimings.{same_length, untimed_events}
 use Rattle.edition_store.specs.Editions.{EditionData}
 use Rattle.late_edit.specs.Amending.{AreKeptRows, RowsData, network_of}
 

@@ -1,2 +1,14 @@
+pub mod FarTrips
+pub mod Finds
+pub mod InTurn
 pub mod KeptRows
+pub mod ListFacts
+pub mod MovedEvents
+pub mod NearStops
+pub mod Numbers
+pub mod Reading
 pub mod Retimes
+pub mod Retimings
+pub mod SameLines
+pub mod Sound
+pub mod Untouched

@@ -6,11 +6,11 @@ use Rattle.std.proofs.lemmas.List.{map-append, take-append-drop}
 use Rattle.gtfs_rows.specs.Steps.{and_then}
 use Rattle.tb_base.specs.declared.table.Event.{Event}
 use Rattle.tb_base.specs.TimetableData.{TimetableData, TripData, no_trip}
-use Rattle.touched_trips.specs.Retimed.{IsRetimed, untimed_event, untimed_trip}
-use Rattle.late_times.specs.Amended.{amended, amended_trips, moved, moved_from, with_events, with_trips}
-use Rattle.late_times.specs.Lates.{LateData}
-use Rattle.late_times.specs.declared.late.LateFault.{LateFault}
-use Rattle.late_times.proofs.Sound.{IsOneMoved, kept_by_all}
+use Rattle.late_edit.specs.Retimed.{IsRetimed, untimed_event, untimed_trip}
+use Rattle.late_edit.specs.Amended.{amended, amended_trips, moved, moved_from, with_events, with_trips}
+use Rattle.late_edit.specs.Lates.{LateData}
+use Rattle.late_edit.specs.declared.late.LateFault.{LateFault}
+use Rattle.late_edit.proofs.Sound.{IsOneMoved, kept_by_all}
 
 untimed_moved : (secs : ℤ) (es : List Event) → map untimed_event (map (moved secs) es) ≡ map untimed_event es
 untimed_moved secs [] = refl

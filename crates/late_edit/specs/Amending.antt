@@ -3,7 +3,7 @@ use Rattle.std.specs.Prelude.{◌≡◌, ℕ, List, length, filter}
 use Rattle.tb_base.specs.declared.transfer.Transfer.{Transfer}
 use Rattle.tb_base.specs.Transfers.{kept_hops, numbers_below}
 use Rattle.line_split.specs.LinesData.{LinesData}
-use Rattle.touched_trips.specs.Touched.{is_touched}
+use Rattle.late_edit.specs.Touched.{is_touched}
 use Rattle.reduce_workers.specs.Reductions.{count_from, rows_from}
 use Rattle.edition_store.specs.Editions.{EditionData}
 

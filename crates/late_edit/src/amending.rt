@@ -3,15 +3,16 @@ ghost use Rattle.std.specs.Prelude.{◌≡◌, ℕ, IfErr, IfOk, MatchResult, Ok
 ghost use Rattle.tb_base.specs.Transfers.{kept_hops};
 ghost use Rattle.transfer_pack.specs.Packed.{packed};
 ghost use Rattle.edition_store.specs.Editions.{EditionData, kept_count};
-ghost use Rattle.late_times.specs.Amended.{amended};
-ghost use Rattle.late_times.specs.Lates.{IsOfLate, IsRefused};
-ghost use Rattle.touched_trips.specs.Retimed.{IsRetimed};
-ghost use Rattle.touched_trips.specs.Touched.{touched_count};
+ghost use Rattle.late_edit.specs.Amended.{amended};
 ghost use Rattle.late_edit.specs.Amending.{network_of};
+ghost use Rattle.late_edit.specs.Lates.{IsOfLate, IsRefused};
+ghost use Rattle.late_edit.specs.Retimed.{IsRetimed};
+ghost use Rattle.late_edit.specs.Touched.{touched_count};
 
+use crate::amended_table::amended;
+use crate::late::{Late, LateFault};
 use crate::rows::Rows;
 use edition_store::{Edition, Shared};
-use late_times::{Late, LateFault, amended};
 use line_split::{Lines, split};
 use std::alloc::Global;
 use tb_base::{Memory, Timetable};

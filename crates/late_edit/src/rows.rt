@@ -1,17 +1,18 @@
 //! The kept transfers of an amended timetable.
 ghost use Rattle.std.specs.Prelude.{◌≡◌, ◌+◌, ◌<◌, ◌++◌, ◌∷◌, [], IfOk, OnOk, if◌then◌else◌, length, map};
 ghost use Rattle.tb_base.specs.Transfers.{kept_hops, transfers_of};
-ghost use Rattle.touched_trips.specs.Retimed.{IsRetimed};
-ghost use Rattle.touched_trips.specs.Touched.{is_touched};
-ghost use Rattle.late_edit.specs.Amending.{AreKeptRows, network_of};
 ghost use Rattle.transfer_pack.specs.Words.{lent};
+ghost use Rattle.late_edit.specs.Amending.{AreKeptRows, network_of};
+ghost use Rattle.late_edit.specs.Retimed.{IsRetimed};
+ghost use Rattle.late_edit.specs.Touched.{is_touched};
 
+use crate::network::Network;
+use crate::retiming::Retiming;
 use edition_store::Edition;
 use line_split::Lines;
 use std::alloc::Global;
 use std::marker::Model;
 use tb_base::{Memory, Timetable, Transfer, TripNo};
-use touched_trips::{Network, Retiming};
 use transfer_make::make;
 use transfer_pack::Hops;
 use transfer_reduce::{Labels, reduce};
@@ -119,7 +120,7 @@ fn row_of(
     if touched {
         reduced_row(alloc, table, lines, labels, trip)
     } else {
-        touched_trips::laws::untouched_kept();
+        crate::laws::untouched_kept();
         kept_row(alloc, old, trip)
     }
 }

@@ -6,9 +6,9 @@ use Rattle.gtfs_rows.specs.Steps.{and_then}
 use Rattle.gtfs_rows.specs.declared.fault.FeedFault.{FeedFault}
 use Rattle.tb_io.specs.Files.{FileList, file_at}
 use Rattle.trip_table.specs.Answers.{feed_of}
-use Rattle.late_times.specs.Amended.{amended}
-use Rattle.late_times.specs.Lates.{LateData}
-use Rattle.late_times.specs.declared.late.LateFault.{LateFault}
+use Rattle.late_edit.specs.Amended.{amended}
+use Rattle.late_edit.specs.Lates.{LateData}
+use Rattle.late_edit.specs.declared.late.LateFault.{LateFault}
 use Rattle.command_line.specs.LateTrips.{LateRequestData}
 use Rattle.router_cli.proofs.Endings.{IsDetermined}
 use Rattle.router_cli.specs.Outcome.{IsDayOf}

@@ -7,11 +7,11 @@ use Rattle.tb_base.specs.TimetableData.{TimetableData}
 use Rattle.gtfs_rows.specs.Steps.{and_then}
 use Rattle.gtfs_rows.specs.declared.fault.FeedFault.{FeedFault}
 use Rattle.tb_io.specs.Files.{FileList, file_at}
-use Rattle.late_times.specs.Amended.{amended}
-use Rattle.late_times.specs.Lates.{LateData, lates_of}
-use Rattle.late_times.specs.declared.late.LateFault.{LateFault}
-use Rattle.late_times.specs.declared.late.LateFault.TheVariants as fault
-use Rattle.touched_trips.specs.Touched.{touched_count}
+use Rattle.late_edit.specs.Amended.{amended}
+use Rattle.late_edit.specs.Lates.{LateData, lates_of}
+use Rattle.late_edit.specs.declared.late.LateFault.{LateFault}
+use Rattle.late_edit.specs.declared.late.LateFault.TheVariants as fault
+use Rattle.late_edit.specs.Touched.{touched_count}
 use Rattle.edition_store.specs.Editions.{kept_count}
 use Rattle.command_line.specs.Inquiries.{InquiryData}
 use Rattle.command_line.specs.LateTrips.{LateRequestData}

@@ -13,8 +13,8 @@ use Rattle.trip_table.specs.Day.{IsTimetableOf}
 use Rattle.command_line.specs.DayCommands.{DayRequestData}
 use Rattle.journey_read.specs.declared.claim.JourneyFault.{JourneyFault}
 use Rattle.journey_read.specs.declared.claim.JourneyFault.TheVariants as claim
-use Rattle.late_times.specs.declared.late.LateFault.{LateFault}
-use Rattle.late_times.specs.declared.late.LateFault.TheVariants as late
+use Rattle.late_edit.specs.declared.late.LateFault.{LateFault}
+use Rattle.late_edit.specs.declared.late.LateFault.TheVariants as late
 use Rattle.lane_serve.specs.declared.script.ScriptFault.{ScriptFault}
 use Rattle.lane_serve.specs.declared.script.ScriptFault.TheVariants as fault
 use Rattle.router_cli.specs.Answers.{IsAnswer}

@@ -1,9 +1,9 @@
 //! What the program does about a day amended by late trips.
 ghost use Rattle.std.specs.Prelude.{◌≡◌, ◌⊎◌, ◌<◌, ◌-◌, ◌^◌, ◌∷◌, [], ◌++◌, Err, IfErr, IfOk, MatchResult, Ok, Some, length, slice_get, true, vec_len};
 ghost use Rattle.edition_store.specs.Editions.{EditionData};
-ghost use Rattle.late_times.specs.Amended.{amended};
-ghost use Rattle.late_times.specs.Lates.{IsRefused};
-ghost use Rattle.touched_trips.specs.Touched.{touched_count};
+ghost use Rattle.late_edit.specs.Amended.{amended};
+ghost use Rattle.late_edit.specs.Lates.{IsRefused};
+ghost use Rattle.late_edit.specs.Touched.{touched_count};
 ghost use Rattle.late_edit.specs.Amending.{network_of};
 ghost use Rattle.query_gate.specs.Callers.{CallerData};
 ghost use Rattle.tb_base.specs.Workers.{AreWorkers};

@@ -1,5 +1,5 @@
 //! Late trips and questions that are drawn by numbers that look random.
-use late_times::Late;
+use late_edit::Late;
 use made_feeds::Draw;
 use std::alloc::Global;
 use tb_base::{Memory, Name, Sec, StopNo, Timetable, Trip, TripNo};

@@ -1,6 +1,6 @@
 //! What was compared of amended editions.
 use crate::refused::{Difference, Refused};
-use late_times::LateFault;
+use late_edit::LateFault;
 
 /// Lists of lates that are refused, by their first fault.
 #[derive(Clone, Copy)]

@@ -1,6 +1,6 @@
 use Rattle.std.proofs.Common.{◌∙◌, sym, ap}
 use Rattle.tb_base.specs.TimetableData.{TimetableData}
-use Rattle.late_times.specs.Amended.{amended}
+use Rattle.late_edit.specs.Amended.{amended}
 use Rattle.late_edit.proofs.Retimes.{is_retimed}
 use Rattle.late_edit.proofs.amending.amend.Goals as goal
 

@@ -1,6 +1,6 @@
 use Rattle.std.proofs.Common.{◌∙◌, sym, ap}
 use Rattle.edition_store.specs.Editions.{EditionData}
-use Rattle.touched_trips.specs.Touched.{touched_count}
+use Rattle.late_edit.specs.Touched.{touched_count}
 use Rattle.late_edit.specs.Amending.{network_of}
 use Rattle.late_edit.proofs.KeptRows.{network_is}
 use Rattle.late_edit.proofs.amending.amended_over.Goals as goal

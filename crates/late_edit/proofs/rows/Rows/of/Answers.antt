@@ -4,7 +4,7 @@ use Rattle.tb_base.specs.Transfers.{kept_hops, transfers_of}
 use Rattle.reduce_workers.specs.Reductions.{count_from}
 use Rattle.reduce_workers.proofs.Counts.{kept_most}
 use Rattle.reduce_workers.proofs.MoreTrips.{one_more_count}
-use Rattle.touched_trips.specs.Touched.{is_touched}
+use Rattle.late_edit.specs.Touched.{is_touched}
 use Rattle.late_edit.specs.Amending.{network_of}
 use Rattle.late_edit.proofs.KeptRows.{network_is, redone_le, trip_added}
 use Rattle.late_edit.proofs.rows.Rows.of.Goals as goal

@@ -1,0 +1,122 @@
+-- The first trip of each name.
+use Rattle.std.proofs.Common.{◌≡◌, ◌∙◌, sym, ap, subst, refl, ℕ, suc, ◌+◌, ◌<◌, ◌≤◌, List, [], ◌∷◌, length, get_or, set, map, drop, Bool, true, false, cond, ◌&&◌, Option, Some, None, inl, inr, arith}
+use Rattle.std.specs.Prelude.{position, nat_lt, bytes_eq, option_map}
+use Rattle.std.specs.List.{position_or_len}
+use Rattle.std.proofs.lemmas.Bool.{cases_Bool}
+use Rattle.std.proofs.lemmas.Bool.Decides.{nat_tests}
+use Rattle.std.proofs.Math.Seq.{drop-length}
+use Rattle.std.proofs.lemmas.List.{drop_more, length-set}
+use Rattle.std.proofs.lemmas.List.Folds.{position_or_len-set}
+use Rattle.std.proofs.lemmas.Slice.Eq.{bytes_eq-Decides}
+use Rattle.std.specs.Map.{lookup}
+use Rattle.indexmap.specs.IndexMap.{insert_entry}
+use Rattle.tb_base.specs.Lines.{same_mark}
+use Rattle.tb_base.specs.TimetableData.{TripData}
+use Rattle.late_edit.specs.Amended.{is_named}
+use Rattle.late_edit.specs.Finding.{FindsFirst, FirstData, trip_found}
+
+-- what is noted of a name is found by it, and each other name has what it had
+module _ {V : Type 0} (items : V → List ℕ) (name : List ℕ) (k : V) (t : ℕ) where
+  abbrev found : List (V × ℕ) → Option ℕ
+  found es = lookup (λ v. bytes_eq name (items v)) es
+
+  same_name : (v : V) → bytes_eq (items k) (items v) ≡ true → bytes_eq name (items v) ≡ bytes_eq name (items k)
+  same_name v e = ap (bytes_eq name) (sym ((bytes_eq-Decides (items k) (items v)).0 e))
+
+  swap : (a b : Bool) (o : Option ℕ) (v : ℕ) → (a ≡ true → b ≡ false) → cond b (Some v) (cond a (Some t) o) ≡ cond a (Some t) (cond b (Some v) o)
+  swap true b o v apart = rw (apart refl) refl
+  swap false b o v apart = refl
+
+  both : (v : V) → bytes_eq (items k) (items v) ≡ false → bytes_eq name (items k) ≡ true → bytes_eq name (items v) ≡ false
+  both v e n = ap (λ (m : List ℕ). bytes_eq m (items v)) ((bytes_eq-Decides name (items k)).0 n) ∙ e
+
+  pub noted : (es : List (V × ℕ)) → found (insert_entry (λ u v. bytes_eq (items u) (items v)) es k t) ≡ cond (bytes_eq name (items k)) (Some t) (found es)
+  noted [] = refl
+  noted (e ∷ es) =
+      elim (cases_Bool (bytes_eq (items k) (items e.0))) [
+        | inl y ↦ rw (y, same_name e.0 y) (let again : (b : Bool) (o : Option ℕ) (w : ℕ) → cond b (Some t) o ≡ cond b (Some t) (cond b (Some w) o) = λ b o w. elim (cases_Bool b) [ inl h ↦ rw h refl | inr h ↦ rw h refl ] in again (bytes_eq name (items k)) (found es) e.1)
+        | inr n ↦ rw n (ap (λ o. cond (bytes_eq name (items e.0)) (Some e.1) o) (noted es) ∙ swap (bytes_eq name (items k)) (bytes_eq name (items e.0)) (found es) e.1 (both e.0 n))
+      ]
+
+-- the same of names alone
+pub names_alone : {V : Type 0} (items : V → List ℕ) (name : List ℕ) (es : List (V × ℕ)) → lookup (bytes_eq name) (map (λ e. (items e.0, e.1)) es) ≡ lookup (λ v. bytes_eq name (items v)) es
+names_alone items name [] = refl
+names_alone items name (e ∷ es) = ap (λ o. cond (bytes_eq name (items e.0)) (Some e.1) o) (names_alone items name es)
+
+pub name_noted : {V : Type 0} (items : V → List ℕ) (name m : List ℕ) (k : V) (t : ℕ) (old new : List (V × ℕ)) → new ≡ insert_entry (λ u v. bytes_eq (items u) (items v)) old k t → items k ≡ m
+    → lookup (bytes_eq name) (map (λ e. (items e.0, e.1)) new) ≡ cond (bytes_eq name m) (Some t) (lookup (bytes_eq name) (map (λ e. (items e.0, e.1)) old))
+name_noted items name m k t old new is key =
+    names_alone items name new ∙ (ap (λ es. lookup (λ v. bytes_eq name (items v)) es) is ∙ (noted items name k t old ∙ (ap (λ (n : List ℕ). cond (bytes_eq name n) (Some t) (lookup (λ v. bytes_eq name (items v)) old)) key ∙ ap (λ o. cond (bytes_eq name m) (Some t) o) (sym (names_alone items name old)))))
+
+-- the first place in a list, by its first element
+module _ {X : Type 0} (p : X → Bool) where
+  next_lt : (m n : ℕ) → nat_lt (1 + m) (suc n) ≡ nat_lt m n
+  next_lt m n =
+      elim (cases_Bool (nat_lt m n)) [
+        | inl t ↦ let h : m < n = grind (arith, nat_tests, t) in let k : nat_lt (1 + m) (suc n) ≡ true = grind (arith, nat_tests, h) in k ∙ sym t
+        | inr f ↦ let h : n ≤ m = grind (arith, nat_tests, f) in let k : nat_lt (1 + m) (suc n) ≡ false = grind (arith, nat_tests, h) in k ∙ sym f
+      ]
+
+  later : (b : Bool) (m : ℕ) → cond b (Some (1 + m)) None ≡ option_map (λ k. 1 + k) (cond b (Some m) None)
+  later true m = refl
+  later false m = refl
+
+  pub position_first : (x : X) (xs : List X) → position p (x ∷ xs) ≡ cond (p x) (Some 0) (option_map (λ k. 1 + k) (position p xs))
+  position_first x xs =
+      elim (cases_Bool (p x)) [
+        | inl t ↦ let z : nat_lt 0 (suc (length xs)) ≡ true = grind (arith, nat_tests) in rw (t, z) refl
+        | inr f ↦ rw (f, next_lt (position_or_len p xs) (length xs)) (later (nat_lt (position_or_len p xs) (length xs)) (position_or_len p xs))
+      ]
+
+-- a position is below the length
+pub position_within : {X : Type 0} (p : X → Bool) (xs : List X) (k : ℕ) → position p xs ≡ Some k → k < length xs
+position_within p xs k is =
+    elim (cases_Bool (nat_lt (position_or_len p xs) (length xs))) [
+      | inl t ↦
+          let h : position_or_len p xs < length xs = grind (arith, nat_tests, t) in
+          let e : Some (position_or_len p xs) ≡ Some k = rw t at is in
+          let same : position_or_len p xs ≡ k = cc in
+          omega (arith, h, same)
+      | inr f ↦ let e : None ≡ Some k = rw f at is in absurd (let g : None ≡ Some k = e in cc)
+    ]
+
+-- what finds the first trip of each name among those from one on
+abbrev pub FindsFrom : FirstData → List TripData → ℕ → Type 0
+FindsFrom F trips t = (before : Bool) (name : List ℕ) → trip_found F before name ≡ option_map (λ k. t + k) (position (is_named before name) (drop t trips))
+
+pub finds_none : (F : FirstData) (trips : List TripData) (t : ℕ) → t ≡ length trips → ((before : Bool) (name : List ℕ) → trip_found F before name ≡ None) → FindsFrom F trips t
+finds_none F trips t end none = λ before name.
+    none before name ∙ sym (ap (λ ts. option_map (λ k. t + k) (position (is_named before name) ts)) (ap (λ n. drop n trips) end ∙ drop-length trips))
+
+shifted : (b : Bool) (o : Option ℕ) (t : ℕ) → cond b (Some t) (option_map (λ k. t + 1 + k) o) ≡ option_map (λ k. t + k) (cond b (Some 0) (option_map (λ k. 1 + k) o))
+shifted true o t = let e : t ≡ t + 0 = omega arith in ap (λ (k : ℕ). Some k) e
+shifted false None t = refl
+shifted false (Some k) t = let e : t + 1 + k ≡ t + (1 + k) = omega arith in ap (λ (j : ℕ). Some j) e
+
+pub finds_more : (old new : FirstData) (trips : List TripData) (t : ℕ) (x : TripData) → t < length trips → x ≡ get_or trips t x → FindsFrom old trips (t + 1)
+    → ((before : Bool) (name : List ℕ) → trip_found new before name ≡ cond (is_named before name x) (Some t) (trip_found old before name)) → FindsFrom new trips t
+finds_more old new trips t x inside at so_far after = λ before name.
+    let p : TripData → Bool = is_named before name in
+    let rest : drop t trips ≡ x ∷ drop (t + 1) trips = drop_more trips t x inside ∙ ap (λ (y : TripData). y ∷ drop (t + 1) trips) (sym at) in
+    after before name ∙ (ap (λ o. cond (p x) (Some t) o) (so_far before name)
+    ∙ (shifted (p x) (position p (drop (t + 1) trips)) t
+    ∙ sym (ap (λ ts. option_map (λ k. t + k) (position p ts)) rest ∙ ap (λ o. option_map (λ k. t + k) o) (position_first p x (drop (t + 1) trips)))))
+
+from_zero : (o : Option ℕ) → option_map (λ k. 0 + k) o ≡ o
+from_zero None = refl
+from_zero (Some k) = let e : 0 + k ≡ k = omega arith in ap (λ (j : ℕ). Some j) e
+
+pub finds_first : (F : FirstData) (trips : List TripData) (t : ℕ) → t ≡ 0 → FindsFrom F trips t → FindsFirst F trips
+finds_first F trips t start h = λ before name.
+    let k : FindsFrom F trips 0 = subst (FindsFrom F trips) start h in
+    k before name ∙ from_zero (position (is_named before name) trips)
+
+-- a trip in whose place one of its name and day stands is found as before
+pub finds_set : (F : FirstData) (trips : List TripData) (t : ℕ) (x d : TripData) → x.name ≡ (get_or trips t d).name → x.before ≡ (get_or trips t d).before → FindsFirst F trips
+    → FindsFirst F (set trips t x)
+finds_set F trips t x d named began h = λ before name.
+    let p : TripData → Bool = is_named before name in
+    let same : p x ≡ p (get_or trips t d) = λ i. same_mark before (began i) && bytes_eq name (named i) in
+    let place = position_or_len-set p trips t x d same in
+    let long : length (set trips t x) ≡ length trips = length-set trips t x in
+    h before name ∙ sym (λ i. cond (nat_lt (place i) (long i)) (Some (place i)) None)

@@ -1,0 +1,290 @@
+-- Trips that lates move stay sound.
+use Rattle.std.proofs.Common.{◌≡◌, ◌∙◌, sym, ap, subst, refl, ℕ, ◌+◌, ◌-◌, ◌<◌, ◌≤◌, ◌≤ℤ◌, ℤ, pos, negsuc, List, [], ◌∷◌, length, get_or, set, map, take, drop, Bool, true, false, cond, not, ◌||◌, Some, None, Option, inl, inr, arith}
+use Rattle.std.specs.Prelude.{All, AllPairs, Result, Ok, Err, MatchResult, OnErr, int_lt, nat_lt, sum_by}
+use Rattle.std.specs.List.{list_any}
+use Rattle.std.specs.Option.{ok_or}
+use Rattle.std.proofs.lemmas.Bool.{cases_Bool, cases_lt}
+use Rattle.std.proofs.lemmas.Bool.Decides.{nat_tests}
+use Rattle.std.proofs.lemmas.Int.{ints}
+use Rattle.std.proofs.lemmas.List.{get_or-drop, length-append, length-drop, length-map, length-set, length-take-le, get_or_default}
+use Rattle.std.proofs.lemmas.List.Elements.{All-set}
+use Rattle.std.proofs.lemmas.List.Folds.{list_any_at}
+use Rattle.std.proofs.lemmas.List.Sums.{sum_by-set}
+use Rattle.gtfs_rows.specs.Steps.{and_then}
+use Rattle.tb_base.specs.declared.table.Event.{Event}
+use Rattle.tb_base.specs.Soundness.{IsSound, IsSoundEvent, IsSoundTrip}
+use Rattle.tb_base.specs.TimetableData.{TimetableData, TripData, no_event, no_trip}
+use Rattle.tb_base.proofs.Lists.{list_any-over_map}
+use Rattle.late_edit.specs.Amended.{amended_trips, events_moved, has_time_outside, is_outside, is_over_a_day, is_reached_early, moved, moved_from, trip_named, trips_after, trips_moved, with_events, with_trips}
+use Rattle.late_edit.specs.Finding.{IsTimedEvent}
+use Rattle.late_edit.specs.Lates.{IsRefused, LateData}
+use Rattle.late_edit.specs.declared.late.LateFault.{LateFault}
+use Rattle.late_edit.specs.declared.late.LateFault.TheVariants as fault
+use Rattle.late_edit.proofs.MovedEvents.{kept_at, moved_at}
+use Rattle.late_edit.proofs.Finds.{position_within}
+
+pub timed_event : (n : ℕ) (e : Event) → IsSoundEvent n e → IsTimedEvent e
+timed_event n e h = record { earliest = h.earliest; waits = h.waits; latest = h.latest }
+
+-- how events are moved where nothing is wrong
+pub record IsMove (late : LateData) (es moved_es : List Event) : Type 0 where
+  pub from : late.from < length es
+  pub is : moved_es ≡ moved_from late.from late.secs es
+  pub limits : list_any has_time_outside (map (moved late.secs) (drop late.from es)) ≡ false
+  pub onward : is_reached_early (moved_from late.from late.secs es) late.from ≡ false
+
+-- of a choice that isn't refused
+unless : {A : Type 0} (b : Bool) (f : LateFault) (r : Result A LateFault) (x : A) → cond b (Err f) r ≡ Ok x → (b ≡ false) × (r ≡ Ok x)
+unless true f r x h = absurd (let k : Err f ≡ Ok x = h in cc)
+unless false f r x h = (refl, h)
+
+not_false : (b : Bool) → not b ≡ false → b ≡ true
+not_false true h = refl
+not_false false h = absurd (let k : true ≡ false = h in cc)
+
+pub is_move : (late : LateData) (es ms : List Event) → events_moved late es ≡ Ok ms → IsMove late es ms
+is_move late es ms h =
+    let moved_es = moved_from late.from late.secs es in
+    let outside = list_any has_time_outside (map (moved late.secs) (drop late.from es)) in
+    let early = is_reached_early moved_es late.from in
+    let third = cond early (Err (fault.TimeRunsBack late.line)) (Ok moved_es) in
+    let second = cond outside (Err (fault.OutOfRange late.line)) third in
+    let first = cond (is_over_a_day late.secs) (Err (fault.OutOfRange late.line)) second in
+    let a = unless (not (nat_lt late.from (length es))) (fault.BadEvent late.line) first ms h in
+    let b = unless (is_over_a_day late.secs) (fault.OutOfRange late.line) second ms a.1 in
+    let c = unless outside (fault.OutOfRange late.line) third ms b.1 in
+    let d = unless early (fault.TimeRunsBack late.line) (Ok moved_es) ms c.1 in
+    let here : nat_lt late.from (length es) ≡ true = not_false _ a.0 in
+    record {
+      from = grind (arith, nat_tests, here);
+      is = (let e : Ok moved_es ≡ Ok ms = d.1 in let f : moved_es ≡ ms = cc in sym f);
+      limits = c.0;
+      onward = d.0;
+    }
+
+neither : (a b : Bool) → (a || b) ≡ false → (a ≡ false) × (b ≡ false)
+neither true b h = absurd (let k : true ≡ false = h in cc)
+neither false b h = (refl, h)
+
+within_limits : (time : ℤ) → is_outside time ≡ false → (negsuc 86399 ≤ℤ time) × (time ≤ℤ pos 359999)
+within_limits time h =
+    let k = neither (int_lt time (negsuc 86399)) (int_lt (pos 359999) time) h in
+    let low : int_lt time (negsuc 86399) ≡ false = k.0 in
+    let high : int_lt (pos 359999) time ≡ false = k.1 in
+    (grind (arith, ints, low), grind (arith, ints, high))
+
+none_at : {X : Type 0} (p : X → Bool) (xs : List X) (i : ℕ) (d : X) → i < length xs → list_any p xs ≡ false → p (get_or xs i d) ≡ false
+none_at p xs i d inside none =
+    elim (cases_Bool (p (get_or xs i d))) [
+      | inl t ↦ absurd (let k : true ≡ false = sym (list_any_at p xs i d inside t) ∙ none in cc)
+      | inr f ↦ f
+    ]
+
+module _ (late : LateData) (es ms : List Event) (move : IsMove late es ms) where
+  within : late.from ≤ length es
+  within = omega (arith, move.from)
+
+  pub length-move : length ms ≡ length es
+  length-move =
+      ap length move.is ∙ (length-append (take late.from es) (map (moved late.secs) (drop late.from es))
+      ∙ (let a : length (take late.from es) ≡ late.from = length-take-le late.from es within in
+      let b : length (map (moved late.secs) (drop late.from es)) ≡ length (drop late.from es) = length-map (drop late.from es) (moved late.secs) in
+      let c : length (drop late.from es) ≡ length es - late.from = length-drop late.from es in
+      omega (arith, a, b, c, within)))
+
+  -- each event is as it was, or moved
+  at_before : (i : ℕ) (d : Event) → i < late.from → get_or ms i d ≡ get_or es i d
+  at_before i d ahead = ap (λ (l : List Event). get_or l i d) move.is ∙ kept_at late.from late.secs es within i d ahead
+
+  at_behind : (i : ℕ) (d : Event) → late.from ≤ i → i < length es → get_or ms i d ≡ moved late.secs (get_or es i d)
+  at_behind i d behind inside = ap (λ (l : List Event). get_or l i d) move.is ∙ moved_at late.from late.secs es within i d d behind inside
+
+  -- a moved event's times are within the limits
+  stays : (i : ℕ) (d : Event) → late.from ≤ i → i < length es → has_time_outside (moved late.secs (get_or es i d)) ≡ false
+  stays i d behind inside =
+      let long : length (drop late.from es) ≡ length es - late.from = length-drop late.from es in
+      let back : late.from + (i - late.from) ≡ i = omega (arith, behind) in
+      let none : list_any (λ e. has_time_outside (moved late.secs e)) (drop late.from es) ≡ false = sym (list_any-over_map has_time_outside (moved late.secs) (drop late.from es)) ∙ move.limits in
+      ap (λ k. has_time_outside (moved late.secs (get_or es k d))) (sym back)
+      ∙ (ap (λ (e : Event). has_time_outside (moved late.secs e)) (sym (get_or-drop late.from es (i - late.from) d))
+      ∙ none_at (λ e. has_time_outside (moved late.secs e)) (drop late.from es) (i - late.from) d (omega (arith, long, behind, inside)) none)
+
+  earliest : (i : ℕ) (d : Event) → late.from ≤ i → i < length es → negsuc 86399 ≤ℤ (moved late.secs (get_or es i d)).arr
+  earliest i d behind inside =
+      let e = moved late.secs (get_or es i d) in
+      (within_limits e.arr (neither (is_outside e.arr) (is_outside e.dep) (stays i d behind inside)).0).0
+
+  latest : (i : ℕ) (d : Event) → late.from ≤ i → i < length es → (moved late.secs (get_or es i d)).dep ≤ℤ pos 359999
+  latest i d behind inside =
+      let e = moved late.secs (get_or es i d) in
+      (within_limits e.dep (neither (is_outside e.arr) (is_outside e.dep) (stays i d behind inside)).1).1
+
+  pub timed_move : All IsTimedEvent es → All IsTimedEvent ms
+  timed_move h = λ i d inside.
+      let here : i < length es = omega (arith, inside, length-move) in
+      elim (cases_lt i late.from) [
+        | inl ahead ↦ subst IsTimedEvent (sym (at_before i d ahead)) (h i d here)
+        | inr behind ↦ subst IsTimedEvent (sym (at_behind i d behind here)) (record {
+          earliest = earliest i d behind here;
+          waits = (let w = (h i d here).waits in omega (arith, ints, w));
+          latest = latest i d behind here;
+        })
+      ]
+
+  sound_events : (n : ℕ) → All (IsSoundEvent n) es → All (IsSoundEvent n) ms
+  sound_events n h = λ i d inside.
+      let here : i < length es = omega (arith, inside, length-move) in
+      elim (cases_lt i late.from) [
+        | inl ahead ↦ subst (IsSoundEvent n) (sym (at_before i d ahead)) (h i d here)
+        | inr behind ↦ subst (IsSoundEvent n) (sym (at_behind i d behind here)) (record {
+          stop = (h i d here).stop;
+          earliest = earliest i d behind here;
+          waits = (let w = (h i d here).waits in omega (arith, ints, w));
+          latest = latest i d behind here;
+        })
+      ]
+
+  -- the first moved event is reached when the one before it is left, or later
+  joins : (d : Event) → 0 < late.from → (get_or es (late.from - 1) d).dep ≤ℤ (moved late.secs (get_or es late.from d)).arr
+  joins d some =
+      let ahead : late.from - 1 < late.from = omega (arith, some) in
+      let there : nat_lt 0 late.from ≡ true = grind (arith, nat_tests, some) in
+      let m = moved_from late.from late.secs es in
+      let on : int_lt (get_or m late.from no_event).arr (get_or m (late.from - 1) no_event).dep ≡ false = (rw there at move.onward) in
+      let one : get_or m late.from no_event ≡ moved late.secs (get_or es late.from d) = moved_at late.from late.secs es within late.from no_event d (omega arith) move.from in
+      let two : get_or m (late.from - 1) no_event ≡ get_or es (late.from - 1) d = kept_at late.from late.secs es within (late.from - 1) no_event ahead ∙ get_or_default es (late.from - 1) no_event d (omega (arith, ahead, move.from)) in
+      let all : int_lt (moved late.secs (get_or es late.from d)).arr (get_or es (late.from - 1) d).dep ≡ false = (λ i. int_lt (sym one i).arr (sym two i).dep) ∙ on in
+      grind (arith, ints, all)
+
+  pub sound_move : (n : ℕ) → All (IsSoundEvent n) es → AllPairs (λ e f. e.dep ≤ℤ f.arr) es → AllPairs (λ e f. e.dep ≤ℤ f.arr) ms
+  sound_move n sound onward = λ i j d before inside.
+      let here : j < length es = omega (arith, inside, length-move) in
+      let at_i : i < length es = omega (arith, before, here) in
+      elim (cases_lt j late.from) [
+        | inl ahead ↦
+            let a = at_before i d (omega (arith, ahead, before)) in
+            let b = at_before j d ahead in
+            rw (a, b) (onward i j d before here)
+        | inr behind ↦ elim (cases_lt i late.from) [
+          | inl ahead ↦ rw (at_before i d ahead, at_behind j d behind here) (
+              let some : 0 < late.from = omega (arith, ahead) in
+              let join = joins d some in
+              let left : (get_or es i d).dep ≤ℤ (get_or es (late.from - 1) d).dep = until i d ahead in
+              let right : (get_or es late.from d).arr ≤ℤ (get_or es j d).arr = since j d behind here in
+              omega (arith, ints, join, left, right))
+          | inr late_i ↦ rw (at_behind i d late_i at_i, at_behind j d behind here) (let o = onward i j d before here in omega (arith, ints, o))
+        ]
+      ]
+    where
+      until : (i : ℕ) (d : Event) → i < late.from → (get_or es i d).dep ≤ℤ (get_or es (late.from - 1) d).dep
+      until i d ahead = elim (cases_lt i (late.from - 1)) [
+        | inl less ↦
+            let last : late.from - 1 < length es = omega (arith, move.from) in
+            let o = onward i (late.from - 1) d less last in
+            let w = (sound (late.from - 1) d last).waits in
+            omega (arith, ints, o, w)
+        | inr more ↦ let same : i ≡ late.from - 1 = omega (arith, more, ahead) in subst (λ k. (get_or es i d).dep ≤ℤ (get_or es k d).dep) same (omega (arith, ints))
+      ]
+
+      since : (j : ℕ) (d : Event) → late.from ≤ j → j < length es → (get_or es late.from d).arr ≤ℤ (get_or es j d).arr
+      since j d behind inside = elim (cases_lt late.from j) [
+        | inl less ↦
+            let o = onward late.from j d less inside in
+            let w = (sound late.from d move.from).waits in
+            omega (arith, ints, o, w)
+        | inr more ↦ let same : late.from ≡ j = omega (arith, more, behind) in subst (λ k. (get_or es late.from d).arr ≤ℤ (get_or es k d).arr) same (omega (arith, ints))
+      ]
+
+  pub sound_trip : (n : ℕ) (t : TripData) → t.events ≡ es → IsSoundTrip n t → IsSoundTrip n (with_events t ms)
+  sound_trip n t is h =
+      let sound = subst (All (IsSoundEvent n)) is h.events in
+      record {
+        long = (let l : 2 ≤ length t.events = h.long in let e : length t.events ≡ length es = ap length is in omega (arith, l, e, length-move));
+        events = sound_events n sound;
+        onward = sound_move n sound (subst (AllPairs (λ (e f : Event). e.dep ≤ℤ f.arr)) is h.onward);
+      }
+
+-- what move_events leaves is timed, whatever comes of it
+pub timed_after : (late : LateData) (es ms : List Event) (r : Result Unit LateFault) → MatchResult r (λ _. events_moved late es ≡ Ok ms) (λ f. IsRefused f (events_moved late es)) → OnErr r (ms ≡ es) → All IsTimedEvent es → All IsTimedEvent ms
+timed_after late es ms (Ok u) done kept h = timed_move late es ms (is_move late es ms done) h
+timed_after late es ms (Err f) done kept h = subst (All IsTimedEvent) (sym kept) h
+
+pub timed_set : (trips : List TripData) (t : ℕ) (x : TripData) (ms : List Event) → x.events ≡ ms → All IsTimedEvent ms → All (λ u. All IsTimedEvent (TripData.events u)) trips → All (λ u. All IsTimedEvent (TripData.events u)) (set trips t x)
+timed_set trips t x ms is h all = All-set (λ u. All IsTimedEvent (TripData.events u)) trips t x (subst (All IsTimedEvent) (sym is) h) all
+
+-- one trip is moved
+pub record IsOneMoved (late : LateData) (trips moved_trips : List TripData) : Type 0 where
+  pub trip : ℕ
+  pub events : List Event
+  pub named : trip_named trips late ≡ Some trip
+  pub inside : trip < length trips
+  pub move : IsMove late (get_or trips trip no_trip).events events
+  pub is : moved_trips ≡ set trips trip (with_events (get_or trips trip no_trip) events)
+
+after_ok : {A B E : Type 0} (r : Result A E) (next : A → Result B E) (y : B) → and_then r next ≡ Ok y → (x : A) × (r ≡ Ok x) × (next x ≡ Ok y)
+after_ok (Ok x) next y h = (x, refl, h)
+after_ok (Err e) next y h = absurd (let k : Err e ≡ Ok y = h in cc)
+
+some_ok : {A E : Type 0} (o : Option A) (e : E) (x : A) → ok_or o e ≡ Ok x → o ≡ Some x
+some_ok (Some y) e x h = (let k : Ok y ≡ Ok x = h in let s : y ≡ x = cc in ap (λ z. Some z) s)
+some_ok None e x h = absurd (let k : Err e ≡ Ok x = h in cc)
+
+pub one_moved : (late : LateData) (trips ms : List TripData) → trips_after late trips ≡ Ok ms → IsOneMoved late trips ms
+one_moved late trips ms h =
+    let a = after_ok (ok_or (trip_named trips late) (fault.UnknownTrip late.line)) (λ t. trips_moved late trips t) ms h in
+    let named = some_ok (trip_named trips late) (fault.UnknownTrip late.line) a.0 a.1 in
+    let t = get_or trips a.0 no_trip in
+    let b = after_ok (events_moved late t.events) (λ events. Ok (set trips a.0 (with_events t events))) ms a.2 in
+    record {
+      trip = a.0;
+      events = b.0;
+      named = named;
+      inside = position_within _ trips a.0 named;
+      move = is_move late t.events b.0 b.1;
+      is = (let e : Ok (set trips a.0 (with_events t b.0)) ≡ Ok ms = b.2 in let f : set trips a.0 (with_events t b.0) ≡ ms = cc in sym f);
+    }
+
+-- what holds of trips after each late holds after all
+pub kept_by_all : (P : List TripData → Type 0) → ((late : LateData) (trips ms : List TripData) → IsOneMoved late trips ms → P trips → P ms) → (lates : List LateData) (trips ms : List TripData) → amended_trips lates trips ≡ Ok ms → P trips → P ms
+kept_by_all P step [] trips ms h p = (let e : Ok trips ≡ Ok ms = h in let f : trips ≡ ms = cc in subst P f p)
+kept_by_all P step (late ∷ lates) trips ms h p =
+    let a = after_ok (trips_after late trips) (λ m. amended_trips lates m) ms h in
+    kept_by_all P step lates a.0 ms a.2 (step late trips a.0 (one_moved late trips a.0 a.1) p)
+
+-- as many trips with as many events, each sound
+record AreSoundTrips (n trip_count event_count : ℕ) (trips : List TripData) : Type 0 where
+  pub count : length trips ≡ trip_count
+  pub events : sum_by (λ t. length (TripData.events t)) trips ≡ event_count
+  pub sound : All (IsSoundTrip n) trips
+
+stay_sound : (n c e : ℕ) (late : LateData) (trips ms : List TripData) → IsOneMoved late trips ms → AreSoundTrips n c e trips → AreSoundTrips n c e ms
+stay_sound n c e late trips ms one h =
+    let t = get_or trips one.trip no_trip in
+    let moved_trip = with_events t one.events in
+    let long : length one.events ≡ length t.events = length-move late t.events one.events one.move in
+    subst (AreSoundTrips n c e) (sym one.is) (record {
+      count = length-set trips one.trip moved_trip ∙ h.count;
+      events = (let s = sum_by-set (λ (u : TripData). length u.events) trips one.trip moved_trip no_trip one.inside in let k = h.events in omega (arith, s, k, long));
+      sound = All-set (IsSoundTrip n) trips one.trip moved_trip (sound_trip late t.events one.events one.move n t refl (h.sound one.trip no_trip one.inside)) h.sound;
+    })
+
+-- the amended timetable is sound
+pub sound_amended : (T : TimetableData) (lates : List LateData) (ms : List TripData) → IsSound T → amended_trips lates T.trips ≡ Ok ms → IsSound (with_trips T ms)
+sound_amended T lates ms sound h =
+    let n = length T.stops in
+    let count = length T.trips in
+    let events = sum_by (λ t. length (TripData.events t)) T.trips in
+    let k : AreSoundTrips n count events ms = kept_by_all (AreSoundTrips n count events) (stay_sound n count events) lates T.trips ms h (record { count = refl; events = refl; sound = sound.trip }) in
+    record {
+      stops = sound.stops;
+      stations = sound.stations;
+      trips = subst (λ m. m ≤ 500000) (sym k.count) sound.trips;
+      events = subst (λ m. m ≤ 10000000) (sym k.events) sound.events;
+      named = sound.named;
+      distinct = sound.distinct;
+      station = sound.station;
+      trip = k.sound;
+      change_times = sound.change_times;
+      footpaths = sound.footpaths;
+      law = sound.law;
+    }

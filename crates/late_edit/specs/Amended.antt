@@ -1,0 +1,97 @@
+-- A timetable amended by late trips.
+use Rattle.std.specs.Prelude.{ℕ, ◌-◌, ◌&&◌, ◌||◌, not, List, [], ◌∷◌, ◌++◌, length, map, take, drop, set, nat_lt, position, bytes_eq, slice_index_or, Bool, Option, Result, Ok, Err, ℤ, pos, negsuc, ◌+ℤ◌, int_lt, if◌then◌else◌}
+use Rattle.std.specs.List.{list_any}
+use Rattle.std.specs.Option.{ok_or}
+use Rattle.gtfs_rows.specs.Steps.{and_then}
+use Rattle.tb_base.specs.declared.table.Event.{Event}
+use Rattle.tb_base.specs.Lines.{same_mark}
+use Rattle.tb_base.specs.TimetableData.{TimetableData, TripData, no_event, no_trip}
+use Rattle.late_edit.specs.declared.late.LateFault.{LateFault}
+use Rattle.late_edit.specs.declared.late.LateFault.TheVariants as fault
+use Rattle.late_edit.specs.Lates.{LateData}
+
+-- a trip has this name, and began on the day before, or not
+abbrev pub is_named : Bool → List ℕ → TripData → Bool
+is_named before name t = same_mark before t.before && bytes_eq name t.name
+
+-- the trip that a late names: the lowest-numbered one of its name and day
+abbrev pub trip_named : List TripData → LateData → Option ℕ
+trip_named trips late = position (is_named late.before late.trip) trips
+
+-- an event with its times moved by so many seconds
+abbrev pub moved : ℤ → Event → Event
+moved secs e = record {
+  stop = e.stop;
+  arr = e.arr +ℤ secs;
+  dep = e.dep +ℤ secs;
+  board = e.board;
+  alight = e.alight;
+}
+
+-- events of which one and all behind it are moved
+abbrev pub moved_from : ℕ → ℤ → List Event → List Event
+moved_from from secs events = take from events ++ map (moved secs) (drop from events)
+
+-- more than a day, late or early
+abbrev pub is_over_a_day : ℤ → Bool
+is_over_a_day secs = int_lt secs (negsuc 86399) || int_lt (pos 86400) secs
+
+-- a time outside the limits of a timetable
+abbrev pub is_outside : ℤ → Bool
+is_outside time = int_lt time (negsuc 86399) || int_lt (pos 359999) time
+
+-- an event has such a time
+abbrev pub has_time_outside : Event → Bool
+has_time_outside e = is_outside e.arr || is_outside e.dep
+
+-- an event is reached before the one before it is left
+abbrev pub is_reached_early : List Event → ℕ → Bool
+is_reached_early events i =
+    nat_lt 0 i && int_lt (Event.arr (slice_index_or events i no_event))
+    (Event.dep (slice_index_or events (i - 1) no_event))
+
+-- the events of the trip, moved as a late says, or the late's first fault
+abbrev pub events_moved : LateData → List Event → Result (List Event) LateFault
+events_moved late events =
+    if not (nat_lt late.from (length events)) then Err (fault.BadEvent late.line)
+    else if is_over_a_day late.secs then Err (fault.OutOfRange late.line)
+    else if list_any has_time_outside (map (moved late.secs) (drop late.from events))
+    then Err (fault.OutOfRange late.line)
+    else if is_reached_early (moved_from late.from late.secs events) late.from
+    then Err (fault.TimeRunsBack late.line)
+    else Ok (moved_from late.from late.secs events)
+
+-- a trip with other events
+abbrev pub with_events : TripData → List Event → TripData
+with_events t events = record { name = t.name; before = t.before; events = events }
+
+-- the trips, of which one is moved as a late says, or the late's first fault
+abbrev pub trips_moved : LateData → List TripData → ℕ → Result (List TripData) LateFault
+trips_moved late trips t =
+    and_then (events_moved late (TripData.events (slice_index_or trips t no_trip)))
+    (λ events. Ok (set trips t (with_events (slice_index_or trips t no_trip) events)))
+
+-- the trips after one late, or its first fault
+abbrev pub trips_after : LateData → List TripData → Result (List TripData) LateFault
+trips_after late trips =
+    and_then (ok_or (trip_named trips late) (fault.UnknownTrip late.line))
+    (λ t. trips_moved late trips t)
+
+-- the trips after lates, each of which moves what those before it left, or the first fault
+abbrev pub amended_trips : List LateData → List TripData → Result (List TripData) LateFault
+amended_trips [] trips = Ok trips
+amended_trips (late ∷ lates) trips =
+    and_then (trips_after late trips) (λ moved. amended_trips lates moved)
+
+-- a timetable with other trips
+abbrev pub with_trips : TimetableData → List TripData → TimetableData
+with_trips T trips = record {
+  stops = T.stops;
+  stations = T.stations;
+  trips = trips;
+  footpaths = T.footpaths;
+}
+
+-- the timetable amended by lates, or the first fault of one
+abbrev pub amended : TimetableData → List LateData → Result TimetableData LateFault
+amended T lates = and_then (amended_trips lates T.trips) (λ trips. Ok (with_trips T trips))

@@ -1,0 +1,63 @@
+use std::marker::Model;
+use tb_base::{Memory, Name, Sec};
+
+/// A trip that runs late, or early: from one of its events on.
+#[derive(Drop)]
+pub struct Late {
+    /// The line of the file that says it, counted from 1.
+    pub line: u32,
+    pub trip: Name,
+    /// Whether the trip began on the day before.
+    pub before: bool,
+    /// The first event that is moved, counted from 0.
+    pub from: u32,
+    /// By how many seconds; below 0 they are early.
+    pub secs: Sec,
+}
+
+impl Model for Late {
+    ghost use Rattle.late_edit.specs.Lates.{LateData};
+
+    ghost Value = { LateData };
+
+    ghost view = { λ l. record {
+      line = l.line;
+      trip = l.trip;
+      before = l.before;
+      from = l.from;
+      secs = l.secs;
+    } };
+}
+
+/// Why no timetable comes of a file of late trips. The numbers are those of lines, from 1.
+#[derive(Debug, Clone, Copy, PartialEq, Eq)]
+pub enum LateFault {
+    /// No trip has the name, and began on that day.
+    UnknownTrip(u32),
+    /// The first moved event is reached before the one before it is left.
+    TimeRunsBack(u32),
+    /// More than a day late or early, or a time leaves the limits of a timetable.
+    OutOfRange(u32),
+    /// The trip has no such event.
+    BadEvent(u32),
+    /// A line is too long, isn't UTF-8, has a word that isn't closed, or has no form of a late's
+    /// line.
+    BadLine(u32),
+    /// The file isn't there.
+    MissingFile,
+    /// The file has more than 33,554,432 bytes.
+    TooLarge,
+    /// Want of memory, which may come at any time.
+    Memory,
+}
+
+impl From<Memory> for LateFault {
+    ghost use Rattle.std.specs.Prelude.{◌≡◌};
+    ghost use Rattle.late_edit.specs.declared.late.LateFault.TheVariants as why;
+
+    ghost from_gives = { λ _ fault. fault ≡ why.Memory };
+
+    fn from(_refusal: Memory) -> LateFault {
+        LateFault::Memory
+    }
+}

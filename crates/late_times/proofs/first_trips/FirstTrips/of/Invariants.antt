@@ -1,5 +1,0 @@
-use Rattle.late_times.proofs.Finds.{FindsFrom}
-use Rattle.late_times.proofs.first_trips.FirstTrips.of.Given as goal
-
-abbrev pub invariant-loop-t : goal.invariant-loop-t
-invariant-loop-t l = FindsFrom l.first l.trips l.t

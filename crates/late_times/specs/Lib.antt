@@ -1,3 +1,0 @@
-pub mod Amended
-pub mod Finding
-pub mod Lates

@@ -1,3 +1,0 @@
-pub mod Retimed
-pub mod Near
-pub mod Touched
