@@ -1,6 +1,6 @@
 -- A trip with the same times that calls nowhere near one with other times is not touched.
 use Rattle.std.proofs.Common.{◌≡◌, ◌∙◌, sym, ap, subst, refl, ℕ, ◌+◌, ◌-◌, ◌<◌, ◌≤◌, ◌⊎◌, inl, inr, Bool, true, false, cond, ◌==◌, ◌&&◌, ◌||◌, not, List, [], ◌∷◌, length, map, get_or, Option, Some, None, ℤ, pos, ◌+ℤ◌, arith}
-use Rattle.std.specs.Prelude.{filter, filter_map, flat_map, nat_lt, int_le, All, AllPairs, Contains}
+use Rattle.std.specs.Prelude.{filter, filter_map, flat_map, nat_lt, int_le, All, AllPairs}
 use Rattle.std.specs.List.{list_any}
 use Rattle.std.specs.Option.{option_and_then}
 use Rattle.std.proofs.lemmas.Bool.{and_parts, cases_lt, eq-eqb, eqb-true, false_from_ne_true, false≢true, or_from, not_from_true}
@@ -19,23 +19,25 @@ use Rattle.tb_base.specs.Transfers.{boarding_indexes, candidates, earliest_trip,
 use Rattle.tb_base.specs.Walking.{change, change_between}
 use Rattle.tb_base.proofs.LineFacts.{IsTripNoLater, MayFollow, first_no_later}
 use Rattle.tb_base.proofs.Members.{All-from_Member, find_found, Member-filter, Member-filter_back, Member-filter_map_back, Member-flat_map_back, Member-map_back, Member-numbers_below_back}
-use Rattle.tb_base.proofs.Ordered.{Member, Member-from_Contains, Contains-from_Member}
+use Rattle.tb_base.proofs.Ordered.{Member, Contains-from_Member}
 use Rattle.tb_base.proofs.Lists.{some-IsSome}
+use Rattle.tb_laws.specs.Rows.{row_of}
 use Rattle.line_split.proofs.LineLaws.{lines_divide}
 use Rattle.line_split.specs.LinesData.{LinesData}
 use Rattle.late_edit.specs.Near.{MarksNear}
 use Rattle.late_edit.specs.Retimed.{IsRetimed}
 use Rattle.late_edit.specs.Touched.{TellsOtherTimes, candidates_of, has_other_times, is_touched, same_transfer}
-use Rattle.late_edit.proofs.ListFacts.{filter-none, filter_map-none, find-same, flat_map-filter, flat_map-none, flat_map-same, list_any-by, list_any-found, list_any-none, Member-numbers_down_back}
+use Rattle.late_edit.proofs.ListFacts.{filter-none, filter_map-none, find-same, flat_map-filter, flat_map-none, flat_map-same, list_any-by, list_any-found, list_any-none, Member-get_or, Member-numbers_down_back}
 use Rattle.late_edit.proofs.Retimings.{same_rows, same_trip}
 use Rattle.late_edit.proofs.SameLines.{IsCalm, calls, line_calls, lines-same}
+use Rattle.late_edit.proofs.Untouched.{rows_at}
 
 -- the hops from t@i onto the line where it calls at stop q
 abbrev hops_onto : TimetableData → ℕ → ℕ → ℕ → List ℕ → List Hop
 hops_onto T t i q line = filter_map (λ j. hop_onto T t i line j) (boarding_indexes T line q)
 
 last-Member : (x : ℕ) (xs : List ℕ) → Member (last_trip (x ∷ xs)) (x ∷ xs)
-last-Member x xs = Member-from_Contains (last_trip (x ∷ xs)) (x ∷ xs) (length (x ∷ xs) - 1, omega arith, get_or_default (x ∷ xs) (length (x ∷ xs) - 1) (last_trip (x ∷ xs)) 0 (omega arith))
+last-Member x xs = Member-get_or (x ∷ xs) (length (x ∷ xs) - 1) 0 (omega arith)
 
 -- ---- lines onto which no hop leads
 
@@ -47,10 +49,7 @@ module _ (T : TimetableData) (t i q : ℕ) where
 
   calls-by : (u k : ℕ) → k < length (events_of T u) → stop_at T u k ≡ q → calls T q u ≡ true
   calls-by u k below e =
-      list_any-by (λ (f : Event). f.stop == q) (events_of T u) (event_at T u k) (Member-from_Contains (event_at T u k) (events_of T u) (k, below, refl_default)) (eq-eqb (stop_at T u k) q e)
-    where
-      refl_default : get_or (events_of T u) k (event_at T u k) ≡ event_at T u k
-      refl_default = get_or_default (events_of T u) k (event_at T u k) no_event below
+      list_any-by (λ (f : Event). f.stop == q) (events_of T u) (event_at T u k) (Member-get_or (events_of T u) k no_event below) (eq-eqb (stop_at T u k) q e)
 
   passed_by : (lines : List (List ℕ)) → AreDividedInto T lines → (line : List ℕ) → Member line lines → line_calls T q line ≡ false → hops_onto T t i q line ≡ []
   passed_by lines divided [] m h = refl
@@ -187,24 +186,24 @@ module _ (L M : LinesData) (same : IsRetimed L.table M.table) (a : AreLines L.ta
       (not_from_true (pointwise same_transfer (candidates_of L t) (candidates_of M t)) ((same_rows (candidates_of L t) (candidates_of M t)).1 rows)))
       (list_any_none (λ (r : Transfer). has_other_times L.table M.table r.to_trip) (candidates_of L t) (All-from_Member (λ (r : Transfer). has_other_times L.table M.table r.to_trip ≡ false) (candidates_of L t) calm))
     where
-      event : (i : ℕ) → i < length (events_of L.table t) → Contains (events_of L.table t) (event_at L.table t i)
-      event i below = (i, below, get_or_default (events_of L.table t) i (event_at L.table t i) no_event below)
+      event : (i : ℕ) → i < length (events_of L.table t) → Member (event_at L.table t i) (events_of L.table t)
+      event i below = Member-get_or (events_of L.table t) i no_event below
 
       there : (i : ℕ) → i < length (events_of L.table t) → stop_at L.table t i < length L.table.stops
-      there i below = (All-contains (IsSoundEvent (length L.table.stops)) (events_of L.table t) (event_at L.table t i) inside (event i below)).stop
+      there i below = (inside i no_event below).stop
 
       away : (i : ℕ) → i < length (events_of L.table t) → get_or marks (stop_at L.table t i) false ≡ false
-      away i below = list_any-none (λ (e : Event). get_or marks e.stop false) (events_of L.table t) far (event_at L.table t i) (Member-from_Contains (event_at L.table t i) (events_of L.table t) (event i below))
+      away i below = list_any-none (λ (e : Event). get_or marks e.stop false) (events_of L.table t) far (event_at L.table t i) (event i below)
 
       rows : candidates_of L t ≡ candidates_of M t
       rows =
-          flat_map-same (λ i. map (λ (h : Hop). record { trip = t; at = i; to_trip = h.trip; to_at = h.at }) (candidates L.table L.lines t i)) (λ i. map (λ (h : Hop). record { trip = t; at = i; to_trip = h.trip; to_at = h.at }) (candidates M.table M.lines t i)) (numbers_down (length (events_of L.table t)))
-          (λ i m. let below = Member-numbers_down_back i (length (events_of L.table t)) m in ap (map (λ (h : Hop). record { trip = t; at = i; to_trip = h.trip; to_at = h.at })) (candidates_same t times i (there i below) (away i below)))
-          ∙ ap (λ (es : List Event). flat_map (λ i. map (λ (h : Hop). record { trip = t; at = i; to_trip = h.trip; to_at = h.at }) (candidates M.table M.lines t i)) (numbers_down (length es))) (same_trip L.table M.table same t times)
+          flat_map-same (rows_at (candidates L.table L.lines t) t) (rows_at (candidates M.table M.lines t) t) (numbers_down (length (events_of L.table t)))
+          (λ i m. let below = Member-numbers_down_back i (length (events_of L.table t)) m in ap (map (row_of t i)) (candidates_same t times i (there i below) (away i below)))
+          ∙ ap (λ (es : List Event). flat_map (rows_at (candidates M.table M.lines t) t) (numbers_down (length es))) (same_trip L.table M.table same t times)
 
       calm : (r : Transfer) → Member r (candidates_of L t) → has_other_times L.table M.table r.to_trip ≡ false
       calm r m =
-          let i = Member-flat_map_back (λ i. map (λ (h : Hop). record { trip = t; at = i; to_trip = h.trip; to_at = h.at }) (candidates L.table L.lines t i)) r (numbers_down (length (events_of L.table t))) m in
+          let i = Member-flat_map_back (rows_at (candidates L.table L.lines t) t) r (numbers_down (length (events_of L.table t))) m in
           let below = Member-numbers_down_back i.0 (length (events_of L.table t)) i.1 in
-          let h = Member-map_back (λ (h : Hop). record { trip = t; at = i.0; to_trip = h.trip; to_at = h.at }) r (candidates L.table L.lines t i.0) i.2 in
+          let h = Member-map_back (row_of t i.0) r (candidates L.table L.lines t i.0) i.2 in
           subst (λ (x : Transfer). has_other_times L.table M.table x.to_trip ≡ false) h.2 (candidates_calm t times i.0 (there i.0 below) (away i.0 below) h.0 h.1)

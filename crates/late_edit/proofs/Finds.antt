@@ -68,18 +68,6 @@ module _ {X : Type 0} (p : X → Bool) where
         | inr f ↦ rw (f, next_lt (position_or_len p xs) (length xs)) (later (nat_lt (position_or_len p xs) (length xs)) (position_or_len p xs))
       ]
 
--- a position is below the length
-pub position_within : {X : Type 0} (p : X → Bool) (xs : List X) (k : ℕ) → position p xs ≡ Some k → k < length xs
-position_within p xs k is =
-    elim (cases_Bool (nat_lt (position_or_len p xs) (length xs))) [
-      | inl t ↦
-          let h : position_or_len p xs < length xs = grind (arith, nat_tests, t) in
-          let e : Some (position_or_len p xs) ≡ Some k = rw t at is in
-          let same : position_or_len p xs ≡ k = cc in
-          omega (arith, h, same)
-      | inr f ↦ let e : None ≡ Some k = rw f at is in absurd (let g : None ≡ Some k = e in cc)
-    ]
-
 -- what finds the first trip of each name among those from one on
 abbrev pub FindsFrom : FirstData → List TripData → ℕ → Type 0
 FindsFrom F trips t = (before : Bool) (name : List ℕ) → trip_found F before name ≡ option_map (λ k. t + k) (position (is_named before name) (drop t trips))

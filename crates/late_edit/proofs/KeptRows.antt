@@ -1,5 +1,5 @@
 -- The kept transfers of trips, one after another.
-use Rattle.std.proofs.Common.{◌≡◌, ◌∙◌, sym, ap, refl, subst, ℕ, suc, ◌+◌, ◌≤◌, List, [], ◌∷◌, ◌++◌, length, map, cond, Bool, true, false, append_assoc, arith}
+use Rattle.std.proofs.Common.{◌≡◌, ◌∙◌, sym, ap, refl, subst, ℕ, suc, ◌+◌, ◌≤◌, List, [], ◌∷◌, ◌++◌, length, cond, Bool, true, false, append_assoc, arith}
 use Rattle.std.specs.Prelude.{filter, flat_map, if◌then◌else◌}
 use Rattle.std.proofs.lemmas.List.{length-append, length-map}
 use Rattle.std.proofs.lemmas.List.Elements.{filter-append}
@@ -15,22 +15,19 @@ use Rattle.reduce_workers.proofs.MoreTrips.{one_more_count}
 use Rattle.late_edit.specs.Touched.{is_touched, touched_count}
 use Rattle.late_edit.specs.Retimed.{IsRetimed, untimed_event}
 use Rattle.late_edit.proofs.Retimings.{same_length, untimed_events}
+use Rattle.late_edit.proofs.Untouched.{rows_at}
 use Rattle.edition_store.specs.Editions.{EditionData}
 use Rattle.late_edit.specs.Amending.{AreKeptRows, RowsData, network_of}
 
--- a trip's transfers by the hops of one of its events, and of the first n events, the last one
--- first
-abbrev pub transfers_at : (ℕ → List Hop) → ℕ → ℕ → List Transfer
-transfers_at hops t i = map (λ (h : Hop). record { trip = t; at = i; to_trip = h.trip; to_at = h.at }) (hops i)
-
-abbrev pub transfers_below : (ℕ → List Hop) → ℕ → ℕ → List Transfer
-transfers_below hops t n = flat_map (transfers_at hops t) (numbers_down n)
+-- a trip's transfers by the hops of its first n events, the last one first
+abbrev pub rows_below : (ℕ → List Hop) → ℕ → ℕ → List Transfer
+rows_below hops t n = flat_map (rows_at hops t) (numbers_down n)
 
 -- with one event more
-pub event_added : (hops : ℕ → List Hop) (t i n : ℕ) (row new all : List Transfer) → n ≡ suc i → new ≡ row ++ transfers_at hops t i → row ++ transfers_below hops t n ≡ all → new ++ transfers_below hops t i ≡ all
+pub event_added : (hops : ℕ → List Hop) (t i n : ℕ) (row new all : List Transfer) → n ≡ suc i → new ≡ row ++ rows_at hops t i → row ++ rows_below hops t n ≡ all → new ++ rows_below hops t i ≡ all
 event_added hops t i n row new all next added so_far =
-    ap (λ r. r ++ transfers_below hops t i) added ∙ (append_assoc row (transfers_at hops t i) (transfers_below hops t i)
-    ∙ (sym (ap (λ k. row ++ transfers_below hops t k) next) ∙ so_far))
+    ap (λ r. r ++ rows_below hops t i) added ∙ (append_assoc row (rows_at hops t i) (rows_below hops t i)
+    ∙ (sym (ap (λ k. row ++ rows_below hops t k) next) ∙ so_far))
 
 one_or_none : (t : ℕ) (c : Bool) → length (cond c (t ∷ []) []) ≡ if c then 1 else 0
 one_or_none t true = refl
@@ -70,7 +67,7 @@ same_row L M T t own retimed each =
     let hops : kept_hops L.table L.lines t ≡ kept_hops T M.lines t = (λ i k. each as_own k i) ∙ ap (λ U. kept_hops U M.lines t) own in
     let many : length (events_of L.table t) ≡ length (events_of T t) =
     sym (length-map (events_of L.table t) untimed_event) ∙ (ap length (untimed_events L.table T retimed t) ∙ length-map (events_of T t) untimed_event) in
-    λ i. flat_map (transfers_at (hops i) t) (numbers_down (many i))
+    λ i. flat_map (rows_at (hops i) t) (numbers_down (many i))
 
 -- a network is its timetable and its lines
 pub network_is : (e : EditionData) (L : LinesData) → L.table ≡ e.table → L.lines ≡ e.lines → L ≡ network_of e

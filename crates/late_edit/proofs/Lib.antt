@@ -6,8 +6,8 @@ pub mod ListFacts
 pub mod MovedEvents
 pub mod NearStops
 pub mod Numbers
+pub mod OnlyTimes
 pub mod Reading
-pub mod Retimes
 pub mod Retimings
 pub mod SameLines
 pub mod Sound

@@ -7,6 +7,11 @@ use Rattle.std.proofs.lemmas.List.{get_or_default}
 use Rattle.tb_base.specs.Transfers.{numbers_down}
 use Rattle.tb_base.proofs.Ordered.{Member, Member-from_Contains}
 
+-- ---- an element is where it stands
+
+pub Member-get_or : {X : Type 0} (xs : List X) (i : ℕ) (d : X) → i < length xs → Member (get_or xs i d) xs
+Member-get_or xs i d inside = Member-from_Contains (get_or xs i d) xs (i, inside, get_or_default xs i (get_or xs i d) d inside)
+
 -- ---- no element passes, or gives anything
 
 pub list_any-none : {X : Type 0} (p : X → Bool) (xs : List X) → list_any p xs ≡ false → (x : X) → Member x xs → p x ≡ false
@@ -65,11 +70,8 @@ flat_map-filter f p (x ∷ xs) h = by_test (flat_map-filter f p xs (λ y m. h y 
 -- ---- an order that holds of the elements too
 
 pub AllPairs-also : {X : Type 0} (R S : X → X → Type 0) (xs : List X) → ((x y : X) → Member x xs → Member y xs → R x y → S x y) → AllPairs R xs → AllPairs S xs
-AllPairs-also {X} R S xs also h i j d before below =
-    also (get_or xs i d) (get_or xs j d) (there i (omega (arith, before, below))) (there j below) (h i j d before below)
-  where
-    there : (k : ℕ) → k < length xs → Member (get_or xs k d) xs
-    there k l = Member-from_Contains (get_or xs k d) xs (k, l, get_or_default xs k (get_or xs k d) d l)
+AllPairs-also R S xs also h i j d before below =
+    also (get_or xs i d) (get_or xs j d) (Member-get_or xs i d (omega (arith, before, below))) (Member-get_or xs j d below) (h i j d before below)
 
 -- ---- numbers
 

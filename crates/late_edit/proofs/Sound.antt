@@ -1,27 +1,27 @@
 -- Trips that lates move stay sound.
-use Rattle.std.proofs.Common.{◌≡◌, ◌∙◌, sym, ap, subst, refl, ℕ, ◌+◌, ◌-◌, ◌<◌, ◌≤◌, ◌≤ℤ◌, ℤ, pos, negsuc, List, [], ◌∷◌, length, get_or, set, map, take, drop, Bool, true, false, cond, not, ◌||◌, Some, None, Option, inl, inr, arith}
+use Rattle.std.proofs.Common.{◌≡◌, ◌∙◌, sym, ap, subst, refl, ℕ, ◌+◌, ◌-◌, ◌<◌, ◌≤◌, ◌≤ℤ◌, ℤ, pos, negsuc, List, [], ◌∷◌, length, get_or, set, map, take, drop, Bool, true, false, cond, not, Some, None, Option, inl, inr, arith}
 use Rattle.std.specs.Prelude.{All, AllPairs, Result, Ok, Err, MatchResult, OnErr, int_lt, nat_lt, sum_by}
 use Rattle.std.specs.List.{list_any}
 use Rattle.std.specs.Option.{ok_or}
-use Rattle.std.proofs.lemmas.Bool.{cases_Bool, cases_lt}
+use Rattle.std.proofs.lemmas.Bool.{cases_lt, not-false, or_parts}
 use Rattle.std.proofs.lemmas.Bool.Decides.{nat_tests}
 use Rattle.std.proofs.lemmas.Int.{ints}
-use Rattle.std.proofs.lemmas.List.{get_or-drop, length-append, length-drop, length-map, length-set, length-take-le, get_or_default}
+use Rattle.std.proofs.lemmas.List.{get_or-drop, length-append, length-drop, length-map, length-set, length-take-le}
 use Rattle.std.proofs.lemmas.List.Elements.{All-set}
-use Rattle.std.proofs.lemmas.List.Folds.{list_any_at}
+use Rattle.std.proofs.lemmas.List.Quantifiers.{position-Some}
 use Rattle.std.proofs.lemmas.List.Sums.{sum_by-set}
 use Rattle.gtfs_rows.specs.Steps.{and_then}
 use Rattle.tb_base.specs.declared.table.Event.{Event}
 use Rattle.tb_base.specs.Soundness.{IsSound, IsSoundEvent, IsSoundTrip}
-use Rattle.tb_base.specs.TimetableData.{TimetableData, TripData, no_event, no_trip}
+use Rattle.tb_base.specs.TimetableData.{TimetableData, TripData, no_trip}
 use Rattle.tb_base.proofs.Lists.{list_any-over_map}
-use Rattle.late_edit.specs.Amended.{amended_trips, events_moved, has_time_outside, is_outside, is_over_a_day, is_reached_early, moved, moved_from, trip_named, trips_after, trips_moved, with_events, with_trips}
+use Rattle.late_edit.specs.Amended.{amended_trips, events_moved, has_time_outside, is_named, is_outside, is_over_a_day, is_reached_early, moved, moved_from, trip_named, trips_after, trips_moved, with_events, with_trips}
 use Rattle.late_edit.specs.Finding.{IsTimedEvent}
 use Rattle.late_edit.specs.Lates.{IsRefused, LateData}
 use Rattle.late_edit.specs.declared.late.LateFault.{LateFault}
 use Rattle.late_edit.specs.declared.late.LateFault.TheVariants as fault
-use Rattle.late_edit.proofs.MovedEvents.{kept_at, moved_at}
-use Rattle.late_edit.proofs.Finds.{position_within}
+use Rattle.late_edit.proofs.MovedEvents.{early_is, kept_at, moved_at}
+use Rattle.late_edit.proofs.ListFacts.{Member-get_or, list_any-none}
 
 pub timed_event : (n : ℕ) (e : Event) → IsSoundEvent n e → IsTimedEvent e
 timed_event n e h = record { earliest = h.earliest; waits = h.waits; latest = h.latest }
@@ -38,10 +38,6 @@ unless : {A : Type 0} (b : Bool) (f : LateFault) (r : Result A LateFault) (x : A
 unless true f r x h = absurd (let k : Err f ≡ Ok x = h in cc)
 unless false f r x h = (refl, h)
 
-not_false : (b : Bool) → not b ≡ false → b ≡ true
-not_false true h = refl
-not_false false h = absurd (let k : true ≡ false = h in cc)
-
 pub is_move : (late : LateData) (es ms : List Event) → events_moved late es ≡ Ok ms → IsMove late es ms
 is_move late es ms h =
     let moved_es = moved_from late.from late.secs es in
@@ -54,7 +50,7 @@ is_move late es ms h =
     let b = unless (is_over_a_day late.secs) (fault.OutOfRange late.line) second ms a.1 in
     let c = unless outside (fault.OutOfRange late.line) third ms b.1 in
     let d = unless early (fault.TimeRunsBack late.line) (Ok moved_es) ms c.1 in
-    let here : nat_lt late.from (length es) ≡ true = not_false _ a.0 in
+    let here : nat_lt late.from (length es) ≡ true = not-false (nat_lt late.from (length es)) a.0 in
     record {
       from = grind (arith, nat_tests, here);
       is = (let e : Ok moved_es ≡ Ok ms = d.1 in let f : moved_es ≡ ms = cc in sym f);
@@ -62,23 +58,12 @@ is_move late es ms h =
       onward = d.0;
     }
 
-neither : (a b : Bool) → (a || b) ≡ false → (a ≡ false) × (b ≡ false)
-neither true b h = absurd (let k : true ≡ false = h in cc)
-neither false b h = (refl, h)
-
 within_limits : (time : ℤ) → is_outside time ≡ false → (negsuc 86399 ≤ℤ time) × (time ≤ℤ pos 359999)
 within_limits time h =
-    let k = neither (int_lt time (negsuc 86399)) (int_lt (pos 359999) time) h in
+    let k = or_parts (int_lt time (negsuc 86399)) (int_lt (pos 359999) time) h in
     let low : int_lt time (negsuc 86399) ≡ false = k.0 in
     let high : int_lt (pos 359999) time ≡ false = k.1 in
     (grind (arith, ints, low), grind (arith, ints, high))
-
-none_at : {X : Type 0} (p : X → Bool) (xs : List X) (i : ℕ) (d : X) → i < length xs → list_any p xs ≡ false → p (get_or xs i d) ≡ false
-none_at p xs i d inside none =
-    elim (cases_Bool (p (get_or xs i d))) [
-      | inl t ↦ absurd (let k : true ≡ false = sym (list_any_at p xs i d inside t) ∙ none in cc)
-      | inr f ↦ f
-    ]
 
 module _ (late : LateData) (es ms : List Event) (move : IsMove late es ms) where
   within : late.from ≤ length es
@@ -107,17 +92,17 @@ module _ (late : LateData) (es ms : List Event) (move : IsMove late es ms) where
       let none : list_any (λ e. has_time_outside (moved late.secs e)) (drop late.from es) ≡ false = sym (list_any-over_map has_time_outside (moved late.secs) (drop late.from es)) ∙ move.limits in
       ap (λ k. has_time_outside (moved late.secs (get_or es k d))) (sym back)
       ∙ (ap (λ (e : Event). has_time_outside (moved late.secs e)) (sym (get_or-drop late.from es (i - late.from) d))
-      ∙ none_at (λ e. has_time_outside (moved late.secs e)) (drop late.from es) (i - late.from) d (omega (arith, long, behind, inside)) none)
+      ∙ list_any-none (λ e. has_time_outside (moved late.secs e)) (drop late.from es) none _ (Member-get_or (drop late.from es) (i - late.from) d (omega (arith, long, behind, inside))))
 
   earliest : (i : ℕ) (d : Event) → late.from ≤ i → i < length es → negsuc 86399 ≤ℤ (moved late.secs (get_or es i d)).arr
   earliest i d behind inside =
       let e = moved late.secs (get_or es i d) in
-      (within_limits e.arr (neither (is_outside e.arr) (is_outside e.dep) (stays i d behind inside)).0).0
+      (within_limits e.arr (or_parts (is_outside e.arr) (is_outside e.dep) (stays i d behind inside)).0).0
 
   latest : (i : ℕ) (d : Event) → late.from ≤ i → i < length es → (moved late.secs (get_or es i d)).dep ≤ℤ pos 359999
   latest i d behind inside =
       let e = moved late.secs (get_or es i d) in
-      (within_limits e.dep (neither (is_outside e.arr) (is_outside e.dep) (stays i d behind inside)).1).1
+      (within_limits e.dep (or_parts (is_outside e.arr) (is_outside e.dep) (stays i d behind inside)).1).1
 
   pub timed_move : All IsTimedEvent es → All IsTimedEvent ms
   timed_move h = λ i d inside.
@@ -131,30 +116,29 @@ module _ (late : LateData) (es ms : List Event) (move : IsMove late es ms) where
         })
       ]
 
+  same_stop : (i : ℕ) (d : Event) → i < length es → (get_or ms i d).stop ≡ (get_or es i d).stop
+  same_stop i d inside =
+      elim (cases_lt i late.from) [
+        | inl ahead ↦ ap (λ (e : Event). e.stop) (at_before i d ahead)
+        | inr behind ↦ ap (λ (e : Event). e.stop) (at_behind i d behind inside)
+      ]
+
   sound_events : (n : ℕ) → All (IsSoundEvent n) es → All (IsSoundEvent n) ms
   sound_events n h = λ i d inside.
       let here : i < length es = omega (arith, inside, length-move) in
-      elim (cases_lt i late.from) [
-        | inl ahead ↦ subst (IsSoundEvent n) (sym (at_before i d ahead)) (h i d here)
-        | inr behind ↦ subst (IsSoundEvent n) (sym (at_behind i d behind here)) (record {
-          stop = (h i d here).stop;
-          earliest = earliest i d behind here;
-          waits = (let w = (h i d here).waits in omega (arith, ints, w));
-          latest = latest i d behind here;
-        })
-      ]
+      let t = timed_move (λ j e below. timed_event n (get_or es j e) (h j e below)) i d inside in
+      record {
+        stop = subst (λ q. q < n) (sym (same_stop i d here)) (h i d here).stop;
+        earliest = t.earliest;
+        waits = t.waits;
+        latest = t.latest;
+      }
 
   -- the first moved event is reached when the one before it is left, or later
   joins : (d : Event) → 0 < late.from → (get_or es (late.from - 1) d).dep ≤ℤ (moved late.secs (get_or es late.from d)).arr
   joins d some =
-      let ahead : late.from - 1 < late.from = omega (arith, some) in
-      let there : nat_lt 0 late.from ≡ true = grind (arith, nat_tests, some) in
-      let m = moved_from late.from late.secs es in
-      let on : int_lt (get_or m late.from no_event).arr (get_or m (late.from - 1) no_event).dep ≡ false = (rw there at move.onward) in
-      let one : get_or m late.from no_event ≡ moved late.secs (get_or es late.from d) = moved_at late.from late.secs es within late.from no_event d (omega arith) move.from in
-      let two : get_or m (late.from - 1) no_event ≡ get_or es (late.from - 1) d = kept_at late.from late.secs es within (late.from - 1) no_event ahead ∙ get_or_default es (late.from - 1) no_event d (omega (arith, ahead, move.from)) in
-      let all : int_lt (moved late.secs (get_or es late.from d)).arr (get_or es (late.from - 1) d).dep ≡ false = (λ i. int_lt (sym one i).arr (sym two i).dep) ∙ on in
-      grind (arith, ints, all)
+      let on : int_lt (moved late.secs (get_or es late.from d)).arr (get_or es (late.from - 1) d).dep ≡ false = early_is late.from late.secs es within d d some move.from ∙ move.onward in
+      grind (arith, ints, on)
 
   pub sound_move : (n : ℕ) → All (IsSoundEvent n) es → AllPairs (λ e f. e.dep ≤ℤ f.arr) es → AllPairs (λ e f. e.dep ≤ℤ f.arr) ms
   sound_move n sound onward = λ i j d before inside.
@@ -221,7 +205,7 @@ pub record IsOneMoved (late : LateData) (trips moved_trips : List TripData) : Ty
   pub move : IsMove late (get_or trips trip no_trip).events events
   pub is : moved_trips ≡ set trips trip (with_events (get_or trips trip no_trip) events)
 
-after_ok : {A B E : Type 0} (r : Result A E) (next : A → Result B E) (y : B) → and_then r next ≡ Ok y → (x : A) × (r ≡ Ok x) × (next x ≡ Ok y)
+pub after_ok : {A B E : Type 0} (r : Result A E) (next : A → Result B E) (y : B) → and_then r next ≡ Ok y → (x : A) × (r ≡ Ok x) × (next x ≡ Ok y)
 after_ok (Ok x) next y h = (x, refl, h)
 after_ok (Err e) next y h = absurd (let k : Err e ≡ Ok y = h in cc)
 
@@ -239,7 +223,7 @@ one_moved late trips ms h =
       trip = a.0;
       events = b.0;
       named = named;
-      inside = position_within _ trips a.0 named;
+      inside = (position-Some (is_named late.before late.trip) trips a.0 no_trip named).0;
       move = is_move late t.events b.0 b.1;
       is = (let e : Ok (set trips a.0 (with_events t b.0)) ≡ Ok ms = b.2 in let f : set trips a.0 (with_events t b.0) ≡ ms = cc in sym f);
     }

@@ -17,6 +17,7 @@ use Rattle.tb_base.specs.Walking.{change_time}
 use Rattle.tb_base.proofs.NumberFacts.{lt-eqb}
 use Rattle.tb_base.proofs.Ordered.{Member}
 use Rattle.tb_base.proofs.Members.{Member-flat_map, Member-flat_map_back, Member-map, Member-map_back, Member-filter_back}
+use Rattle.tb_laws.specs.Rows.{row_of}
 use Rattle.line_split.specs.LinesData.{LinesData}
 use Rattle.late_edit.specs.Retimed.{IsRetimed}
 use Rattle.late_edit.specs.Touched.{candidates_of, has_other_times, is_touched, same_transfer}
@@ -26,41 +27,41 @@ use Rattle.late_edit.proofs.Retimings.{same_rows, same_trip}
 -- ---- the candidates of each event, out of those of all events
 
 -- the transfers of trip t by the hops of its event i
-abbrev rows_of : (ℕ → List Hop) → ℕ → ℕ → List Transfer
-rows_of hops t i = map (λ (h : Hop). record { trip = t; at = i; to_trip = h.trip; to_at = h.at }) (hops i)
+abbrev pub rows_at : (ℕ → List Hop) → ℕ → ℕ → List Transfer
+rows_at hops t i = map (row_of t i) (hops i)
 
 -- the hop of a row of event i
 abbrev hop_at : ℕ → Transfer → Option Hop
 hop_at i r = cond (r.at == i) (Some (record { trip = r.to_trip; at = r.to_at })) None
 
-hops_at-own : (t i : ℕ) (hs : List Hop) (rs : List Transfer) → filter_map (hop_at i) (map (λ (h : Hop). record { trip = t; at = i; to_trip = h.trip; to_at = h.at }) hs ++ rs) ≡ hs ++ filter_map (hop_at i) rs
+hops_at-own : (t i : ℕ) (hs : List Hop) (rs : List Transfer) → filter_map (hop_at i) (map (row_of t i) hs ++ rs) ≡ hs ++ filter_map (hop_at i) rs
 hops_at-own t i [] rs = refl
 hops_at-own t i (h ∷ hs) rs =
-    ap (λ b. cons_option (cond b (Some h) None) (filter_map (hop_at i) (map (λ (h : Hop). record { trip = t; at = i; to_trip = h.trip; to_at = h.at }) hs ++ rs))) (eq-eqb i i refl)
+    ap (λ b. cons_option (cond b (Some h) None) (filter_map (hop_at i) (map (row_of t i) hs ++ rs))) (eq-eqb i i refl)
     ∙ ap (λ (ks : List Hop). h ∷ ks) (hops_at-own t i hs rs)
 
-hops_at-other : (t i j : ℕ) → (j == i) ≡ false → (hs : List Hop) (rs : List Transfer) → filter_map (hop_at i) (map (λ (h : Hop). record { trip = t; at = j; to_trip = h.trip; to_at = h.at }) hs ++ rs) ≡ filter_map (hop_at i) rs
+hops_at-other : (t i j : ℕ) → (j == i) ≡ false → (hs : List Hop) (rs : List Transfer) → filter_map (hop_at i) (map (row_of t j) hs ++ rs) ≡ filter_map (hop_at i) rs
 hops_at-other t i j e [] rs = refl
 hops_at-other t i j e (h ∷ hs) rs =
-    ap (λ b. cons_option (cond b (Some h) None) (filter_map (hop_at i) (map (λ (h : Hop). record { trip = t; at = j; to_trip = h.trip; to_at = h.at }) hs ++ rs))) e
+    ap (λ b. cons_option (cond b (Some h) None) (filter_map (hop_at i) (map (row_of t j) hs ++ rs))) e
     ∙ hops_at-other t i j e hs rs
 
-hops_at-all : (hops : ℕ → List Hop) (t i n : ℕ) → i < n → filter_map (hop_at i) (flat_map (rows_of hops t) (numbers_down n)) ≡ hops i
+hops_at-all : (hops : ℕ → List Hop) (t i n : ℕ) → i < n → filter_map (hop_at i) (flat_map (rows_at hops t) (numbers_down n)) ≡ hops i
 hops_at-all hops t i zero h = absurd (omega arith)
 hops_at-all hops t i (suc n) h = by_case (hops_at-all hops t i n) (last_or_below i n h)
   where
-    none : (i n : ℕ) → n ≤ i → filter_map (hop_at i) (flat_map (rows_of hops t) (numbers_down n)) ≡ []
+    none : (i n : ℕ) → n ≤ i → filter_map (hop_at i) (flat_map (rows_at hops t) (numbers_down n)) ≡ []
     none i zero h = refl
-    none i (suc n) h = hops_at-other t i n (lt-eqb n i (omega (arith, h))) (hops n) (flat_map (rows_of hops t) (numbers_down n)) ∙ none i n (omega (arith, h))
+    none i (suc n) h = hops_at-other t i n (lt-eqb n i (omega (arith, h))) (hops n) (flat_map (rows_at hops t) (numbers_down n)) ∙ none i n (omega (arith, h))
 
     other : (i n : ℕ) → i < n → (n == i) ≡ false
     other i n h = grind (arith, nat_tests, h)
 
-    by_case : (i < n → filter_map (hop_at i) (flat_map (rows_of hops t) (numbers_down n)) ≡ hops i) → (n ≡ i) ⊎ (i < n) → filter_map (hop_at i) (rows_of hops t n ++ flat_map (rows_of hops t) (numbers_down n)) ≡ hops i
+    by_case : (i < n → filter_map (hop_at i) (flat_map (rows_at hops t) (numbers_down n)) ≡ hops i) → (n ≡ i) ⊎ (i < n) → filter_map (hop_at i) (rows_at hops t n ++ flat_map (rows_at hops t) (numbers_down n)) ≡ hops i
     by_case more (inl e) =
-        subst (λ m. filter_map (hop_at i) (rows_of hops t m ++ flat_map (rows_of hops t) (numbers_down n)) ≡ hops i) (sym e)
-        (hops_at-own t i (hops i) (flat_map (rows_of hops t) (numbers_down n)) ∙ ap (λ (hs : List Hop). hops i ++ hs) (none i n (omega (arith, e))) ∙ append-nil (hops i))
-    by_case more (inr l) = hops_at-other t i n (other i n l) (hops n) (flat_map (rows_of hops t) (numbers_down n)) ∙ more l
+        subst (λ m. filter_map (hop_at i) (rows_at hops t m ++ flat_map (rows_at hops t) (numbers_down n)) ≡ hops i) (sym e)
+        (hops_at-own t i (hops i) (flat_map (rows_at hops t) (numbers_down n)) ∙ ap (λ (hs : List Hop). hops i ++ hs) (none i n (omega (arith, e))) ∙ append-nil (hops i))
+    by_case more (inr l) = hops_at-other t i n (other i n l) (hops n) (flat_map (rows_at hops t) (numbers_down n)) ∙ more l
 
 -- ---- the kept ones of some alternatives
 
@@ -119,9 +120,9 @@ module _ (L M : LinesData) (t : ℕ) (same : IsRetimed L.table M.table) (untouch
 
   hopped : (i : ℕ) → i < length (events_of L.table t) → (h : Hop) → Member h (candidates L.table L.lines t i) → events_of L.table h.trip ≡ events_of M.table h.trip
   hopped i below h m =
-      let row : Transfer = record { trip = t; at = i; to_trip = h.trip; to_at = h.at } in
-      let there : Member row (candidates_of L t) = Member-flat_map (rows_of (candidates L.table L.lines t) t) i row (numbers_down (length (events_of L.table t))) (Member-numbers_down i (length (events_of L.table t)) below)
-      (Member-map (λ (h : Hop). record { trip = t; at = i; to_trip = h.trip; to_at = h.at }) h (candidates L.table L.lines t i) m) in
+      let row = row_of t i h in
+      let there : Member row (candidates_of L t) = Member-flat_map (rows_at (candidates L.table L.lines t) t) i row (numbers_down (length (events_of L.table t))) (Member-numbers_down i (length (events_of L.table t)) below)
+      (Member-map (row_of t i) h (candidates L.table L.lines t i) m) in
       same_trip L.table M.table same h.trip (list_any-none (λ (r : Transfer). has_other_times L.table M.table r.to_trip) (candidates_of L t) parts.1 row there)
 
   no_turns : (i : ℕ) → i < length (events_of L.table t) → candidates_without_u_turns L.table L.lines t i ≡ candidates_without_u_turns M.table M.lines t i

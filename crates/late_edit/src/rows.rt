@@ -1,6 +1,7 @@
 //! The kept transfers of an amended timetable.
 ghost use Rattle.std.specs.Prelude.{◌≡◌, ◌+◌, ◌<◌, ◌++◌, ◌∷◌, [], IfOk, OnOk, if◌then◌else◌, length, map};
 ghost use Rattle.tb_base.specs.Transfers.{kept_hops, transfers_of};
+ghost use Rattle.tb_laws.specs.Rows.{row_of};
 ghost use Rattle.transfer_pack.specs.Words.{lent};
 ghost use Rattle.late_edit.specs.Amending.{AreKeptRows, network_of};
 ghost use Rattle.late_edit.specs.Retimed.{IsRetimed};
@@ -42,9 +43,8 @@ impl Model for Rows {
 
 // Adds the transfers of a trip by the hops of one of its events.
 fn add_event(row: &mut Vec<Transfer>, trip: TripNo, at: u32, hops: &Hops<'_>) -> Result<(), Memory>
-    ensures { OnOk result (row.new.items ≡ row.old.items
-        ++ map (λ h. record { trip = trip; at = at; to_trip = h.trip; to_at = h.at })
-        (lent hops.now)) }
+    ensures { OnOk result
+        (row.new.items ≡ row.old.items ++ map (row_of trip at) (lent hops.now)) }
 {
     for place in 0..hops.count() {
         let hop = hops.at(place);

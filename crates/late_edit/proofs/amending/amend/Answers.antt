@@ -1,7 +1,7 @@
 use Rattle.std.proofs.Common.{◌∙◌, sym, ap}
 use Rattle.tb_base.specs.TimetableData.{TimetableData}
 use Rattle.late_edit.specs.Amended.{amended}
-use Rattle.late_edit.proofs.Retimes.{is_retimed}
+use Rattle.late_edit.proofs.OnlyTimes.{is_retimed}
 use Rattle.late_edit.proofs.amending.amend.Goals as goal
 
 pub amended_over-requires-clause-retimed : goal.amended_over-requires-clause-retimed

@@ -4,6 +4,7 @@ use Rattle.std.proofs.lemmas.List.{append_assoc, map_push, take_more}
 use Rattle.std.proofs.lemmas.Option.{get_or_from_slice_get, slice_get_within}
 use Rattle.tb_base.specs.declared.transfer.Hop.{Hop}
 use Rattle.tb_base.specs.declared.transfer.Transfer.{Transfer}
+use Rattle.tb_laws.specs.Rows.{row_of}
 use Rattle.transfer_pack.specs.Words.{lent}
 use Rattle.late_edit.proofs.rows.add_event.Goals as goal
 
@@ -17,5 +18,5 @@ next_added f start row more hops k h at is pushed =
 
 pub loop-place-preserved : goal.loop-place-preserved
 loop-place-preserved c =
-    next_added (λ h. record { trip = c.args.trip; at = c.args.at; to_trip = h.trip; to_at = h.at }) c.args.row.now.items c.loop-place.row.items c.push.new.self.items
+    next_added (row_of c.args.trip c.args.at) c.args.row.now.items c.loop-place.row.items c.push.new.self.items
     (lent c.args.hops.now) c.loop-place.place c.at-hop.result c.at-hop.ensures c.loop-place.invariant c.in_ok-push.ensures.items

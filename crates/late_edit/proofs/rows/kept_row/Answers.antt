@@ -1,6 +1,6 @@
 use Rattle.std.proofs.Common.{◌≡◌, ◌∙◌, ◌-◌, ◌++◌, suc, ap, map, arith}
-use Rattle.tb_base.specs.declared.transfer.Hop.{Hop}
 use Rattle.tb_base.specs.Transfers.{kept_hops}
+use Rattle.tb_laws.specs.Rows.{row_of}
 use Rattle.late_edit.proofs.KeptRows.{event_added}
 use Rattle.late_edit.proofs.rows.kept_row.Goals as goal
 
@@ -12,4 +12,4 @@ loop-at-preserved c =
     let next : c.loop-at.at ≡ suc at = omega (arith, c.loop-at-test.true) in
     let hops = c.out.ensures ∙ c.set-set.ensures.kept trip at in
     event_added (kept_hops e.table e.lines trip) trip at c.loop-at.at c.loop-at.row.items c.add_event.new.row.items _ next
-    (c.in_ok-add_event.ensures ∙ ap (λ hs. c.loop-at.row.items ++ map (λ (h : Hop). record { trip = trip; at = at; to_trip = h.trip; to_at = h.at }) hs) hops) c.loop-at.invariant
+    (c.in_ok-add_event.ensures ∙ ap (λ hs. c.loop-at.row.items ++ map (row_of trip at) hs) hops) c.loop-at.invariant

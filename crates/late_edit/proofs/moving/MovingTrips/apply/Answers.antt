@@ -1,10 +1,11 @@
 use Rattle.std.proofs.Common.{◌<◌, ◌∙◌, sym, ap, subst, length}
 use Rattle.std.specs.Prelude.{All}
 use Rattle.std.proofs.lemmas.List.{with_items_is}
-use Rattle.tb_base.specs.TimetableData.{TripData}
+use Rattle.std.proofs.lemmas.List.Quantifiers.{position-Some}
+use Rattle.tb_base.specs.TimetableData.{TripData, no_trip}
 use Rattle.late_edit.specs.Amended.{is_named}
 use Rattle.late_edit.specs.Finding.{IsTimedEvent}
-use Rattle.late_edit.proofs.Finds.{finds_set, position_within}
+use Rattle.late_edit.proofs.Finds.{finds_set}
 use Rattle.late_edit.proofs.Sound.{timed_after, timed_set}
 use Rattle.late_edit.proofs.moving.MovingTrips.apply.Goals as goal
 
@@ -14,7 +15,7 @@ invariant_of-self c =
     let is = c.trip.view_is ∙ c.index_mut-trip.ensures.value in
     let before = c.late.inside.before in
     let name = c.bytes.result.now in
-    let inside : c.in-Some.trip < length trips = position_within (is_named before name) trips c.in-Some.trip (sym (c.self.invariant.found before name) ∙ sym c.in-Some.ensures) in
+    let inside : c.in-Some.trip < length trips = (position-Some (is_named before name) trips c.in-Some.trip no_trip (sym (c.self.invariant.found before name) ∙ sym c.in-Some.ensures)).0 in
     let events = subst (All IsTimedEvent) (sym (c.as_mut_slice.ensures.value ∙ ap (λ (t : TripData). t.events) is)) (c.self.invariant.timed c.in-Some.trip c.index_mut-trip.result.now inside) in
     let timed = timed_after c.args.late.now c.as_mut_slice.result.now c.move_events.new.events c.move_events.result c.move_events.ensures.moved c.move_events.ensures.unchanged events in
     record {

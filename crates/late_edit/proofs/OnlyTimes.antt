@@ -1,16 +1,14 @@
 -- Lates change times alone.
 use Rattle.std.proofs.Common.{◌≡◌, ◌∙◌, sym, ap, refl, ℕ, List, [], ◌∷◌, ◌++◌, get_or, map, take, drop, ℤ}
-use Rattle.std.specs.Prelude.{Result, Ok, Err}
+use Rattle.std.specs.Prelude.{Ok}
 use Rattle.std.proofs.Math.Seq.{map-set_same}
 use Rattle.std.proofs.lemmas.List.{map-append, take-append-drop}
-use Rattle.gtfs_rows.specs.Steps.{and_then}
 use Rattle.tb_base.specs.declared.table.Event.{Event}
 use Rattle.tb_base.specs.TimetableData.{TimetableData, TripData, no_trip}
 use Rattle.late_edit.specs.Retimed.{IsRetimed, untimed_event, untimed_trip}
 use Rattle.late_edit.specs.Amended.{amended, amended_trips, moved, moved_from, with_events, with_trips}
 use Rattle.late_edit.specs.Lates.{LateData}
-use Rattle.late_edit.specs.declared.late.LateFault.{LateFault}
-use Rattle.late_edit.proofs.Sound.{IsOneMoved, kept_by_all}
+use Rattle.late_edit.proofs.Sound.{IsOneMoved, after_ok, kept_by_all}
 
 untimed_moved : (secs : ℤ) (es : List Event) → map untimed_event (map (moved secs) es) ≡ map untimed_event es
 untimed_moved secs [] = refl
@@ -29,17 +27,14 @@ untimed_step T late trips ms one so_far =
     let trip : untimed_trip (with_events t one.events) ≡ untimed_trip t = λ i. record { name = t.name; before = t.before; events = events i } in
     so_far ∙ sym (ap (map untimed_trip) one.is ∙ map-set_same untimed_trip trips one.trip (with_events t one.events) no_trip trip)
 
-with_ok : (T U : TimetableData) (r : Result (List TripData) LateFault) → and_then r (λ trips. Ok (with_trips T trips)) ≡ Ok U → (trips : List TripData) × (r ≡ Ok trips) × (with_trips T trips ≡ U)
-with_ok T U (Ok trips) h = (trips, refl, (let k : Ok (with_trips T trips) ≡ Ok U = h in let e : with_trips T trips ≡ U = cc in e))
-with_ok T U (Err f) h = absurd (let k : Err f ≡ Ok U = h in cc)
-
 pub is_retimed : (T U : TimetableData) (lates : List LateData) → amended T lates ≡ Ok U → IsRetimed T U
 is_retimed T U lates h =
-    let w = with_ok T U (amended_trips lates T.trips) h in
+    let w = after_ok (amended_trips lates T.trips) (λ trips. Ok (with_trips T trips)) U h in
+    let is : with_trips T w.0 ≡ U = (let k : Ok (with_trips T w.0) ≡ Ok U = w.2 in cc) in
     let same : map untimed_trip T.trips ≡ map untimed_trip w.0 = kept_by_all (λ trips. map untimed_trip T.trips ≡ map untimed_trip trips) (untimed_step T) lates T.trips w.0 w.1 refl in
     record {
-      stops = ap (λ (V : TimetableData). V.stops) w.2;
-      stations = ap (λ (V : TimetableData). V.stations) w.2;
-      trips = same ∙ ap (λ (V : TimetableData). map untimed_trip V.trips) w.2;
-      footpaths = ap (λ (V : TimetableData). V.footpaths) w.2;
+      stops = ap (λ (V : TimetableData). V.stops) is;
+      stations = ap (λ (V : TimetableData). V.stations) is;
+      trips = same ∙ ap (λ (V : TimetableData). map untimed_trip V.trips) is;
+      footpaths = ap (λ (V : TimetableData). V.footpaths) is;
     }
