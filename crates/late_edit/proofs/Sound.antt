@@ -17,7 +17,7 @@ use Rattle.tb_base.specs.TimetableData.{TimetableData, TripData, no_trip}
 use Rattle.tb_base.proofs.Lists.{list_any-over_map}
 use Rattle.late_edit.specs.Amended.{amended_trips, events_moved, has_time_outside, is_named, is_outside, is_over_a_day, is_reached_early, moved, moved_from, trip_named, trips_after, trips_moved, with_events, with_trips}
 use Rattle.late_edit.specs.Finding.{IsTimedEvent}
-use Rattle.late_edit.specs.Lates.{IsRefused, LateData}
+use Rattle.late_edit.specs.Lates.{LateData}
 use Rattle.late_edit.specs.declared.late.LateFault.{LateFault}
 use Rattle.late_edit.specs.declared.late.LateFault.TheVariants as fault
 use Rattle.late_edit.proofs.MovedEvents.{early_is, kept_at, moved_at}
@@ -189,7 +189,7 @@ module _ (late : LateData) (es ms : List Event) (move : IsMove late es ms) where
       }
 
 -- what move_events leaves is timed, whatever comes of it
-pub timed_after : (late : LateData) (es ms : List Event) (r : Result Unit LateFault) → MatchResult r (λ _. events_moved late es ≡ Ok ms) (λ f. IsRefused f (events_moved late es)) → OnErr r (ms ≡ es) → All IsTimedEvent es → All IsTimedEvent ms
+pub timed_after : (late : LateData) (es ms : List Event) (r : Result Unit LateFault) → MatchResult r (λ _. events_moved late es ≡ Ok ms) (λ f. events_moved late es ≡ Err f) → OnErr r (ms ≡ es) → All IsTimedEvent es → All IsTimedEvent ms
 timed_after late es ms (Ok u) done kept h = timed_move late es ms (is_move late es ms done) h
 timed_after late es ms (Err f) done kept h = subst (All IsTimedEvent) (sym kept) h
 

@@ -1,8 +1,10 @@
 -- What a file says of late trips, or its first bad line.
-use Rattle.std.specs.Prelude.{◌≡◌, ℕ, ◌+◌, ◌==◌, List, [], ◌∷◌, ℤ, pos, ◌-ℤ◌, codes, bytes_eq, Bool, true, false, Option, Some, None, Result, Ok, Err, ⊤, if◌then◌else◌}
+use Rattle.std.specs.Prelude.{ℕ, ◌+◌, ◌==◌, List, [], ◌∷◌, ℤ, pos, ◌-ℤ◌, codes, bytes_eq, Bool, true, false, Option, Some, None, Result, Ok, Err, ⊤, if◌then◌else◌}
 use Rattle.std.specs.Option.{ok_or, option_and_then, option_map, option_to_list}
 use Rattle.gtfs_rows.specs.Numbers.{number_of}
 use Rattle.gtfs_rows.specs.Steps.{and_then, prepend}
+use Rattle.tb_base.specs.declared.refused.Refused.{Refused}
+use Rattle.tb_base.specs.declared.refused.Refused.TheVariants as why
 use Rattle.text_lines.specs.LineWords.{line_words}
 use Rattle.text_lines.specs.Lines.{lines_of}
 use Rattle.late_edit.specs.declared.late.LateFault.{LateFault}
@@ -62,9 +64,8 @@ lates_from n (line ∷ lines) =
 abbrev pub lates_of : List ℕ → Result (List LateData) LateFault
 lates_of bytes = lates_from 1 (lines_of bytes)
 
--- a fault of a late, or want of memory, and none of a file
+-- a fault of a late, and none of a file
 abbrev pub IsOfLate : LateFault → Type 0
-IsOfLate fault.Memory = ⊤
 IsOfLate (fault.UnknownTrip n) = ⊤
 IsOfLate (fault.TimeRunsBack n) = ⊤
 IsOfLate (fault.OutOfRange n) = ⊤
@@ -73,13 +74,7 @@ IsOfLate (fault.BadLine n) = ⊥
 IsOfLate fault.MissingFile = ⊥
 IsOfLate fault.TooLarge = ⊥
 
--- the fault is what is meant; want of memory says nothing
-abbrev pub IsRefused : {A : Type 0} → LateFault → Result A LateFault → Type 0
-IsRefused fault.Memory meant = ⊤
-IsRefused (fault.UnknownTrip n) meant = meant ≡ Err (fault.UnknownTrip n)
-IsRefused (fault.TimeRunsBack n) meant = meant ≡ Err (fault.TimeRunsBack n)
-IsRefused (fault.OutOfRange n) meant = meant ≡ Err (fault.OutOfRange n)
-IsRefused (fault.BadEvent n) meant = meant ≡ Err (fault.BadEvent n)
-IsRefused (fault.BadLine n) meant = meant ≡ Err (fault.BadLine n)
-IsRefused fault.MissingFile meant = meant ≡ Err fault.MissingFile
-IsRefused fault.TooLarge meant = meant ≡ Err fault.TooLarge
+-- where a call is refused for a fault, it is one of a late
+abbrev pub IsOfLateAlone : Refused LateFault → Type 0
+IsOfLateAlone (why.Fault f) = IsOfLate f
+IsOfLateAlone why.Memory = ⊤

@@ -1,11 +1,12 @@
 //! An edition is amended by late trips.
-ghost use Rattle.std.specs.Prelude.{◌≡◌, ℕ, IfErr, IfOk, MatchResult, Ok};
+ghost use Rattle.std.specs.Prelude.{◌≡◌, ℕ, IfErr, IfOk};
+ghost use Rattle.tb_base.specs.Refusals.{Yields};
 ghost use Rattle.tb_base.specs.Transfers.{kept_hops};
 ghost use Rattle.transfer_pack.specs.Packed.{packed};
 ghost use Rattle.edition_store.specs.Editions.{EditionData, kept_count};
 ghost use Rattle.late_edit.specs.Amended.{amended};
 ghost use Rattle.late_edit.specs.Amending.{network_of};
-ghost use Rattle.late_edit.specs.Lates.{IsOfLate, IsRefused};
+ghost use Rattle.late_edit.specs.Lates.{IsOfLateAlone};
 ghost use Rattle.late_edit.specs.Retimed.{IsRetimed};
 ghost use Rattle.late_edit.specs.Touched.{touched_count};
 
@@ -15,7 +16,7 @@ use crate::rows::Rows;
 use edition_store::{Edition, Shared};
 use line_split::{Lines, split};
 use std::alloc::Global;
-use tb_base::{Memory, Timetable};
+use tb_base::{Memory, Refused, Timetable};
 use transfer_pack::Set;
 
 /// An amended edition, and how many trips are touched.
@@ -88,11 +89,10 @@ fn amended_over(
 /// The edition of the timetable of an edition, amended by lates, and how many trips are touched by
 /// that; or exactly the first fault of a late, and none of a file. It starts no thread and waits for
 /// nobody.
-pub fn amend(alloc: Global, old: &Edition, lates: &[Late]) -> Result<Amended, LateFault>
-    ensures table { MatchResult result
-        (λ a. amended old.now.table lates.now ≡ Ok (EditionData.table a.edition))
-        (λ f. IsRefused f (amended old.now.table lates.now)) }
-    ensures own { IfErr result IsOfLate }
+pub fn amend(alloc: Global, old: &Edition, lates: &[Late]) -> Result<Amended, Refused<LateFault>>
+    ensures table { Yields result (λ a. EditionData.table a.edition)
+        (amended old.now.table lates.now) }
+    ensures own { IfErr result IsOfLateAlone }
     ensures redone { IfOk result
         (λ a. a.redone ≡ touched_count (network_of old.now) (network_of a.edition)) }
 {
@@ -101,7 +101,7 @@ pub fn amend(alloc: Global, old: &Edition, lates: &[Late]) -> Result<Amended, La
         Ok(lines) => Ok(amended_over(alloc, old, table, lines)?),
         Err(Memory) => {
             drop(table);
-            Err(LateFault::Memory)
+            Err(Refused::Memory)
         }
     }
 }

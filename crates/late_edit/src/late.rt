@@ -1,5 +1,5 @@
 use std::marker::Model;
-use tb_base::{Memory, Name, Sec};
+use tb_base::{Name, Sec};
 
 /// A trip that runs late, or early: from one of its events on.
 #[derive(Drop)]
@@ -47,17 +47,4 @@ pub enum LateFault {
     MissingFile,
     /// The file has more than 33,554,432 bytes.
     TooLarge,
-    /// Want of memory, which may come at any time.
-    Memory,
-}
-
-impl From<Memory> for LateFault {
-    ghost use Rattle.std.specs.Prelude.{◌≡◌};
-    ghost use Rattle.late_edit.specs.declared.late.LateFault.TheVariants as why;
-
-    ghost from_gives = { λ _ fault. fault ≡ why.Memory };
-
-    fn from(_refusal: Memory) -> LateFault {
-        LateFault::Memory
-    }
 }

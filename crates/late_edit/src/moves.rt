@@ -1,9 +1,9 @@
 //! The events of a late trip are moved.
-ghost use Rattle.std.specs.Prelude.{◌≡◌, ◌<◌, ◌≤ℤ◌, All, IfErr, MatchResult, Ok, OnErr, OnOk, int_lt, length, map, negsuc, pos};
+ghost use Rattle.std.specs.Prelude.{◌≡◌, ◌<◌, ◌≤ℤ◌, All, Err, IfErr, MatchResult, Ok, OnErr, OnOk, int_lt, length, map, negsuc, pos};
 ghost use Rattle.std.specs.List.{list_any};
 ghost use Rattle.late_edit.specs.Amended.{events_moved, has_time_outside, is_outside, is_over_a_day, is_reached_early, moved, moved_from};
 ghost use Rattle.late_edit.specs.Finding.{IsTimedEvent};
-ghost use Rattle.late_edit.specs.Lates.{IsOfLate, IsRefused};
+ghost use Rattle.late_edit.specs.Lates.{IsOfLate};
 
 use crate::late::{Late, LateFault};
 use tb_base::{Event, Sec};
@@ -103,7 +103,7 @@ fn check_move(events: &[Event], late: &Late) -> Result<(), LateFault>
     requires { All IsTimedEvent events.now }
     ensures fault { MatchResult result (λ _. events_moved late.now events.now
         ≡ Ok (moved_from late.now.from late.now.secs events.now))
-        (λ f. IsRefused f (events_moved late.now events.now)) }
+        (λ f. events_moved late.now events.now ≡ Err f) }
     ensures own { IfErr result IsOfLate }
     ensures from { OnOk result (late.now.from < length events.now) }
     ensures early { OnOk result (negsuc 86399 ≤ℤ late.now.secs) }
@@ -126,7 +126,7 @@ fn check_move(events: &[Event], late: &Late) -> Result<(), LateFault>
 pub(crate) fn move_events(events: &mut [Event], late: &Late) -> Result<(), LateFault>
     requires { All IsTimedEvent events.old }
     ensures moved { MatchResult result (λ _. events_moved late.now events.old ≡ Ok events.new)
-        (λ f. IsRefused f (events_moved late.now events.old)) }
+        (λ f. events_moved late.now events.old ≡ Err f) }
     ensures own { IfErr result IsOfLate }
     ensures unchanged { OnErr result (events.new ≡ events.old) }
 {

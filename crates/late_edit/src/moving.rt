@@ -1,7 +1,7 @@
 //! The trips of a timetable, while lates move them.
-ghost use Rattle.std.specs.Prelude.{◌≡◌, IfErr, IfOk, MatchResult, Ok};
+ghost use Rattle.std.specs.Prelude.{◌≡◌, Err, IfErr, IfOk, MatchResult, Ok};
 ghost use Rattle.late_edit.specs.Amended.{trips_after};
-ghost use Rattle.late_edit.specs.Lates.{IsOfLate, IsRefused};
+ghost use Rattle.late_edit.specs.Lates.{IsOfLate};
 
 use crate::first_trips::FirstTrips;
 use crate::late::{Late, LateFault};
@@ -43,7 +43,7 @@ impl MovingTrips {
     /// Moves the trip that a late names, or tells the late's first fault.
     pub(crate) fn apply(&mut self, late: &Late) -> Result<(), LateFault>
         ensures moved { MatchResult result (λ _. trips_after late.now self.old ≡ Ok self.new)
-            (λ f. IsRefused f (trips_after late.now self.old)) }
+            (λ f. trips_after late.now self.old ≡ Err f) }
         ensures own { IfErr result IsOfLate }
     {
         let Some(trip) = self.first.find(late.before, late.trip.bytes()) else {

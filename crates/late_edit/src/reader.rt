@@ -1,28 +1,28 @@
 //! A file of late trips is read line by line.
-ghost use Rattle.std.specs.Prelude.{◌≡◌, ◌++◌, ◌≤◌, MatchResult, Ok, OnOk, length, option_to_list};
+ghost use Rattle.std.specs.Prelude.{◌≡◌, ◌++◌, ◌≤◌, OnOk, length, option_to_list};
+ghost use Rattle.tb_base.specs.Refusals.{Yields};
 ghost use Rattle.text_lines.specs.LineWords.{line_words};
-ghost use Rattle.late_edit.specs.Lates.{IsRefused, late_on, lates_of};
+ghost use Rattle.late_edit.specs.Lates.{late_on, lates_of};
 
 use crate::late::{Late, LateFault};
 use crate::words::late_of;
 use std::alloc::Global;
-use tb_base::Memory;
+use tb_base::{Memory, Refused};
 use text_lines::{first_line, line_words};
 
 // What a line says: nothing where it has no words.
-fn late_on(alloc: Global, line: u32, text: &[u8]) -> Result<Option<Late>, LateFault>
-    ensures { MatchResult result (λ late. late_on line (line_words text.now) ≡ Ok late)
-        (λ f. IsRefused f (late_on line (line_words text.now))) }
+fn late_on(alloc: Global, line: u32, text: &[u8]) -> Result<Option<Late>, Refused<LateFault>>
+    ensures { Yields result (λ late. late) (late_on line (line_words text.now)) }
 {
     let Some(words) = line_words(alloc, text)? else {
-        return Err(LateFault::BadLine(line));
+        return Err(Refused::Fault(LateFault::BadLine(line)));
     };
     if words.is_empty() {
         return Ok(None);
     }
     match late_of(alloc, line, words.as_slice())? {
         Some(late) => Ok(Some(late)),
-        None => Err(LateFault::BadLine(line)),
+        None => Err(Refused::Fault(LateFault::BadLine(line))),
     }
 }
 
@@ -41,10 +41,9 @@ fn add(lates: &mut Vec<Late>, late: Option<Late>) -> Result<(), Memory>
 /// words of a line are those of `line_words`, and a line without words is passed over. Each other
 /// one is `late TRIP EVENT SECS`, or `late-before TRIP EVENT SECS` for a trip that began on the day
 /// before. EVENT has 1 to 9 digits, and SECS too, with a minus sign before them or not.
-pub fn read_late(alloc: Global, bytes: &[u8]) -> Result<Vec<Late>, LateFault>
+pub fn read_late(alloc: Global, bytes: &[u8]) -> Result<Vec<Late>, Refused<LateFault>>
     requires { length bytes.now ≤ 33554432 }
-    ensures { MatchResult result (λ lates. lates_of bytes.now ≡ Ok lates.items)
-        (λ f. IsRefused f (lates_of bytes.now)) }
+    ensures { Yields result (λ lates. lates.items) (lates_of bytes.now) }
 {
     let mut lates = Vec::new(alloc);
     let mut line: u32 = 0;

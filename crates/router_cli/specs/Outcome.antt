@@ -51,7 +51,6 @@ late_fault_text (late.BadEvent n) = codes "4 BadEvent line " ++ decimal n
 late_fault_text (late.BadLine n) = codes "5 BadLine line " ++ decimal n
 late_fault_text late.MissingFile = codes "6 MissingFile"
 late_fault_text late.TooLarge = codes "7 TooLarge"
-late_fault_text late.Memory = codes "Memory"
 
 -- the same of a claim's fault
 abbrev pub journey_fault_text : JourneyFault → List ℕ
@@ -81,7 +80,6 @@ status_text (status.JourneyRefused f) =
 -- want of memory is told by its own status, and by no fault in another one
 abbrev pub CarriesNoMemory : Status → Type 0
 CarriesNoMemory (status.ScriptRefused f) = f ≢ fault.Memory
-CarriesNoMemory (status.LateRefused f) = f ≢ late.Memory
 CarriesNoMemory (status.JourneyRefused f) = f ≢ claim.Memory
 CarriesNoMemory s = ⊤
 

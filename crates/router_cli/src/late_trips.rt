@@ -1,8 +1,8 @@
 //! What the program does about a day amended by late trips.
 ghost use Rattle.std.specs.Prelude.{◌≡◌, ◌⊎◌, ◌<◌, ◌-◌, ◌^◌, ◌∷◌, [], ◌++◌, Err, IfErr, IfOk, MatchResult, Ok, Some, length, slice_get, true, vec_len};
+ghost use Rattle.tb_base.specs.Refusals.{IsRefused};
 ghost use Rattle.edition_store.specs.Editions.{EditionData};
 ghost use Rattle.late_edit.specs.Amended.{amended};
-ghost use Rattle.late_edit.specs.Lates.{IsRefused};
 ghost use Rattle.late_edit.specs.Touched.{touched_count};
 ghost use Rattle.late_edit.specs.Amending.{network_of};
 ghost use Rattle.query_gate.specs.Callers.{CallerData};
@@ -23,7 +23,7 @@ use std::alloc::Global;
 use std::marker::Brand;
 use std::sync::Wait;
 use std::thread::Threads;
-use tb_base::{Gate, Memory, Timetable};
+use tb_base::{Gate, Memory, Refused, Timetable};
 use tb_io::{Folder, Sink, Taken, put_all, take_file};
 
 // No file of late trips has more bytes.
@@ -43,8 +43,8 @@ fn lates_from<F: Folder>(alloc: Global, folder: &mut F, path: &str) -> Result<Ve
     match take_file(alloc, folder, path, MOST_BYTES) {
         Ok(Some(bytes)) => match read_late(alloc, bytes.as_slice()) {
             Ok(lates) => Ok(lates),
-            Err(LateFault::Memory) => Err(Status::Memory),
-            Err(fault) => Err(Status::LateRefused(fault)),
+            Err(Refused::Fault(fault)) => Err(Status::LateRefused(fault)),
+            Err(Refused::Memory) => Err(Status::Memory),
         },
         Ok(None) => Err(Status::LateRefused(LateFault::MissingFile)),
         Err(Taken::TooLarge) => Err(Status::LateRefused(LateFault::TooLarge)),
@@ -184,10 +184,10 @@ fn amended_answer<R: Threads + Wait + Sync, G: Gate>(
     inquiry: &Inquiry,
     workers: u32,
     gate: &G,
-) -> Result<Vec<u8>, LateFault>
+) -> Result<Vec<u8>, Refused<LateFault>>
     requires { AreWorkers workers }
     ensures { MatchResult result (λ text. IsLateText table lates.now inquiry.now text.items)
-        (λ f. IsRefused f (amended table lates.now)) }
+        (IsRefused (amended table lates.now)) }
 {
     let old = build_edition(rt, alloc, table, workers, gate)?;
     match amend(alloc, old.edition(), lates) {
@@ -195,9 +195,9 @@ fn amended_answer<R: Threads + Wait + Sync, G: Gate>(
             amended.edition.edition().soundness();
             Ok(editions_text(rt, alloc, old, amended, inquiry)?)
         }
-        Err(fault) => {
+        Err(refused) => {
             drop(old);
-            Err(fault)
+            Err(refused)
         }
     }
 }
@@ -226,8 +226,8 @@ fn late_answer<R: Threads + Wait + Sync, G: Gate>(
         gate,
     ) {
         Ok(text) => Ok(text),
-        Err(LateFault::Memory) => Err(Status::Memory),
-        Err(fault) => Err(Status::LateRefused(fault)),
+        Err(Refused::Fault(fault)) => Err(Status::LateRefused(fault)),
+        Err(Refused::Memory) => Err(Status::Memory),
     }
 }
 

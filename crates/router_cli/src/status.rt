@@ -162,7 +162,6 @@ fn late_fault_text(alloc: Global, fault: LateFault) -> Result<Vec<u8>, Memory>
         LateFault::BadLine(line) => at_number(alloc, b"5 BadLine line ", line),
         LateFault::MissingFile => copied(alloc, b"6 MissingFile"),
         LateFault::TooLarge => copied(alloc, b"7 TooLarge"),
-        LateFault::Memory => copied(alloc, b"Memory"),
     }
 }
 

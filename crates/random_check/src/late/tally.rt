@@ -73,7 +73,6 @@ impl Faults {
             LateFault::BadLine(_) | LateFault::MissingFile | LateFault::TooLarge => {
                 return Err(Refused::Differs(Difference::Fault));
             }
-            LateFault::Memory => return Err(Refused::Memory),
         };
         *count = count.wrapping_add(1);
         Ok(())

@@ -31,10 +31,10 @@ fn add_day_before(files: &mut Files) -> Result<(), Memory> {
 }
 
 // Why a list of lates that is refused for nothing else ends a comparison.
-fn refusal(fault: LateFault) -> Refused {
-    match fault {
-        LateFault::Memory => Refused::Memory,
-        _ => Refused::Differs(Difference::Fault),
+fn refusal(refused: tb_base::Refused<LateFault>) -> Refused {
+    match refused {
+        tb_base::Refused::Fault(_) => Refused::Differs(Difference::Fault),
+        tb_base::Refused::Memory => Refused::Memory,
     }
 }
 
@@ -47,7 +47,7 @@ fn built_anew<R: Threads + Sync>(
 ) -> Result<Edition, Refused> {
     match amended(alloc, old.table(), lates) {
         Ok(table) => built(rt, alloc, table),
-        Err(fault) => Err(refusal(fault)),
+        Err(refused) => Err(refusal(refused)),
     }
 }
 
@@ -64,10 +64,11 @@ fn compare_faults(
             drop(table);
             Err(Refused::Differs(Difference::Fault))
         }
-        Err(other) => {
+        Err(tb_base::Refused::Fault(other)) => {
             held(fault == other, Difference::Fault)?;
             tally.refused.add(fault)
         }
+        Err(tb_base::Refused::Memory) => Err(Refused::Memory),
     }
 }
 
@@ -140,7 +141,8 @@ fn try_lates<R: Threads + Sync>(
             drop(found);
             compared
         }
-        Err(fault) => compare_faults(alloc, old, lates, fault, tally),
+        Err(tb_base::Refused::Fault(fault)) => compare_faults(alloc, old, lates, fault, tally),
+        Err(tb_base::Refused::Memory) => Err(Refused::Memory),
     }
 }
 

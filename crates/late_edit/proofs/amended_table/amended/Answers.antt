@@ -1,17 +1,13 @@
 use Rattle.std.proofs.Common.{◌≤◌, ◌∙◌, sym, ap, subst, length}
 use Rattle.std.specs.Prelude.{Ok}
 use Rattle.tb_base.specs.Soundness.{IsSound}
-use Rattle.late_edit.proofs.InTurn.{all_taken, handed_on, own_handed_on, parts_are, refused_here}
+use Rattle.late_edit.proofs.InTurn.{all_taken, parts_are, refused_here}
 use Rattle.late_edit.proofs.Sound.{sound_amended}
 use Rattle.late_edit.proofs.amended_table.amended.Goals as goal
 
-pub returns-in_err-apply-clause-own : goal.returns-in_err-apply-clause-own
-returns-in_err-apply-clause-own c = own_handed_on c.in_err-apply.field-0.0 c.from_residual-in_err-apply.result c.from_residual-in_err-apply.ensures c.in_err-apply.ensures.own
-
-pub returns-in_err-apply-clause-table : goal.returns-in_err-apply-clause-table
-returns-in_err-apply-clause-table c =
-    let f = c.in_err-apply.field-0.0 in
-    handed_on f c.from_residual-in_err-apply.result _ _ c.from_residual-in_err-apply.ensures (refused_here c.args.table.now c.args.lates.now c.loop-late.trips c.loop-late.late-index c.loop-late.invariant f c.late-item.result c.loop-late-test.true c.late-item.is c.in_err-apply.ensures.moved)
+pub returns-in-Err-clause-table : goal.returns-in-Err-clause-table
+returns-in-Err-clause-table c =
+    refused_here c.args.table.now c.args.lates.now c.loop-late.trips c.loop-late.late-index c.loop-late.invariant c.in-Err.fault c.late-item.result c.loop-late-test.true c.late-item.is c.in-Err.ensures.moved
 
 pub new-requires : goal.new-requires
 new-requires c =
