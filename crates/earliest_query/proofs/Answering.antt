@@ -28,8 +28,8 @@ use Rattle.segment_queue.specs.Queue.{DeskData, IsInStep, covered_indices}
 use Rattle.segment_queue.specs.Traced.{IsAnswered, IsTracedHit, no_segment, round_of, segment_of}
 use Rattle.segment_queue.proofs.Totals.{last_le_events}
 use Rattle.earliest_query.specs.Choices.{ArrivesBy, hits_of}
-use Rattle.earliest_query.specs.UnderWay.{AreBoarded, Extends, IsHit, IsQueue, covered_before}
-use Rattle.earliest_query.specs.Ridden.{IsRidden}
+use Rattle.earliest_query.specs.UnderWay.{AreBoarded, Covers, Extends, IsHit, IsOutdone, IsQueue, covered_before}
+use Rattle.earliest_query.specs.Ridden.{IsRidden, IsServed}
 use Rattle.earliest_query.proofs.Reaching.{hit_attained, reached_all, same_values}
 use Rattle.earliest_query.proofs.Following.{get_or-inside}
 use Rattle.earliest_query.proofs.BestSoFar.{IsWalkHit}
@@ -121,34 +121,45 @@ module _ (N : NetData) (Q : QueryData) (D : DeskData) (round : ℕ) (ridden : Is
   all_attained : All (IsAttained N.table Q) values
   all_attained = All-map (IsAttained N.table Q) (λ (h : Hit). h.value) D.hits (All-weaker (IsTracedHit N.table Q D.segments) (λ (h : Hit). IsAttained N.table Q h.value) (λ h t. hit_attained N.table Q D.segments ridden.queue.entered h t) D.hits ridden.traced)
 
-  abbrev pub parts_of : List RoundSegment
-  parts_of = parts N Q D round ridden
+  -- something has been made of each index that isn't outdone, and served it
+  module _ (Made : ℕ → ℕ → Type 0) (serves : (n i : ℕ) → Made n i → IsServed N Q D n i) (made : (n i : ℕ) → n < length D.segments → Covers D n i → Made n i ⊎ IsOutdone N D.segments n i) where
+    abbrev pub parts_of : List RoundSegment
+    parts_of = parts N Q D round ridden.queue Made made
 
-  at_part : (m : ℕ) → m < length parts_of → IsPartAt N Q D round ridden parts_of m
-  at_part m h = part_at N Q D round ridden m h
+    at_part : (m : ℕ) → m < length parts_of → IsPartAt N Q D round ridden.queue Made made parts_of m
+    at_part m h = part_at N Q D round ridden.queue Made made m h
 
-  pub searched : IsPrunedSearch N.table N.hops Q.from Q.leave values parts_of
-  searched = record {
-    reached = λ m h. let q = at_part m h in
-        subst (λ r. IsReached N.table Q.from Q.leave r (segment_at parts_of m).trip (segment_at parts_of m).board) (sym q.round)
-        (subst (λ t. IsReached N.table Q.from Q.leave (round_of D.segments q.of) t (segment_at parts_of m).board) (sym q.trip)
-        (subst (λ b. IsReached N.table Q.from Q.leave (round_of D.segments q.of) (segment_of D.segments q.of).trip b) (sym q.board) (reached_all N.table Q D.segments ridden.queue.entered q.of q.inside)));
-    starts = λ p t b secs from boards not_last walks in_time.
-        let choice = first_choice N.table Q.from (stop_at N.table t b) p secs from walks in
-        parts_reach N Q D round ridden 1 t b
-        (ridden.boarded choice.0.place choice.0.below (stop_at N.table t b) choice.0.secs choice.0.walks (record { nearest = choice.0.nearest; first = choice.0.first }) t b boards not_last refl (sooner choice.0.secs secs (departure_at N.table t b) choice.1 in_time));
-    goes_on = λ m i h inside onward within in_set.
-        let q = at_part m inside in
-        let s = q.made i (omega (arith, onward, q.board)) within in
-        elim s.followed [
-          | inl followed ↦ inl (subst (λ r. IsCovered N.table parts_of (length parts_of) (suc r) h.trip h.at) (sym q.round) (parts_reach N Q D round ridden (suc (round_of D.segments q.of)) h.trip h.at (followed h (subst (λ t. Contains (N.hops t i) h) q.trip in_set))))
-          | inr hit ↦ inr (subst (λ r. IsLate values (arrival_at N.table (segment_at parts_of m).trip i) r) (sym q.round) (subst (λ t. IsLate values (arrival_at N.table t i) (round_of D.segments q.of)) (sym q.trip) (late_by (arrival_at N.table (segment_of D.segments q.of).trip i) (round_of D.segments q.of) hit)))
-        ];
-    ends = λ m inside. (at_part m inside).ends;
-  }
-    where
-      sooner : (a b : ℕ) (d : ℤ) → a ≤ b → (Q.leave +ℤ pos b) ≤ℤ d → (Q.leave +ℤ pos a) ≤ℤ d
-      sooner a b d h k = omega (arith, ints, h, k)
+    pub searched : IsPrunedSearch N.table N.hops Q.from Q.leave values parts_of
+    searched = record {
+      reached = λ m h. let q = at_part m h in
+          subst (λ r. IsReached N.table Q.from Q.leave r (segment_at parts_of m).trip (segment_at parts_of m).board) (sym q.round)
+          (subst (λ t. IsReached N.table Q.from Q.leave (round_of D.segments q.of) t (segment_at parts_of m).board) (sym q.trip)
+          (subst (λ b. IsReached N.table Q.from Q.leave (round_of D.segments q.of) (segment_of D.segments q.of).trip b) (sym q.board) (reached_all N.table Q D.segments ridden.queue.entered q.of q.inside)));
+      starts = λ p t b secs from boards not_last walks in_time.
+          let choice = first_choice N.table Q.from (stop_at N.table t b) p secs from walks in
+          parts_reach N Q D round ridden.queue Made made 1 t b
+          (ridden.boarded choice.0.place choice.0.below (stop_at N.table t b) choice.0.secs choice.0.walks (record { nearest = choice.0.nearest; first = choice.0.first }) t b boards not_last refl (sooner choice.0.secs secs (departure_at N.table t b) choice.1 in_time));
+      goes_on = λ m i h inside onward within in_set.
+          let q = at_part m inside in
+          let s = serves q.of i (q.made i (omega (arith, onward, q.board)) within) in
+          elim s.followed [
+            | inl followed ↦ inl (subst (λ r. IsCovered N.table parts_of (length parts_of) (suc r) h.trip h.at) (sym q.round) (parts_reach N Q D round ridden.queue Made made (suc (round_of D.segments q.of)) h.trip h.at (followed h (subst (λ t. Contains (N.hops t i) h) q.trip in_set))))
+            | inr hit ↦ inr (subst (λ r. IsLate values (arrival_at N.table (segment_at parts_of m).trip i) r) (sym q.round) (subst (λ t. IsLate values (arrival_at N.table t i) (round_of D.segments q.of)) (sym q.trip) (late_by (arrival_at N.table (segment_of D.segments q.of).trip i) (round_of D.segments q.of) hit)))
+          ];
+      ends = λ m inside. (at_part m inside).ends;
+    }
+      where
+        sooner : (a b : ℕ) (d : ℤ) → a ≤ b → (Q.leave +ℤ pos b) ≤ℤ d → (Q.leave +ℤ pos a) ≤ℤ d
+        sooner a b d h k = omega (arith, ints, h, k)
+
+  abbrev Served : ℕ → ℕ → Type 0
+  Served n i = IsServed N Q D n i
+
+  abbrev pub served_parts : List RoundSegment
+  served_parts = parts N Q D round ridden.queue Served ridden.served
+
+  pub served_search : IsPrunedSearch N.table N.hops Q.from Q.leave values served_parts
+  served_search = searched Served (λ n i s. s) ridden.served
 
   -- a best value that some hit is no worse than is the value of the hit
   best_hit : (v : Value) → IsBest N.table Q v → IsHit D.hits v → Contains values v
@@ -174,8 +185,8 @@ module _ (N : NetData) (Q : QueryData) (D : DeskData) (round : ℕ) (ridden : Is
             let j = best.attained.0 in
             best_hit v best (from_walk j.origin j.rides j.target best.attained.1.journey.origin best.attained.1.journey.target best.attained.1.journey.leads best.attained.1.value (sym e))
         by_rides (suc k) e =
-            let found : IsFound N.table Q.to parts_of v = pruned_value_found N.table N.hops Q values parts_of sound searched all_attained sufficient v best (omega (arith, e)) in
-            let q = at_part found.segment found.inside in
+            let found : IsFound N.table Q.to served_parts v = pruned_value_found N.table N.hops Q values served_parts sound served_search all_attained sufficient v best (omega (arith, e)) in
+            let q = part_at N Q D round ridden.queue Served ridden.served found.segment found.inside in
             let n : ℕ = q.of in
             let walks : IsSome (walk N.table (stop_at N.table (segment_of D.segments n).trip found.at) found.target) = subst (λ t. IsSome (walk N.table (stop_at N.table t found.at) found.target)) q.trip found.walks in
             let w = some (walk N.table (stop_at N.table (segment_of D.segments n).trip found.at) found.target) walks in

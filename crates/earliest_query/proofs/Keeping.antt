@@ -19,6 +19,8 @@ use Rattle.segment_queue.proofs.Distinct.{of_member}
 use Rattle.earliest_query.specs.Choices.{ArrivesBy, hits_of, last_of}
 use Rattle.earliest_query.specs.UnderWay.{Covers, Extends, IsBounded, IsDealtWith, IsDone, IsFollowed, IsHit, IsImproved, IsNewHit, IsOffered, IsOutdone, IsQueue}
 use Rattle.earliest_query.specs.Ridden.{IsRidden, IsServed}
+use Rattle.earliest_query.specs.Meeting.{IsMetInTime, IsMetUnlessHit}
+use Rattle.earliest_query.proofs.Meeting.{met-grown}
 use Rattle.earliest_query.proofs.Growing.{extends-long, extends-reached, extends-round, extends-segment, outdone-kept}
 use Rattle.earliest_query.proofs.Following.{followed-kept}
 use Rattle.earliest_query.proofs.BestSoFar.{bounded-same, covers-kept, traced-kept}
@@ -312,3 +314,28 @@ module _ (N : NetData) (Q : QueryData) (D E : DeskData) (best : Option Hit) (fro
     fewer = fewer_next N.table Q D E (suc round) round (last_of D.hits) best added extends adds ridden.fewer;
     few_hits = omega (arith, length-append D.hits added, adds.one, ridden.few_hits);
   }
+
+  -- what has been met stays so; what of this round was late, or is, some hit is no worse than now
+  pub met_next : (old new : ℕ → ℕ → ℕ → Type 0) → ((t i r : ℕ) → old t i r → new t i r) → ((n i : ℕ) → n < from → Covers D n i → IsMetUnlessHit N old D n i) → ((n i : ℕ) → from ≤ n → n < to → Covers D n i → IsMetInTime N new E best n i)
+      → (n i : ℕ) → n < to → Covers (record E { hits = D.hits ++ added }) n i → IsMetUnlessHit N new (record E { hits = D.hits ++ added }) n i
+  met_next old new more before now n i h covers =
+      let inside : n < length D.segments = omega (arith, h, to_is) in
+      let grown : segment_of E.segments n ≡ segment_of D.segments n = extends-segment D E (suc round) extends n inside in
+      let rides : round_of E.segments n ≡ round_of D.segments n = extends-round D E (suc round) extends n inside in
+      let was : Covers D n i = covers-kept E D n i grown (record { onward = covers.onward; within = covers.within }) in
+      elim (ridden_or_this n) [
+        | inl earlier ↦ elim (before n i earlier was) [
+          | inl met ↦ inl (met-grown D E n i old new more grown rides met)
+          | inr late ↦ elim late [
+            | inl hit ↦ inr (inl (late_grown N Q D E best from to round to_is ridden.this_round extends Old Late still by_best n (λ (s : Segment). arrival_at N.table s.trip i) h (still (arrival_at N.table (segment_of D.segments n).trip i) (round_of D.segments n) hit)))
+            | inr o ↦ inr (inr (outdone-kept N D E (suc round) n i extends inside o))
+          ]
+        ]
+        | inr this ↦ elim (now n i this h was) [
+          | inl met ↦ inl met
+          | inr late ↦ elim late [
+            | inl by ↦ inr (inl (subst (λ r. Late (arrival_at N.table (segment_of E.segments n).trip i) r) (sym (rides ∙ ridden.this_round n this inside)) (by_best (arrival_at N.table (segment_of E.segments n).trip i) by)))
+            | inr o ↦ inr (inr o)
+          ]
+        ]
+      ]

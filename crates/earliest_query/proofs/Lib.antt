@@ -15,6 +15,7 @@ pub mod Lateness
 pub mod LookingAt
 pub mod SegmentBySegment
 pub mod Noting
+pub mod Meeting
 pub mod SweptRounds
 pub mod SweptSearch
 pub mod SweptOnto

@@ -207,7 +207,7 @@ module _ (N : NetData) (Q : QueryData) (D : DeskData) (n done round : ℕ) (so_f
     before_or_from : (i : ℕ) → (i ≤ done) ⊎ ((done + 1) ≤ i)
     before_or_from i = grind arith
 
-    late_from : (i : ℕ) → Covers D n i → (done + 1) ≤ i → ArrivesBy result (arrival_at N.table (segment_of D.segments n).trip i)
+    pub late_from : (i : ℕ) → Covers D n i → (done + 1) ≤ i → ArrivesBy result (arrival_at N.table (segment_of D.segments n).trip i)
     late_from i c from = arrives_by-later result _ _ (arrives_on N.table (segment_of D.segments n).trip (done + 1) i sound whole.trip from (omega (arith, c.within, whole.within))) late_here
 
     pub left_late : (notes : List Note) → ((i : ℕ) → (segment_of D.segments n).board < i → i ≤ done → IsNoted notes n i) → (i : ℕ) → Covers D n i → IsLeft N D result notes n i

@@ -16,7 +16,7 @@ use Rattle.segment_queue.specs.Traced.{IsEntered, UsesHops, round_after, round_o
 use Rattle.segment_queue.proofs.Distinct.{member_or_not}
 use Rattle.segment_queue.proofs.LineParts.{trips_no_later}
 use Rattle.segment_queue.proofs.LoweredMarks.{lowered-in, lowered-out}
-use Rattle.earliest_query.specs.UnderWay.{Extends, IsQueue, IsReachedAhead, IsReachedBy, trips_left}
+use Rattle.earliest_query.specs.UnderWay.{room_of, Extends, IsQueue, IsReachedAhead, IsReachedBy, trips_left}
 use Rattle.earliest_query.proofs.Ahead.{left_behind}
 use Rattle.segment_queue.proofs.Rounds.{segment_at-last, segment_of-last, segment_of-kept, round_of-kept}
 use Rattle.earliest_query.proofs.Growing.{ahead-kept, entered-kept, extends-refl}
@@ -185,3 +185,8 @@ module _ (N : NetData) (Q : QueryData) (D : DeskData) (round trip at : ℕ) (par
   queue-reached false D' step told same same_round boards in_set not_last =
       subst (λ d. IsQueue N Q d round × IsReachedBy N.table d (length (DeskData.segments d)) round trip at × Extends D d round) (sym same)
       (queue, reached_before (elim (cases_lt at (mark_of N.table D.marks trip)) [ inl below ↦ absurd (let e : false ≡ true = told.1 below in cc) | inr low ↦ low ]) not_last, extends-refl D round)
+
+-- the room stays, whether a segment has joined or not
+pub room-reached : (N : NetData) (trip at : ℕ) (parent : Option (ℕ × ℕ)) (D D' : DeskData) (joined : Bool) → MatchBool joined (EntersSegment N trip at parent D D') (D' ≡ D) → room_of D' ≡ room_of D
+room-reached N trip at parent D D' true e = let a = e.trips in let b = e.segment_room in let d = e.hit_room in let f = e.note_room in cc
+room-reached N trip at parent D D' false e = ap room_of e

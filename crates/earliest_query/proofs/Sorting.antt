@@ -1,4 +1,4 @@
--- The segments of a search, each up to where it is outdone, in an order in which each is covered behind its end by one before.
+-- The segments of a search, each as far as something has been made of what it covers, or up to where it is outdone, in an order in which each is covered behind its end by one before.
 use Rattle.std.proofs.Common.{◌≡◌, ◌∙◌, ℕ, zero, suc, ◌+◌, ◌<◌, ◌≤◌, ◌⊎◌, inl, inr, List, [], ◌∷◌, ◌++◌, length, refl, sym, ap, subst, arith, length-append}
 use Rattle.std.proofs.lemmas.List.{get_or_append_left}
 use Rattle.tb_base.specs.Network.{NetData}
@@ -12,8 +12,7 @@ use Rattle.segment_queue.specs.Queue.{DeskData}
 use Rattle.segment_queue.specs.Traced.{no_segment, round_of, round_segments, segment_of}
 use Rattle.segment_queue.proofs.Rounds.{board_of, end_of, length-round_segments, trip_of}
 use Rattle.earliest_query.specs.Parts.{ArePartsOf, IsPartOf}
-use Rattle.earliest_query.specs.Ridden.{IsRidden, IsServed}
-use Rattle.earliest_query.specs.UnderWay.{trips_left}
+use Rattle.earliest_query.specs.UnderWay.{Covers, IsOutdone, IsQueue, trips_left}
 use Rattle.earliest_query.proofs.Following.{get_or-inside}
 
 segment_at-left : (xs ys : List RoundSegment) (m : ℕ) → m < length xs → segment_at (xs ++ ys) m ≡ segment_at xs m
@@ -23,7 +22,7 @@ segment_at-end : (xs : List RoundSegment) (x : RoundSegment) → segment_at (xs 
 segment_at-end [] x = refl
 segment_at-end (y ∷ ys) x = segment_at-end ys x
 
-module _ (N : NetData) (Q : QueryData) (D : DeskData) (rounds : ℕ) (ridden : IsRidden N Q D (length D.segments) rounds) where
+module _ (N : NetData) (Q : QueryData) (D : DeskData) (rounds : ℕ) (queue : IsQueue N Q D rounds) (Made : ℕ → ℕ → Type 0) (made_or_outdone : (n i : ℕ) → n < length D.segments → Covers D n i → Made n i ⊎ IsOutdone N D.segments n i) where
   abbrev seg : ℕ → Segment
   seg n = segment_of D.segments n
 
@@ -43,18 +42,18 @@ module _ (N : NetData) (Q : QueryData) (D : DeskData) (rounds : ℕ) (ridden : I
   record Part (n : ℕ) : Type 0 where
     pub end : ℕ
     pub within : end ≤ (seg n).end
-    pub made : (i : ℕ) → (seg n).board < i → i ≤ end → IsServed N Q D n i
+    pub made : (i : ℕ) → (seg n).board < i → i ≤ end → Made n i
     pub past : (length (events_of N.table (seg n).trip) ≤ suc end) ⊎ IsFirstBy n end
 
   before_or_next : (i e : ℕ) → i ≤ e + 1 → (i ≤ e) ⊎ (e + 1 ≡ i)
   before_or_next i e h = grind arith
 
-  part_from : (n : ℕ) → n < length D.segments → (more e : ℕ) → e + more ≡ (seg n).end → (seg n).board ≤ e → ((i : ℕ) → (seg n).board < i → i ≤ e → IsServed N Q D n i) → Part n
+  part_from : (n : ℕ) → n < length D.segments → (more e : ℕ) → e + more ≡ (seg n).end → (seg n).board ≤ e → ((i : ℕ) → (seg n).board < i → i ≤ e → Made n i) → Part n
   part_from n inside zero e is above made = record {
     end = e;
     within = omega (arith, is);
     made = made;
-    past = elim (ridden.queue.ends n inside) [
+    past = elim (queue.ends n inside) [
       | inl last ↦ inl (omega (arith, last, is))
       | inr c ↦ (let here : c.cover.by < length D.segments = omega (arith, c.cover.within, inside) in
           inr (record {
@@ -68,9 +67,9 @@ module _ (N : NetData) (Q : QueryData) (D : DeskData) (rounds : ℕ) (ridden : I
     ];
   }
   part_from n inside (suc more) e is above made =
-      elim (ridden.served n (e + 1) inside (record { onward = omega (arith, above); within = omega (arith, is) })) [
+      elim (made_or_outdone n (e + 1) inside (record { onward = omega (arith, above); within = omega (arith, is) })) [
         | inl s ↦ part_from n inside more (e + 1) (omega (arith, is)) (omega (arith, above))
-            (λ i h k. elim (before_or_next i e k) [ inl below ↦ made i h below | inr here ↦ subst (IsServed N Q D n) here s ])
+            (λ i h k. elim (before_or_next i e k) [ inl below ↦ made i h below | inr here ↦ subst (Made n) here s ])
         | inr o ↦ record {
           end = e;
           within = omega (arith, is);
@@ -86,7 +85,7 @@ module _ (N : NetData) (Q : QueryData) (D : DeskData) (rounds : ℕ) (ridden : I
 
   part : (n : ℕ) → n < length D.segments → Part n
   part n inside =
-      let sound = ridden.queue.step.segments n no_segment inside in
+      let sound = queue.step.segments n no_segment inside in
       let r = rest_of (seg n).board (seg n).end sound.onward in
       part_from n inside r.0 (seg n).board r.1 (omega arith) (λ i h k. absurd (omega (arith, h, k)))
 
@@ -106,7 +105,7 @@ module _ (N : NetData) (Q : QueryData) (D : DeskData) (rounds : ℕ) (ridden : I
     pub board : (segment_at X m).board ≡ (segment_of D.segments of).board
     pub round : (segment_at X m).round ≡ round_of D.segments of
     pub end : (segment_at X m).end ≤ (segment_of D.segments of).end
-    pub made : (i : ℕ) → (segment_of D.segments of).board < i → i ≤ (segment_at X m).end → IsServed N Q D of i
+    pub made : (i : ℕ) → (segment_of D.segments of).board < i → i ≤ (segment_at X m).end → Made of i
     pub ends : (length (events_of N.table (segment_at X m).trip) ≤ suc (segment_at X m).end) ⊎ IsCovered N.table X m (segment_at X m).round (segment_at X m).trip (segment_at X m).end
 
   -- these are parts, and a part of each segment that has come first so far is among them

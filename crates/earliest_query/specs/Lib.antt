@@ -4,4 +4,5 @@ pub mod Ridden
 pub mod Sweeping
 pub mod Bounding
 pub mod Noted
+pub mod Meeting
 pub mod Parts

@@ -1,5 +1,5 @@
 -- A search under way: what its desk keeps while the queue grows.
-use Rattle.std.specs.Prelude.{◌≡◌, ◌≢◌, ℕ, suc, ◌+◌, ◌<◌, ◌≤◌, ◌⊎◌, List, ◌++◌, length, take, sum_by, Option, Some, All, AllPairs, slice_index, slice_index_or, Contains, IfSome, IsSomeAnd, pos, ◌+ℤ◌, ◌≤ℤ◌, ◌<ℤ◌}
+use Rattle.std.specs.Prelude.{◌≡◌, ◌≢◌, ℕ, suc, ◌+◌, ◌<◌, ◌≤◌, ◌⊎◌, List, [], ◌∷◌, ◌++◌, length, take, sum_by, Option, Some, All, AllPairs, slice_index, slice_index_or, Contains, IfSome, IsSomeAnd, pos, ◌+ℤ◌, ◌≤ℤ◌, ◌<ℤ◌}
 use Rattle.tb_base.specs.Network.{NetData}
 use Rattle.tb_base.specs.declared.query.Value.{Value}
 use Rattle.tb_base.specs.declared.table.Path.{Path}
@@ -23,6 +23,10 @@ pub record Extends (D D' : DeskData) (round : ℕ) : Type 0 where
   pub rounds : (n : ℕ) → length D.segments ≤ n → n < length D'.segments →
       round_of D'.segments n ≡ round
   pub hits : D'.hits ≡ D.hits
+
+-- how many marks a desk has, and how many segments, hits and notes it has room for
+abbrev pub room_of : DeskData → List ℕ
+room_of D = length D.marks ∷ D.segment_room ∷ D.hit_room ∷ D.note_room ∷ []
 
 -- one of the first n segments, in this round or an earlier one, is of a trip that is no later than
 -- t, and boarded at b or before

@@ -5,9 +5,11 @@ ghost use Rattle.segment_queue.specs.Queue.{IsInStep};
 ghost use Rattle.segment_queue.specs.Traced.{IsTracedHit};
 ghost use Rattle.segment_queue.specs.declared.desk.Segment.{Segment};
 ghost use Rattle.earliest_query.specs.Choices.{ArrivesBy, IsWalked, hits_of, last_of, walking_hit};
-ghost use Rattle.earliest_query.specs.UnderWay.{covered_before};
+ghost use Rattle.earliest_query.specs.Meeting.{IsMetUnlessHit};
+ghost use Rattle.earliest_query.specs.UnderWay.{Covers, covered_before, room_of};
 ghost use Rattle.earliest_query.specs.Ridden.{IsRidden};
 
+use super::at_event::AtEvent;
 use super::riding::earlier;
 use super::search::Search;
 use super::walks::{after, nearest, origins, targets};
@@ -104,11 +106,12 @@ impl<S: Scan> Search<'_, S> {
 
     // Rides a round of segments, and keeps its best hit. Answers how many segments have been
     // ridden.
-    fn ride_next<L: Ledger>(
+    fn ride_next<L: Ledger, A: AtEvent<S>>(
         &self,
         desk: &mut Desk,
         from: u32,
         round: u32,
+        also: &mut A,
         steps: &mut Steps<L>,
     ) -> u32
     where
@@ -118,8 +121,19 @@ impl<S: Scan> Search<'_, S> {
         requires from { from < length desk.old.segments }
         requires sufficient { AreSufficient (S.net self.now.scan.now).table
             (S.net self.now.scan.now).hops }
+        requires ready { (later : ℕ) → round ≤ later →
+            A.is_ready also.old (S.net self.now.scan.now) self.now.query.now later }
+        requires met { (n i : ℕ) → n < from → Covers desk.old n i →
+            IsMetUnlessHit (S.net self.now.scan.now) (A.has_met also.old (S.net self.now.scan.now))
+            desk.old n i }
         ensures ridden { IsRidden (S.net self.now.scan.now) self.now.query.now desk.new
             result (round + 1) }
+        ensures room { room_of desk.new ≡ room_of desk.old }
+        ensures met { (n i : ℕ) → n < result → Covers desk.new n i →
+            IsMetUnlessHit (S.net self.now.scan.now) (A.has_met also.new (S.net self.now.scan.now))
+            desk.new n i }
+        ensures ready { (later : ℕ) → round ≤ later →
+            A.is_ready also.new (S.net self.now.scan.now) self.now.query.now later }
         ensures further { from < result }
         ensures most { result ≤ 10000000 }
         ensures steps { steps.new + covered_before desk.old.segments from
@@ -127,27 +141,40 @@ impl<S: Scan> Search<'_, S> {
     {
         let to = self.count(desk);
         let last = last_hit(desk);
-        let best = self.ride_round(desk, from, to, round, last, steps);
+        let best = self.ride_round(desk, from, to, round, last, also, steps);
         keep(desk, best, round);
         to
     }
 
-    // Rides all segments, round by round.
-    pub(crate) fn ride_all<L: Ledger>(&self, desk: &mut Desk, steps: &mut Steps<L>)
+    // Rides all segments, round by round, and meets each event that is looked at.
+    pub(crate) fn ride_all<L: Ledger, A: AtEvent<S>>(
+        &self,
+        desk: &mut Desk,
+        also: &mut A,
+        steps: &mut Steps<L>,
+    )
     where
         S: Look<L>,
         requires ridden { IsRidden (S.net self.now.scan.now) self.now.query.now desk.old 0 1 }
         requires sufficient { AreSufficient (S.net self.now.scan.now).table
             (S.net self.now.scan.now).hops }
+        requires ready { (later : ℕ) → 1 ≤ later →
+            A.is_ready also.old (S.net self.now.scan.now) self.now.query.now later }
         ensures ridden { (rounds : ℕ) × IsRidden (S.net self.now.scan.now) self.now.query.now
             desk.new (length desk.new.segments) rounds }
+        ensures room { room_of desk.new ≡ room_of desk.old }
+        ensures met { (n i : ℕ) → n < length desk.new.segments → Covers desk.new n i →
+            IsMetUnlessHit (S.net self.now.scan.now) (A.has_met also.new (S.net self.now.scan.now))
+            desk.new n i }
+        ensures ready { (rounds : ℕ) × A.is_ready also.new (S.net self.now.scan.now)
+            self.now.query.now rounds }
         ensures steps { steps.new ≤ steps.old + covered_before desk.new.segments
             (length desk.new.segments) }
     {
         let mut from = 0;
         let mut round = 1;
         while from < self.count(desk) {
-            from = self.ride_next(desk, from, round, steps);
+            from = self.ride_next(desk, from, round, also, steps);
             round += 1;
         }
     }

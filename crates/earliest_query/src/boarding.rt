@@ -3,7 +3,7 @@ ghost use Rattle.tb_base.specs.Walking.{walk};
 ghost use Rattle.tb_base.specs.declared.transfer.Hop.{Hop};
 ghost use Rattle.segment_queue.specs.Scans.{boarding_hop, line_indices_at, no_line_index};
 ghost use Rattle.earliest_query.specs.Choices.{IsFirstChoice, IsNear, lines_near};
-ghost use Rattle.earliest_query.specs.UnderWay.{AreBoarded, BoardsOnce, BoardsStops, Extends, IsBoarded, IsQueue, IsReachedBy};
+ghost use Rattle.earliest_query.specs.UnderWay.{AreBoarded, BoardsOnce, BoardsStops, Extends, IsBoarded, IsQueue, IsReachedBy, room_of};
 
 use super::search::Search;
 use super::walks::{after, is_first_choice, origins};
@@ -33,6 +33,7 @@ impl<S: Scan> Search<'_, S> {
         requires leave { self.now.query.now.leave ≤ℤ pos 359999 }
         ensures queue { IsQueue (S.net self.now.scan.now) self.now.query.now desk.new 1 }
         ensures extends { Extends desk.old desk.new 1 }
+        ensures room { room_of desk.new ≡ room_of desk.old }
         ensures reached { (h : Hop) →
             boarding_hop (S.net self.now.scan.now).table
             (slice_index_or (line_indices_at (S.net self.now.scan.now).table
@@ -61,6 +62,7 @@ impl<S: Scan> Search<'_, S> {
         requires leave { self.now.query.now.leave ≤ℤ pos 359999 }
         ensures queue { IsQueue (S.net self.now.scan.now) self.now.query.now desk.new 1 }
         ensures extends { Extends desk.old desk.new 1 }
+        ensures room { room_of desk.new ≡ room_of desk.old }
         ensures boarded { IsBoarded (S.net self.now.scan.now).table self.now.query.now
             desk.new stop secs }
         ensures steps { steps.new
@@ -96,6 +98,7 @@ impl<S: Scan> Search<'_, S> {
         requires leave { self.now.query.now.leave ≤ℤ pos 359999 }
         ensures queue { IsQueue (S.net self.now.scan.now) self.now.query.now desk.new 1 }
         ensures extends { Extends desk.old desk.new 1 }
+        ensures room { room_of desk.new ≡ room_of desk.old }
         ensures boarded { IsFirstChoice (S.net self.now.scan.now).table self.now.query.now.from
             place stop secs →
             IsBoarded (S.net self.now.scan.now).table self.now.query.now desk.new stop secs }
@@ -118,6 +121,7 @@ impl<S: Scan> Search<'_, S> {
         requires leave { self.now.query.now.leave ≤ℤ pos 359999 }
         ensures queue { IsQueue (S.net self.now.scan.now) self.now.query.now desk.new 1 }
         ensures extends { Extends desk.old desk.new 1 }
+        ensures room { room_of desk.new ≡ room_of desk.old }
         ensures boarded { AreBoarded (S.net self.now.scan.now).table self.now.query.now
             desk.new place }
         ensures steps { BoardsStops (S.net self.now.scan.now) self.now.query.now.from place
@@ -142,6 +146,7 @@ impl<S: Scan> Search<'_, S> {
         requires leave { self.now.query.now.leave ≤ℤ pos 359999 }
         ensures queue { IsQueue (S.net self.now.scan.now) self.now.query.now desk.new 1 }
         ensures extends { Extends desk.old desk.new 1 }
+        ensures room { room_of desk.new ≡ room_of desk.old }
         ensures boarded { (place : ℕ) → place < length self.now.query.now.from →
             AreBoarded (S.net self.now.scan.now).table self.now.query.now desk.new place }
         ensures steps { steps.new ≤ steps.old + lines_near (S.net self.now.scan.now)

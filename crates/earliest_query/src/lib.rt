@@ -11,12 +11,14 @@
 #![tactic(auto)]
 
 mod all_rounds;
+mod at_event;
 mod boarding;
 mod entering;
 mod found;
 pub mod laws;
 mod query;
 mod riding;
+mod running;
 mod search;
 mod sweep;
 mod sweeping;
@@ -24,5 +26,7 @@ mod swept_riding;
 mod swept_start;
 mod walks;
 
+pub use at_event::AtEvent;
 pub use query::earliest;
+pub use search::Search;
 pub use sweep::Sweep;

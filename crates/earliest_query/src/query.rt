@@ -1,4 +1,4 @@
-ghost use Rattle.std.specs.Prelude.{List, ◌+◌, ◌<◌, ◌≤◌, All, length, map, pos, ◌≤ℤ◌};
+ghost use Rattle.std.specs.Prelude.{◌≡◌, List, ◌+◌, ◌<◌, ◌≤◌, All, length, map, pos, ◌≤ℤ◌};
 ghost use Rattle.tb_base.specs.Sufficiency.{AreSufficient};
 ghost use Rattle.tb_laws.specs.Pruning.{IsPrunedSearch};
 ghost use Rattle.segment_queue.specs.Queue.{Fits, IsInStep};
@@ -6,8 +6,9 @@ ghost use Rattle.segment_queue.specs.Traced.{IsAnswered, round_segments};
 ghost use Rattle.tb_base.specs.Search.{RoundSegment};
 ghost use Rattle.earliest_query.specs.Choices.{search_looks};
 ghost use Rattle.earliest_query.specs.Parts.{ArePartsOf};
+ghost use Rattle.earliest_query.specs.UnderWay.{room_of};
 
-use super::all_rounds::keep;
+use super::at_event::HitsAlone;
 use super::search::Search;
 use super::walks::{common_group, targets};
 use segment_queue::{Desk, Look, Steps};
@@ -36,6 +37,7 @@ pub fn earliest<L: Ledger, S: Look<L>>(
         × ArePartsOf (round_segments desk.new.segments) parts
         × IsPrunedSearch (S.net scan.now).table (S.net scan.now).hops query.now.from
         query.now.leave (map (λ h. h.value) desk.new.hits) parts }
+    ensures room { room_of desk.new ≡ room_of desk.old }
     ensures steps { steps.new ≤ steps.old + search_looks (S.net scan.now) query.now.from }
 {
     scan.soundness();
@@ -46,9 +48,5 @@ pub fn earliest<L: Ledger, S: Look<L>>(
         groups,
         target_group: common_group(groups, targets(query)),
     };
-    desk.begin(scan, query);
-    let walk = search.walk_hit();
-    keep(desk, walk, 0);
-    search.board_all(desk, steps);
-    search.ride_all(desk, steps);
+    search.run(desk, &mut HitsAlone, steps);
 }

@@ -6,9 +6,11 @@ ghost use Rattle.segment_queue.specs.Scans.{hops_seen, seen_arr, seen_first, see
 ghost use Rattle.segment_queue.specs.Traced.{round_of, segment_of};
 ghost use Rattle.segment_queue.specs.declared.notes.Note.{Note};
 ghost use Rattle.earliest_query.specs.Choices.{ArrivesBy, IsWeighed, alighting_hit, earlier_hit};
+ghost use Rattle.earliest_query.specs.Meeting.{IsMetInTime};
 ghost use Rattle.earliest_query.specs.Noted.{IsOf, IsSeenBehind, IsSoundNote, IsWeighedOff, notes_of};
-ghost use Rattle.earliest_query.specs.UnderWay.{Covers, Extends, IsDealtWith, IsDone, IsImproved, IsOutdone, IsQueue, IsReachedBy, covered_before};
+ghost use Rattle.earliest_query.specs.UnderWay.{Covers, Extends, IsDealtWith, IsDone, IsImproved, IsOutdone, IsQueue, IsReachedBy, covered_before, room_of};
 
+use super::at_event::AtEvent;
 use super::search::Search;
 use super::walks::{nearest, targets};
 use segment_queue::{Desk, Hit, LastLeg, Look, Note, Scan, Seen, Steps, Visit};
@@ -169,12 +171,13 @@ impl<S: Scan> Search<'_, S> {
     // where one gets no earlier than the best hit so far arrives, and where the trip before on the
     // line has been entered, in which one is there as early with no more rides. Answers what it has
     // seen before, too.
-    fn weigh_events<L: Ledger>(
+    fn weigh_events<L: Ledger, A: AtEvent<S>>(
         &self,
         desk: &Desk,
         n: u32,
         round: u32,
         so_far: Option<Hit>,
+        also: &mut A,
         steps: &mut Steps<L>,
     ) -> (Option<Hit>, Option<Seen>)
     where
@@ -182,6 +185,8 @@ impl<S: Scan> Search<'_, S> {
         requires queue { IsQueue (S.net self.now.scan.now) self.now.query.now desk.now round }
         requires segment { n < length desk.now.segments }
         requires round { round_of desk.now.segments n ≡ round }
+        requires ready { (later : ℕ) → round ≤ later →
+            A.is_ready also.old (S.net self.now.scan.now) self.now.query.now later }
         ensures seen { All (IsSoundNote (S.net self.now.scan.now) desk.now.segments round)
             (notes_of n result.1) }
         ensures weighed { (i : ℕ) → Covers desk.now n i →
@@ -190,6 +195,13 @@ impl<S: Scan> Search<'_, S> {
             ⊎ IsOutdone (S.net self.now.scan.now) desk.now.segments n i }
         ensures improved { IsImproved (S.net self.now.scan.now).table self.now.query.now desk.now
             round so_far result.0 }
+        ensures met { (i : ℕ) → Covers desk.now n i →
+            IsMetInTime (S.net self.now.scan.now) (A.has_met also.new (S.net self.now.scan.now))
+            desk.now result.0 n i }
+        ensures ready { (later : ℕ) → round ≤ later →
+            A.is_ready also.new (S.net self.now.scan.now) self.now.query.now later }
+        ensures still_met { (t i r : ℕ) → A.has_met also.old (S.net self.now.scan.now) t i r →
+            A.has_met also.new (S.net self.now.scan.now) t i r }
         ensures steps { steps.new ≤ steps.old + covered_indices (segment_of desk.now.segments n) }
     {
         let scan = self.scan;
@@ -203,6 +215,7 @@ impl<S: Scan> Search<'_, S> {
         for before in segment.board..end {
             let at = before + 1;
             let visit = scan.visit(segment.trip, at, steps);
+            also.meet(self, &segment, at, round, &visit);
             best = self.weigh(best, &visit, n, at, round);
             if is_late(&best, &visit) {
                 return (best, seen);
@@ -213,12 +226,13 @@ impl<S: Scan> Search<'_, S> {
     }
 
     // Weighs a segment, and notes what was seen of it to go on from.
-    fn weigh_segment<L: Ledger>(
+    fn weigh_segment<L: Ledger, A: AtEvent<S>>(
         &self,
         desk: &mut Desk,
         n: u32,
         round: u32,
         so_far: Option<Hit>,
+        also: &mut A,
         steps: &mut Steps<L>,
     ) -> Option<Hit>
     where
@@ -230,6 +244,8 @@ impl<S: Scan> Search<'_, S> {
             ≤ desk.old.note_room }
         requires notes { All (IsSoundNote (S.net self.now.scan.now) desk.old.segments round)
             desk.old.notes }
+        requires ready { (later : ℕ) → round ≤ later →
+            A.is_ready also.old (S.net self.now.scan.now) self.now.query.now later }
         ensures rest { desk.new ≡ record desk.old { notes = desk.new.notes } }
         ensures notes { All (IsSoundNote (S.net self.now.scan.now) desk.old.segments round)
             desk.new.notes }
@@ -240,23 +256,31 @@ impl<S: Scan> Search<'_, S> {
             ⊎ IsOutdone (S.net self.now.scan.now) desk.old.segments n i }
         ensures improved { IsImproved (S.net self.now.scan.now).table self.now.query.now desk.old
             round so_far result }
+        ensures met { (i : ℕ) → Covers desk.old n i →
+            IsMetInTime (S.net self.now.scan.now) (A.has_met also.new (S.net self.now.scan.now))
+            desk.old result n i }
+        ensures ready { (later : ℕ) → round ≤ later →
+            A.is_ready also.new (S.net self.now.scan.now) self.now.query.now later }
+        ensures still_met { (t i r : ℕ) → A.has_met also.old (S.net self.now.scan.now) t i r →
+            A.has_met also.new (S.net self.now.scan.now) t i r }
         ensures few { length desk.new.notes
             ≤ length desk.old.notes + covered_indices (segment_of desk.old.segments n) }
         ensures steps { steps.new ≤ steps.old + covered_indices (segment_of desk.old.segments n) }
     {
-        let (best, seen) = self.weigh_events(desk, n, round, so_far, steps);
+        let (best, seen) = self.weigh_events(desk, n, round, so_far, also, steps);
         note_down(desk, n, seen);
         best
     }
 
     // Weighs the segments of a round, from one number up to another.
-    fn weigh_round<L: Ledger>(
+    fn weigh_round<L: Ledger, A: AtEvent<S>>(
         &self,
         desk: &mut Desk,
         from: u32,
         to: u32,
         round: u32,
         so_far: Option<Hit>,
+        also: &mut A,
         steps: &mut Steps<L>,
     ) -> Option<Hit>
     where
@@ -265,6 +289,8 @@ impl<S: Scan> Search<'_, S> {
         requires from { from ≤ to }
         requires to { to ≤ length desk.old.segments }
         requires rounds { (n : ℕ) → from ≤ n → n < to → round_of desk.old.segments n ≡ round }
+        requires ready { (later : ℕ) → round ≤ later →
+            A.is_ready also.old (S.net self.now.scan.now) self.now.query.now later }
         ensures rest { desk.new ≡ record desk.old { notes = desk.new.notes } }
         ensures notes { All (IsSoundNote (S.net self.now.scan.now) desk.old.segments round)
             desk.new.notes }
@@ -274,6 +300,13 @@ impl<S: Scan> Search<'_, S> {
             ⊎ IsOutdone (S.net self.now.scan.now) desk.old.segments n i }
         ensures improved { IsImproved (S.net self.now.scan.now).table self.now.query.now desk.old
             round so_far result }
+        ensures met { (n i : ℕ) → from ≤ n → n < to → Covers desk.old n i →
+            IsMetInTime (S.net self.now.scan.now) (A.has_met also.new (S.net self.now.scan.now))
+            desk.old result n i }
+        ensures ready { (later : ℕ) → round ≤ later →
+            A.is_ready also.new (S.net self.now.scan.now) self.now.query.now later }
+        ensures still_met { (t i r : ℕ) → A.has_met also.old (S.net self.now.scan.now) t i r →
+            A.has_met also.new (S.net self.now.scan.now) t i r }
         ensures steps { steps.new + covered_before desk.old.segments from
             ≤ steps.old + covered_before desk.old.segments to }
     {
@@ -281,7 +314,7 @@ impl<S: Scan> Search<'_, S> {
         let mut best = so_far;
         for n in from..to {
             desk.read_segments_ahead(self.scan, from, n, to);
-            best = self.weigh_segment(desk, n, round, best, steps);
+            best = self.weigh_segment(desk, n, round, best, also, steps);
         }
         best
     }
@@ -296,6 +329,7 @@ impl<S: Scan> Search<'_, S> {
             (S.net self.now.scan.now).hops }
         ensures queue { IsQueue (S.net self.now.scan.now) self.now.query.now desk.new (suc round) }
         ensures extends { Extends desk.old desk.new (suc round) }
+        ensures room { room_of desk.new ≡ room_of desk.old }
         ensures notes { desk.new.notes ≡ desk.old.notes }
         ensures reached { IsReachedBy (S.net self.now.scan.now).table desk.new
             (length desk.new.segments) (suc round) hop.trip hop.at }
@@ -318,6 +352,7 @@ impl<S: Scan> Search<'_, S> {
             (S.net self.now.scan.now).hops }
         ensures queue { IsQueue (S.net self.now.scan.now) self.now.query.now desk.new (suc round) }
         ensures extends { Extends desk.old desk.new (suc round) }
+        ensures room { room_of desk.new ≡ room_of desk.old }
         ensures notes { desk.new.notes ≡ desk.old.notes }
         ensures done { (i : ℕ) → IsOf note.now note.now.segment i →
             IsDone (S.net self.now.scan.now) desk.new best.now note.now.segment i }
@@ -342,6 +377,7 @@ impl<S: Scan> Search<'_, S> {
             (S.net self.now.scan.now).hops }
         ensures queue { IsQueue (S.net self.now.scan.now) self.now.query.now desk.new (suc round) }
         ensures extends { Extends desk.old desk.new (suc round) }
+        ensures room { room_of desk.new ≡ room_of desk.old }
         ensures done { (note : Note) (i : ℕ) → Contains desk.old.notes note →
             IsOf note note.segment i →
             IsDone (S.net self.now.scan.now) desk.new best.now note.segment i }
@@ -356,13 +392,14 @@ impl<S: Scan> Search<'_, S> {
 
     // Rides the segments of a round, from one number up to another: weighs all of them, and then
     // goes on from where one gets before the best hit.
-    pub(crate) fn ride_round<L: Ledger>(
+    pub(crate) fn ride_round<L: Ledger, A: AtEvent<S>>(
         &self,
         desk: &mut Desk,
         from: u32,
         to: u32,
         round: u32,
         so_far: Option<Hit>,
+        also: &mut A,
         steps: &mut Steps<L>,
     ) -> Option<Hit>
     where
@@ -371,19 +408,29 @@ impl<S: Scan> Search<'_, S> {
         requires from { from ≤ to }
         requires to { to ≤ length desk.old.segments }
         requires rounds { (n : ℕ) → from ≤ n → n < to → round_of desk.old.segments n ≡ round }
+        requires ready { (later : ℕ) → round ≤ later →
+            A.is_ready also.old (S.net self.now.scan.now) self.now.query.now later }
         requires sufficient { AreSufficient (S.net self.now.scan.now).table
             (S.net self.now.scan.now).hops }
         ensures queue { IsQueue (S.net self.now.scan.now) self.now.query.now desk.new (suc round) }
         ensures extends { Extends desk.old desk.new (suc round) }
+        ensures room { room_of desk.new ≡ room_of desk.old }
         ensures ridden { (n i : ℕ) → from ≤ n → n < to → Covers desk.old n i →
             IsDealtWith (S.net self.now.scan.now) self.now.query.now desk.new result n i
             ⊎ IsOutdone (S.net self.now.scan.now) desk.new.segments n i }
         ensures improved { IsImproved (S.net self.now.scan.now).table self.now.query.now desk.new
             round so_far result }
+        ensures met { (n i : ℕ) → from ≤ n → n < to → Covers desk.old n i →
+            IsMetInTime (S.net self.now.scan.now) (A.has_met also.new (S.net self.now.scan.now))
+            desk.new result n i }
+        ensures ready { (later : ℕ) → round ≤ later →
+            A.is_ready also.new (S.net self.now.scan.now) self.now.query.now later }
+        ensures still_met { (t i r : ℕ) → A.has_met also.old (S.net self.now.scan.now) t i r →
+            A.has_met also.new (S.net self.now.scan.now) t i r }
         ensures steps { steps.new + covered_before desk.old.segments from
             ≤ steps.old + covered_before desk.old.segments to }
     {
-        let best = self.weigh_round(desk, from, to, round, so_far, steps);
+        let best = self.weigh_round(desk, from, to, round, so_far, also, steps);
         self.follow_notes(desk, &best, round);
         best
     }

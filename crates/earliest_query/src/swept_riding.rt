@@ -1,4 +1,4 @@
-ghost use Rattle.std.specs.Prelude.{◌≡◌, ◌+◌, ◌<◌, ◌≤◌, ◌++◌, ◌⊎◌, ℕ, suc, All, IfOk, OnOk, length};
+ghost use Rattle.std.specs.Prelude.{◌≡◌, ◌+◌, ◌<◌, ◌≤◌, ◌++◌, ◌⊎◌, ℕ, suc, All, IfOk, OnErr, OnOk, length};
 ghost use Rattle.tb_base.specs.Sufficiency.{AreSufficient};
 ghost use Rattle.tb_base.specs.TimetableData.{TimetableData};
 ghost use Rattle.segment_queue.specs.Levels.{with_level};
@@ -86,10 +86,11 @@ fn have_level(alloc: Global, levels: &mut Levels, round: u32) -> Result<(), Memo
     Ok(())
 }
 
-// How many segments there are. More than have numbers are refused.
+// How many segments there are. More than have numbers are refused, and no fewer.
 pub(crate) fn segment_total(desk: &Desk) -> Result<u32, Memory>
     ensures count { IfOk result (λ count. count ≡ length desk.now.segments) }
     ensures most { IfOk result (λ count. count < 4294967295) }
+    ensures too_many { OnErr result (4294967295 ≤ length desk.now.segments) }
 {
     let count = desk.segment_count();
     if count >= u32::MAX as usize {

@@ -1,175 +1,154 @@
 -- A search that has ridden all segments has the best values to every stop.
-use Rattle.std.proofs.Common.{◌≡◌, ◌∙◌, ℕ, zero, suc, ◌+◌, ◌<◌, ◌≤◌, ◌⊎◌, inl, inr, List, [], ◌∷◌, Bool, true, false, length, refl, sym, ap, subst, arith, ℤ, pos, ◌+ℤ◌}
-use Rattle.std.specs.Prelude.{Contains, IsSome, MatchBool, Some}
+use Rattle.std.proofs.Common.{◌≡◌, ◌∙◌, ℕ, zero, suc, ◌<◌, ◌≤◌, ◌⊎◌, inl, inr, List, [], ◌∷◌, Bool, true, false, length, map, refl, sym, ap, subst, arith, ℤ, pos, ◌+ℤ◌, Result, Ok, Err}
+use Rattle.std.specs.Prelude.{Contains, IfOk, IsSome, IsTrue, MatchBool, OnOk}
+use Rattle.std.specs.Result.{is_err}
 use Rattle.std.proofs.lemmas.List.Elements.{All-contains}
-use Rattle.std.proofs.lemmas.Bool.{cases_lt}
 use Rattle.tb_base.specs.declared.query.Value.{Value}
 use Rattle.tb_base.specs.BestValues.{AreBestValues, IsAttained, IsBest, QueryData, value_of}
 use Rattle.tb_base.specs.Journeys.{Leads, Ride, walk_secs}
 use Rattle.tb_base.specs.Network.{NetData}
-use Rattle.tb_base.specs.Search.{IsCovered, IsFound, IsReached, IsSearched, RoundSegment, segment_at}
+use Rattle.tb_base.specs.Search.{IsFound, IsReached, IsSearched, RoundSegment}
 use Rattle.tb_base.specs.Soundness.{IsSound}
 use Rattle.tb_base.specs.Sufficiency.{AreSufficient}
-use Rattle.tb_base.specs.TimetableData.{TimetableData, arrival_at, event_at, events_of, stop_at, MayAlight}
+use Rattle.tb_base.specs.TimetableData.{TimetableData, arrival_at, event_at, stop_at, MayAlight}
 use Rattle.tb_base.specs.Walking.{walk}
 use Rattle.tb_base.proofs.Members.{All-from_Member}
 use Rattle.tb_base.proofs.Ordered.{Contains-from_Member}
 use Rattle.tb_base.proofs.Values.{same_value}
-use Rattle.tb_laws.specs.Pruning.{IsLate}
+use Rattle.tb_laws.specs.Pruning.{IsLate, IsPrunedSearch}
 use Rattle.tb_laws.proofs.ReachedLaws.{reached_value}
-use Rattle.tb_laws.proofs.SearchLaws.{best_value_found}
+use Rattle.tb_laws.proofs.SearchLaws.{best_value_found, whole_search}
 use Rattle.tb_laws.proofs.StaircaseLaws.{best_values_from_staircase}
 use Rattle.tb_laws.proofs.Triangles.{walk_secs-is}
 use Rattle.tb_laws.proofs.UTurnLaws.{some}
-use Rattle.segment_queue.specs.declared.desk.Segment.{Segment}
+use Rattle.segment_queue.specs.declared.desk.Hit.{Hit}
 use Rattle.segment_queue.specs.Queue.{DeskData}
-use Rattle.segment_queue.specs.Traced.{round_of, round_segments, segment_of}
-use Rattle.segment_queue.proofs.Rounds.{board_of, end_of, length-round_segments, trip_of}
-use Rattle.earliest_query.specs.UnderWay.{Covers, Extends, IsFollowed, IsQueue}
-use Rattle.earliest_query.proofs.BestSoFar.{covers-kept}
-use Rattle.earliest_query.proofs.Following.{followed-kept}
-use Rattle.earliest_query.proofs.Growing.{extends-long, extends-reached, extends-round, extends-segment}
-use Rattle.earliest_query.proofs.Reaching.{reached_all}
+use Rattle.segment_queue.specs.Traced.{round_of, segment_of}
+use Rattle.earliest_query.specs.Meeting.{IsMet, IsMetUnlessHit}
+use Rattle.earliest_query.specs.Ridden.{IsRidden, IsServed}
+use Rattle.earliest_query.specs.UnderWay.{Covers, IsOutdone}
+use Rattle.earliest_query.proofs.Answering.{searched}
+use Rattle.earliest_query.proofs.Reaching.{no_hits}
+use Rattle.earliest_query.proofs.Sorting.{part_at, parts}
 use Rattle.reach_all.specs.Reach.{IsReach, query_to, values_at}
 use Rattle.reach_all.specs.Arriving.{AreFound, IsOfferedFrom, IsWalkedOn, Keep}
-use Rattle.reach_all.specs.Spreading.{HoldsAlighting, IsSpread, everywhere}
+use Rattle.reach_all.specs.Spreading.{AreSpread, AreSpreadOrRefused, HoldsAlighting, HoldsAlightingOrRefused}
 use Rattle.reach_all.proofs.Offering.{keep-refl, late-kept}
 
--- to alight from segment n at index i has been offered
-pub record IsAlighted (T : TimetableData) (from : List ℕ) (leave : ℤ) (D : DeskData) (n i round : ℕ) (old new : List (List Value)) : Type 0 where
+-- to alight at an event has been offered
+pub record IsAlighted (T : TimetableData) (from : List ℕ) (leave : ℤ) (trip i round : ℕ) (old new : List (List Value)) : Type 0 where
   pub kept : Keep old new
-  pub held : HoldsAlighting T D new n i
+  pub held : HoldsAlighting T new trip i round
   pub found : AreFound T from leave round new
 
-module _ (N : NetData) (from : List ℕ) (leave : ℤ) (top : ℕ) (D : DeskData) (queue : IsQueue N (everywhere from leave) D top) (n i round : ℕ) (inside : n < length D.segments) (covers : Covers D n i) (same_round : round_of D.segments n ≡ round) (old new : List (List Value)) (found : AreFound N.table from leave round old) where
-  abbrev trip : ℕ
-  trip = (segment_of D.segments n).trip
-
-  walked_attained : (q : ℕ) (w : Value) → MayAlight N.table trip i → IsWalkedOn N.table (stop_at N.table trip i) (record { arrive = arrival_at N.table trip i; rides = round }) q w → IsAttained N.table (query_to from leave q) w
+module _ (T : TimetableData) (from : List ℕ) (leave : ℤ) (trip board i round : ℕ) (reached : IsReached T from leave round trip board) (onward : board < i) (old new : List (List Value)) (found : AreFound T from leave round old) where
+  walked_attained : (q : ℕ) (w : Value) → MayAlight T trip i → IsWalkedOn T (stop_at T trip i) (record { arrive = arrival_at T trip i; rides = round }) q w → IsAttained T (query_to from leave q) w
   walked_attained q w alights on =
-      subst (IsAttained N.table (query_to from leave q))
-      (sym (on.is ∙ same_value (arrival_at N.table trip i +ℤ pos on.secs) _ round (round_of D.segments n) (ap (λ z. arrival_at N.table trip i +ℤ z) (sym (walk_secs-is N.table (stop_at N.table trip i) q on.secs on.walks))) (sym same_round)))
-      (reached_value N.table from leave (query_to from leave q) refl refl (round_of D.segments n) trip (segment_of D.segments n).board i q (reached_all N.table (everywhere from leave) D.segments queue.entered n inside) covers.onward alights (0, omega arith, refl) (subst (λ o. IsSome o) (sym on.walks) refl))
+      subst (IsAttained T (query_to from leave q))
+      (sym (on.is ∙ same_value (arrival_at T trip i +ℤ pos on.secs) _ round round (ap (λ z. arrival_at T trip i +ℤ z) (sym (walk_secs-is T (stop_at T trip i) q on.secs on.walks))) refl))
+      (reached_value T from leave (query_to from leave q) refl refl round trip board i q reached onward alights (0, omega arith, refl) (subst (λ o. IsSome o) (sym on.walks) refl))
 
-  by_alighting : MayAlight N.table trip i → IsOfferedFrom N.table (stop_at N.table trip i) (record { arrive = arrival_at N.table trip i; rides = round }) old new → IsAlighted N.table from leave D n i round old new
+  by_alighting : MayAlight T trip i → IsOfferedFrom T (stop_at T trip i) (record { arrive = arrival_at T trip i; rides = round }) old new → IsAlighted T from leave trip i round old new
   by_alighting alights offers = record {
     kept = offers.kept;
-    held = λ _ q secs walks. subst (λ r. IsLate (values_at new q) (arrival_at N.table trip i +ℤ pos secs) r) (sym same_round) (offers.held q secs walks);
+    held = λ _ q secs walks. offers.held q secs walks;
     found = record {
       each_stop = offers.each_stop ∙ found.each_stop;
-      attained = λ q. All-from_Member (IsAttained N.table (query_to from leave q)) (values_at new q) (λ w member. by_place q w (offers.only q w (Contains-from_Member w (values_at new q) member)));
+      attained = λ q. All-from_Member (IsAttained T (query_to from leave q)) (values_at new q) (λ w member. by_place q w (offers.only q w (Contains-from_Member w (values_at new q) member)));
       stairs = offers.stairs;
     };
   }
     where
-      by_place : (q : ℕ) (w : Value) → Contains (values_at old q) w ⊎ IsWalkedOn N.table (stop_at N.table trip i) (record { arrive = arrival_at N.table trip i; rides = round }) q w → IsAttained N.table (query_to from leave q) w
-      by_place q w (inl c) = All-contains (IsAttained N.table (query_to from leave q)) (values_at old q) w (found.attained q) c
+      by_place : (q : ℕ) (w : Value) → Contains (values_at old q) w ⊎ IsWalkedOn T (stop_at T trip i) (record { arrive = arrival_at T trip i; rides = round }) q w → IsAttained T (query_to from leave q) w
+      by_place q w (inl c) = All-contains (IsAttained T (query_to from leave q)) (values_at old q) w (found.attained q) c
       by_place q w (inr on) = walked_attained q w alights on
 
-  without : (event_at N.table trip i).alight ≡ false → new ≡ old → IsAlighted N.table from leave D n i round old new
-  without not_allowed same = subst (IsAlighted N.table from leave D n i round old) (sym same) (record {
+  without : (event_at T trip i).alight ≡ false → new ≡ old → IsAlighted T from leave trip i round old new
+  without not_allowed same = subst (IsAlighted T from leave trip i round old) (sym same) (record {
     kept = keep-refl old;
     held = λ alights q secs walks. absurd (let e : true ≡ false = sym alights ∙ not_allowed in cc);
     found = found;
   })
 
-  pub alighted : (stop : ℕ) (arr : ℤ) (alight : Bool) → stop ≡ stop_at N.table trip i → arr ≡ arrival_at N.table trip i → alight ≡ (event_at N.table trip i).alight →
-      MatchBool alight (IsOfferedFrom N.table stop (record { arrive = arr; rides = round }) old new) (new ≡ old) → IsAlighted N.table from leave D n i round old new
+  pub alighted : (stop : ℕ) (arr : ℤ) (alight : Bool) → stop ≡ stop_at T trip i → arr ≡ arrival_at T trip i → alight ≡ (event_at T trip i).alight →
+      MatchBool alight (IsOfferedFrom T stop (record { arrive = arr; rides = round }) old new) (new ≡ old) → IsAlighted T from leave trip i round old new
   alighted stop arr true stop_is arr_is alight_is offers =
-      by_alighting (sym alight_is) (subst (λ s. IsOfferedFrom N.table s (record { arrive = arrival_at N.table trip i; rides = round }) old new) stop_is (subst (λ a. IsOfferedFrom N.table stop (record { arrive = a; rides = round }) old new) arr_is offers))
+      by_alighting (sym alight_is) (subst (λ s. IsOfferedFrom T s (record { arrive = arrival_at T trip i; rides = round }) old new) stop_is (subst (λ a. IsOfferedFrom T stop (record { arrive = a; rides = round }) old new) arr_is offers))
   alighted stop arr false stop_is arr_is alight_is same = without (sym alight_is) same
 
--- who alights still has been offered, when the values have grown
-pub alighting-kept : (T : TimetableData) (D : DeskData) (old new : List (List Value)) (n i : ℕ) → Keep old new → HoldsAlighting T D old n i → HoldsAlighting T D new n i
-alighting-kept T D old new n i keep held = λ alights q secs walks. late-kept old new q (arrival_at T (segment_of D.segments n).trip i +ℤ pos secs) (round_of D.segments n) keep (held alights q secs walks)
+  -- the same, where memory may have been refused
+  pub alighted_or_refused : {A E : Type 0} (offered : Result A E) (refused : Bool) → refused ≡ is_err offered → (stop : ℕ) (arr : ℤ) (alight : Bool) → stop ≡ stop_at T trip i → arr ≡ arrival_at T trip i → alight ≡ (event_at T trip i).alight →
+      OnOk offered (MatchBool alight (IsOfferedFrom T stop (record { arrive = arr; rides = round }) old new) (new ≡ old)) → IsTrue refused ⊎ IsAlighted T from leave trip i round old new
+  alighted_or_refused (Ok x) refused is stop arr alight stop_is arr_is alight_is offers = inr (alighted stop arr alight stop_is arr_is alight_is offers)
+  alighted_or_refused (Err e) refused is stop arr alight stop_is arr_is alight_is offers = inl is
 
--- the same, when the queue has grown, or was shorter
-pub alighting-grown : (T : TimetableData) (D E : DeskData) (lists : List (List Value)) (n i : ℕ) → segment_of E.segments n ≡ segment_of D.segments n → round_of E.segments n ≡ round_of D.segments n → HoldsAlighting T D lists n i → HoldsAlighting T E lists n i
-alighting-grown T D E lists n i same round held =
-    subst (λ r. MayAlight T (segment_of E.segments n).trip i → (q secs : ℕ) → walk T (stop_at T (segment_of E.segments n).trip i) q ≡ Some secs → IsLate (values_at lists q) (arrival_at T (segment_of E.segments n).trip i +ℤ pos secs) r) (sym round)
-    (subst (λ (s : Segment). MayAlight T s.trip i → (q secs : ℕ) → walk T (stop_at T s.trip i) q ≡ Some secs → IsLate (values_at lists q) (arrival_at T s.trip i +ℤ pos secs) (round_of D.segments n)) (sym same) held)
+-- what has been offered stays so, when the values have grown
+pub alighting-kept : (T : TimetableData) (old new : List (List Value)) (trip i rides : ℕ) → Keep old new → HoldsAlighting T old trip i rides → HoldsAlighting T new trip i rides
+alighting-kept T old new trip i rides keep held = λ alights q secs walks. late-kept old new q (arrival_at T trip i +ℤ pos secs) rides keep (held alights q secs walks)
 
--- a round has been ridden
-module _ (N : NetData) (from : List ℕ) (leave : ℤ) (D E : DeskData) (old new : List (List Value)) (first to round : ℕ) (spread : IsSpread N from leave D old first round) (to_is : to ≡ length D.segments) (below : first < length D.segments)
-    (queue : IsQueue N (everywhere from leave) E (suc round)) (extends : Extends D E (suc round)) (followed : (n i : ℕ) → first ≤ n → n < to → Covers D n i → IsFollowed N E n i) (alighting : (n i : ℕ) → first ≤ n → n < to → Covers D n i → HoldsAlighting N.table D new n i)
-    (keep : Keep old new) (found : AreFound N.table from leave round new) where
-  next : suc round ≡ round + 1
-  next = omega arith
+-- values with so many rides at most are values with more at most
+pub found-later : (T : TimetableData) (from : List ℕ) (leave : ℤ) (rides more : ℕ) (lists : List (List Value)) → rides ≤ more → AreFound T from leave rides lists → AreFound T from leave more lists
+found-later T from leave rides more lists le found = record {
+  each_stop = found.each_stop;
+  attained = found.attained;
+  stairs = record {
+    few = λ q. All-from_Member (λ (v : Value). v.rides ≤ more) (values_at lists q) (λ v member. (let h = All-contains (λ (v : Value). v.rides ≤ rides) (values_at lists q) v (found.stairs.few q) (Contains-from_Member v (values_at lists q) member) in omega (arith, h, le)));
+    stairs = found.stairs.stairs;
+  };
+}
 
-  inside : (n : ℕ) → n < to → n < length D.segments
-  inside n h = omega (arith, h, to_is)
+-- the values of a search under way, after one more event
+pub spread-next : (T : TimetableData) (Q : QueryData) (trip i round later : ℕ) (old new : List (List Value)) → round ≤ later → AreSpread T Q round old → IsAlighted T Q.from Q.leave trip i round old new → AreSpread T Q later new
+spread-next T Q trip i round later old new le spread off = record {
+  found = found-later T Q.from Q.leave round later new le off.found;
+  starts = λ p q secs origin walks. late-kept old new q (Q.leave +ℤ pos secs) 0 off.kept (spread.starts p q secs origin walks);
+}
 
-  same : (n : ℕ) → n < to → segment_of E.segments n ≡ segment_of D.segments n
-  same n h = extends-segment D E (suc round) extends n (inside n h)
+-- memory was refused before, or the values are those of a search under way
+pub spread_of : (T : TimetableData) (Q : QueryData) (rides : ℕ) (lists : List (List Value)) (refused : Bool) → refused ≡ false → AreSpreadOrRefused refused T Q rides lists → AreSpread T Q rides lists
+spread_of T Q rides lists refused granted (inl is) = absurd (let e : true ≡ false = sym is ∙ granted in cc)
+spread_of T Q rides lists refused granted (inr spread) = spread
 
-  covers_old : (n i : ℕ) → n < to → Covers E n i → Covers D n i
-  covers_old n i h covers = covers-kept E D n i (same n h) covers
+pub held_of : (T : TimetableData) (lists : List (List Value)) (trip i rides : ℕ) (refused : Bool) → refused ≡ false → HoldsAlightingOrRefused refused T lists trip i rides → HoldsAlighting T lists trip i rides
+held_of T lists trip i rides refused granted (inl is) = absurd (let e : true ≡ false = sym is ∙ granted in cc)
+held_of T lists trip i rides refused granted (inr held) = held
 
-  followed_next : (n i : ℕ) → n < to → Covers E n i → IsFollowed N E n i
-  followed_next n i h covers = elim (cases_lt n first) [
-    | inl before ↦ followed-kept N D E (suc round) n i extends (inside n h) (spread.followed n i before (covers_old n i h covers))
-    | inr now ↦ followed n i now h (covers_old n i h covers)
+module _ (N : NetData) (Q : QueryData) (D : DeskData) (rounds : ℕ) (ridden : IsRidden N Q D (length D.segments) rounds) (none : Q.to ≡ []) (lists : List (List Value)) (met : (n i : ℕ) → n < length D.segments → Covers D n i → IsMetUnlessHit N (HoldsAlighting N.table lists) D n i)
+    (rides : ℕ) (spread : AreSpread N.table Q rides lists) where
+  abbrev from : List ℕ
+  from = Q.from
+
+  abbrev leave : ℤ
+  leave = Q.leave
+
+  no_hit : D.hits ≡ []
+  no_hit = no_hits N.table Q D.segments D.hits ridden.traced none
+
+  -- all has been made of an index, and who alights there has been offered
+  abbrev Made : ℕ → ℕ → Type 0
+  Made n i = IsServed N Q D n i × IsMet (HoldsAlighting N.table lists) D n i
+
+  made : (n i : ℕ) → n < length D.segments → Covers D n i → Made n i ⊎ IsOutdone N D.segments n i
+  made n i inside covers = elim (ridden.served n i inside covers) [
+    | inl s ↦ elim (met n i inside covers) [
+      | inl m ↦ inl (s, m)
+      | inr late ↦ elim late [
+        | inl hit ↦ absurd (let c : Contains [] hit.by = subst (λ hs. Contains hs hit.by) no_hit hit.one in omega (arith, c.1))
+        | inr o ↦ inr o
+      ]
+    ]
+    | inr o ↦ inr o
   ]
 
-  alighting_next : (n i : ℕ) → n < to → Covers E n i → HoldsAlighting N.table E new n i
-  alighting_next n i h covers =
-      alighting-grown N.table D E new n i (same n h) (extends-round D E (suc round) extends n (inside n h))
-      (elim (cases_lt n first) [
-        | inl before ↦ alighting-kept N.table D old new n i keep (spread.alighting n i before (covers_old n i h covers))
-        | inr now ↦ alighting n i now h (covers_old n i h covers)
-      ])
+  abbrev all_parts : List RoundSegment
+  all_parts = parts N Q D rounds ridden.queue Made made
 
-  later : (r : ℕ) → round ≤ r → AreFound N.table from leave r new
-  later r more = record {
-    each_stop = found.each_stop;
-    attained = found.attained;
-    stairs = record {
-      few = λ q. All-from_Member (λ (v : Value). v.rides ≤ r) (values_at new q) (λ v member. (let h = All-contains (λ (v : Value). v.rides ≤ round) (values_at new q) v (found.stairs.few q) (Contains-from_Member v (values_at new q) member) in omega (arith, h, more)));
-      stairs = found.stairs.stairs;
-    };
-  }
-
-  pub spread_next : IsSpread N from leave E new to (round + 1)
-  spread_next = record {
-    queue = subst (IsQueue N (everywhere from leave) E) next queue;
-    some_round = omega arith;
-    few_rounds = omega (arith, spread.few_rounds, to_is, below);
-    within = omega (arith, to_is, extends-long D E (suc round) extends);
-    this_round = λ n h here. extends.rounds n (omega (arith, h, to_is)) here ∙ next;
-    started = λ p t b secs origin boards not_last walks in_time.
-        extends-reached N.table D E (suc round) (length D.segments) (length E.segments) 1 1 t b extends (spread.started p t b secs origin boards not_last walks in_time) (omega arith) (extends-long D E (suc round) extends) (omega arith);
-    followed = followed_next;
-    alighting = alighting_next;
-    starts = λ p q secs origin walks. late-kept old new q (leave +ℤ pos secs) 0 keep (spread.starts p q secs origin walks);
-    found = later (round + 1) (omega arith);
-  }
-
-module _ (N : NetData) (from : List ℕ) (leave : ℤ) (D : DeskData) (lists : List (List Value)) (rounds : ℕ) (spread : IsSpread N from leave D lists (length D.segments) rounds) where
-  abbrev segments : List RoundSegment
-  segments = round_segments D.segments
-
-  long : length segments ≡ length D.segments
-  long = length-round_segments D.segments
-
-  searched : IsSearched N.table N.hops from leave segments
-  searched = record {
-    reached = λ n h. let inside : n < length D.segments = omega (arith, h, long) in
-        subst (λ t. IsReached N.table from leave (round_of D.segments n) t (segment_at segments n).board) (sym (trip_of D.segments n inside))
-        (subst (λ b. IsReached N.table from leave (round_of D.segments n) (segment_of D.segments n).trip b) (sym (board_of D.segments n inside)) (reached_all N.table (everywhere from leave) D.segments spread.queue.entered n inside));
-    starts = λ p t b secs origin boards not_last walks in_time. subst (λ m. IsCovered N.table segments m 1 t b) (sym long) (spread.started p t b secs origin boards not_last walks in_time);
-    goes_on = λ n i h inside onward within in_set.
-        let below : n < length D.segments = omega (arith, inside, long) in
-        let followed = spread.followed n i below (record { onward = omega (arith, onward, board_of D.segments n below); within = omega (arith, within, end_of D.segments n below) }) in
-        subst (λ m. IsCovered N.table segments m (suc (segment_at segments n).round) h.trip h.at) (sym long) (followed h (subst (λ t. Contains (N.hops t i) h) (trip_of D.segments n below) in_set));
-    ends = λ n inside.
-        let below : n < length D.segments = omega (arith, inside, long) in
-        subst (λ t. (length (events_of N.table t) ≤ suc (segment_at segments n).end) ⊎ IsCovered N.table segments n (segment_at segments n).round t (segment_at segments n).end) (sym (trip_of D.segments n below))
-        (subst (λ e. (length (events_of N.table (segment_of D.segments n).trip) ≤ suc e) ⊎ IsCovered N.table segments n (segment_at segments n).round (segment_of D.segments n).trip e) (sym (end_of D.segments n below)) (elim (spread.queue.ends n below) [ inl last ↦ inl last | inr c ↦ inr c.cover ]));
-  }
+  whole : IsSearched N.table N.hops from leave all_parts
+  whole = whole_search N.table N.hops from leave all_parts (subst (λ hs. IsPrunedSearch N.table N.hops from leave (map (λ (h : Hit). h.value) hs) all_parts) no_hit (searched N Q D rounds ridden Made (λ n i m. m.0) made))
 
   module _ (stop : ℕ) where
-    abbrev Q : QueryData
-    Q = query_to from leave stop
+    abbrev To : QueryData
+    To = query_to from leave stop
 
     abbrev values : List Value
     values = values_at lists stop
@@ -179,9 +158,9 @@ module _ (N : NetData) (from : List ℕ) (leave : ℤ) (D : DeskData) (lists : L
     is_stop q c = let at : c.0 ≡ 0 = omega (arith, c.1) in sym (subst (λ k. Rattle.std.proofs.Common.get_or (stop ∷ []) k q ≡ q) at c.2)
 
     -- a best value that some value is no worse than is that value
-    best_one : (v : Value) → IsBest N.table Q v → IsLate values v.arrive v.rides → Contains values v
+    best_one : (v : Value) → IsBest N.table To v → IsLate values v.arrive v.rides → Contains values v
     best_one v best late =
-        subst (λ w. Contains values w) (best.undominated late.0 (All-contains (IsAttained N.table Q) values late.0 (spread.found.attained stop) late.1) late.2) late.1
+        subst (λ w. Contains values w) (best.undominated late.0 (All-contains (IsAttained N.table To) values late.0 (spread.found.attained stop) late.1) late.2) late.1
 
     late_as : (v : Value) (a : ℤ) (n : ℕ) → a ≡ v.arrive → n ≡ v.rides → IsLate values a n → IsLate values v.arrive v.rides
     late_as v a n e f late = subst (λ k. IsLate values v.arrive k) f (subst (λ z. IsLate values z n) e late)
@@ -194,7 +173,7 @@ module _ (N : NetData) (from : List ℕ) (leave : ℤ) (D : DeskData) (lists : L
     from_walk v o (r ∷ rest) q origin at leads is none = absurd (let e : v.rides ≡ suc (length rest) = ap (λ (x : Value). x.rides) is in omega (arith, e, none))
 
     module _ (sound : IsSound N.table) (sufficient : AreSufficient N.table N.hops) where
-      complete : (v : Value) → IsBest N.table Q v → Contains values v
+      complete : (v : Value) → IsBest N.table To v → Contains values v
       complete v best = by_rides v.rides refl
         where
           by_rides : (k : ℕ) → k ≡ v.rides → Contains values v
@@ -203,22 +182,34 @@ module _ (N : NetData) (from : List ℕ) (leave : ℤ) (D : DeskData) (lists : L
               let h = best.attained.1 in
               best_one v best (from_walk v j.origin j.rides j.target h.journey.origin (is_stop j.target h.journey.target) h.journey.leads h.value (sym e))
           by_rides (suc k) e =
-              let found : IsFound N.table (stop ∷ []) segments v = best_value_found N.table N.hops Q segments searched v best sufficient (omega (arith, e)) in
-              let n : ℕ = found.segment in
-              let below : n < length D.segments = omega (arith, found.inside, long) in
-              let trip : (segment_at segments n).trip ≡ (segment_of D.segments n).trip = trip_of D.segments n below in
-              let walks : IsSome (walk N.table (stop_at N.table (segment_of D.segments n).trip found.at) found.target) = subst (λ t. IsSome (walk N.table (stop_at N.table t found.at) found.target)) trip found.walks in
+              let found : IsFound N.table (stop ∷ []) all_parts v = best_value_found N.table N.hops To all_parts whole v best sufficient (omega (arith, e)) in
+              let q = part_at N Q D rounds ridden.queue Made made found.segment found.inside in
+              let n : ℕ = q.of in
+              let walks : IsSome (walk N.table (stop_at N.table (segment_of D.segments n).trip found.at) found.target) = subst (λ t. IsSome (walk N.table (stop_at N.table t found.at) found.target)) q.trip found.walks in
               let w = some (walk N.table (stop_at N.table (segment_of D.segments n).trip found.at) found.target) walks in
-              let late = spread.alighting n found.at below (record { onward = omega (arith, found.onward, board_of D.segments n below); within = omega (arith, found.within, end_of D.segments n below) })
-              (subst (λ t. MayAlight N.table t found.at) trip found.alights) found.target w.0 w.1 in
+              let late = (q.made found.at (omega (arith, found.onward, q.board)) found.within).1 (subst (λ t. MayAlight N.table t found.at) q.trip found.alights) found.target w.0 w.1 in
               best_one v best (late_as v _ _
               (ap (λ z. arrival_at N.table (segment_of D.segments n).trip found.at +ℤ z) (sym (walk_secs-is N.table (stop_at N.table (segment_of D.segments n).trip found.at) found.target w.0 w.1))
-              ∙ subst (λ t. (arrival_at N.table t found.at +ℤ walk_secs N.table (stop_at N.table t found.at) found.target) ≡ v.arrive) trip found.arrives)
-              found.round
+              ∙ subst (λ t. (arrival_at N.table t found.at +ℤ walk_secs N.table (stop_at N.table t found.at) found.target) ≡ v.arrive) q.trip found.arrives)
+              (sym q.round ∙ found.round)
               (subst (λ s. IsLate (values_at lists s) (arrival_at N.table (segment_of D.segments n).trip found.at +ℤ pos w.0) (round_of D.segments n)) (is_stop found.target found.to) late))
 
-      best_values : AreBestValues N.table Q values
-      best_values = best_values_from_staircase N.table Q values sound (spread.found.attained stop) complete (spread.found.stairs.stairs stop)
+      best_values : AreBestValues N.table To values
+      best_values = best_values_from_staircase N.table To values sound (spread.found.attained stop) complete (spread.found.stairs.stairs stop)
 
   pub reach : IsSound N.table → AreSufficient N.table N.hops → IsReach N.table from leave lists
   reach sound sufficient = record { each_stop = spread.found.each_stop; best = λ stop inside. best_values stop sound sufficient }
+
+-- the same of a search that was refused nothing
+pub reach_if_granted : (N : NetData) (Q : QueryData) (D : DeskData) (rounds : ℕ) → IsRidden N Q D (length D.segments) rounds → Q.to ≡ [] → (refused : Bool) (lists : List (List Value)) → refused ≡ false
+    → ((n i : ℕ) → n < length D.segments → Covers D n i → IsMetUnlessHit N (HoldsAlightingOrRefused refused N.table lists) D n i) → (rides : ℕ) → AreSpreadOrRefused refused N.table Q rides lists → IsSound N.table → AreSufficient N.table N.hops → IsReach N.table Q.from Q.leave lists
+reach_if_granted N Q D rounds ridden none refused lists granted met rides spread sound sufficient =
+    reach N Q D rounds ridden none lists (λ n i inside covers. elim (met n i inside covers) [
+      | inl m ↦ inl (held_of N.table lists (segment_of D.segments n).trip i (round_of D.segments n) refused granted m)
+      | inr late ↦ inr late
+    ]) rides (spread_of N.table Q rides lists refused granted spread) sound sufficient
+
+-- what holds of each answer that something is known of
+pub of_answer : {A E : Type 0} (P R : A → Type 0) → ((x : A) → P x → R x) → (answer : Result A E) → IfOk answer P → IfOk answer R
+of_answer P R f (Ok x) h = f x h
+of_answer P R f (Err e) h = h

@@ -1,5 +1,5 @@
 //! The values that have been found for each stop so far.
-ghost use Rattle.std.specs.Prelude.{◌≡◌, ◌<◌, [], IfOk, MatchOption, OnOk, Contains, length, map, replicate, set, int_le};
+ghost use Rattle.std.specs.Prelude.{◌≡◌, ◌<◌, [], IfOk, OnOk, length, map, replicate, set, int_le};
 ghost use Rattle.reach_all.specs.Arriving.{with_value};
 ghost use Rattle.reach_all.specs.Reach.{values_at};
 
@@ -71,22 +71,6 @@ impl Arrivals {
             rows.push(Vec::new(alloc))?;
         }
         Ok(Arrivals { rows })
-    }
-
-    // How many stops there are.
-    pub(crate) fn stops(&self) -> usize
-        ensures { result ≡ length self.now }
-    {
-        self.rows.len()
-    }
-
-    // The first value of a stop.
-    pub(crate) fn first(&self, stop: StopNo) -> Option<Value>
-        requires { stop < length self.now }
-        ensures { MatchOption result (values_at self.now stop ≡ [])
-            (Contains (values_at self.now stop)) }
-    {
-        self.rows[stop.index()].first().copied()
     }
 
     // Offers a value to a stop.

@@ -9,11 +9,8 @@
 #![tactic(auto)]
 
 mod arrivals;
-mod boarding;
-mod following;
-mod one_to_all;
+mod offers;
 mod query;
-mod riding;
 mod text;
 pub mod uncounted;
 mod walking;

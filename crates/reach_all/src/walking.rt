@@ -3,9 +3,8 @@ ghost use Rattle.reach_all.specs.Arriving.{AreStairs, IsOfferedFrom};
 ghost use Rattle.reach_all.specs.Spreading.{AreStarts};
 
 use super::arrivals::Arrivals;
-use super::one_to_all::OneToAll;
 use segment_queue::{Scan, Visit};
-use tb_base::{Memory, StopNo, Value};
+use tb_base::{Memory, Query, StopNo, Value};
 
 // The value of who walks on for so many seconds.
 fn walked_on(value: &Value, secs: u32) -> Value
@@ -30,75 +29,84 @@ fn alighting(visit: &Visit<'_>, round: u32) -> Value
     }
 }
 
-impl<S: Scan> OneToAll<'_, S> {
-    // The value of who is at an origin.
-    fn start(&self) -> Value
-        ensures { result ≡ record { arrive = self.now.leave; rides = 0 } }
-    {
-        Value {
-            arrive: self.leave,
-            rides: 0,
-        }
+// The value of who is at an origin.
+fn start(query: &Query) -> Value
+    ensures { result ≡ record { arrive = query.now.leave; rides = 0 } }
+{
+    Value {
+        arrive: query.leave,
+        rides: 0,
     }
+}
 
-    // Offers a value at a stop to the stop and to each one with a walk from there.
-    fn offer_from(&self, arrivals: &mut Arrivals, stop: StopNo, value: &Value) -> Result<(), Memory>
-        requires stop { stop < length (S.net self.now.scan.now).table.stops }
-        requires each_stop { length arrivals.old
-            ≡ length (S.net self.now.scan.now).table.stops }
-        requires stairs { AreStairs value.now.rides arrivals.old }
-        requires arrive { value.now.arrive ≤ℤ pos 359999 }
-        ensures { OnOk result (IsOfferedFrom (S.net self.now.scan.now).table stop value.now
-            arrivals.old arrivals.new) }
-    {
-        let scan = self.scan;
-        scan.soundness();
-        arrivals.offer(stop, value)?;
-        for path in scan.walks(stop) {
-            let there = walked_on(value, path.secs);
-            arrivals.offer(path.to, &there)?;
-        }
-        Ok(())
-    }
+// The origins of a query.
+fn origins(query: &Query) -> &[StopNo]
+    ensures { result.now ≡ query.now.from }
+{
+    query.from.as_slice()
+}
 
-    // Offers what an event of a trip that is ridden gives, if one may alight there.
-    pub(crate) fn alight(
-        &self,
-        arrivals: &mut Arrivals,
-        visit: &Visit<'_>,
-        round: u32,
-    ) -> Result<(), Memory>
-        requires stop { visit.now.stop < length (S.net self.now.scan.now).table.stops }
-        requires each_stop { length arrivals.old
-            ≡ length (S.net self.now.scan.now).table.stops }
-        requires stairs { AreStairs round arrivals.old }
-        requires arr { visit.now.arr ≤ℤ pos 359999 }
-        ensures { OnOk result (MatchBool visit.now.alight
-            (IsOfferedFrom (S.net self.now.scan.now).table visit.now.stop
-            (record { arrive = visit.now.arr; rides = round }) arrivals.old arrivals.new)
-            (arrivals.new ≡ arrivals.old)) }
-    {
-        if !visit.alight {
-            return Ok(());
-        }
-        let value = alighting(visit, round);
-        self.offer_from(arrivals, visit.stop, &value)
+// Offers a value at a stop to the stop and to each one with a walk from there.
+fn offer_from<S: Scan>(
+    scan: &S,
+    arrivals: &mut Arrivals,
+    stop: StopNo,
+    value: &Value,
+) -> Result<(), Memory>
+    requires stop { stop < length (S.net scan.now).table.stops }
+    requires each_stop { length arrivals.old ≡ length (S.net scan.now).table.stops }
+    requires stairs { AreStairs value.now.rides arrivals.old }
+    requires arrive { value.now.arrive ≤ℤ pos 359999 }
+    ensures { OnOk result (IsOfferedFrom (S.net scan.now).table stop value.now
+        arrivals.old arrivals.new) }
+{
+    scan.soundness();
+    arrivals.offer(stop, value)?;
+    for path in scan.walks(stop) {
+        let there = walked_on(value, path.secs);
+        arrivals.offer(path.to, &there)?;
     }
+    Ok(())
+}
 
-    // Offers all walks from origins.
-    pub(crate) fn walk_all(&self, arrivals: &mut Arrivals) -> Result<(), Memory>
-        requires origins { All (λ p. p < length (S.net self.now.scan.now).table.stops)
-            self.now.from.now }
-        requires leave { self.now.leave ≤ℤ pos 359999 }
-        requires nothing { arrivals.old
-            ≡ replicate (length (S.net self.now.scan.now).table.stops) [] }
-        ensures { OnOk result (AreStarts (S.net self.now.scan.now).table self.now.from.now
-            self.now.leave arrivals.new) }
-    {
-        let start = self.start();
-        for origin in self.from {
-            self.offer_from(arrivals, *origin, &start)?;
-        }
-        Ok(())
+// Offers what an event of a trip that is ridden gives, if one may alight there.
+pub(crate) fn alight<S: Scan>(
+    scan: &S,
+    arrivals: &mut Arrivals,
+    visit: &Visit<'_>,
+    round: u32,
+) -> Result<(), Memory>
+    requires stop { visit.now.stop < length (S.net scan.now).table.stops }
+    requires each_stop { length arrivals.old ≡ length (S.net scan.now).table.stops }
+    requires stairs { AreStairs round arrivals.old }
+    requires arr { visit.now.arr ≤ℤ pos 359999 }
+    ensures { OnOk result (MatchBool visit.now.alight
+        (IsOfferedFrom (S.net scan.now).table visit.now.stop
+        (record { arrive = visit.now.arr; rides = round }) arrivals.old arrivals.new)
+        (arrivals.new ≡ arrivals.old)) }
+{
+    if !visit.alight {
+        return Ok(());
     }
+    let value = alighting(visit, round);
+    offer_from(scan, arrivals, visit.stop, &value)
+}
+
+// Offers all walks from origins.
+pub(crate) fn walk_all<S: Scan>(
+    scan: &S,
+    query: &Query,
+    arrivals: &mut Arrivals,
+) -> Result<(), Memory>
+    requires origins { All (λ p. p < length (S.net scan.now).table.stops) query.now.from }
+    requires leave { query.now.leave ≤ℤ pos 359999 }
+    requires nothing { arrivals.old ≡ replicate (length (S.net scan.now).table.stops) [] }
+    ensures { OnOk result (AreStarts (S.net scan.now).table query.now.from query.now.leave
+        arrivals.new) }
+{
+    let start = start(query);
+    for origin in origins(query) {
+        offer_from(scan, arrivals, *origin, &start)?;
+    }
+    Ok(())
 }

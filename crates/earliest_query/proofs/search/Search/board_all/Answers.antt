@@ -1,4 +1,4 @@
-use Rattle.std.proofs.Common.{◌+◌, inl, inr, sym, subst, arith}
+use Rattle.std.proofs.Common.{◌+◌, inl, inr, sym, subst, arith, ◌∙◌, refl}
 use Rattle.tb_base.proofs.NumberFacts.{below_or_at}
 use Rattle.earliest_query.specs.UnderWay.{AreBoarded}
 use Rattle.earliest_query.proofs.Growing.{extends-refl, extends-trans}
@@ -11,6 +11,7 @@ pub loop-place-init : goal.loop-place-init
 loop-place-init g c = record {
   queue = c.requires.queue;
   extends = extends-refl c.args.desk.now 1;
+  room = refl;
   boarded = λ place below. absurd (omega (arith, below));
   steps = boards_none (g.S.Scan.net c.args.self.now.scan.now) c.args.self.now.query.now.from 0 0 c.args.steps.now;
 }
@@ -23,6 +24,7 @@ loop-place-preserved g c =
     let F = c.board_from.new.desk in
     record {
       queue = c.board_from.ensures.queue;
+      room = c.board_from.ensures.room ∙ c.loop-place.invariant.room;
       extends = extends-trans c.args.desk.now E F 1 c.loop-place.invariant.extends c.board_from.ensures.extends;
       boarded = λ place below. elim (below_or_at place c.loop-place.place below) [
         | inl before ↦ are_boarded-kept N.table Q E F place c.board_from.ensures.extends (c.loop-place.invariant.boarded place before)

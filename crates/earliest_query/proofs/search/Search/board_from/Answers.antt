@@ -26,6 +26,7 @@ loop-path-init g c =
     record {
       queue = c.board_if_first.ensures.queue;
       extends = c.board_if_first.ensures.extends;
+      room = c.board_if_first.ensures.room;
       own = subst (λ s. IsFirstChoice N.table Q.from c.args.place s 0 → IsBoarded N.table Q c.board_if_first.new.desk s 0) is c.board_if_first.ensures.boarded;
       boarded = λ k d below. absurd (omega (arith, below));
       steps = among_start N Q.from c.args.place (get_or Q.from c.args.place 0) c.walks-path-items.result.now c.requires.place 0 c.args.steps.now c.board_if_first.new.steps
@@ -68,6 +69,7 @@ loop-path-preserved g c =
     let more = c.board_if_first-in-loop-path.ensures in
     record {
       queue = more.queue;
+      room = more.room ∙ c.loop-path.invariant.room;
       extends = extends-trans c.args.desk.now E F 1 c.loop-path.invariant.extends more.extends;
       own = λ first. boarded-kept N.table Q E F own 0 more.extends (c.loop-path.invariant.own first);
       boarded = λ i d below. elim (below_or_at i k below) [

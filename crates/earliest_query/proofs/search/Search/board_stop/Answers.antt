@@ -1,4 +1,4 @@
-use Rattle.std.proofs.Common.{◌≡◌, inl, inr, length, get_or, subst, arith, pos, ◌+ℤ◌}
+use Rattle.std.proofs.Common.{◌≡◌, inl, inr, length, get_or, subst, arith, pos, ◌+ℤ◌, ◌∙◌}
 use Rattle.std.specs.Prelude.{Some}
 use Rattle.segment_queue.specs.Scans.{boarding_hop, line_indices_at, no_line_index}
 use Rattle.segment_queue.specs.Traced.{round_segments}
@@ -15,6 +15,7 @@ loop-berth-preserved g c =
     let F = c.board_line.new.desk in
     record {
       queue = c.board_line.ensures.queue;
+      room = c.board_line.ensures.room ∙ c.loop-berth.invariant.room;
       extends = extends-trans c.args.desk.now E F 1 c.loop-berth.invariant.extends c.board_line.ensures.extends;
       reached = λ k h below is. elim (below_or_at k c.loop-berth.berth below) [
         | inl before ↦ extends-reached T E F 1 (length E.segments) (length F.segments) 1 1 h.trip h.at c.board_line.ensures.extends (c.loop-berth.invariant.reached k h before is) (omega arith) (extends-long E F 1 c.board_line.ensures.extends) (omega arith)

@@ -61,6 +61,7 @@ returns-then-is_passed g c =
     record {
       queue = c.requires.queue;
       extends = extends-refl D top;
+      room = refl;
       notes = refl;
       reached = reached_before N Q D top c.args.hop.trip c.args.hop.at None c.soundness.ensures.divided inside c.requires.queue c.if-is_passed.ensures not_last;
     }
@@ -124,6 +125,7 @@ returns g c =
     record {
       queue = subst (λ r. IsQueue N c.args.self.now.query.now E r) same c.enter.ensures.queue;
       extends = subst (λ r. Extends D E r) same c.enter.ensures.extends;
+      room = c.enter.ensures.room;
       notes = c.enter.ensures.notes;
       reached = subst (λ r. IsReachedBy N.table E (length E.segments) r c.args.hop.trip c.args.hop.at) same c.enter.ensures.reached;
     }

@@ -28,6 +28,7 @@ returns-then-is_noted_late g c =
     record {
       queue = c.requires.queue;
       extends = extends-refl D (suc c.args.round);
+      room = refl;
       notes = refl;
       done = λ i of. inr (arrives_by-later c.args.best.now _ _ (arrives_on N.table (segment_of D.segments note.segment).trip (seen_first note.seen) i c.soundness.ensures.sound whole.trip of.from (omega (arith, of.to, c.requires.note.within, whole.within))) late);
     }
@@ -39,6 +40,7 @@ pub loop-place-init : goal.loop-place-init
 loop-place-init g c = record {
   queue = c.requires.queue;
   extends = extends-refl c.args.desk.now (suc c.args.round);
+  room = refl;
   notes = refl;
   reached = λ k d below. absurd (omega (arith, below));
 }
@@ -66,6 +68,7 @@ loop-place-preserved g c =
     record {
       queue = c.follow_hop.ensures.queue;
       extends = extends-trans c.args.desk.now E F top c.loop-place.invariant.extends joined;
+      room = c.follow_hop.ensures.room ∙ c.loop-place.invariant.room;
       notes = c.follow_hop.ensures.notes ∙ c.loop-place.invariant.notes;
       reached = λ k d below. elim (below_or_at k c.loop-place.place below) [
         | inl before ↦ extends-reached N.table E F top (length E.segments) (length F.segments) top top (get_or hops k d).trip (get_or hops k d).at joined

@@ -8,7 +8,7 @@ use Rattle.segment_queue.specs.declared.notes.Note.{Note}
 use Rattle.segment_queue.specs.Queue.{DeskData}
 use Rattle.segment_queue.specs.Scans.{AreEvents}
 use Rattle.earliest_query.specs.Noted.{IsOf, IsSoundNote}
-use Rattle.earliest_query.specs.UnderWay.{Extends, IsDone, IsQueue}
+use Rattle.earliest_query.specs.UnderWay.{Extends, IsDone, IsQueue, room_of}
 use Rattle.earliest_query.proofs.Growing.{extends-long, extends-refl, extends-trans}
 use Rattle.earliest_query.proofs.Lateness.{done-kept}
 use Rattle.earliest_query.proofs.Noting.{note_events, sound_note-kept}
@@ -18,6 +18,7 @@ pub loop-k-init : goal.loop-k-init
 loop-k-init g c = record {
   queue = c.requires.queue;
   extends = extends-refl c.args.desk.now (suc c.args.round);
+  room = refl;
   notes = refl;
   done = λ j d i below of. absurd (omega (arith, below));
 }
@@ -66,6 +67,7 @@ loop-k-preserved g c =
     record {
       queue = c.follow_note.ensures.queue;
       extends = extends-trans D E F top extends c.follow_note.ensures.extends;
+      room = c.follow_note.ensures.room ∙ ap room_of c.read_notes_ahead.ensures ∙ c.loop-k.invariant.room;
       notes = c.follow_note.ensures.notes ∙ notes;
       done = λ j d i below of. elim (below_or_at j k below) [
         | inl earlier ↦ done-kept N Q E F top c.args.round (get_or D.notes j d).segment i best best c.follow_note.ensures.extends

@@ -1,13 +1,14 @@
-use Rattle.std.proofs.Common.{ℕ, suc, ◌<◌, inl, inr, length, refl, sym, subst, arith}
+use Rattle.std.proofs.Common.{ℕ, suc, ◌<◌, inl, inr, length, refl, sym, subst, arith, ◌∙◌, ap}
 use Rattle.std.specs.Prelude.{All}
 use Rattle.tb_base.specs.Network.{NetData}
 use Rattle.tb_base.specs.BestValues.{QueryData}
 use Rattle.segment_queue.specs.Queue.{DeskData}
 use Rattle.earliest_query.specs.Noted.{IsSoundNote}
-use Rattle.earliest_query.specs.UnderWay.{Extends, IsDone, IsQueue}
+use Rattle.earliest_query.specs.UnderWay.{Extends, IsDone, IsQueue, room_of}
 use Rattle.earliest_query.proofs.Growing.{extends-segment, extends-trans, outdone-kept, queue-later}
 use Rattle.earliest_query.proofs.BestSoFar.{bounded-same, new_hit-kept}
 use Rattle.earliest_query.proofs.Lateness.{done-kept}
+use Rattle.earliest_query.proofs.Meeting.{met-kept}
 use Rattle.earliest_query.proofs.Noting.{extends-notes, queue-notes}
 use Rattle.earliest_query.proofs.search.Search.ride_round.Goals as goal
 
@@ -36,6 +37,7 @@ returns g c =
     record {
       queue = c.follow_notes.ensures.queue;
       extends = grown;
+      room = c.follow_notes.ensures.room ∙ ap room_of told.rest;
       ridden = λ n i from below covers.
           let inside : n < length D.segments = omega (arith, below, c.requires.to) in
           elim (told.weighed n i from below covers) [
@@ -49,5 +51,8 @@ returns g c =
             | inr o ↦ inr (outdone-kept N D F top n i grown inside o)
           ];
       improved = new_hit-kept N.table Q D F top c.args.round c.args.so_far best grown told.improved;
+      met = λ n i from below covers. met-kept N Q D F top n i c.args.round best best (g.A.AtEvent.has_met c.weigh_round-best.new.also N) (g.A.AtEvent.has_met c.weigh_round-best.new.also N) (λ t j r met. met) grown (omega (arith, below, c.requires.to)) (inl refl) (told.met n i from below covers);
+      ready = told.ready;
+      still_met = told.still_met;
       steps = told.steps;
     }

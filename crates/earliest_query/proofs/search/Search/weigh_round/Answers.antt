@@ -6,8 +6,10 @@ use Rattle.tb_base.specs.Network.{NetData}
 use Rattle.segment_queue.specs.Queue.{DeskData, IsInStep, covered_indices}
 use Rattle.segment_queue.specs.Traced.{no_segment, round_of, segment_of}
 use Rattle.segment_queue.proofs.Totals.{last_le_events}
+use Rattle.earliest_query.specs.Meeting.{IsMetInTime}
 use Rattle.earliest_query.specs.Noted.{IsSoundNote, IsWeighedOff}
 use Rattle.earliest_query.specs.UnderWay.{Covers, IsImproved, IsOutdone, IsQueue}
+use Rattle.earliest_query.proofs.Meeting.{met_one_more}
 use Rattle.earliest_query.proofs.Noting.{improved_one_weighed, in_step-notes, queue-notes, weighed_one_more}
 use Rattle.earliest_query.proofs.search.Search.weigh_round.Goals as goal
 
@@ -28,6 +30,9 @@ loop-n-init g c =
       sound = subst (All (IsSoundNote (g.S.Scan.net c.args.self.now.scan.now) c.args.desk.now.segments c.args.round)) (sym none) (All-nil (IsSoundNote (g.S.Scan.net c.args.self.now.scan.now) c.args.desk.now.segments c.args.round));
       weighed = λ n i from below covers. absurd (omega (arith, from, below));
       improved = inl refl;
+      met = λ n i from below covers. absurd (omega (arith, from, below));
+      ready = c.requires.ready;
+      still_met = λ t i r met. met;
       few = omega (arith, ap length none);
       steps = omega arith;
     }
@@ -89,9 +94,16 @@ loop-n-preserved g c =
       sound = subst (λ (d : DeskData). All (IsSoundNote N d.segments c.args.round) F.notes) rest told.notes;
       weighed = weighed_one_more N Q D E.notes F.notes c.args.from k c.args.round c.args.so_far c.loop-n.best result inside told.kept improved weighed_before weighed;
       improved = improved_one_weighed N Q D E.notes F.notes c.args.from k c.args.round c.args.so_far c.loop-n.best result inside told.kept improved before.improved;
+      met = met_one_more N Q D E.notes c.args.from k c.args.round c.loop-n.best result inside improved (g.A.AtEvent.has_met c.loop-n.also N) (g.A.AtEvent.has_met c.weigh_segment-best.new.also N) told.still_met before.met
+          (subst (λ (d : DeskData). (i : ℕ) → Covers d k i → IsMetInTime N (g.A.AtEvent.has_met c.weigh_segment-best.new.also N) d result k i) rest told.met);
+      ready = told.ready;
+      still_met = λ t i r was. told.still_met t i r (before.still_met t i r was);
       few = omega (arith, before.few, told.few, ap length notes, covered, sum_by_more covered_indices D.segments k no_segment inside);
       steps = omega (arith, before.steps, told.steps, covered, sum_by_more covered_indices D.segments k no_segment inside);
     }
 
 pub returns-clause-weighed : goal.returns-clause-weighed
 returns-clause-weighed g c = λ n i from below covers. c.loop-n.invariant.weighed n i from (omega (arith, below, c.loop-n-test.false)) covers
+
+pub returns-clause-met : goal.returns-clause-met
+returns-clause-met g c = λ n i from below covers. c.loop-n.invariant.met n i from (omega (arith, below, c.loop-n-test.false)) covers

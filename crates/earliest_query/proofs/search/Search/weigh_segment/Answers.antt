@@ -40,6 +40,9 @@ returns g c =
         | inr o ↦ inr o
       ];
       improved = told.improved;
+      met = told.met;
+      ready = told.ready;
+      still_met = told.still_met;
       few = omega (arith, ap length notes, length-append D.notes seen, few_notes c.args.n c.weigh_events-best.result.1, sound.onward);
       steps = told.steps;
     }

@@ -1,5 +1,0 @@
-use Rattle.reach_all.specs.Arriving.{AreOfferedBy}
-use Rattle.reach_all.proofs.one_to_all.OneToAll.offer_from.Given as goal
-
-abbrev pub invariant-loop-path : goal.invariant-loop-path
-invariant-loop-path g l = AreOfferedBy (g.S.Scan.net l.self.scan.now).table l.fn.stop l.value l.path-items l.path-index l.fn.arrivals l.arrivals
