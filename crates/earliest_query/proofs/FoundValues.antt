@@ -10,7 +10,7 @@ use Rattle.tb_base.proofs.Ordered.{Member, Contains-from_Member, Member-from_Con
 use Rattle.tb_laws.specs.Pruning.{AreCoveredBy}
 use Rattle.segment_queue.specs.declared.desk.Hit.{Hit}
 use Rattle.segment_queue.proofs.Distinct.{all_by_member}
-use Rattle.earliest_query.specs.Sweeping.{values_with}
+use Rattle.earliest_query.specs.Sweeping.{IsKeptBeside, values_with}
 use Rattle.earliest_query.specs.UnderWay.{IsHit}
 use Rattle.earliest_query.proofs.Keeping.{value_member}
 use Rattle.tb_base.proofs.NumberFacts.{≤ℤ-refl}
@@ -47,6 +47,18 @@ module _ {X F : Type 0} (R : F → X → Bool → F → Type 0) (P : X → Type 
   pub retained_there : (xs ys : List X) → IsFiltered R f xs ys → (x : X) → Contains ys x → Contains xs x
   retained_there xs ys k x c = Contains-from_Member x xs (was_there k.0 xs x (subst (Member x) k.4 (Member-from_Contains x ys c)))
 
+-- what `retain` keeps has P, where the closure's `true` gives it
+module _ {X F : Type 0} (R : F → X → Bool → F → Type 0) (P : X → Type 0) (f : F) (h : (x : X) (b : Bool) (f' : F) → R f x b f' → (b ≡ true → P x) × (f' ≡ f)) where
+  kept_has : (bs : List Bool) (xs : List X) (q : F) → ReturnsInTurn R f bs xs q → (x : X) → Member x (items_where_true bs xs) → P x
+  kept_has [] xs q t x m = absurd m
+  kept_has (b ∷ bs) [] q t x m = absurd m
+  kept_has (true ∷ bs) (y ∷ ys) q t x (inl e) = subst P e ((h y true t.0 t.1).0 refl)
+  kept_has (true ∷ bs) (y ∷ ys) q t x (inr m) = kept_has bs ys q (subst (λ (g : F). ReturnsInTurn R g bs ys q) (h y true t.0 t.1).1 t.2) x m
+  kept_has (false ∷ bs) (y ∷ ys) q t x m = kept_has bs ys q (subst (λ (g : F). ReturnsInTurn R g bs ys q) (h y false t.0 t.1).1 t.2) x m
+
+  pub retained_has : (xs ys : List X) → IsFiltered R f xs ys → (x : X) → Contains ys x → P x
+  retained_has xs ys k x c = kept_has k.0 xs k.1 k.3 x (subst (Member x) k.4 (Member-from_Contains x ys c))
+
 abbrev values_of : List Hit → List Value
 values_of hits = map (λ (h : Hit). h.value) hits
 
@@ -60,6 +72,14 @@ module _ (hits : List Hit) (old kept new : List Value) (is : new ≡ kept ++ val
       elim (Contains-append_cases kept (values_of hits) v (subst (λ vs. Contains vs v) is (Contains-from_Member v new m))) [
         | inl k ↦ Contains-append_right (values_of hits) old v (there v k)
         | inr h ↦ Contains-append_left (values_of hits) old v h
+      ])
+
+  -- an old value that stays is one that no hit is no worse than
+  pub taken_beside : ((v : Value) → Contains kept v → IsHit hits v → ⊥) → All (IsKeptBeside hits) new
+  taken_beside unbeaten = all_by_member (IsKeptBeside hits) new (λ v m.
+      elim (Contains-append_cases kept (values_of hits) v (subst (λ vs. Contains vs v) is (Contains-from_Member v new m))) [
+        | inl k ↦ inr (unbeaten v k)
+        | inr h ↦ inl h
       ])
 
   -- and each of those has one among the new that is no worse

@@ -11,7 +11,7 @@ use Rattle.segment_queue.specs.declared.desk.Hit.{Hit}
 use Rattle.segment_queue.specs.Levels.{AreDescending, AreKept, level_mark}
 use Rattle.segment_queue.specs.Queue.{DeskData, IsFalling, IsSoundSegment}
 use Rattle.segment_queue.specs.Traced.{IsEntered, IsTracedHit, UsesHops, round_of, round_segments, segment_of}
-use Rattle.earliest_query.specs.UnderWay.{Covers, IsBoarded, IsFollowed, IsOffered, IsReachedBy}
+use Rattle.earliest_query.specs.UnderWay.{Covers, IsBoarded, IsFollowed, IsHit, IsOffered, IsReachedBy}
 
 -- The desk holds the segments of all departures so far, and the levels are its marks by the number
 -- of rides.
@@ -85,6 +85,10 @@ pub record IsSweptSoFar (N : NetData)
 -- the values of these hits, and these values
 abbrev pub values_with : List Hit → List Value → List Value
 values_with hits values = map (λ (h : Hit). h.value) hits ++ values
+
+-- the value is that of a hit, or no hit is no worse
+abbrev pub IsKeptBeside : List Hit → Value → Type 0
+IsKeptBeside hits v = Contains (map (λ (h : Hit). h.value) hits) v ⊎ (IsHit hits v → ⊥)
 
 -- A time of the sweep under way: the segments before this number have been ridden, and those from
 -- it on are of this round. The values are those with rides of the times before.

@@ -1,7 +1,7 @@
 //! The values that a sweep has found.
 ghost use Rattle.std.specs.Prelude.{◌≡◌, All, Contains, IsTrue, ◌↔◌, OnOk, filter, nat_lt};
 ghost use Rattle.tb_laws.specs.Pruning.{AreCoveredBy};
-ghost use Rattle.earliest_query.specs.Sweeping.{values_with};
+ghost use Rattle.earliest_query.specs.Sweeping.{IsKeptBeside, values_with};
 ghost use Rattle.earliest_query.specs.UnderWay.{IsHit};
 
 use segment_queue::Hit;
@@ -32,6 +32,7 @@ pub(crate) fn take_hits(values: &mut Vec<Value>, hits: &[Hit]) -> Result<(), Mem
         values.new.items) }
     ensures covers { OnOk result (AreCoveredBy (values_with hits.now values.old.items)
         values.new.items) }
+    ensures let_go { OnOk result (All (IsKeptBeside hits.now) values.new.items) }
 {
     values.retain(|value| !is_beaten(hits, value));
     for hit in hits {

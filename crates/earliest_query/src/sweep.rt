@@ -5,7 +5,7 @@ ghost use Rattle.tb_base.specs.declared.query.Value.{Value as ValueData};
 ghost use Rattle.tb_laws.specs.Pruning.{IsLate};
 ghost use Rattle.segment_queue.specs.Queue.{Fits};
 ghost use Rattle.segment_queue.specs.Traced.{IsTraced};
-ghost use Rattle.earliest_query.specs.Sweeping.{IsSweptSoFar, IsSweptTo, SweepData, values_with};
+ghost use Rattle.earliest_query.specs.Sweeping.{IsKeptBeside, IsSweptSoFar, IsSweptTo, SweepData, values_with};
 
 use super::all_rounds::keep;
 use super::found::{drop_walks, take_hits};
@@ -80,7 +80,7 @@ impl Sweep {
 
     /// Comes down to the time of the query, which is no later than the time before. It leaves the
     /// hits of this time in the desk: for each journey that leaves no earlier, one of them or a
-    /// value of before is no worse. It needs memory; at a refusal the desk still fits, and the
+    /// value of before is no worse. Values that a hit is no worse than are let go. It needs memory; at a refusal the desk still fits, and the
     /// sweep has to begin anew. No bound on steps is promised.
     pub fn ask<L: Ledger, S: Look<L>>(
         &mut self,
@@ -103,6 +103,7 @@ impl Sweep {
         ensures found { OnOk result ((w : ValueData) →
             IsAttained (S.net scan.now).table query.now w →
             IsLate (values_with desk.new.hits self.old.values) w.arrive w.rides) }
+        ensures let_go { OnOk result (All (IsKeptBeside desk.new.hits) self.new.values) }
         ensures fits { Fits (S.net scan.now).table desk.new }
     {
         scan.soundness();

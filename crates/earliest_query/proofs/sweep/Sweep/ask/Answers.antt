@@ -6,7 +6,7 @@ use Rattle.tb_base.specs.BestValues.{QueryData}
 use Rattle.tb_laws.specs.Pruning.{AreCoveredBy, IsLate}
 use Rattle.segment_queue.specs.Queue.{DeskData}
 use Rattle.earliest_query.specs.Choices.{hits_of}
-use Rattle.earliest_query.specs.Sweeping.{IsSweptQueue, IsSweptRound, SweepData, values_with}
+use Rattle.earliest_query.specs.Sweeping.{IsKeptBeside, IsSweptQueue, IsSweptRound, SweepData, values_with}
 use Rattle.earliest_query.proofs.SweptDown.{first_round, gone_on-same, late_among, queue_earlier, rode, round_found, swept_taken}
 use Rattle.earliest_query.proofs.SweptRounds.{swept_queue-on}
 use Rattle.earliest_query.proofs.sweep.Sweep.ask.Goals as goal
@@ -60,3 +60,6 @@ returns-clause-found g c = λ w has.
     let are : c.as_slice.result.now ≡ rode values = c.as_slice.ensures.value ∙ c.drop_walks.ensures ∙ ap (λ (s : SweepData). rode s.values) c.self.view_is in
     late_among F.hits values w.arrive w.rides (subst (λ (vs : List Value). IsLate (values_with F.hits vs) w.arrive w.rides) are
     (round_found (g.S.Scan.net c.args.scan.now) c.args.query.now F c.ride_levels.new.levels c.as_slice.result.now ridden.0 ridden.1 c.soundness.ensures.sound c.requires.sufficient w has))
+
+pub returns-clause-let_go : goal.returns-clause-let_go
+returns-clause-let_go g c = subst (λ hs. All (IsKeptBeside hs) c.take_hits.new.values.items) c.hits.ensures c.in_ok-take_hits.ensures.let_go
