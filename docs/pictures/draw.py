@@ -351,7 +351,7 @@ BOXES = {
 }
 BELOW = ("definitions and laws, which all of these cite", ["tb_base", "tb_laws"])
 ABOVE = ("the program", ["lane_serve", "router_cli", "router"])
-TESTS = ("tests and measurements", ["made_feeds", "cross_tests", "trials"])
+TESTS = ("tests and measurements", ["made_feeds", "cross_tests", "random_check", "case_check", "query_bench"])
 WHAT_FLOWS = ["rows", "timetable", "kept transfers", "network", "hits", "journeys"]
 
 
@@ -382,8 +382,9 @@ def draw_house(name):
     width, gap, top, height = 152, 60, 78, 178
     svg = Svg(30 + len(BOXES) * (width + gap) - gap + 30, top + height + 84)
     inner = svg.size[0] - 60
-    bar(svg, 16, inner - 430, 30, ABOVE, "#fff4e6")
-    bar(svg, 16, 416, 30 + inner - 416, TESTS, "#f1f3f5")
+    tests = 60 + 8 * len(TESTS[0] + " · ".join(TESTS[1]))
+    bar(svg, 16, inner - tests - 14, 30, ABOVE, "#fff4e6")
+    bar(svg, 16, tests, 30 + inner - tests, TESTS, "#f1f3f5")
     for number, (title, names) in enumerate(BOXES.items()):
         x = 30 + number * (width + gap)
         svg.box(x, top, width, height, BLUE, "#eef5fb")
