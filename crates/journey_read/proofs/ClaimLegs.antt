@@ -10,6 +10,7 @@ use Rattle.tb_base.specs.declared.query.Leg.{Leg}
 use Rattle.tb_base.specs.declared.query.Value.{Value}
 use Rattle.journey_read.specs.Claims.{claim_at, claim_from, claim_with, good, leg_of, legs_from, legs_on, value_of}
 use Rattle.text_lines.specs.Lines.{last_line, lines_from, lines_of, without_cr}
+use Rattle.tb_base.specs.declared.refused.Refused.{Refused}
 use Rattle.journey_read.specs.declared.claim.JourneyFault.{JourneyFault}
 
 abbrev HasAtMost : {A : Type 0} → ℕ → Result (List A) JourneyFault → Type 0
@@ -82,7 +83,7 @@ few_legs : (T : TimetableData) (bytes : List ℕ) → ClaimsAtMost (suc (length 
 few_legs T bytes = fewer (length (lines_of bytes)) (suc (length bytes)) (claim_from T 1 (lines_of bytes)) (few_lines [] bytes) (in_lines T 1 (lines_of bytes))
 
 -- a claim of a text that isn't too long has fewer legs than 2 ^ 32
-pub few_claimed : (T : TimetableData) (bytes : List ℕ) (r : Result ChoiceData JourneyFault) (P : JourneyFault → Type 0) → length bytes ≤ 1048576
+pub few_claimed : (T : TimetableData) (bytes : List ℕ) (r : Result ChoiceData (Refused JourneyFault)) (P : Refused JourneyFault → Type 0) → length bytes ≤ 1048576
     → MatchResult r (λ c. claim_from T 1 (lines_of bytes) ≡ Ok c) P → IfOk r (λ c. length c.legs < 2 ^ 32)
 few_claimed T bytes (Ok c) P short is =
     let few : length c.legs ≤ suc (length bytes) = subst (ClaimsAtMost (suc (length bytes))) is (few_legs T bytes) in

@@ -9,15 +9,7 @@ use Rattle.tb_base.specs.declared.query.Leg.{Leg}
 use Rattle.tb_base.specs.declared.query.Value.{Value}
 use Rattle.journey_read.specs.declared.claim.JourneyFault.{JourneyFault}
 use Rattle.journey_read.specs.declared.claim.JourneyFault.TheVariants as fault
-use Rattle.journey_read.specs.Claims.{IsRefused, claim_behind, claim_so_far, claim_with, claim_with_words, leg_of, legs_from, value_of}
-
--- a fault is that of what is refused with it
-pub refused_same : (A : Type 0) (f : JourneyFault) → IsRefused {A = A} f (Err f)
-refused_same A (fault.BadLine n) = refl
-refused_same A (fault.UnknownStop n) = refl
-refused_same A (fault.NoSuchRide n) = refl
-refused_same A fault.TooLong = refl
-refused_same A fault.Memory = tt
+use Rattle.journey_read.specs.Claims.{claim_behind, claim_so_far, claim_with, claim_with_words, leg_of, legs_from, value_of}
 
 prepend-nothing : {A E : Type 0} (r : Result (List A) E) → prepend [] r ≡ r
 prepend-nothing (Ok ys) = refl
@@ -33,16 +25,16 @@ pub words_found : {V : Type 0} (items : V → List (List ℕ)) (found : Option V
 words_found items found v words meant e is same = sym e ∙ ap (option_map items) is ∙ ap Some (sym same)
 
 module _ (T : TimetableData) (n : ℕ) where
-  pub leg_refused : (c : ChoiceData) (words lines : List (List ℕ)) (f : JourneyFault) → 0 < length words → leg_of T n words ≡ Err f → IsRefused f (claim_with_words T n (Some c) words lines)
+  pub leg_refused : (c : ChoiceData) (words lines : List (List ℕ)) (f : JourneyFault) → 0 < length words → leg_of T n words ≡ Err f → claim_with_words T n (Some c) words lines ≡ Err f
   leg_refused c [] lines f some is = absurd (omega (arith, some))
-  leg_refused c (w ∷ words) lines f some is = rw is (refused_same ChoiceData f)
+  leg_refused c (w ∷ words) lines f some is = rw is refl
 
   pub leg_added : (c : ChoiceData) (words lines : List (List ℕ)) (leg : Leg) → 0 < length words → leg_of T n words ≡ Ok leg
       → claim_with_words T n (Some c) words lines ≡ claim_behind T (Some (record { value = c.value; legs = c.legs ++ leg ∷ [] })) (n + 1) lines
   leg_added c [] lines leg some is = absurd (omega (arith, some))
   leg_added c (w ∷ words) lines leg some is = rw is (one_leg_more c.value c.legs leg (legs_from T (n + 1) lines))
 
-  pub value_refused : (words lines : List (List ℕ)) → 0 < length words → value_of words ≡ None → IsRefused (fault.BadLine n) (claim_with_words T n None words lines)
+  pub value_refused : (words lines : List (List ℕ)) → 0 < length words → value_of words ≡ None → claim_with_words T n None words lines ≡ Err (fault.BadLine n)
   value_refused [] lines some is = absurd (omega (arith, some))
   value_refused (w ∷ words) lines some is = rw is refl
 
@@ -54,9 +46,9 @@ module _ (T : TimetableData) (n : ℕ) (claimed : Option ChoiceData) (text : Lis
   abbrev so_far : Option ChoiceData → ℕ → List (List ℕ) → Result ChoiceData JourneyFault
   so_far c k ls = claim_so_far T (record { lines = k; claimed = c }) ls
 
-  pub bad_line : line_words text ≡ None → IsRefused (fault.BadLine (n + 1)) (so_far claimed n (text ∷ lines))
+  pub bad_line : line_words text ≡ None → so_far claimed n (text ∷ lines) ≡ Err (fault.BadLine (n + 1))
   bad_line is = by claimed where
-    by : (c : Option ChoiceData) → IsRefused (fault.BadLine (n + 1)) (so_far c n (text ∷ lines))
+    by : (c : Option ChoiceData) → so_far c n (text ∷ lines) ≡ Err (fault.BadLine (n + 1))
     by None = rw is refl
     by (Some c) = rw is refl
 

@@ -1,14 +1,16 @@
 -- What a text claims: the value of a journey, and its legs; or the first fault of its lines.
-use Rattle.std.specs.Prelude.{◌≡◌, ℕ, ◌+◌, List, [], ◌∷◌, length, codes, bytes_eq, nat_lt, position, ◌&&◌, Option, Some, None, Result, Ok, Err, MatchResult, ⊤, if◌then◌else◌, Bool, true, false}
+use Rattle.std.specs.Prelude.{◌≡◌, ℕ, ◌+◌, List, [], ◌∷◌, length, codes, bytes_eq, nat_lt, position, ◌&&◌, Option, Some, None, Result, Ok, Err, MatchResult, if◌then◌else◌, Bool, true, false}
 use Rattle.std.specs.Option.{ok_or, option_and_then, option_map}
 use Rattle.gtfs_rows.specs.Numbers.{number_of}
 use Rattle.gtfs_rows.specs.Steps.{and_then, prepend}
 use Rattle.tb_base.specs.BestValues.{ChoiceData}
 use Rattle.text_lines.specs.LineWords.{line_words}
+use Rattle.tb_base.specs.Refusals.{IsRefused}
 use Rattle.tb_base.specs.TimetableData.{TimetableData}
 use Rattle.tb_base.specs.declared.query.Leg.{Leg}
 use Rattle.tb_base.specs.declared.query.Leg.TheVariants.{Walk as WalkLeg}
 use Rattle.tb_base.specs.declared.query.Value.{Value}
+use Rattle.tb_base.specs.declared.refused.Refused.{Refused}
 use Rattle.journey_read.specs.declared.claim.JourneyFault.{JourneyFault}
 use Rattle.journey_read.specs.declared.claim.JourneyFault.TheVariants as fault
 use Rattle.journey_read.specs.declared.rides.Ends.{Ends}
@@ -121,14 +123,6 @@ abbrev pub claim_of : TimetableData → List ℕ → Result ChoiceData JourneyFa
 claim_of T bytes =
     if nat_lt 1048576 (length bytes) then Err fault.TooLong else claim_from T 1 (lines_of bytes)
 
--- the fault is what is meant; want of memory says nothing
-abbrev pub IsRefused : {A : Type 0} → JourneyFault → Result A JourneyFault → Type 0
-IsRefused (fault.BadLine n) meant = meant ≡ Err (fault.BadLine n)
-IsRefused (fault.UnknownStop n) meant = meant ≡ Err (fault.UnknownStop n)
-IsRefused (fault.NoSuchRide n) meant = meant ≡ Err (fault.NoSuchRide n)
-IsRefused fault.TooLong meant = meant ≡ Err fault.TooLong
-IsRefused fault.Memory meant = ⊤
-
 -- the claim of further lines, of which the first is line n, behind what is read of it
 abbrev pub claim_behind : TimetableData → Option ChoiceData → ℕ → List (List ℕ) →
     Result ChoiceData JourneyFault
@@ -154,16 +148,16 @@ claim_so_far T s lines = claim_behind T s.claimed (s.lines + 1) lines
 
 -- line n, with these words, is read, whatever lines follow it, or the claim is refused for it
 abbrev pub ReadsWords : TimetableData → ℕ → Option ChoiceData → List (List ℕ) →
-    Result ChoiceData JourneyFault → Type 0
+    Result ChoiceData (Refused JourneyFault) → Type 0
 ReadsWords T n claimed words result =
     (lines : List (List ℕ)) →
     MatchResult result
     (λ c. claim_with_words T n claimed words lines ≡ claim_behind T (Some c) (n + 1) lines)
-    (λ f. IsRefused f (claim_with_words T n claimed words lines))
+    (IsRefused (claim_with_words T n claimed words lines))
 
 -- a line is read, whatever lines follow it, or the claim is refused for it
-abbrev pub Reads : TimetableData → SoFar → List ℕ → Result SoFar JourneyFault → Type 0
+abbrev pub Reads : TimetableData → SoFar → List ℕ → Result SoFar (Refused JourneyFault) → Type 0
 Reads T s line result =
     (lines : List (List ℕ)) →
     MatchResult result (λ now. claim_so_far T s (line ∷ lines) ≡ claim_so_far T now lines)
-    (λ f. IsRefused f (claim_so_far T s (line ∷ lines)))
+    (IsRefused (claim_so_far T s (line ∷ lines)))

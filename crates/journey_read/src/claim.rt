@@ -1,5 +1,5 @@
 use std::marker::Model;
-use tb_base::{Leg, Memory, Value};
+use tb_base::{Leg, Value};
 
 /// A journey that is claimed: its value, and its legs in order.
 #[derive(Drop)]
@@ -30,17 +30,4 @@ pub enum JourneyFault {
     NoSuchRide(u32),
     /// More than 1,048,576 bytes.
     TooLong,
-    /// Want of memory, which may come at any time.
-    Memory,
-}
-
-impl From<Memory> for JourneyFault {
-    ghost use Rattle.std.specs.Prelude.{◌≡◌};
-    ghost use Rattle.journey_read.specs.declared.claim.JourneyFault.TheVariants as why;
-
-    ghost from_gives = { λ _ fault. fault ≡ why.Memory };
-
-    fn from(_refusal: Memory) -> JourneyFault {
-        JourneyFault::Memory
-    }
 }

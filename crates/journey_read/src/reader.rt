@@ -1,15 +1,16 @@
 //! Claims are read line by line.
-ghost use Rattle.std.specs.Prelude.{◌≡◌, ◌<◌, ◌≤◌, ◌^◌, ◌+◌, ◌-◌, [], IfOk, MatchResult, None, Ok, length};
+ghost use Rattle.std.specs.Prelude.{◌≡◌, ◌<◌, ◌≤◌, ◌^◌, ◌+◌, ◌-◌, [], IfOk, None, length};
 ghost use Rattle.text_lines.specs.LineWords.{line_words};
+ghost use Rattle.tb_base.specs.Refusals.{Yields};
 ghost use Rattle.tb_base.specs.TimetableData.{TimetableData};
-ghost use Rattle.journey_read.specs.Claims.{IsRefused, Reads, ReadsWords, claim_from, claim_of, claim_so_far};
+ghost use Rattle.journey_read.specs.Claims.{Reads, ReadsWords, claim_from, claim_of, claim_so_far};
 ghost use Rattle.text_lines.specs.Lines.{lines_of};
 
 use crate::claim::{Claimed, JourneyFault};
 use crate::legs::{leg_of, value_of};
 use std::alloc::Global;
 use std::marker::Model;
-use tb_base::{Name, Timetable};
+use tb_base::{Name, Refused, Timetable};
 use text_lines::{first_line, line_words};
 
 const MOST_BYTES: usize = 1_048_576;
@@ -36,7 +37,7 @@ fn claim_with_words(
     line: u32,
     claimed: Option<Claimed>,
     words: &[Name],
-) -> Result<Claimed, JourneyFault>
+) -> Result<Claimed, Refused<JourneyFault>>
     requires { 0 < length words.now }
     ensures { ReadsWords table.now line claimed words.now result }
 {
@@ -45,11 +46,11 @@ fn claim_with_words(
             let mut claimed = claimed;
             let leg = match leg_of(table, line, words) {
                 Ok(leg) => leg,
-                Err(fault) => return Err(fault),
+                Err(fault) => return Err(Refused::Fault(fault)),
             };
             match claimed.legs.push(leg) {
                 Ok(()) => Ok(claimed),
-                Err(_) => Err(JourneyFault::Memory),
+                Err(_) => Err(Refused::Memory),
             }
         }
         None => match value_of(words) {
@@ -57,7 +58,7 @@ fn claim_with_words(
                 value,
                 legs: Vec::new(alloc),
             }),
-            None => Err(JourneyFault::BadLine(line)),
+            None => Err(Refused::Fault(JourneyFault::BadLine(line))),
         },
     }
 }
@@ -69,14 +70,14 @@ impl ClaimReader {
         alloc: Global,
         table: &Timetable,
         text: &[u8],
-    ) -> Result<ClaimReader, JourneyFault>
+    ) -> Result<ClaimReader, Refused<JourneyFault>>
         requires { self.lines < 2 ^ 32 - 1 }
         ensures reads { Reads table.now self text.now result }
         ensures lines { IfOk result (λ next. next.lines ≡ self.lines + 1) }
     {
         let line = self.lines + 1;
         let Some(words) = line_words(alloc, text)? else {
-            return Err(JourneyFault::BadLine(line));
+            return Err(Refused::Fault(JourneyFault::BadLine(line)));
         };
         if words.is_empty() {
             return Ok(ClaimReader {
@@ -86,7 +87,7 @@ impl ClaimReader {
         }
         let claimed = match claim_with_words(alloc, table, line, self.claimed, words.as_slice()) {
             Ok(claimed) => claimed,
-            Err(fault) => return Err(fault),
+            Err(refused) => return Err(refused),
         };
         Ok(ClaimReader {
             lines: line,
@@ -95,22 +96,24 @@ impl ClaimReader {
     }
 
     // The claim, at the end of the text.
-    fn end(self) -> Result<Claimed, JourneyFault>
-        ensures { (T : TimetableData) → MatchResult result (λ c. claim_so_far T self [] ≡ Ok c)
-            (λ f. IsRefused f (claim_so_far T self [])) }
+    fn end(self) -> Result<Claimed, Refused<JourneyFault>>
+        ensures { (T : TimetableData) → Yields result (λ c. c) (claim_so_far T self []) }
     {
         match self.claimed {
             Some(claimed) => Ok(claimed),
-            None => Err(JourneyFault::BadLine(0)),
+            None => Err(Refused::Fault(JourneyFault::BadLine(0))),
         }
     }
 }
 
 // The claim of the lines of a text.
-fn claim_in_lines(alloc: Global, table: &Timetable, bytes: &[u8]) -> Result<Claimed, JourneyFault>
+fn claim_in_lines(
+    alloc: Global,
+    table: &Timetable,
+    bytes: &[u8],
+) -> Result<Claimed, Refused<JourneyFault>>
     requires { length bytes.now ≤ 1048576 }
-    ensures { MatchResult result (λ c. claim_from table.now 1 (lines_of bytes.now) ≡ Ok c)
-        (λ f. IsRefused f (claim_from table.now 1 (lines_of bytes.now))) }
+    ensures { Yields result (λ c. c) (claim_from table.now 1 (lines_of bytes.now)) }
 {
     let mut reader = ClaimReader {
         lines: 0,
@@ -118,7 +121,10 @@ fn claim_in_lines(alloc: Global, table: &Timetable, bytes: &[u8]) -> Result<Clai
     };
     let mut text = bytes;
     while let Some(cut) = first_line(text) {
-        reader = reader.take(alloc, table, cut.line)?;
+        reader = match reader.take(alloc, table, cut.line) {
+            Ok(next) => next,
+            Err(refused) => return Err(refused),
+        };
         text = cut.rest;
     }
     reader.end()
@@ -132,13 +138,16 @@ fn claim_in_lines(alloc: Global, table: &Timetable, bytes: &[u8]) -> Result<Clai
 /// latter with `day-before`. A ride is that of the lowest-numbered trip with the name that began on
 /// the day before exactly where `day-before` stands, and calls at the first stop with that departure
 /// and later at the second with that arrival; of its events the first such pair counts.
-pub fn read_journey(alloc: Global, table: &Timetable, bytes: &[u8]) -> Result<Claimed, JourneyFault>
-    ensures claim { MatchResult result (λ c. claim_of table.now bytes.now ≡ Ok c)
-        (λ f. IsRefused f (claim_of table.now bytes.now)) }
+pub fn read_journey(
+    alloc: Global,
+    table: &Timetable,
+    bytes: &[u8],
+) -> Result<Claimed, Refused<JourneyFault>>
+    ensures claim { Yields result (λ c. c) (claim_of table.now bytes.now) }
     ensures count { IfOk result (λ c. length c.legs < 2 ^ 32) }
 {
     if bytes.len() > MOST_BYTES {
-        return Err(JourneyFault::TooLong);
+        return Err(Refused::Fault(JourneyFault::TooLong));
     }
     claim_in_lines(alloc, table, bytes)
 }

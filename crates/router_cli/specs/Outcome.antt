@@ -58,7 +58,6 @@ journey_fault_text (claim.BadLine n) = codes "1 BadLine line " ++ decimal n
 journey_fault_text (claim.UnknownStop n) = codes "2 UnknownStop line " ++ decimal n
 journey_fault_text (claim.NoSuchRide n) = codes "3 NoSuchRide line " ++ decimal n
 journey_fault_text claim.TooLong = codes "4 TooLong"
-journey_fault_text claim.Memory = codes "Memory"
 
 -- the line that it writes to standard error
 abbrev pub status_text : Status → List ℕ
@@ -80,7 +79,6 @@ status_text (status.JourneyRefused f) =
 -- want of memory is told by its own status, and by no fault in another one
 abbrev pub CarriesNoMemory : Status → Type 0
 CarriesNoMemory (status.ScriptRefused f) = f ≢ fault.Memory
-CarriesNoMemory (status.JourneyRefused f) = f ≢ claim.Memory
 CarriesNoMemory s = ⊤
 
 -- What a status says of the bytes that a sink held before and holds now. Done: a text of this kind

@@ -181,7 +181,6 @@ fn journey_fault_text(alloc: Global, fault: JourneyFault) -> Result<Vec<u8>, Mem
         JourneyFault::UnknownStop(line) => at_number(alloc, b"2 UnknownStop line ", line),
         JourneyFault::NoSuchRide(line) => at_number(alloc, b"3 NoSuchRide line ", line),
         JourneyFault::TooLong => copied(alloc, b"4 TooLong"),
-        JourneyFault::Memory => copied(alloc, b"Memory"),
     }
 }
 

@@ -13,7 +13,7 @@ use answer_text::unknown_text;
 use command_line::{Inquiry, VerifyRequest};
 use journey_read::{Claimed, JourneyFault, judge, read_journey};
 use std::alloc::Global;
-use tb_base::{Memory, Timetable};
+use tb_base::{Memory, Refused, Timetable};
 use tb_io::{Folder, Sink, Source, Taken, put_all, take_source};
 
 // No claim has more bytes.
@@ -37,8 +37,8 @@ fn claim_from<S: Source>(
     match take_source(alloc, source, MOST_BYTES) {
         Ok(bytes) => match read_journey(alloc, table, bytes.as_slice()) {
             Ok(claimed) => Ok(claimed),
-            Err(JourneyFault::Memory) => Err(Status::Memory),
-            Err(fault) => Err(Status::JourneyRefused(fault)),
+            Err(Refused::Fault(fault)) => Err(Status::JourneyRefused(fault)),
+            Err(Refused::Memory) => Err(Status::Memory),
         },
         Err(Taken::TooLarge) => Err(Status::JourneyRefused(JourneyFault::TooLong)),
         Err(Taken::ReadFault) => Err(Status::ReadFault),

@@ -6,7 +6,7 @@ use journey_read::{Claimed, JourneyFault, Verdict, judge, read_journey};
 use made_feeds::town;
 use std::alloc::Global;
 use std::test::Fail;
-use tb_base::{Query, Rule, RuleBroken, Sec, Timetable, Value};
+use tb_base::{Query, Refused, Rule, RuleBroken, Sec, Timetable, Value};
 
 const CLAIM: &str = "# over C
 arrive 08:35:00 rides 2\r
@@ -50,7 +50,8 @@ fn said_of(
             drop(claimed);
             verdict
         }
-        Err(fault) => Ok(Err(fault)),
+        Err(Refused::Fault(fault)) => Ok(Err(fault)),
+        Err(Refused::Memory) => Err("out of memory".into()),
     };
     drop(query);
     said

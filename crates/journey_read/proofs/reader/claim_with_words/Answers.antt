@@ -1,8 +1,8 @@
-use Rattle.std.proofs.Common.{◌≡◌, ◌∙◌, ◌+◌, Option, Some, List, ap, sym, subst}
+use Rattle.std.proofs.Common.{◌≡◌, ◌∙◌, ◌+◌, Option, Some, List, Err, ap, sym, subst}
 use Rattle.tb_base.specs.BestValues.{ChoiceData}
 use Rattle.tb_base.specs.declared.query.Leg.{Leg}
 use Rattle.journey_read.specs.declared.claim.JourneyFault.TheVariants as fault
-use Rattle.journey_read.specs.Claims.{IsRefused, claim_with, claim_with_words, legs_from}
+use Rattle.journey_read.specs.Claims.{claim_with, claim_with_words, legs_from}
 use Rattle.journey_read.proofs.LineSteps.{leg_added, leg_refused, value_refused, value_taken}
 use Rattle.journey_read.proofs.reader.claim_with_words.Goals as goal
 
@@ -10,7 +10,7 @@ pub returns-in-Err : goal.returns-in-Err
 returns-in-Err c = λ lines.
     let T = c.args.table.now in
     let words = c.args.words.now in
-    subst (λ (o : Option ChoiceData). IsRefused c.in-Err.fault (claim_with_words T c.args.line o words lines)) (sym c.in-Some.is)
+    subst (λ (o : Option ChoiceData). claim_with_words T c.args.line o words lines ≡ Err c.in-Err.fault) (sym c.in-Some.is)
     (leg_refused T c.args.line c.in-Some.claimed words lines c.in-Err.fault c.requires (sym c.leg_of.ensures ∙ c.in-Err.is))
 
 pub returns-in-Ok-push : goal.returns-in-Ok-push
@@ -29,7 +29,7 @@ pub returns-in-None-value_of : goal.returns-in-None-value_of
 returns-in-None-value_of c = λ lines.
     let T = c.args.table.now in
     let words = c.args.words.now in
-    subst (λ (o : Option ChoiceData). IsRefused (fault.BadLine c.args.line) (claim_with_words T c.args.line o words lines)) (sym c.in-None.is)
+    subst (λ (o : Option ChoiceData). claim_with_words T c.args.line o words lines ≡ Err (fault.BadLine c.args.line)) (sym c.in-None.is)
     (value_refused T c.args.line words lines c.requires (sym c.value_of.ensures ∙ c.in-None-value_of.is))
 
 pub returns-in-Some-value_of : goal.returns-in-Some-value_of
