@@ -4,12 +4,13 @@ use Rattle.std.specs.Prelude.{All}
 use Rattle.std.proofs.lemmas.List.{length-append}
 use Rattle.std.proofs.lemmas.List.Sums.{sum_by-cons}
 use Rattle.std.proofs.lemmas.List.Elements.{All-append, All-cons, All-nil}
+use Rattle.tb_base.specs.Refusals.{IsRefused}
+use Rattle.tb_base.specs.declared.refused.Refused.{Refused}
+use Rattle.tb_base.specs.declared.refused.Refused.TheVariants as refused
 use Rattle.gtfs_rows.specs.Steps.{and_then}
 use Rattle.text_lines.specs.Lines.{lines_of}
 use Rattle.lane_serve.specs.declared.script.Line.{Line}
-use Rattle.lane_serve.specs.declared.script.ScriptFault.{ScriptFault}
-use Rattle.lane_serve.specs.declared.script.ScriptFault.TheVariants as fault
-use Rattle.lane_serve.specs.Script.{LaneData, SoFar, HasTimes, IsRefused, IsWithinLimits, request_count, script_from, with_request}
+use Rattle.lane_serve.specs.Script.{LaneData, SoFar, HasTimes, IsWithinLimits, request_count, script_from, with_request}
 
 -- the last lane gets one more request
 pub set_last : (lanes : List LaneData) (i : ℕ) (request : Line) (name : List ℕ) (lines : List Line) →
@@ -79,14 +80,10 @@ one_more lanes now request n some e lt good h is =
     )
 
 -- a refusal of the next line is one of the script
-pub refused_on : {A B : Type 0} (f : ScriptFault) (step : Result A ScriptFault) (rest : A → Result B ScriptFault) →
-    IsRefused f step → IsRefused f (and_then step rest)
-refused_on (fault.BadLine n) step rest h = rw h refl
-refused_on (fault.TooManyLanes n) step rest h = rw h refl
-refused_on (fault.TooManyLines n) step rest h = rw h refl
-refused_on (fault.BadTime n) step rest h = rw h refl
-refused_on fault.TooLong step rest h = rw h refl
-refused_on fault.Memory step rest h = tt
+pub refused_on : {A B F : Type 0} (why : Refused F) (step : Result A F) (rest : A → Result B F) →
+    IsRefused step why → IsRefused (and_then step rest) why
+refused_on (refused.Fault f) step rest h = rw h refl
+refused_on refused.Memory step rest h = tt
 
 -- what the first lines say, where the text behind them is still to be read
 pub record IsReadTo (bytes text : List ℕ) (s : SoFar) : Type 0 where

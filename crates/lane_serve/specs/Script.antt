@@ -1,5 +1,5 @@
 -- What a script says: lanes of requests, or the first bad line.
-use Rattle.std.specs.Prelude.{◌≡◌, ℕ, ◌+◌, ◌<◌, ◌≤◌, ◌==◌, List, [], ◌∷◌, ◌++◌, length, codes, bytes_eq, nat_lt, sum_by, ◌≤ℤ◌, pos, Option, Some, None, Result, Ok, Err, MatchResult, All, ⊤, if◌then◌else◌}
+use Rattle.std.specs.Prelude.{◌≡◌, ℕ, ◌+◌, ◌<◌, ◌≤◌, ◌==◌, List, [], ◌∷◌, ◌++◌, length, codes, bytes_eq, nat_lt, sum_by, ◌≤ℤ◌, pos, Option, Some, None, Result, Ok, Err, All, ⊤, if◌then◌else◌}
 use Rattle.std.specs.Option.{option_and_then, option_map}
 use Rattle.gtfs_rows.specs.Numbers.{number_of, time_of}
 use Rattle.gtfs_rows.specs.Steps.{and_then}
@@ -128,19 +128,6 @@ abbrev pub script_of : List ℕ → Result (List LaneData) ScriptFault
 script_of bytes =
     if nat_lt 33554432 (length bytes) then Err fault.TooLong
     else script_from (record { lines = 0; requests = 0; lanes = [] }) (lines_of bytes)
-
--- the fault is the script's; want of memory says nothing
-abbrev pub IsRefused : {A : Type 0} → ScriptFault → Result A ScriptFault → Type 0
-IsRefused (fault.BadLine n) meant = meant ≡ Err (fault.BadLine n)
-IsRefused (fault.TooManyLanes n) meant = meant ≡ Err (fault.TooManyLanes n)
-IsRefused (fault.TooManyLines n) meant = meant ≡ Err (fault.TooManyLines n)
-IsRefused (fault.BadTime n) meant = meant ≡ Err (fault.BadTime n)
-IsRefused fault.TooLong meant = meant ≡ Err fault.TooLong
-IsRefused fault.Memory meant = ⊤
-
--- a reader has taken a line, or is refused with its fault
-abbrev pub Reads : SoFar → Result Unit ScriptFault → Result SoFar ScriptFault → Type 0
-Reads now result meant = MatchResult result (λ _. meant ≡ Ok now) (λ f. IsRefused f meant)
 
 -- the time of a request, or the end of its window, is at most 99:59:59
 abbrev pub HasTimes : Line → Type 0

@@ -1,14 +1,15 @@
 //! Scripts.
-ghost use Rattle.std.specs.Prelude.{◌≡◌, ◌<◌, ◌^◌, ◌+◌, ◌-◌, [], Ok, IfOk, IfSome, OnErr, OnOk, MatchResult, length};
+ghost use Rattle.std.specs.Prelude.{◌≡◌, ◌<◌, ◌^◌, ◌+◌, ◌-◌, [], IfOk, IfSome, OnErr, OnOk, length};
 ghost use Rattle.std.specs.Option.{option_and_then};
 ghost use Rattle.text_lines.specs.LineWords.{line_words};
-ghost use Rattle.lane_serve.specs.Script.{HasTimes, IsRefused, IsScript, Reads, SaysTimes, after_lane, after_line, after_request, after_said, at_end, said_of, script_of, with_request};
+ghost use Rattle.tb_base.specs.Refusals.{Yields};
+ghost use Rattle.lane_serve.specs.Script.{HasTimes, IsScript, SaysTimes, after_lane, after_line, after_request, after_said, at_end, said_of, script_of, with_request};
 
 use crate::said::{Said, said_of};
 use query_gate::{AskText, ProfileText};
 use std::alloc::Global;
 use std::marker::Model;
-use tb_base::{Memory, Name};
+use tb_base::{Memory, Name, Refused};
 use text_lines::{first_line, line_words};
 
 const MOST_BYTES: usize = 33_554_432;
@@ -56,7 +57,7 @@ impl Model for Script {
     ghost view = { λ s. s.lanes.items };
 }
 
-/// Why a script is refused, with the number of the line, from 1. In the order in which they are
+/// What is wrong with a script, with the number of the line, from 1. In the order in which they are
 /// tried at one line.
 #[derive(Debug, Clone, Copy, PartialEq, Eq)]
 pub enum ScriptFault {
@@ -71,19 +72,6 @@ pub enum ScriptFault {
     BadTime(u32),
     /// More than 33,554,432 bytes.
     TooLong,
-    /// Want of memory, which may come at any time.
-    Memory,
-}
-
-impl From<Memory> for ScriptFault {
-    ghost use Rattle.std.specs.Prelude.{◌≡◌};
-    ghost use Rattle.lane_serve.specs.declared.script.ScriptFault.TheVariants as why;
-
-    ghost from_gives = { λ _ fault. fault ≡ why.Memory };
-
-    fn from(_refusal: Memory) -> ScriptFault {
-        ScriptFault::Memory
-    }
 }
 
 // A reader of a script: how many lines and requests it has read, and the lanes so far.
@@ -132,35 +120,35 @@ impl ScriptReader {
     }
 
     // A line that begins a lane.
-    fn take_lane(&mut self, line: u32, name: Name) -> Result<(), ScriptFault>
-        ensures reads { Reads self.new result (after_lane self.old line name) }
+    fn take_lane(&mut self, line: u32, name: Name) -> Result<(), Refused<ScriptFault>>
+        ensures reads { Yields result (λ _. self.new) (after_lane self.old line name) }
         ensures lines { OnOk result (self.new.lines ≡ line) }
     {
         if self.lanes.len() >= MOST_LANES {
-            return Err(ScriptFault::TooManyLanes(line));
+            return Err(Refused::Fault(ScriptFault::TooManyLanes(line)));
         }
         let lines = Vec::new(self.alloc);
         if self.lanes.push(Lane { name, lines }).is_err() {
-            return Err(ScriptFault::Memory);
+            return Err(Refused::Memory);
         }
         self.lines = line;
         Ok(())
     }
 
     // A line that is a request.
-    fn take_request(&mut self, line: u32, request: Option<Line>) -> Result<(), ScriptFault>
+    fn take_request(&mut self, line: u32, request: Option<Line>) -> Result<(), Refused<ScriptFault>>
         requires { IfSome request HasTimes }
-        ensures reads { Reads self.new result (after_request self.old line request) }
+        ensures reads { Yields result (λ _. self.new) (after_request self.old line request) }
         ensures lines { OnOk result (self.new.lines ≡ line) }
     {
         if self.lanes.is_empty() {
-            return Err(ScriptFault::BadLine(line));
+            return Err(Refused::Fault(ScriptFault::BadLine(line)));
         }
         if self.requests >= MOST_REQUESTS {
-            return Err(ScriptFault::TooManyLines(line));
+            return Err(Refused::Fault(ScriptFault::TooManyLines(line)));
         }
         let Some(request) = request else {
-            return Err(ScriptFault::BadTime(line));
+            return Err(Refused::Fault(ScriptFault::BadTime(line)));
         };
         add_request(&mut self.lanes, request)?;
         self.requests += 1;
@@ -169,13 +157,13 @@ impl ScriptReader {
     }
 
     // A line that says this.
-    fn take_said(&mut self, line: u32, said: Option<Said>) -> Result<(), ScriptFault>
+    fn take_said(&mut self, line: u32, said: Option<Said>) -> Result<(), Refused<ScriptFault>>
         requires { SaysTimes said }
-        ensures reads { Reads self.new result (after_said self.old line said) }
+        ensures reads { Yields result (λ _. self.new) (after_said self.old line said) }
         ensures lines { OnOk result (self.new.lines ≡ line) }
     {
         match said {
-            None => Err(ScriptFault::BadLine(line)),
+            None => Err(Refused::Fault(ScriptFault::BadLine(line))),
             Some(Said::Nothing) => {
                 self.lines = line;
                 Ok(())
@@ -186,26 +174,25 @@ impl ScriptReader {
     }
 
     // The next line.
-    fn take(&mut self, text: &[u8]) -> Result<(), ScriptFault>
+    fn take(&mut self, text: &[u8]) -> Result<(), Refused<ScriptFault>>
         requires { self.old.lines < 2 ^ 32 - 1 }
-        ensures reads { Reads self.new result (after_line self.old text.now) }
+        ensures reads { Yields result (λ _. self.new) (after_line self.old text.now) }
         ensures lines { OnOk result (self.new.lines ≡ self.old.lines + 1) }
     {
         let said = match line_said(self.alloc, text) {
             Ok(said) => said,
-            Err(Memory) => return Err(ScriptFault::Memory),
+            Err(Memory) => return Err(Refused::Memory),
         };
         self.take_said(self.lines + 1, said)
     }
 
     // The lanes, at the end of the script.
-    fn end(self) -> Result<Script, ScriptFault>
-        ensures script { MatchResult result (λ s. at_end self ≡ Ok s)
-            (λ f. IsRefused f (at_end self)) }
+    fn end(self) -> Result<Script, Refused<ScriptFault>>
+        ensures script { Yields result (λ s. s) (at_end self) }
         ensures good { IfOk result (λ s. IsScript s) }
     {
         if self.lanes.is_empty() {
-            return Err(ScriptFault::BadLine(0));
+            return Err(Refused::Fault(ScriptFault::BadLine(0)));
         }
         Ok(Script { lanes: self.lanes })
     }
@@ -229,13 +216,12 @@ fn line_said(alloc: Global, text: &[u8]) -> Result<Option<Said>, Memory>
 /// and one whose first byte is `#`, is passed over. `lane NAME` begins a lane; `ask FROM TO TIME`
 /// and `profile FROM TO FIRST LAST` are requests of it; `since N` before either, with N of 1 to 9
 /// digits, wants edition N or a later one.
-pub fn read_script(alloc: Global, bytes: &[u8]) -> Result<Script, ScriptFault>
-    ensures script { MatchResult result (λ s. script_of bytes.now ≡ Ok s)
-        (λ f. IsRefused f (script_of bytes.now)) }
+pub fn read_script(alloc: Global, bytes: &[u8]) -> Result<Script, Refused<ScriptFault>>
+    ensures script { Yields result (λ s. s) (script_of bytes.now) }
     ensures good { IfOk result (λ s. IsScript s) }
 {
     if bytes.len() > MOST_BYTES {
-        return Err(ScriptFault::TooLong);
+        return Err(Refused::Fault(ScriptFault::TooLong));
     }
     let mut reader = ScriptReader::new(alloc);
     let mut text = bytes;

@@ -1,6 +1,6 @@
 -- How the program ends about a claimed journey, and what it leaves of the source.
-use Rattle.std.proofs.Common.{◌≡◌, ℕ, inl, inr, List, [], Option, Some, None, Result, Ok, Err, refl, sym, subst, arith}
-use Rattle.std.specs.Prelude.{IfErr, IsSome}
+use Rattle.std.proofs.Common.{◌≡◌, ℕ, inl, inr, List, [], Option, Some, None, Result, Ok, Err, refl, sym, subst}
+use Rattle.std.specs.Prelude.{IsSome}
 use Rattle.std.specs.Io.KnownBytes.{Consumes}
 use Rattle.tb_base.specs.BestValues.{ChoiceData}
 use Rattle.tb_base.specs.TimetableData.{TimetableData}
@@ -11,8 +11,8 @@ use Rattle.journey_read.specs.Claims.{claim_of}
 use Rattle.journey_read.specs.declared.claim.JourneyFault.{JourneyFault}
 use Rattle.command_line.specs.Verifications.{VerifyRequestData}
 use Rattle.router_cli.proofs.Endings.{IsDetermined}
-use Rattle.router_cli.specs.Outcome.{IsDayOf}
-use Rattle.router_cli.specs.Verifying.{ClaimGives, IsClaimEnding, IsNoClaim, IsVerifyEnding, IsVerifyOutcome, LeavesClaim}
+use Rattle.router_cli.specs.Outcome.{IsDayOf, Writes}
+use Rattle.router_cli.specs.Verifying.{ClaimGives, IsClaimEnding, IsNoVerifyAnswer, IsVerifyAnswer, IsVerifyEnding, LeavesClaim}
 use Rattle.router_cli.specs.declared.status.Status.{Status}
 use Rattle.router_cli.specs.declared.status.Status.TheVariants as status
 
@@ -32,24 +32,6 @@ claim_unread (status.ScriptRefused f) told faults = none_taken told
 claim_unread (status.LateRefused f) told faults = none_taken told
 claim_unread (status.JourneyRefused f) told faults = none_taken told
 
--- a source that gives no claim
-claim_read : (T : TimetableData) (s : Status) (told now : Option (List ℕ)) (faults risen : ℕ) → IsNoClaim T told faults risen s
-    → (bs : List ℕ) × Consumes told now bs → LeavesClaim s told now faults risen
-claim_read T status.Done told now faults risen why taken = taken
-claim_read T status.Usage told now faults risen why taken = taken
-claim_read T (status.FeedRefused f) told now faults risen why taken = absurd why
-claim_read T status.ReadFault told now faults risen why taken = (λ still. absurd (omega (arith, why, still)), taken)
-claim_read T status.WriteFault told now faults risen why taken = taken
-claim_read T status.Memory told now faults risen why taken = taken
-claim_read T (status.ScriptRefused f) told now faults risen why taken = taken
-claim_read T (status.LateRefused f) told now faults risen why taken = taken
-claim_read T (status.JourneyRefused f) told now faults risen why taken = taken
-
-pub claim_left : {A : Type 0} (T : TimetableData) (result : Result A Status) (told now : Option (List ℕ)) (faults risen : ℕ) → IfErr result (IsNoClaim T told faults risen)
-    → (bs : List ℕ) × Consumes told now bs → IfErr result (λ s. LeavesClaim s told now faults risen)
-claim_left T (Ok text) told now faults risen why taken = tt
-claim_left T (Err s) told now faults risen why taken = claim_read T s told now faults risen why taken
-
 for_memory : (m : Result ChoiceData JourneyFault) → IsClaimEnding m status.Memory
 for_memory (Ok claimed) = inr refl
 for_memory (Err f) = inr refl
@@ -68,7 +50,7 @@ without_claim None T f h = tt
 without_claim (Some bytes) T f h = subst (λ m. IsClaimEnding m (status.JourneyRefused f)) (sym h) (inl refl)
 
 pub verify_completed : IsDetermined → (files : Option FileList) → IsSome files → (told : Option (List ℕ)) (r : VerifyRequestData) (s : Status) (before now : Option (List ℕ)) →
-    IsVerifyOutcome files told r s before now → (s ≡ status.ReadFault → ⊥) → (s ≡ status.WriteFault → ⊥) →
+    Writes (IsVerifyAnswer files told r) (IsNoVerifyAnswer files told r) s before now → (s ≡ status.ReadFault → ⊥) → (s ≡ status.WriteFault → ⊥) →
     (day : Result TimetableData FeedFault) → IsDayOf files r.dir r.date r.options day → IsVerifyEnding told day s
 verify_completed same files shown told r status.Done before now (bytes, is, added) read write day given =
     subst (λ d. IsVerifyEnding told d status.Done) (same (feed_of files r.dir) r.date r.options (Ok is.table) day (is.day.1 shown) given)

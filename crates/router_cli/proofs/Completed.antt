@@ -9,8 +9,8 @@ use Rattle.router_cli.proofs.Claims.{claim_unread, none_taken, verify_completed}
 use Rattle.router_cli.proofs.LateEndings.{late_completed}
 use Rattle.router_cli.proofs.Runs.{run_completed}
 use Rattle.command_line.specs.Cities.{CityRequestData}
-use Rattle.router_cli.specs.Cities.{IsCityOutcome}
-use Rattle.router_cli.specs.Outcome.{EndsBy}
+use Rattle.router_cli.specs.Cities.{IsCityText, IsNoCityText}
+use Rattle.router_cli.specs.Outcome.{EndsBy, Writes}
 use Rattle.router_cli.specs.Promise.{IsRequestEnding, IsRequestOutcome, LeavesScript}
 use Rattle.router_cli.specs.declared.status.Status.{Status}
 use Rattle.router_cli.specs.declared.status.Status.TheVariants as status
@@ -32,7 +32,8 @@ none_rose a b c d (inr rose) one other = absurd (omega (arith, rose, other))
 not_risen : (a b : ℕ) → a < b → b ≡ a → ⊥
 not_risen a b rose still = absurd (omega (arith, rose, still))
 
-city_ending : (r : CityRequestData) (s : Status) (before now : Option (List ℕ)) → IsCityOutcome r s before now → (s ≡ status.WriteFault → ⊥) → EndsBy status.Done s
+city_ending : (r : CityRequestData) (s : Status) (before now : Option (List ℕ)) →
+    Writes (IsCityText r.side) IsNoCityText s before now → (s ≡ status.WriteFault → ⊥) → EndsBy status.Done s
 city_ending r status.Done before now out write = inl refl
 city_ending r status.WriteFault before now out write = absurd (write refl)
 city_ending r status.Usage before now out write = absurd out

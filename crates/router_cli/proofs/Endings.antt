@@ -9,7 +9,7 @@ use Rattle.trip_table.specs.Answers.{feed_of}
 use Rattle.trip_table.specs.Feed.{Feed}
 use Rattle.trip_table.specs.Day.{IsTimetableOf}
 use Rattle.command_line.specs.DayCommands.{DayRequestData}
-use Rattle.router_cli.specs.Outcome.{IsDayEnding, IsDayOf, IsDayOutcome}
+use Rattle.router_cli.specs.Outcome.{IsDayAnswer, IsDayEnding, IsDayOf, IsNoDayAnswer, Writes}
 use Rattle.router_cli.specs.declared.status.Status.{Status}
 use Rattle.router_cli.specs.declared.status.Status.TheVariants as status
 
@@ -23,7 +23,7 @@ out_of_memory (Ok T) = inr refl
 out_of_memory (Err f) = inr refl
 
 pub day_completed : IsDetermined → (files : Option FileList) → IsSome files → (r : DayRequestData) (s : Status) (before now : Option (List ℕ)) →
-    IsDayOutcome files r s before now → (s ≡ status.ReadFault → ⊥) → (s ≡ status.WriteFault → ⊥) →
+    Writes (IsDayAnswer files r) (IsNoDayAnswer files r) s before now → (s ≡ status.ReadFault → ⊥) → (s ≡ status.WriteFault → ⊥) →
     (day : Result TimetableData FeedFault) → IsDayOf files r.dir r.date r.options day → IsDayEnding day s
 day_completed same files shown r status.Done before now (bytes, is, added) read write day given =
     subst (λ d. IsDayEnding d status.Done) (same (feed_of files r.dir) r.date r.options (Ok is.table) day (is.day.1 shown) given) (inl refl)

@@ -11,8 +11,8 @@ use Rattle.late_edit.specs.Lates.{LateData}
 use Rattle.late_edit.specs.declared.late.LateFault.{LateFault}
 use Rattle.command_line.specs.LateTrips.{LateRequestData}
 use Rattle.router_cli.proofs.Endings.{IsDetermined}
-use Rattle.router_cli.specs.Outcome.{IsDayOf}
-use Rattle.router_cli.specs.LateTrips.{IsAmendEnding, IsLateEnding, IsLateOutcome, LatesGive, lates_in}
+use Rattle.router_cli.specs.Outcome.{IsDayOf, Writes}
+use Rattle.router_cli.specs.LateTrips.{IsAmendEnding, IsLateAnswer, IsLateEnding, IsNoLateAnswer, LatesGive, lates_in}
 use Rattle.router_cli.specs.declared.status.Status.{Status}
 use Rattle.router_cli.specs.declared.status.Status.TheVariants as status
 
@@ -55,7 +55,7 @@ refuses (Some fs) r T f (inl read) = unread (lates_in (file_at fs r.file)) T f r
 refuses (Some fs) r T f (inr (lates, read, made)) = unmade (lates_in (file_at fs r.file)) T lates f read made
 
 pub late_completed : IsDetermined → (files : Option FileList) → IsSome files → (r : LateRequestData) (s : Status) (before now : Option (List ℕ)) →
-    IsLateOutcome files r s before now → (s ≡ status.ReadFault → ⊥) → (s ≡ status.WriteFault → ⊥) →
+    Writes (IsLateAnswer files r) (IsNoLateAnswer files r) s before now → (s ≡ status.ReadFault → ⊥) → (s ≡ status.WriteFault → ⊥) →
     (day : Result TimetableData FeedFault) → IsDayOf files r.dir r.date r.options day → IsLateEnding files r day s
 late_completed same files shown r status.Done before now (bytes, is, added) read write day given =
     subst (λ d. IsLateEnding files r d status.Done) (same (feed_of files r.dir) r.date r.options (Ok is.table) day (is.day.1 shown) given)

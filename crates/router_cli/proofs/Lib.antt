@@ -5,4 +5,5 @@ pub mod Claims
 pub mod LateEndings
 pub mod LastEdition
 pub mod Completed
+pub mod Written
 pub mod Corners

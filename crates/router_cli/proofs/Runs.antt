@@ -15,8 +15,8 @@ use Rattle.lane_serve.specs.declared.plan.Outcome.{Outcome}
 use Rattle.lane_serve.specs.declared.plan.Outcome.TheVariants.{Published, Refused}
 use Rattle.lane_serve.specs.declared.script.ScriptFault.{ScriptFault}
 use Rattle.router_cli.proofs.Endings.{IsDetermined, out_of_memory}
-use Rattle.router_cli.specs.Outcome.{IsDayEnding}
-use Rattle.router_cli.specs.Serving.{IsRunEnding, IsRunOutcome, item_of}
+use Rattle.router_cli.specs.Outcome.{IsDayEnding, Writes}
+use Rattle.router_cli.specs.Serving.{IsNoRunAnswer, IsRunAnswer, IsRunEnding, item_of}
 use Rattle.router_cli.specs.declared.status.Status.{Status}
 use Rattle.router_cli.specs.declared.status.Status.TheVariants as status
 
@@ -46,7 +46,7 @@ by_day : (day other : Result TimetableData FeedFault) (s : Status) → other ≡
 by_day day other s same h = subst (λ d. IsDayEnding d s) same h
 
 pub run_completed : IsDetermined → (files : Option FileList) → IsSome files → (bytes : List ℕ) (r : ServeRequestData) (s : Status) (before now : Option (List ℕ)) →
-    IsRunOutcome files (Some bytes) r s before now → (s ≡ status.ReadFault → ⊥) → (s ≡ status.WriteFault → ⊥) →
+    Writes (IsRunAnswer files (Some bytes) r) (IsNoRunAnswer files (Some bytes) r) s before now → (s ≡ status.ReadFault → ⊥) → (s ≡ status.WriteFault → ⊥) →
     (day : Result TimetableData FeedFault) → FirstGives files r.options (map item_of r.plan) day → IsRunEnding (script_of bytes) day s
 run_completed same files told bytes r status.Done before now (text, ran, added) read write day is =
     let plan = map item_of r.plan in

@@ -1,11 +1,9 @@
 -- What the program writes for a made city.
-use Rattle.std.specs.Prelude.{◌≡◌, ℕ, ◌-◌, List, [], ◌∷◌, ◌++◌, pos, false, Option, ⊤}
+use Rattle.std.specs.Prelude.{◌≡◌, ℕ, ◌-◌, List, [], ◌∷◌, ◌++◌, pos, false, ⊤}
 use Rattle.tb_base.specs.BestValues.{QueryData}
 use Rattle.feed_maker.specs.City.{city, stop_number}
 use Rattle.edition_build.specs.Reports.{IsReport}
-use Rattle.command_line.specs.Cities.{CityRequestData}
 use Rattle.router_cli.specs.Answers.{ShowsKept}
-use Rattle.router_cli.specs.Outcome.{Writes}
 use Rattle.router_cli.specs.declared.status.Status.{Status}
 use Rattle.router_cli.specs.declared.status.Status.TheVariants as status
 
@@ -29,7 +27,3 @@ pub record IsCityText (n : ℕ) (bytes : List ℕ) : Type 0 where
 abbrev pub IsNoCityText : Status → Type 0
 IsNoCityText status.Memory = ⊤
 IsNoCityText s = ⊥
-
--- how a request for a city ends, and what it writes
-abbrev pub IsCityOutcome : CityRequestData → Status → Option (List ℕ) → Option (List ℕ) → Type 0
-IsCityOutcome r = Writes (IsCityText r.side) IsNoCityText

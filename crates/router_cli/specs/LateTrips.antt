@@ -16,7 +16,7 @@ use Rattle.edition_store.specs.Editions.{kept_count}
 use Rattle.command_line.specs.Inquiries.{InquiryData}
 use Rattle.command_line.specs.LateTrips.{LateRequestData}
 use Rattle.router_cli.specs.Answers.{IsInquiryText, ShowsKept}
-use Rattle.router_cli.specs.Outcome.{EndsBy, GivesDay, Writes}
+use Rattle.router_cli.specs.Outcome.{EndsBy, GivesDay}
 use Rattle.router_cli.specs.declared.status.Status.{Status}
 use Rattle.router_cli.specs.declared.status.Status.TheVariants as status
 
@@ -82,11 +82,6 @@ IsNoLateAnswer files r (status.LateRefused f) = LateRefused files r f
 IsNoLateAnswer files r status.ReadFault = ⊤
 IsNoLateAnswer files r status.Memory = ⊤
 IsNoLateAnswer files r s = ⊥
-
--- how a request about such a day ends, and what it writes
-abbrev pub IsLateOutcome : Option FileList → LateRequestData → Status → Option (List ℕ)
-    → Option (List ℕ) → Type 0
-IsLateOutcome files r = Writes (IsLateAnswer files r) (IsNoLateAnswer files r)
 
 -- How late trips may end where nothing fails outside: by their first fault, or with what is written
 -- of the timetable that they make; or for want of memory.

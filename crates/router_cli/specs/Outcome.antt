@@ -1,5 +1,5 @@
 -- What the program's status says of the words, the files and the bytes written.
-use Rattle.std.specs.Prelude.{◌≡◌, ◌≢◌, ℕ, ◌<◌, ◌≤◌, ◌⊎◌, List, [], ◌++◌, codes, length, take, Option, IsSome, Result, Err, Ok, IfOk, ⊤}
+use Rattle.std.specs.Prelude.{◌≡◌, ℕ, ◌<◌, ◌≤◌, ◌⊎◌, List, [], ◌++◌, codes, length, take, Option, Some, None, IsSome, Result, Err, Ok, IfOk, ⊤}
 use Rattle.std.specs.Fmt.{decimal}
 use Rattle.std.specs.Io.KnownBytes.{Appends}
 use Rattle.tb_base.specs.Soundness.{IsSound}
@@ -33,6 +33,11 @@ status_code (status.ScriptRefused f) = 7
 status_code (status.LateRefused f) = 8
 status_code (status.JourneyRefused f) = 9
 
+-- the text of a fault by its number and name, and by its line where it has one
+abbrev pub row_text : List ℕ → Option ℕ → List ℕ
+row_text name None = name
+row_text name (Some n) = name ++ codes " line " ++ decimal n
+
 -- the number and the name of a script's fault, and its line where it has one
 abbrev pub script_fault_text : ScriptFault → List ℕ
 script_fault_text (fault.BadLine n) = codes "1 BadLine line " ++ decimal n
@@ -40,7 +45,6 @@ script_fault_text (fault.TooManyLanes n) = codes "2 TooManyLanes line " ++ decim
 script_fault_text (fault.TooManyLines n) = codes "3 TooManyLines line " ++ decimal n
 script_fault_text (fault.BadTime n) = codes "4 BadTime line " ++ decimal n
 script_fault_text fault.TooLong = codes "5 TooLong"
-script_fault_text fault.Memory = codes "Memory"
 
 -- the same of a fault of late trips
 abbrev pub late_fault_text : LateFault → List ℕ
@@ -76,10 +80,24 @@ status_text (status.LateRefused f) =
 status_text (status.JourneyRefused f) =
     codes "router: journey refused: " ++ journey_fault_text f ++ codes "\n"
 
--- want of memory is told by its own status, and by no fault in another one
-abbrev pub CarriesNoMemory : Status → Type 0
-CarriesNoMemory (status.ScriptRefused f) = f ≢ fault.Memory
-CarriesNoMemory s = ⊤
+-- Whether a text is written whole, or only some first bytes of it, by the bytes that a sink held
+-- before and holds now.
+abbrev pub WritesText : List ℕ → Status → Option (List ℕ) → Option (List ℕ) → Type 0
+WritesText text status.Done before now = Appends before now text
+WritesText text status.WriteFault before now =
+    (n : ℕ) × (n ≤ length text) × Appends before now (take n text)
+WritesText text s before now = ⊥
+
+-- such a status tells that nothing was written
+abbrev pub IsUnwritten : Status → Type 0
+IsUnwritten status.Done = ⊥
+IsUnwritten status.WriteFault = ⊥
+IsUnwritten s = ⊤
+
+-- the status of a request whose text is written whole, or that has none for this reason
+abbrev pub status_of_text : {A : Type 0} → Result A Status → Status
+status_of_text (Ok text) = status.Done
+status_of_text (Err s) = s
 
 -- What a status says of the bytes that a sink held before and holds now. Done: a text of this kind
 -- was written whole. WriteFault: some first bytes of one. Any other status comes as Comes says.
@@ -117,6 +135,24 @@ IsNoTable files dir date options before now status.ReadFault = before < now
 IsNoTable files dir date options before now status.Memory = now ≡ before
 IsNoTable files dir date options before now s = ⊥
 
+-- What a call leaves of a folder: its files, and its count of faults before and now, which rises
+-- where a read failed.
+pub record LeavesFolder (Failed : Type 0) (files_before files_now : Option FileList)
+    (faults faults_now : ℕ) : Type 0 where
+  pub files : files_now ≡ files_before
+  pub read : Failed → faults < faults_now
+  pub kept : Failed ⊎ (faults_now ≡ faults)
+
+-- What a call leaves of a folder and of a source: the folder's files, and the counts of faults of
+-- both before and now, of which one rises where a read failed, and never both.
+pub record LeavesOutside (Failed : Type 0) (files_before files_now : Option FileList)
+    (folder folder_now source source_now : ℕ) : Type 0 where
+  pub files : files_now ≡ files_before
+  pub read : Failed → (folder < folder_now) ⊎ (source < source_now)
+  pub alone : (folder_now ≡ folder) ⊎ (source_now ≡ source)
+  pub folder_kept : Failed ⊎ (folder_now ≡ folder)
+  pub source_kept : Failed ⊎ (source_now ≡ source)
+
 -- the bytes are the answer to the request over a timetable that its day gives
 pub record IsDayAnswer (files : Option FileList) (r : DayRequestData) (bytes : List ℕ) : Type 0 where
   pub table : TimetableData
@@ -130,11 +166,6 @@ IsNoDayAnswer files r (status.FeedRefused f) = GivesDay files r.dir r.date r.opt
 IsNoDayAnswer files r status.ReadFault = ⊤
 IsNoDayAnswer files r status.Memory = ⊤
 IsNoDayAnswer files r s = ⊥
-
--- how a request about a day ends, and what it writes
-abbrev pub IsDayOutcome : Option FileList → DayRequestData → Status → Option (List ℕ)
-    → Option (List ℕ) → Type 0
-IsDayOutcome files r = Writes (IsDayAnswer files r) (IsNoDayAnswer files r)
 
 -- How the program may end where nothing fails outside: with the answer on a lawful day, and else
 -- with the feed's first fault; or for want of memory.

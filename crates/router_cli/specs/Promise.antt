@@ -8,23 +8,37 @@ use Rattle.command_line.specs.declared.request.Request.{Request}
 use Rattle.command_line.specs.declared.request.Request.TheVariants as request
 use Rattle.lane_serve.specs.Script.{script_of}
 use Rattle.lane_serve.specs.Served.{FirstGives}
-use Rattle.router_cli.specs.Cities.{IsCityOutcome}
-use Rattle.router_cli.specs.LateTrips.{IsLateEnding, IsLateOutcome}
-use Rattle.router_cli.specs.Outcome.{EndsBy, IsDayEnding, IsDayOf, IsDayOutcome}
-use Rattle.router_cli.specs.Serving.{IsRunEnding, IsRunOutcome, TellsScript, plan_of}
-use Rattle.router_cli.specs.Verifying.{HasDay, IsVerifyEnding, IsVerifyOutcome, LeavesClaim}
+use Rattle.router_cli.specs.Cities.{IsCityText, IsNoCityText}
+use Rattle.router_cli.specs.LateTrips.{IsLateAnswer, IsLateEnding, IsNoLateAnswer}
+use Rattle.router_cli.specs.Outcome.{EndsBy, IsDayAnswer, IsDayEnding, IsDayOf, IsNoDayAnswer, Writes}
+use Rattle.router_cli.specs.Serving.{IsNoRunAnswer, IsRunAnswer, IsRunEnding, TellsScript, plan_of}
+use Rattle.router_cli.specs.Verifying.{HasDay, IsNoVerifyAnswer, IsVerifyAnswer, IsVerifyEnding, LeavesClaim}
 use Rattle.router_cli.specs.declared.status.Status.{Status}
 use Rattle.router_cli.specs.declared.status.Status.TheVariants as status
+
+-- the bytes are what is written for a request, by the files of a folder, where it tells them, and
+-- the bytes of a script, where its source tells them
+abbrev pub IsRequestAnswer : Option FileList → Option (List ℕ) → Request → List ℕ → Type 0
+IsRequestAnswer files told (request.Day r) = IsDayAnswer files r
+IsRequestAnswer files told (request.Serve r) = IsRunAnswer files told r
+IsRequestAnswer files told (request.City r) = IsCityText r.side
+IsRequestAnswer files told (request.Verify r) = IsVerifyAnswer files told r
+IsRequestAnswer files told (request.Late r) = IsLateAnswer files r
+
+-- why nothing is written for it
+abbrev pub IsNoRequestAnswer : Option FileList → Option (List ℕ) → Request → Status → Type 0
+IsNoRequestAnswer files told (request.Day r) = IsNoDayAnswer files r
+IsNoRequestAnswer files told (request.Serve r) = IsNoRunAnswer files told r
+IsNoRequestAnswer files told (request.City r) = IsNoCityText
+IsNoRequestAnswer files told (request.Verify r) = IsNoVerifyAnswer files told r
+IsNoRequestAnswer files told (request.Late r) = IsNoLateAnswer files r
 
 -- What a status says of a request, of the files of a folder, where it tells them, of the bytes of a
 -- script, where its source tells them, and of the bytes that a sink held before and holds now.
 abbrev pub IsRequestOutcome : Option FileList → Option (List ℕ) → Request → Status
     → Option (List ℕ) → Option (List ℕ) → Type 0
-IsRequestOutcome files told (request.Day r) = IsDayOutcome files r
-IsRequestOutcome files told (request.Serve r) = IsRunOutcome files told r
-IsRequestOutcome files told (request.City r) = IsCityOutcome r
-IsRequestOutcome files told (request.Verify r) = IsVerifyOutcome files told r
-IsRequestOutcome files told (request.Late r) = IsLateOutcome files r
+IsRequestOutcome files told r =
+    Writes (IsRequestAnswer files told r) (IsNoRequestAnswer files told r)
 
 -- how a request may end where nothing fails outside, by what its day or its first day gives
 abbrev pub IsRequestEnding : Option FileList → Option (List ℕ) → Request → Status → Type 0

@@ -12,7 +12,7 @@ use Rattle.lane_serve.specs.Texts.{served_text}
 use Rattle.lane_serve.specs.declared.run.ServeFault.{ServeFault}
 use Rattle.lane_serve.specs.declared.run.ServeFault.TheVariants as serve
 use Rattle.lane_serve.specs.declared.script.ScriptFault.{ScriptFault}
-use Rattle.router_cli.specs.Outcome.{EndsBy, IsDayEnding, Writes}
+use Rattle.router_cli.specs.Outcome.{EndsBy, IsDayEnding}
 use Rattle.router_cli.specs.declared.status.Status.{Status}
 use Rattle.router_cli.specs.declared.status.Status.TheVariants as status
 
@@ -51,11 +51,6 @@ IsNoRunAnswer files told r (status.FeedRefused f) =
 IsNoRunAnswer files told r status.ReadFault = ⊤
 IsNoRunAnswer files told r status.Memory = ⊤
 IsNoRunAnswer files told r s = ⊥
-
--- how a request for a run ends, and what it writes
-abbrev pub IsRunOutcome : Option FileList → Option (List ℕ) → ServeRequestData → Status
-    → Option (List ℕ) → Option (List ℕ) → Type 0
-IsRunOutcome files told r = Writes (IsRunAnswer files told r) (IsNoRunAnswer files told r)
 
 -- How a run may end where nothing fails outside: by the script's first fault; else, as a request
 -- about the first day, by that feed's first fault or with the text; or for want of memory.

@@ -19,7 +19,7 @@ use Rattle.query_gate.specs.Questions.{query_at}
 use Rattle.command_line.specs.Inquiries.{InquiryData}
 use Rattle.command_line.specs.Verifications.{VerifyRequestData}
 use Rattle.router_cli.specs.Answers.{IsTextBetween}
-use Rattle.router_cli.specs.Outcome.{EndsBy, GivesDay, Writes}
+use Rattle.router_cli.specs.Outcome.{EndsBy, GivesDay}
 use Rattle.router_cli.specs.declared.status.Status.{Status}
 use Rattle.router_cli.specs.declared.status.Status.TheVariants as status
 
@@ -89,11 +89,6 @@ IsNoVerifyAnswer files told r (status.JourneyRefused f) = ClaimRefused files tol
 IsNoVerifyAnswer files told r status.ReadFault = ⊤
 IsNoVerifyAnswer files told r status.Memory = ⊤
 IsNoVerifyAnswer files told r s = ⊥
-
--- how a request about a claim ends, and what it writes
-abbrev pub IsVerifyOutcome : Option FileList → Option (List ℕ) → VerifyRequestData → Status
-    → Option (List ℕ) → Option (List ℕ) → Type 0
-IsVerifyOutcome files told r = Writes (IsVerifyAnswer files told r) (IsNoVerifyAnswer files told r)
 
 -- What is left of a claim's source, and its count of faults, before and now: nothing is taken of it
 -- where the feed is refused, or a read failed and it was none of the source.

@@ -1,5 +1,5 @@
-//! What the program does about a day amended by late trips.
-ghost use Rattle.std.specs.Prelude.{◌≡◌, ◌⊎◌, ◌<◌, ◌-◌, ◌^◌, ◌∷◌, [], ◌++◌, Err, IfErr, IfOk, MatchResult, Ok, Some, length, slice_get, true, vec_len};
+//! What the program writes about a day amended by late trips.
+ghost use Rattle.std.specs.Prelude.{◌≡◌, ◌<◌, ◌-◌, ◌^◌, ◌∷◌, [], ◌++◌, Err, IfErr, IfOk, MatchResult, Ok, Some, length, slice_get, true, vec_len};
 ghost use Rattle.tb_base.specs.Refusals.{IsRefused};
 ghost use Rattle.edition_store.specs.Editions.{EditionData};
 ghost use Rattle.late_edit.specs.Amended.{amended};
@@ -8,8 +8,8 @@ ghost use Rattle.late_edit.specs.Amending.{network_of};
 ghost use Rattle.query_gate.specs.Callers.{CallerData};
 ghost use Rattle.tb_base.specs.Workers.{AreWorkers};
 ghost use Rattle.router_cli.specs.Answers.{IsInquiryText, ShowsKept};
-ghost use Rattle.router_cli.specs.Outcome.{CarriesNoMemory};
-ghost use Rattle.router_cli.specs.LateTrips.{IsAmendedText, IsLateAnswer, IsLateOutcome, IsLateText, IsNoLateAnswer, IsNoLates, IsNotAmended, LatesGive, amended_text};
+ghost use Rattle.router_cli.specs.Outcome.{LeavesFolder};
+ghost use Rattle.router_cli.specs.LateTrips.{IsAmendedText, IsLateAnswer, IsLateText, IsNoLateAnswer, IsNoLates, IsNotAmended, LatesGive, amended_text};
 
 use crate::day::table_of;
 use crate::over_edition::ask_by;
@@ -24,7 +24,7 @@ use std::marker::Brand;
 use std::sync::Wait;
 use std::thread::Threads;
 use tb_base::{Gate, Memory, Refused, Timetable};
-use tb_io::{Folder, Sink, Taken, put_all, take_file};
+use tb_io::{Folder, Taken, take_file};
 
 // No file of late trips has more bytes.
 const MOST_BYTES: u64 = 33_554_432;
@@ -37,7 +37,6 @@ fn lates_from<F: Folder>(alloc: Global, folder: &mut F, path: &str) -> Result<Ve
     ensures kept { IfOk result (λ _. F.faults folder.new ≡ F.faults folder.old) }
     ensures refused { IfErr result (IsNoLates (F.files folder.old) path.now
         (F.faults folder.old) (F.faults folder.new)) }
-    ensures memory { IfErr result CarriesNoMemory }
     ensures files { F.files folder.new ≡ F.files folder.old }
 {
     match take_file(alloc, folder, path, MOST_BYTES) {
@@ -214,7 +213,6 @@ fn late_answer<R: Threads + Wait + Sync, G: Gate>(
     ensures text { IfOk result (λ text.
         IsLateText table lates.now request.now.inquiry text.items) }
     ensures refused { IfErr result (IsNotAmended table lates.now) }
-    ensures memory { IfErr result CarriesNoMemory }
 {
     match amended_answer(
         rt,
@@ -231,23 +229,21 @@ fn late_answer<R: Threads + Wait + Sync, G: Gate>(
     }
 }
 
-// What is written for a request. The file is read once the timetable of the day is there.
-fn text_of<R: Threads + Wait + Sync, F: Folder, G: Gate>(
+/// What is written by the timetable of a day that the late trips of a file amend, once both
+/// editions are published. The file is read once the timetable of the day is there. It may wait.
+pub(crate) fn late_text<R: Threads + Wait + Sync, F: Folder, G: Gate>(
     rt: &R,
     alloc: Global,
-    folder: &mut F,
     request: &LateRequest,
+    folder: &mut F,
     gate: &G,
 ) -> Result<Vec<u8>, Status>
     requires { F.faults folder.old < 2 ^ 64 - 1 }
     ensures text { IfOk result (λ text.
         IsLateAnswer (F.files folder.old) request.now text.items) }
     ensures refused { IfErr result (IsNoLateAnswer (F.files folder.old) request.now) }
-    ensures memory { IfErr result CarriesNoMemory }
-    ensures fault { result ≡ Err Status.ReadFault → F.faults folder.old < F.faults folder.new }
-    ensures kept { (result ≡ Err Status.ReadFault)
-        ⊎ (F.faults folder.new ≡ F.faults folder.old) }
-    ensures files { F.files folder.new ≡ F.files folder.old }
+    ensures leaves { LeavesFolder (result ≡ Err Status.ReadFault) (F.files folder.old)
+        (F.files folder.new) (F.faults folder.old) (F.faults folder.new) }
 {
     let table = match table_of(alloc, folder, request.dir, &request.day, &request.options) {
         Ok(table) => table,
@@ -259,38 +255,5 @@ fn text_of<R: Threads + Wait + Sync, F: Folder, G: Gate>(
             drop(table);
             Err(status)
         }
-    }
-}
-
-/// Answers by the timetable of a day that the late trips of a file amend, once both editions are
-/// published. It may wait.
-pub(crate) fn late_outcome<R: Threads + Wait + Sync, F: Folder, K: Sink, G: Gate>(
-    rt: &R,
-    alloc: Global,
-    request: &LateRequest,
-    folder: &mut F,
-    out: &mut K,
-    gate: &G,
-) -> Status
-    requires folder { F.faults folder.old < 2 ^ 64 - 1 }
-    requires out { K.faults out.old < 2 ^ 64 - 1 }
-    ensures promise { IsLateOutcome (F.files folder.old) request.now result
-        (K.written out.old) (K.written out.new) }
-    ensures quiet { (result ≡ Status.Done) ⊎ (result ≡ Status.WriteFault)
-        ⊎ (K.written out.new ≡ K.written out.old) }
-    ensures read { result ≡ Status.ReadFault → F.faults folder.old < F.faults folder.new }
-    ensures write { result ≡ Status.WriteFault → K.faults out.old < K.faults out.new }
-    ensures folder_kept { (result ≡ Status.ReadFault)
-        ⊎ (F.faults folder.new ≡ F.faults folder.old) }
-    ensures out_kept { (result ≡ Status.WriteFault) ⊎ (K.faults out.new ≡ K.faults out.old) }
-    ensures files { F.files folder.new ≡ F.files folder.old }
-    ensures memory { CarriesNoMemory result }
-{
-    match text_of(rt, alloc, folder, request, gate) {
-        Ok(text) => match put_all(out, text.as_slice()) {
-            Ok(()) => Status::Done,
-            Err(_) => Status::WriteFault,
-        },
-        Err(status) => status,
     }
 }

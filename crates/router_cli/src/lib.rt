@@ -21,6 +21,7 @@ mod serving;
 mod status;
 mod verdicts;
 mod verifying;
+mod writing;
 
 pub use program::route;
 pub use status::{Status, end, status_text};

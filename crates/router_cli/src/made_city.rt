@@ -1,5 +1,5 @@
-//! What the program does about a made city.
-ghost use Rattle.std.specs.Prelude.{◌≡◌, ◌⊎◌, ◌<◌, ◌≤ℤ◌, ◌-◌, ◌^◌, All, IfOk, false, length, pos};
+//! What the program writes about a made city.
+ghost use Rattle.std.specs.Prelude.{◌≡◌, ◌<◌, ◌≤ℤ◌, All, IfOk, false, length, pos};
 ghost use Rattle.tb_base.specs.Lines.{AreLines};
 ghost use Rattle.feed_maker.specs.City.{city};
 ghost use Rattle.edition_store.specs.Editions.{EditionData, net_of};
@@ -9,12 +9,9 @@ ghost use Rattle.edition_build.specs.Reports.{IsReport};
 ghost use Rattle.command_line.specs.Cities.{IsSide};
 ghost use Rattle.tb_base.specs.Workers.{AreWorkers};
 ghost use Rattle.router_cli.specs.Answers.{ShowsKept};
-ghost use Rattle.router_cli.specs.Outcome.{CarriesNoMemory};
-ghost use Rattle.router_cli.specs.Cities.{IsCityOutcome, IsCityText, corner_query};
+ghost use Rattle.router_cli.specs.Cities.{IsCityText, corner_query};
 
-use crate::status::Status;
 use answer_text::{build_text, choices_text};
-use command_line::CityRequest;
 use edition_build::{assemble, counts_of};
 use edition_store::Edition;
 use feed_maker::city;
@@ -25,7 +22,6 @@ use segment_queue::Desk;
 use std::alloc::Global;
 use std::thread::Threads;
 use tb_base::{Choice, Gate, Memory, Query, StopNo, Timetable};
-use tb_io::{Sink, put_all};
 
 // The report on a timetable, and its edition.
 struct Built {
@@ -150,8 +146,9 @@ fn corner_text(alloc: Global, edition: &Edition, side: u32) -> Result<Vec<u8>, M
     choices_text(alloc, edition.table(), choices.as_slice())
 }
 
-// The report on a city, and the best values between two of its corners.
-fn city_text<G: Gate, R: Threads + Sync>(
+/// The report on a city, and the best values between two of its corners. Its own work ends; it
+/// joins the workers that it starts.
+pub(crate) fn city_text<G: Gate, R: Threads + Sync>(
     rt: &R,
     alloc: Global,
     side: u32,
@@ -170,30 +167,4 @@ fn city_text<G: Gate, R: Threads + Sync>(
     let mut text = report;
     text.extend_from_slice(choices.as_slice())?;
     Ok(text)
-}
-
-/// Writes what is built of a made city. No folder and no script is read. Its own work ends; it
-/// joins the workers that it starts.
-pub(crate) fn city_outcome<R: Threads + Sync, K: Sink, G: Gate>(
-    rt: &R,
-    alloc: Global,
-    request: &CityRequest,
-    out: &mut K,
-    gate: &G,
-) -> Status
-    requires { K.faults out.old < 2 ^ 64 - 1 }
-    ensures promise { IsCityOutcome request.now result (K.written out.old) (K.written out.new) }
-    ensures quiet { (result ≡ Status.Done) ⊎ (result ≡ Status.WriteFault)
-        ⊎ (K.written out.new ≡ K.written out.old) }
-    ensures write { result ≡ Status.WriteFault → K.faults out.old < K.faults out.new }
-    ensures out_kept { (result ≡ Status.WriteFault) ⊎ (K.faults out.new ≡ K.faults out.old) }
-    ensures memory { CarriesNoMemory result }
-{
-    match city_text(rt, alloc, request.side, request.workers, gate) {
-        Ok(text) => match put_all(out, text.as_slice()) {
-            Ok(()) => Status::Done,
-            Err(_) => Status::WriteFault,
-        },
-        Err(_) => Status::Memory,
-    }
 }

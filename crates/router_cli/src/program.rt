@@ -1,15 +1,16 @@
 //! All that the program does.
-ghost use Rattle.std.specs.Prelude.{◌≡◌, ◌⊎◌, ◌<◌, ◌-◌, ◌^◌, IfSome, IsSome, None, map, string_bytes};
+ghost use Rattle.std.specs.Prelude.{◌≡◌, ◌⊎◌, ◌<◌, ◌-◌, ◌^◌, Err, IfErr, IfOk, IfSome, IsSome, None, Some, map, string_bytes};
 ghost use Rattle.command_line.specs.Requests.{request_of};
-ghost use Rattle.router_cli.specs.Outcome.{CarriesNoMemory};
-ghost use Rattle.router_cli.specs.Promise.{IsRequestEnding, IsRequestOutcome, LeavesScript, ReadsBehind, TellsFirst};
+ghost use Rattle.router_cli.specs.Outcome.{LeavesOutside, status_of_text};
+ghost use Rattle.router_cli.specs.Promise.{IsNoRequestAnswer, IsRequestAnswer, IsRequestEnding, IsRequestOutcome, LeavesScript, ReadsBehind, TellsFirst};
 
-use crate::day::day_outcome;
-use crate::late_trips::late_outcome;
-use crate::made_city::city_outcome;
-use crate::serving::run_outcome;
+use crate::day::day_text;
+use crate::late_trips::late_text;
+use crate::made_city::city_text;
+use crate::serving::run_text;
 use crate::status::Status;
-use crate::verifying::verify_outcome;
+use crate::verifying::verify_text;
+use crate::writing::write;
 use command_line::{Request, request_of};
 use std::alloc::Global;
 use std::sync::Wait;
@@ -17,6 +18,52 @@ use std::thread::Threads;
 use tb_base::{Gate, Memory};
 use tb_io::{Folder, Sink, Source};
 use trip_table::laws::timetable_determined;
+
+// What is written for a request, or why nothing is.
+fn request_text<R: Threads + Wait + Sync, F: Folder + Send, S: Source, G: Gate>(
+    rt: &R,
+    alloc: Global,
+    request: Request,
+    folder: &mut F,
+    source: &mut S,
+    gate: &G,
+) -> Result<Vec<u8>, Status>
+    requires folder { F.faults folder.old < 2 ^ 64 - 1 }
+    requires source { S.faults source.old < 2 ^ 64 - 1 }
+    ensures text { IfOk result (λ text.
+        IsRequestAnswer (F.files folder.old) (S.left source.old) request.entry text.items) }
+    ensures refused { IfErr result
+        (IsNoRequestAnswer (F.files folder.old) (S.left source.old) request.entry) }
+    ensures script { S.faults source.new ≡ S.faults source.old →
+        TellsFirst (S.left source.old) request.entry (status_of_text result) }
+    ensures later { result ≡ Err Status.ReadFault → F.faults folder.new ≡ F.faults folder.old →
+        ReadsBehind (F.files folder.old) request.entry }
+    ensures leaves { LeavesOutside (result ≡ Err Status.ReadFault) (F.files folder.old)
+        (F.files folder.new) (F.faults folder.old) (F.faults folder.new) (S.faults source.old)
+        (S.faults source.new) }
+    ensures left { LeavesScript (Some request.entry) (status_of_text result) (S.left source.old)
+        (S.left source.new) (S.faults source.old) (S.faults source.new) }
+{
+    match request {
+        Request::Day(request) => {
+            let text = day_text(rt, alloc, &request, folder, gate);
+            drop(request);
+            text
+        }
+        Request::Serve(request) => run_text(rt, alloc, request, folder, source, gate),
+        Request::City(request) => Ok(city_text(rt, alloc, request.side, request.workers, gate)?),
+        Request::Verify(request) => {
+            let text = verify_text(alloc, &request, folder, source);
+            drop(request);
+            text
+        }
+        Request::Late(request) => {
+            let text = late_text(rt, alloc, &request, folder, gate);
+            drop(request);
+            text
+        }
+    }
+}
 
 /// Does all that the program does: from the words, the files of the folder and the bytes of the
 /// script to the bytes written to `out`. The order is: words, script, feeds, work, output.
@@ -73,7 +120,6 @@ pub fn route<R: Threads + Wait + Sync, F: Folder + Send, S: Source, K: Sink, G: 
     ensures files { F.files folder.new ≡ F.files folder.old }
     ensures left { LeavesScript (request_of (map string_bytes words.now)) result
         (S.left script.old) (S.left script.new) (S.faults script.old) (S.faults script.new) }
-    ensures memory { CarriesNoMemory result }
     ensures complete { IfSome (request_of (map string_bytes words.now)) (λ r.
         IsSome (F.files folder.old) → F.faults folder.new ≡ F.faults folder.old →
         S.faults script.new ≡ S.faults script.old → K.faults out.new ≡ K.faults out.old →
@@ -81,24 +127,9 @@ pub fn route<R: Threads + Wait + Sync, F: Folder + Send, S: Source, K: Sink, G: 
 {
     timetable_determined();
     match request_of(alloc, words) {
-        Ok(Some(Request::Day(request))) => {
-            let status = day_outcome(rt, alloc, &request, folder, out, gate);
-            drop(request);
-            status
-        }
-        Ok(Some(Request::Serve(request))) => {
-            run_outcome(rt, alloc, request, folder, script, out, gate)
-        }
-        Ok(Some(Request::City(request))) => city_outcome(rt, alloc, &request, out, gate),
-        Ok(Some(Request::Verify(request))) => {
-            let status = verify_outcome(alloc, &request, folder, script, out);
-            drop(request);
-            status
-        }
-        Ok(Some(Request::Late(request))) => {
-            let status = late_outcome(rt, alloc, &request, folder, out, gate);
-            drop(request);
-            status
+        Ok(Some(request)) => {
+            let text = request_text(rt, alloc, request, folder, script, gate);
+            write(out, text)
         }
         Ok(None) => Status::Usage,
         Err(Memory) => Status::Memory,

@@ -1,11 +1,11 @@
-//! What the program does about a run of several days.
-ghost use Rattle.std.specs.Prelude.{◌≡◌, ◌⊎◌, ◌<◌, ◌≤◌, ◌-◌, ◌^◌, Err, IfErr, IfOk, List, Ok, length, map, ℕ};
+//! What the program writes about a run of several days.
+ghost use Rattle.std.specs.Prelude.{◌≡◌, ◌<◌, ◌≤◌, ◌-◌, ◌^◌, Err, IfErr, IfOk, List, Ok, length, map, ℕ};
 ghost use Rattle.std.specs.Io.KnownBytes.{Consumes};
 ghost use Rattle.footpaths.specs.Limits.{AreWithinADay};
 ghost use Rattle.tb_base.specs.Workers.{AreWorkers};
 ghost use Rattle.lane_serve.specs.Script.{IsScript};
-ghost use Rattle.router_cli.specs.Outcome.{CarriesNoMemory};
-ghost use Rattle.router_cli.specs.Serving.{IsNoRun, IsNoScript, IsRunOutcome, IsRunText, ScriptGives, TellsScript, item_of, plan_of, status_for};
+ghost use Rattle.router_cli.specs.Outcome.{LeavesOutside, status_of_text};
+ghost use Rattle.router_cli.specs.Serving.{IsNoRun, IsNoRunAnswer, IsNoScript, IsRunAnswer, IsRunText, ScriptGives, TellsScript, item_of, plan_of, status_for};
 
 use crate::status::Status;
 use command_line::{PlannedDay, ServeRequest};
@@ -14,8 +14,8 @@ use lane_serve::{PlanItem, Script, ScriptFault, ServeFault, read_script, serve, 
 use std::alloc::Global;
 use std::sync::Wait;
 use std::thread::Threads;
-use tb_base::{Gate, Memory};
-use tb_io::{Folder, Sink, Source, Taken, put_all, take_source};
+use tb_base::{Gate, Memory, Refused};
+use tb_io::{Folder, Source, Taken, take_source};
 
 // No script has more bytes.
 const MOST_BYTES: u64 = 33_554_432;
@@ -27,14 +27,13 @@ fn script_from<S: Source>(alloc: Global, source: &mut S) -> Result<Script, Statu
     ensures kept { IfOk result (λ _. S.faults source.new ≡ S.faults source.old) }
     ensures refused { IfErr result
         (IsNoScript (S.left source.old) (S.faults source.old) (S.faults source.new)) }
-    ensures memory { IfErr result CarriesNoMemory }
     ensures read { (bs : List ℕ) × Consumes (S.left source.old) (S.left source.new) bs }
 {
     match take_source(alloc, source, MOST_BYTES) {
         Ok(bytes) => match read_script(alloc, bytes.as_slice()) {
             Ok(script) => Ok(script),
-            Err(ScriptFault::Memory) => Err(Status::Memory),
-            Err(fault) => Err(Status::ScriptRefused(fault)),
+            Err(Refused::Fault(fault)) => Err(Status::ScriptRefused(fault)),
+            Err(Refused::Memory) => Err(Status::Memory),
         },
         Err(Taken::TooLarge) => Err(Status::ScriptRefused(ScriptFault::TooLong)),
         Err(Taken::ReadFault) => Err(Status::ReadFault),
@@ -68,7 +67,6 @@ fn items_of(alloc: Global, days: Vec<PlannedDay>) -> Result<Vec<PlanItem>, Memor
 
 fn status_of(fault: ServeFault) -> Status
     ensures status { result ≡ status_for fault }
-    ensures memory { CarriesNoMemory result }
 {
     match fault {
         ServeFault::Feed(fault) => Status::FeedRefused(fault),
@@ -99,24 +97,20 @@ fn served_run<R: Threads + Wait + Sync, F: Folder + Send, G: Gate>(
     ensures kept { IfOk result (λ _. F.faults folder.new ≡ F.faults folder.old) }
     ensures stop { IfErr result (IsNoRun (F.files folder.old) options.now plan.now
         (F.faults folder.old) (F.faults folder.new)) }
-    ensures memory { IfErr result CarriesNoMemory }
     ensures files { F.files folder.new ≡ F.files folder.old }
 {
     match serve(rt, alloc, plan, options, workers, script, folder, gate) {
         Ok(served) => {
             let text = served_text(alloc, plan, &served);
             drop(served);
-            match text {
-                Ok(text) => Ok(text),
-                Err(Memory) => Err(Status::Memory),
-            }
+            Ok(text?)
         }
         Err(fault) => Err(status_of(fault)),
     }
 }
 
-// The same, by the days of a request.
-fn run_text<R: Threads + Wait + Sync, F: Folder + Send, G: Gate>(
+// The text of a run of the lanes of a script beside the days of a request.
+fn plan_text<R: Threads + Wait + Sync, F: Folder + Send, G: Gate>(
     rt: &R,
     alloc: Global,
     request: ServeRequest,
@@ -131,7 +125,6 @@ fn run_text<R: Threads + Wait + Sync, F: Folder + Send, G: Gate>(
     ensures kept { IfOk result (λ _. F.faults folder.new ≡ F.faults folder.old) }
     ensures stop { IfErr result (IsNoRun (F.files folder.old) request.entry.options
         (plan_of request.entry) (F.faults folder.old) (F.faults folder.new)) }
-    ensures memory { IfErr result CarriesNoMemory }
     ensures files { F.files folder.new ≡ F.files folder.old }
 {
     let ServeRequest {
@@ -139,62 +132,43 @@ fn run_text<R: Threads + Wait + Sync, F: Folder + Send, G: Gate>(
         workers,
         plan,
     } = request;
-    let Ok(items) = items_of(alloc, plan) else {
-        return Err(Status::Memory);
-    };
+    let items = items_of(alloc, plan)?;
     let plan = items.as_slice();
     let text = served_run(rt, alloc, plan, &options, workers, script, folder, gate);
     drop(items);
     text
 }
 
-/// Answers the script of a source by a run of the days of a plan. It may wait.
-pub(crate) fn run_outcome<R: Threads + Wait + Sync, F: Folder + Send, S: Source, K: Sink, G: Gate>(
+/// The replies to the script of a source, by a run of the days of a plan. It may wait.
+pub(crate) fn run_text<R: Threads + Wait + Sync, F: Folder + Send, S: Source, G: Gate>(
     rt: &R,
     alloc: Global,
     request: ServeRequest,
     folder: &mut F,
-    script: &mut S,
-    out: &mut K,
+    source: &mut S,
     gate: &G,
-) -> Status
+) -> Result<Vec<u8>, Status>
     requires folder { F.faults folder.old < 2 ^ 64 - 1 }
-    requires script { S.faults script.old < 2 ^ 64 - 1 }
-    requires out { K.faults out.old < 2 ^ 64 - 1 }
-    ensures promise { IsRunOutcome (F.files folder.old) (S.left script.old) request.entry result
-        (K.written out.old) (K.written out.new) }
-    ensures script { S.faults script.new ≡ S.faults script.old →
-        TellsScript (S.left script.old) result }
-    ensures quiet { (result ≡ Status.Done) ⊎ (result ≡ Status.WriteFault)
-        ⊎ (K.written out.new ≡ K.written out.old) }
-    ensures read { result ≡ Status.ReadFault → (F.faults folder.old < F.faults folder.new)
-        ⊎ (S.faults script.old < S.faults script.new) }
-    ensures alone { (F.faults folder.new ≡ F.faults folder.old)
-        ⊎ (S.faults script.new ≡ S.faults script.old) }
-    ensures write { result ≡ Status.WriteFault → K.faults out.old < K.faults out.new }
-    ensures folder_kept { (result ≡ Status.ReadFault)
-        ⊎ (F.faults folder.new ≡ F.faults folder.old) }
-    ensures script_kept { (result ≡ Status.ReadFault)
-        ⊎ (S.faults script.new ≡ S.faults script.old) }
-    ensures out_kept { (result ≡ Status.WriteFault) ⊎ (K.faults out.new ≡ K.faults out.old) }
-    ensures files { F.files folder.new ≡ F.files folder.old }
-    ensures taken { (bs : List ℕ) × Consumes (S.left script.old) (S.left script.new) bs }
-    ensures memory { CarriesNoMemory result }
+    requires source { S.faults source.old < 2 ^ 64 - 1 }
+    ensures text { IfOk result (λ text.
+        IsRunAnswer (F.files folder.old) (S.left source.old) request.entry text.items) }
+    ensures refused { IfErr result
+        (IsNoRunAnswer (F.files folder.old) (S.left source.old) request.entry) }
+    ensures script { S.faults source.new ≡ S.faults source.old →
+        TellsScript (S.left source.old) (status_of_text result) }
+    ensures leaves { LeavesOutside (result ≡ Err Status.ReadFault) (F.files folder.old)
+        (F.files folder.new) (F.faults folder.old) (F.faults folder.new) (S.faults source.old)
+        (S.faults source.new) }
+    ensures taken { (bs : List ℕ) × Consumes (S.left source.old) (S.left source.new) bs }
 {
-    let lanes = match script_from(alloc, script) {
-        Ok(lanes) => lanes,
+    let script = match script_from(alloc, source) {
+        Ok(script) => script,
         Err(status) => {
             drop(request);
-            return status;
+            return Err(status);
         }
     };
-    let text = run_text(rt, alloc, request, &lanes, folder, gate);
-    drop(lanes);
-    match text {
-        Ok(text) => match put_all(out, text.as_slice()) {
-            Ok(()) => Status::Done,
-            Err(_) => Status::WriteFault,
-        },
-        Err(status) => status,
-    }
+    let text = plan_text(rt, alloc, request, &script, folder, gate);
+    drop(script);
+    text
 }

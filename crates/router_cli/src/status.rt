@@ -2,7 +2,7 @@
 ghost use Rattle.std.specs.Prelude.{◌≡◌, ◌++◌, IfOk, codes};
 ghost use Rattle.std.specs.Fmt.{decimal};
 ghost use Rattle.std.specs.Process.{exit_status};
-ghost use Rattle.router_cli.specs.Outcome.{journey_fault_text, late_fault_text, script_fault_text, status_code, status_text};
+ghost use Rattle.router_cli.specs.Outcome.{journey_fault_text, late_fault_text, row_text, script_fault_text, status_code, status_text};
 
 use answer_text::fault_text;
 use gtfs_rows::FeedFault;
@@ -40,6 +40,17 @@ pub enum Status {
     JourneyRefused(JourneyFault),
 }
 
+impl From<Memory> for Status {
+    ghost use Rattle.std.specs.Prelude.{◌≡◌};
+    ghost use Rattle.router_cli.specs.declared.status.Status.TheVariants as status;
+
+    ghost from_gives = { λ _ given. given ≡ status.Memory };
+
+    fn from(_refusal: Memory) -> Status {
+        Status::Memory
+    }
+}
+
 impl Status {
     /// The number with which the program ends: 0 for `Done`, and 2 to 9 for the others in their
     /// order.
@@ -67,13 +78,19 @@ pub fn status_text(alloc: Global, status: &Status) -> Result<Vec<u8>, Memory>
     match status {
         Status::Done => Ok(Vec::new(alloc)),
         Status::Usage => copied(alloc, USAGE),
-        Status::FeedRefused(fault) => refusal_text(alloc, fault),
+        Status::FeedRefused(fault) => feed_refusal_text(alloc, fault),
         Status::ReadFault => copied(alloc, b"router: read fault\n"),
         Status::WriteFault => copied(alloc, b"router: write fault\n"),
         Status::Memory => copied(alloc, b"router: out of memory\n"),
-        Status::ScriptRefused(fault) => script_refusal_text(alloc, *fault),
-        Status::LateRefused(fault) => late_refusal_text(alloc, *fault),
-        Status::JourneyRefused(fault) => journey_refusal_text(alloc, *fault),
+        Status::ScriptRefused(fault) => {
+            row_refusal_text(alloc, b"router: script refused: ", script_row(*fault))
+        }
+        Status::LateRefused(fault) => {
+            row_refusal_text(alloc, b"router: late refused: ", late_row(*fault))
+        }
+        Status::JourneyRefused(fault) => {
+            row_refusal_text(alloc, b"router: journey refused: ", journey_row(*fault))
+        }
     }
 }
 
@@ -109,7 +126,7 @@ fn refusal_line(alloc: Global, refused: &[u8], fault: &[u8]) -> Result<Vec<u8>, 
     Ok(line)
 }
 
-fn refusal_text(alloc: Global, fault: &FeedFault) -> Result<Vec<u8>, Memory>
+fn feed_refusal_text(alloc: Global, fault: &FeedFault) -> Result<Vec<u8>, Memory>
     ensures { IfOk result (λ v. v.items ≡ status_text (Status.FeedRefused fault.now)) }
 {
     let text = fault_text(alloc, fault)?;
@@ -129,64 +146,70 @@ pub(crate) fn at_number(alloc: Global, name: &[u8], number: u32) -> Result<Vec<u
     Ok(text)
 }
 
+// The text of a fault by its number and name, and by its line where it has one.
+fn row_text(alloc: Global, name: &[u8], line: Option<u32>) -> Result<Vec<u8>, Memory>
+    ensures { IfOk result (λ v. v.items ≡ row_text name.now line) }
+{
+    match line {
+        Some(line) => {
+            let mut text = copied(alloc, name)?;
+            text.extend_from_slice(b" line ")?;
+            at_number(alloc, text.as_slice(), line)
+        }
+        None => copied(alloc, name),
+    }
+}
+
+// What is refused, and such a fault, as a line.
+fn row_refusal_text(
+    alloc: Global,
+    refused: &[u8],
+    row: (&'static [u8], Option<u32>),
+) -> Result<Vec<u8>, Memory>
+    ensures { IfOk result (λ v.
+        v.items ≡ refused.now ++ row_text row.entry.0.now row.entry.1 ++ codes "\n") }
+{
+    let (name, line) = row;
+    let text = row_text(alloc, name, line)?;
+    refusal_line(alloc, refused, text.as_slice())
+}
+
 // The number and the name of a script's fault, and its line where it has one.
-fn script_fault_text(alloc: Global, fault: ScriptFault) -> Result<Vec<u8>, Memory>
-    ensures { IfOk result (λ v. v.items ≡ script_fault_text fault) }
+fn script_row(fault: ScriptFault) -> (&'static [u8], Option<u32>)
+    ensures { row_text result.0.now result.1 ≡ script_fault_text fault }
 {
     match fault {
-        ScriptFault::BadLine(line) => at_number(alloc, b"1 BadLine line ", line),
-        ScriptFault::TooManyLanes(line) => at_number(alloc, b"2 TooManyLanes line ", line),
-        ScriptFault::TooManyLines(line) => at_number(alloc, b"3 TooManyLines line ", line),
-        ScriptFault::BadTime(line) => at_number(alloc, b"4 BadTime line ", line),
-        ScriptFault::TooLong => copied(alloc, b"5 TooLong"),
-        ScriptFault::Memory => copied(alloc, b"Memory"),
+        ScriptFault::BadLine(line) => (b"1 BadLine".as_slice(), Some(line)),
+        ScriptFault::TooManyLanes(line) => (b"2 TooManyLanes".as_slice(), Some(line)),
+        ScriptFault::TooManyLines(line) => (b"3 TooManyLines".as_slice(), Some(line)),
+        ScriptFault::BadTime(line) => (b"4 BadTime".as_slice(), Some(line)),
+        ScriptFault::TooLong => (b"5 TooLong".as_slice(), None),
     }
 }
 
-fn script_refusal_text(alloc: Global, fault: ScriptFault) -> Result<Vec<u8>, Memory>
-    ensures { IfOk result (λ v. v.items ≡ status_text (Status.ScriptRefused fault)) }
-{
-    let text = script_fault_text(alloc, fault)?;
-    refusal_line(alloc, b"router: script refused: ", text.as_slice())
-}
-
-// The number and the name of a fault of late trips, and its line where it has one.
-fn late_fault_text(alloc: Global, fault: LateFault) -> Result<Vec<u8>, Memory>
-    ensures { IfOk result (λ v. v.items ≡ late_fault_text fault) }
+// The same of a fault of late trips.
+fn late_row(fault: LateFault) -> (&'static [u8], Option<u32>)
+    ensures { row_text result.0.now result.1 ≡ late_fault_text fault }
 {
     match fault {
-        LateFault::UnknownTrip(line) => at_number(alloc, b"1 UnknownTrip line ", line),
-        LateFault::TimeRunsBack(line) => at_number(alloc, b"2 TimeRunsBack line ", line),
-        LateFault::OutOfRange(line) => at_number(alloc, b"3 OutOfRange line ", line),
-        LateFault::BadEvent(line) => at_number(alloc, b"4 BadEvent line ", line),
-        LateFault::BadLine(line) => at_number(alloc, b"5 BadLine line ", line),
-        LateFault::MissingFile => copied(alloc, b"6 MissingFile"),
-        LateFault::TooLarge => copied(alloc, b"7 TooLarge"),
+        LateFault::UnknownTrip(line) => (b"1 UnknownTrip".as_slice(), Some(line)),
+        LateFault::TimeRunsBack(line) => (b"2 TimeRunsBack".as_slice(), Some(line)),
+        LateFault::OutOfRange(line) => (b"3 OutOfRange".as_slice(), Some(line)),
+        LateFault::BadEvent(line) => (b"4 BadEvent".as_slice(), Some(line)),
+        LateFault::BadLine(line) => (b"5 BadLine".as_slice(), Some(line)),
+        LateFault::MissingFile => (b"6 MissingFile".as_slice(), None),
+        LateFault::TooLarge => (b"7 TooLarge".as_slice(), None),
     }
 }
 
-fn late_refusal_text(alloc: Global, fault: LateFault) -> Result<Vec<u8>, Memory>
-    ensures { IfOk result (λ v. v.items ≡ status_text (Status.LateRefused fault)) }
-{
-    let text = late_fault_text(alloc, fault)?;
-    refusal_line(alloc, b"router: late refused: ", text.as_slice())
-}
-
-// The number and the name of a claim's fault, and its line where it has one.
-fn journey_fault_text(alloc: Global, fault: JourneyFault) -> Result<Vec<u8>, Memory>
-    ensures { IfOk result (λ v. v.items ≡ journey_fault_text fault) }
+// The same of a claim's fault.
+fn journey_row(fault: JourneyFault) -> (&'static [u8], Option<u32>)
+    ensures { row_text result.0.now result.1 ≡ journey_fault_text fault }
 {
     match fault {
-        JourneyFault::BadLine(line) => at_number(alloc, b"1 BadLine line ", line),
-        JourneyFault::UnknownStop(line) => at_number(alloc, b"2 UnknownStop line ", line),
-        JourneyFault::NoSuchRide(line) => at_number(alloc, b"3 NoSuchRide line ", line),
-        JourneyFault::TooLong => copied(alloc, b"4 TooLong"),
+        JourneyFault::BadLine(line) => (b"1 BadLine".as_slice(), Some(line)),
+        JourneyFault::UnknownStop(line) => (b"2 UnknownStop".as_slice(), Some(line)),
+        JourneyFault::NoSuchRide(line) => (b"3 NoSuchRide".as_slice(), Some(line)),
+        JourneyFault::TooLong => (b"4 TooLong".as_slice(), None),
     }
-}
-
-fn journey_refusal_text(alloc: Global, fault: JourneyFault) -> Result<Vec<u8>, Memory>
-    ensures { IfOk result (λ v. v.items ≡ status_text (Status.JourneyRefused fault)) }
-{
-    let text = journey_fault_text(alloc, fault)?;
-    refusal_line(alloc, b"router: journey refused: ", text.as_slice())
 }

@@ -1,9 +1,9 @@
-//! What the program does about a claimed journey.
-ghost use Rattle.std.specs.Prelude.{◌≡◌, ◌⊎◌, ◌<◌, ◌-◌, ◌^◌, Err, IfErr, IfOk, List, Ok, length, ℕ};
+//! What the program writes about a claimed journey.
+ghost use Rattle.std.specs.Prelude.{◌≡◌, ◌<◌, ◌-◌, ◌^◌, Err, IfErr, IfOk, List, Ok, length, ℕ};
 ghost use Rattle.std.specs.Io.KnownBytes.{Consumes};
 ghost use Rattle.tb_base.specs.BestValues.{ChoiceData};
-ghost use Rattle.router_cli.specs.Outcome.{CarriesNoMemory};
-ghost use Rattle.router_cli.specs.Verifying.{ClaimGives, HasDay, IsNoClaim, IsNoVerifyAnswer, IsVerifyAnswer, IsVerifiedText, IsVerifyOutcome, LeavesClaim};
+ghost use Rattle.router_cli.specs.Outcome.{LeavesOutside, status_of_text};
+ghost use Rattle.router_cli.specs.Verifying.{ClaimGives, HasDay, IsNoClaim, IsNoVerifyAnswer, IsVerifyAnswer, IsVerifiedText, LeavesClaim};
 
 use crate::day::table_of;
 use crate::over_table::{Asked, query_of};
@@ -14,7 +14,7 @@ use command_line::{Inquiry, VerifyRequest};
 use journey_read::{Claimed, JourneyFault, judge, read_journey};
 use std::alloc::Global;
 use tb_base::{Memory, Refused, Timetable};
-use tb_io::{Folder, Sink, Source, Taken, put_all, take_source};
+use tb_io::{Folder, Source, Taken, take_source};
 
 // No claim has more bytes.
 const MOST_BYTES: u64 = 1_048_576;
@@ -31,7 +31,6 @@ fn claim_from<S: Source>(
     ensures kept { IfOk result (λ _. S.faults source.new ≡ S.faults source.old) }
     ensures refused { IfErr result (IsNoClaim table.now (S.left source.old)
         (S.faults source.old) (S.faults source.new)) }
-    ensures memory { IfErr result CarriesNoMemory }
     ensures read { (bs : List ℕ) × Consumes (S.left source.old) (S.left source.new) bs }
 {
     match take_source(alloc, source, MOST_BYTES) {
@@ -77,7 +76,6 @@ fn claimed_text<S: Source>(
     ensures kept { IfOk result (λ _. S.faults source.new ≡ S.faults source.old) }
     ensures refused { IfErr result (IsNoClaim table.now (S.left source.old)
         (S.faults source.old) (S.faults source.new)) }
-    ensures memory { IfErr result CarriesNoMemory }
     ensures read { (bs : List ℕ) × Consumes (S.left source.old) (S.left source.new) bs }
 {
     let claimed = match claim_from(alloc, table, source) {
@@ -86,18 +84,16 @@ fn claimed_text<S: Source>(
     };
     let text = verified_text(alloc, table, inquiry, &claimed);
     drop(claimed);
-    match text {
-        Ok(text) => Ok(text),
-        Err(Memory) => Err(Status::Memory),
-    }
+    Ok(text?)
 }
 
-// What is written for a request. The source is read once the timetable of the day is there.
-fn text_of<F: Folder, S: Source>(
+/// The verdict on the journey that a source claims over one day of a feed. The source is read once
+/// the timetable of the day is there. It has no handle that waits, so it returns.
+pub(crate) fn verify_text<F: Folder, S: Source>(
     alloc: Global,
+    request: &VerifyRequest,
     folder: &mut F,
     source: &mut S,
-    request: &VerifyRequest,
 ) -> Result<Vec<u8>, Status>
     requires folder { F.faults folder.old < 2 ^ 64 - 1 }
     requires source { S.faults source.old < 2 ^ 64 - 1 }
@@ -105,21 +101,13 @@ fn text_of<F: Folder, S: Source>(
         IsVerifyAnswer (F.files folder.old) (S.left source.old) request.now text.items) }
     ensures refused { IfErr result
         (IsNoVerifyAnswer (F.files folder.old) (S.left source.old) request.now) }
-    ensures fault { result ≡ Err Status.ReadFault → (F.faults folder.old < F.faults folder.new)
-        ⊎ (S.faults source.old < S.faults source.new) }
-    ensures alone { (F.faults folder.new ≡ F.faults folder.old)
-        ⊎ (S.faults source.new ≡ S.faults source.old) }
     ensures later { result ≡ Err Status.ReadFault → F.faults folder.new ≡ F.faults folder.old →
         HasDay (F.files folder.old) request.now }
-    ensures folder_kept { (result ≡ Err Status.ReadFault)
-        ⊎ (F.faults folder.new ≡ F.faults folder.old) }
-    ensures source_kept { (result ≡ Err Status.ReadFault)
-        ⊎ (S.faults source.new ≡ S.faults source.old) }
-    ensures files { F.files folder.new ≡ F.files folder.old }
-    ensures read { (bs : List ℕ) × Consumes (S.left source.old) (S.left source.new) bs }
-    ensures left { IfErr result (λ s. LeavesClaim s (S.left source.old) (S.left source.new)
-        (S.faults source.old) (S.faults source.new)) }
-    ensures memory { IfErr result CarriesNoMemory }
+    ensures leaves { LeavesOutside (result ≡ Err Status.ReadFault) (F.files folder.old)
+        (F.files folder.new) (F.faults folder.old) (F.faults folder.new) (S.faults source.old)
+        (S.faults source.new) }
+    ensures left { LeavesClaim (status_of_text result) (S.left source.old) (S.left source.new)
+        (S.faults source.old) (S.faults source.new) }
 {
     let table = match table_of(alloc, folder, request.dir, &request.day, &request.options) {
         Ok(table) => table,
@@ -128,46 +116,4 @@ fn text_of<F: Folder, S: Source>(
     let text = claimed_text(alloc, &table, source, &request.inquiry);
     drop(table);
     text
-}
-
-/// Judges the journey that a source claims over one day of a feed. It has no handle that waits, so
-/// it returns.
-pub(crate) fn verify_outcome<F: Folder, S: Source, K: Sink>(
-    alloc: Global,
-    request: &VerifyRequest,
-    folder: &mut F,
-    source: &mut S,
-    out: &mut K,
-) -> Status
-    requires folder { F.faults folder.old < 2 ^ 64 - 1 }
-    requires source { S.faults source.old < 2 ^ 64 - 1 }
-    requires out { K.faults out.old < 2 ^ 64 - 1 }
-    ensures promise { IsVerifyOutcome (F.files folder.old) (S.left source.old) request.now result
-        (K.written out.old) (K.written out.new) }
-    ensures later { result ≡ Status.ReadFault → F.faults folder.new ≡ F.faults folder.old →
-        HasDay (F.files folder.old) request.now }
-    ensures quiet { (result ≡ Status.Done) ⊎ (result ≡ Status.WriteFault)
-        ⊎ (K.written out.new ≡ K.written out.old) }
-    ensures read { result ≡ Status.ReadFault → (F.faults folder.old < F.faults folder.new)
-        ⊎ (S.faults source.old < S.faults source.new) }
-    ensures alone { (F.faults folder.new ≡ F.faults folder.old)
-        ⊎ (S.faults source.new ≡ S.faults source.old) }
-    ensures write { result ≡ Status.WriteFault → K.faults out.old < K.faults out.new }
-    ensures folder_kept { (result ≡ Status.ReadFault)
-        ⊎ (F.faults folder.new ≡ F.faults folder.old) }
-    ensures source_kept { (result ≡ Status.ReadFault)
-        ⊎ (S.faults source.new ≡ S.faults source.old) }
-    ensures out_kept { (result ≡ Status.WriteFault) ⊎ (K.faults out.new ≡ K.faults out.old) }
-    ensures files { F.files folder.new ≡ F.files folder.old }
-    ensures left { LeavesClaim result (S.left source.old) (S.left source.new)
-        (S.faults source.old) (S.faults source.new) }
-    ensures memory { CarriesNoMemory result }
-{
-    match text_of(alloc, folder, source, request) {
-        Ok(text) => match put_all(out, text.as_slice()) {
-            Ok(()) => Status::Done,
-            Err(_) => Status::WriteFault,
-        },
-        Err(status) => status,
-    }
 }

@@ -1,32 +1,72 @@
-use Rattle.std.proofs.Common.{Some, inl, map, sym}
+use Rattle.std.proofs.Common.{Some, map, sym}
 use Rattle.std.specs.Prelude.{string_bytes}
 use Rattle.command_line.specs.Requests.{request_of}
-use Rattle.command_line.specs.declared.request.Request.TheVariants as request
+use Rattle.router_cli.specs.Promise.{TellsFirst}
 use Rattle.router_cli.specs.declared.status.Status.TheVariants as status
 use Rattle.router_cli.proofs.Completed.{completed, unread}
+use Rattle.router_cli.proofs.Written.{at_end, ends_unread, first_in_part, has_meaning, left_at_end, none_written, promised, read_or_kept, unread_text}
 use Rattle.router_cli.proofs.program.route.Goals as goal
 
 pub returns-in-Err-clause-left : goal.returns-in-Err-clause-left
 returns-in-Err-clause-left g c =
     unread (request_of (map string_bytes c.args.words.now)) status.Memory (g.S.Source.left c.args.script.now) (g.S.Source.faults c.args.script.now)
 
-pub returns-in-Ok-Some-Day-clause-complete : goal.returns-in-Ok-Some-Day-clause-complete
-returns-in-Ok-Some-Day-clause-complete g c =
-    let at = c.in-Ok-Some-Day in
-    rw (sym at.ensures, at.field-0-is, at.field-0-0-is)
-    (completed c.timetable_determined.ensures (Some (request.Day at.request)) _ (g.S.Source.left c.args.script.now) c.day_outcome-status.result _ _ _ _ _ _ _ _
-    c.day_outcome-status.ensures.promise (λ h. inl (c.day_outcome-status.ensures.read h)) c.day_outcome-status.ensures.write)
+pub write-requires-clause-text : goal.write-requires-clause-text
+write-requires-clause-text g c =
+    none_written _ _ c.in-Ok-Some.request c.request_text-text.result c.request_text-text.ensures.refused
 
-pub returns-in-Ok-Some-Verify-clause-complete : goal.returns-in-Ok-Some-Verify-clause-complete
-returns-in-Ok-Some-Verify-clause-complete g c =
-    let at = c.in-Ok-Some-Verify in
-    rw (sym at.ensures, at.field-0-is, at.field-0-0-is)
-    (completed c.timetable_determined.ensures (Some (request.Verify at.request)) _ _ c.verify_outcome-status.result _ _ _ _ _ _ _ _
-    c.verify_outcome-status.ensures.promise c.verify_outcome-status.ensures.read c.verify_outcome-status.ensures.write)
+pub returns-in-Ok-Some-clause-usage : goal.returns-in-Ok-Some-clause-usage
+returns-in-Ok-Some-clause-usage g c =
+    λ is. absurd (has_meaning _ _ c.in-Ok-Some.request c.request_text-text.result c.write.result _ _ c.request_text-text.ensures.refused c.write.ensures.writes is)
 
-pub returns-in-Ok-Some-Late-clause-complete : goal.returns-in-Ok-Some-Late-clause-complete
-returns-in-Ok-Some-Late-clause-complete g c =
-    let at = c.in-Ok-Some-Late in
-    rw (sym at.ensures, at.field-0-is, at.field-0-0-is)
-    (completed c.timetable_determined.ensures (Some (request.Late at.request)) _ (g.S.Source.left c.args.script.now) c.late_outcome-status.result _ _ _ _ _ _ _ _
-    c.late_outcome-status.ensures.promise (λ h. inl (c.late_outcome-status.ensures.read h)) c.late_outcome-status.ensures.write)
+pub returns-in-Ok-Some-clause-promise : goal.returns-in-Ok-Some-clause-promise
+returns-in-Ok-Some-clause-promise g c =
+    let at = c.in-Ok-Some in
+    rw (sym at.ensures, at.field-0-is)
+    (promised _ _ at.request c.request_text-text.result c.write.result _ _ c.request_text-text.ensures.text c.request_text-text.ensures.refused c.write.ensures.writes)
+
+pub returns-in-Ok-Some-clause-script : goal.returns-in-Ok-Some-clause-script
+returns-in-Ok-Some-clause-script g c =
+    let at = c.in-Ok-Some in
+    let told = g.S.Source.left c.args.script.now in
+    rw (sym at.ensures, at.field-0-is)
+    (λ still. at_end (TellsFirst told at.request) c.request_text-text.result c.write.result _ _ (first_in_part told at.request) c.write.ensures.writes
+    (c.request_text-text.ensures.script still))
+
+pub returns-in-Ok-Some-clause-later : goal.returns-in-Ok-Some-clause-later
+returns-in-Ok-Some-clause-later g c =
+    let at = c.in-Ok-Some in
+    rw (sym at.ensures, at.field-0-is)
+    (λ is still. c.request_text-text.ensures.later (unread_text c.request_text-text.result c.write.result _ _ c.write.ensures.writes is) still)
+
+pub returns-in-Ok-Some-clause-read : goal.returns-in-Ok-Some-clause-read
+returns-in-Ok-Some-clause-read g c =
+    λ is. c.request_text-text.ensures.leaves.read (unread_text c.request_text-text.result c.write.result _ _ c.write.ensures.writes is)
+
+pub returns-in-Ok-Some-clause-alone : goal.returns-in-Ok-Some-clause-alone
+returns-in-Ok-Some-clause-alone g c = c.request_text-text.ensures.leaves.alone
+
+pub returns-in-Ok-Some-clause-folder_kept : goal.returns-in-Ok-Some-clause-folder_kept
+returns-in-Ok-Some-clause-folder_kept g c =
+    read_or_kept c.request_text-text.result c.write.result _ _ c.write.ensures.writes c.request_text-text.ensures.leaves.folder_kept
+
+pub returns-in-Ok-Some-clause-script_kept : goal.returns-in-Ok-Some-clause-script_kept
+returns-in-Ok-Some-clause-script_kept g c =
+    read_or_kept c.request_text-text.result c.write.result _ _ c.write.ensures.writes c.request_text-text.ensures.leaves.source_kept
+
+pub returns-in-Ok-Some-clause-files : goal.returns-in-Ok-Some-clause-files
+returns-in-Ok-Some-clause-files g c = c.request_text-text.ensures.leaves.files
+
+pub returns-in-Ok-Some-clause-left : goal.returns-in-Ok-Some-clause-left
+returns-in-Ok-Some-clause-left g c =
+    let at = c.in-Ok-Some in
+    rw (sym at.ensures, at.field-0-is)
+    (left_at_end at.request c.request_text-text.result c.write.result _ _ _ _ _ _ c.write.ensures.writes c.request_text-text.ensures.left)
+
+pub returns-in-Ok-Some-clause-complete : goal.returns-in-Ok-Some-clause-complete
+returns-in-Ok-Some-clause-complete g c =
+    let at = c.in-Ok-Some in
+    rw (sym at.ensures, at.field-0-is)
+    (completed c.timetable_determined.ensures (Some at.request) _ _ c.write.result _ _ _ _ _ _ _ _
+    (promised _ _ at.request c.request_text-text.result c.write.result _ _ c.request_text-text.ensures.text c.request_text-text.ensures.refused c.write.ensures.writes)
+    (λ is. c.request_text-text.ensures.leaves.read (unread_text c.request_text-text.result c.write.result _ _ c.write.ensures.writes is)) c.write.ensures.write)
