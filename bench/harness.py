@@ -143,9 +143,21 @@ def done(program, words, **how):
     return run
 
 
-def commit():
-    """The commit of the checkout, with `-dirty` where files differ from it."""
-    words = ["git", "-C", TOP, "describe", "--always", "--dirty", "--abbrev=7", "--exclude=*"]
+def commit_of(program):
+    """The commit that a program was built of, by the stamp that its build left, or else that of
+    this checkout.
+    """
+    stamp = f"{program}.stamp"
+    with contextlib.suppress(OSError), open(stamp, encoding="utf-8") as file:
+        name, found, *_ = file.read().split()
+        if name == "commit" and os.path.getmtime(stamp) >= os.path.getmtime(program):
+            return found
+    return commit()
+
+
+def commit(top=TOP):
+    """The commit of a checkout, with `-dirty` where files differ from it."""
+    words = ["git", "-C", top, "describe", "--always", "--dirty", "--abbrev=12", "--exclude=*"]
     with contextlib.suppress(OSError):
         found = subprocess.run(words, capture_output=True, text=True).stdout.strip()
         if found:
@@ -164,11 +176,11 @@ def processor():
 
 class Table:
     """A table as the documents have them: its columns, and rows as they come. Above it stands a
-    line with the commit, the date and the processor.
+    line with the commit of what is measured, the date and the processor.
     """
 
-    def __init__(self, *columns):
-        print(f"{commit()}, {datetime.date.today()}, {processor()}\n")
+    def __init__(self, measured, *columns):
+        print(f"{measured}, {datetime.date.today()}, {processor()}\n")
         self.row(*columns)
         print("|" + "---|" * len(columns), flush=True)
 

@@ -8,7 +8,7 @@ gets through in a second.
 import os
 
 from feeds import add_feed_argument, feed_of
-from harness import DAY, BenchError, Table, count, done, megabytes_of, router
+from harness import DAY, BenchError, Table, commit_of, count, done, megabytes_of, router
 
 
 def add_arguments(parser):
@@ -40,6 +40,7 @@ def run(words):
         raise BenchError(f"there is no program {words.other}")
     programs = [os.path.realpath(words.other), router()]
     table = Table(
+        commit_of(programs[1]),
         "feed",
         "`direct` s, other",
         "this",

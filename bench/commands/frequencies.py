@@ -9,7 +9,7 @@ import os
 import tempfile
 
 from feeds import network
-from harness import BenchError, Table, asking, asking_words, count, done, rows_of
+from harness import BenchError, Table, asking, asking_words, commit_of, count, done, rows_of
 
 
 def add_arguments(parser):
@@ -49,6 +49,7 @@ def measure(program, table, patterns, runs, folder):
 def run(words):
     program = asking()
     table = Table(
+        commit_of(program),
         "patterns",
         "trips of the half",
         "rows of frequencies.txt",

@@ -12,7 +12,7 @@ import shutil
 import subprocess
 import time
 
-from harness import TOP, BenchError, Table
+from harness import TOP, BenchError, Table, commit
 
 TICKS = os.sysconf("SC_CLK_TCK")
 KINDS = CODE, TESTS, EDITS = "code", "tests", "edits"
@@ -95,13 +95,13 @@ def gate_in(top):
     return None
 
 
-def print_table(seen):
+def print_table(top, seen):
     rows = collections.defaultdict(lambda: {CODE: 0.0, TESTS: 0.0, EDITS: 0.0, "held": 0.0})
     for (crate, kind), seconds, held in seen.values():
         rows[crate][kind] += seconds
         rows[crate]["held"] = max(rows[crate]["held"], held)
     spent = {crate: sum(row[kind] for kind in KINDS) for crate, row in rows.items()}
-    table = Table("crate", "code s", "tests s", "mutants s", "all s", "most MB")
+    table = Table(commit(top), "crate", "code s", "tests s", "mutants s", "all s", "most MB")
     for crate in sorted(rows, key=lambda crate: -spent[crate]):
         seconds = (*(rows[crate][kind] for kind in KINDS), spent[crate], rows[crate]["held"])
         table.row(crate, *(f"{number:.0f}" for number in seconds))
@@ -120,11 +120,11 @@ def run(words):
         if gate is None:
             raise BenchError(f"no gate runs in {top}")
     else:
-        child = subprocess.Popen(gate_words(), cwd=TOP, stdout=subprocess.DEVNULL)
+        top, child = TOP, subprocess.Popen(gate_words(), cwd=TOP, stdout=subprocess.DEVNULL)
         gate = child.pid
     seen = {}
     while (child.poll() is None) if child else os.path.exists(f"/proc/{gate}"):
         sample(gate, seen)
         time.sleep(0.5)
-    print_table(seen)
+    print_table(top, seen)
     return child.returncode if child else 0

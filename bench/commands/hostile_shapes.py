@@ -6,7 +6,7 @@ processor seconds and memory of both: what grows with the bytes alone at most do
 import tempfile
 
 from feeds.shapes import SHAPES
-from harness import DAY, Run, Table, known, megabytes_of, router
+from harness import DAY, Run, Table, commit_of, known, megabytes_of, router
 
 # A size of feeds.shapes at which most have 50 megabytes.
 SIZE = 500_000
@@ -28,6 +28,7 @@ def run(words):
     names = known(words.names, SHAPES)
     program = router()
     table = Table(
+        commit_of(program),
         "shape",
         "MB",
         "status",

@@ -9,7 +9,7 @@ import os
 import random
 
 from feeds import add_feed_argument, feed_of
-from harness import Table, clock, count, done, router
+from harness import Table, clock, commit_of, count, done, router
 
 OPTIONS = ["--change", "60", "--workers", "1"]
 DAYS = ["20260302", "20260303"]
@@ -54,6 +54,7 @@ def measure(program, feed, lanes, days, requests):
 def run(words):
     program = router()
     table = Table(
+        commit_of(program),
         "feed",
         "lanes",
         "editions",

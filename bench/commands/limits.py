@@ -7,7 +7,7 @@ folder at a time.
 import tempfile
 
 from feeds import limits, smallest
-from harness import DAY, Run, Table, known, megabytes_of, router
+from harness import DAY, Run, Table, commit_of, known, megabytes_of, router
 
 NAMES = [*limits.FEEDS, *limits.SCRIPTS]
 
@@ -34,7 +34,13 @@ def run(words):
     names = known(words.names, NAMES)
     program = router()
     table = Table(
-        "at the limit of", "MB", "status", "first line", "processor seconds", "memory MB"
+        commit_of(program),
+        "at the limit of",
+        "MB",
+        "status",
+        "first line",
+        "processor seconds",
+        "memory MB",
     )
     for name in names:
         for more, side in enumerate(("just at", "just past")):

@@ -10,7 +10,7 @@ import tempfile
 import time
 
 from feeds import city
-from harness import DAY, Table, count, done, megabytes_of, router, rows_of
+from harness import DAY, Table, commit_of, count, done, megabytes_of, router, rows_of
 
 OPTIONS = ["--change", "60"]
 NO_DAY = "20300101"
@@ -63,6 +63,7 @@ def measure(program, table, trips, folder):
 def run(words):
     program = router()
     table = Table(
+        commit_of(program),
         "trips",
         "stop times",
         "MB",

@@ -8,7 +8,7 @@ the runs are those of the user with the number 65534 then.
 import os
 import tempfile
 
-from harness import BEST, DAY, SCRIPT, Run, Table, example, outcome, router
+from harness import BEST, DAY, SCRIPT, Run, Table, commit_of, example, outcome, router
 
 NOBODY = 65534
 ASK = [DAY, "A", "D", "08:00:00"]
@@ -118,7 +118,7 @@ def streams(program, folder):
 def run(words):
     bad = 0
     program = router()
-    table = Table("what is met", "status", "wanted", "first line")
+    table = Table(commit_of(program), "what is met", "status", "wanted", "first line")
     with tempfile.TemporaryDirectory() as folder:
         os.chmod(folder, 0o755)
         for cases in (reading, streams):

@@ -8,7 +8,7 @@ the most of all runs. With another build of the program that asks both are measu
 import os
 
 from feeds import add_feed_argument, feed_of
-from harness import BenchError, Table, asking, asking_words, count, done
+from harness import BenchError, Table, asking, asking_words, commit_of, count, done
 
 COUNTS = {"search": 1000, "plain": 1000, "profile": 50, "latest": 1000, "reach": 20}
 
@@ -41,7 +41,8 @@ def run(words):
     programs = {"this": asking()}
     if words.other:
         programs["other"] = os.path.realpath(words.other)
-    table = Table("feed", "method", "program", "ms each, least", "most", "found")
+    columns = "feed", "method", "program", "ms each, least", "most", "found"
+    table = Table(commit_of(programs["this"]), *columns)
     for word in words.feeds:
         with feed_of(word) as (name, feed):
             for method in words.method:

@@ -13,7 +13,7 @@ import subprocess
 import sys
 import tempfile
 
-from harness import BEST, DAY, FEEDS, SCRIPT, BenchError, Run, Table, router, write
+from harness import BEST, DAY, FEEDS, SCRIPT, BenchError, Run, Table, commit_of, router, write
 
 SHIM = r"""
 #define _GNU_SOURCE
@@ -112,7 +112,11 @@ def run(words):
     with tempfile.TemporaryDirectory() as folder:
         env = {"LD_PRELOAD": library(folder), "CALLS_FILE": os.path.join(folder, "calls")}
         table = Table(
-            "command", "calls for memory", "status 6, nothing written", "the answer all the same"
+            commit_of(program),
+            "command",
+            "calls for memory",
+            "status 6, nothing written",
+            "the answer all the same",
         )
         for command, given, answer in COMMANDS:
             calls = calls_of(program, command, given, answer, env)

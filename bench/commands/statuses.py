@@ -6,7 +6,7 @@ output, are what the documents say.
 import os
 import tempfile
 
-from harness import BEST, DAY, SCRIPT, Run, Table, example, limited, outcome, router
+from harness import BEST, DAY, SCRIPT, Run, Table, commit_of, example, limited, outcome, router
 
 USAGE = (
     "usage: router [--change SECS] [--station SECS] [--close] [--workers N] [--plain] COMMAND WORDS"
@@ -54,7 +54,7 @@ def cases(program, folder):
 def run(words):
     bad = 0
     program = router()
-    table = Table("what is met", "status", "wanted", "standard error")
+    table = Table(commit_of(program), "what is met", "status", "wanted", "standard error")
     with tempfile.TemporaryDirectory() as folder:
         for what, status, out, err, ended in cases(program, folder):
             said = f"{err}\n" if err else ""

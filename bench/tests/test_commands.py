@@ -9,7 +9,7 @@ import unittest
 
 from commands import documents
 from feeds import city, network, shapes
-from harness import TOP, BenchError, Run, Table, done, limited
+from harness import TOP, BenchError, Run, Table, commit, commit_of, done, limited, write
 
 
 class Runs(unittest.TestCase):
@@ -40,10 +40,21 @@ class Tables(unittest.TestCase):
     def test_the_form_of_the_documents(self):
         out = io.StringIO()
         with contextlib.redirect_stdout(out):
-            Table("feed", "s").row("city", 1)
+            Table("0123abc", "feed", "s").row("city", 1)
         stamp, *lines = out.getvalue().split("\n")
-        self.assertRegex(stamp, r"^\S.*, \d{4}-\d\d-\d\d, .+, \d+ at work$")
+        self.assertRegex(stamp, r"^0123abc, \d{4}-\d\d-\d\d, .+, \d+ at work$")
         self.assertEqual(["", "| feed | s |", "|---|---|", "| city | 1 |", ""], lines)
+
+
+    def test_the_commit_of_a_program(self):
+        with tempfile.TemporaryDirectory() as folder:
+            program = os.path.join(folder, "router")
+            self.assertEqual(commit(), commit_of(program))
+            for name, text in (("router", ""), ("router.stamp", "commit 0123abc\nsources 1\n")):
+                write(folder, name, text)
+            self.assertEqual("0123abc", commit_of(program))
+            os.utime(program, ns=(2**61, 2**61))
+            self.assertEqual(commit(), commit_of(program))
 
 
 class Examples(unittest.TestCase):
