@@ -41,7 +41,7 @@ def router():
 
 
 # The program that asks many questions within one process, and its words for that.
-ASKING = "query_bench"
+ASKING = "trials"
 
 
 def asking():
@@ -52,7 +52,7 @@ def asking():
 
 def asking_words(feed, count, method):
     """The words by which that program asks a feed so many questions by a method."""
-    return [feed, DAY, str(count), method]
+    return [f"{method}:{count}:{feed}@{DAY}"]
 
 
 # What a process holds at most counts from the one that it was forked of, and this one may hold the

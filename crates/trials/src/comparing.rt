@@ -1,0 +1,58 @@
+//! Ways to a result, each held against another, over small feeds, most of which look random.
+mod answers;
+mod feed;
+mod late;
+mod refused;
+mod same_hops;
+
+use crate::stopped::Stopped;
+use made_feeds::Seeds;
+use refused::{Ended, Refused};
+use segment_queue::Desk;
+use std::alloc::Global;
+use std::thread::Threads;
+
+/// What is compared, and over which feeds that look random.
+#[derive(Clone, Copy)]
+pub enum Comparison {
+    /// Ways to an answer.
+    Answers(Seeds),
+    /// Editions that late trips amend, and editions that are built anew.
+    Late(Seeds),
+}
+
+// Compares, and writes what was compared.
+fn compared<R: Threads + Sync + Print>(
+    rt: &R,
+    alloc: Global,
+    comparison: Comparison,
+    desk: &mut Desk,
+) -> Result<(), Ended> {
+    match comparison {
+        Comparison::Answers(seeds) => answers::compare(rt, alloc, seeds, desk),
+        Comparison::Late(seeds) => late::compare(rt, alloc, seeds, desk),
+    }
+}
+
+/// Compares over all feeds with one desk, and writes what was compared, or where the first
+/// difference is.
+pub fn compare<R: Threads + Sync + Print>(
+    rt: &R,
+    alloc: Global,
+    comparison: Comparison,
+    desk: &mut Desk,
+) -> Result<(), Stopped> {
+    match compared(rt, alloc, comparison, desk) {
+        Ok(()) => Ok(()),
+        Err(
+            Ended {
+                refused: Refused::Memory,
+                ..
+            },
+        ) => Err(Stopped::Memory),
+        Err(ended) => {
+            let _ = println!(rt; "{ended:?}");
+            Err(Stopped::Wrong)
+        }
+    }
+}

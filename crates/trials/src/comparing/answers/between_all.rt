@@ -1,0 +1,239 @@
+//! The feeds made by hand, asked between all of their stops.
+ghost use Rattle.std.specs.Prelude.{◌<◌, length};
+ghost use Rattle.mirror_table.specs.Mirror.{IsMirror};
+
+use super::arriving::compare_departures;
+use super::hops::compare_hops;
+use super::profiles::{SECONDS, compare_slots};
+use super::queries::compare_values;
+use super::reaching::compare_reach;
+use super::tally::Tally;
+use crate::building::{built, mirror_built};
+use crate::comparing::refused::{MadeFeed, Refused};
+use crate::questions::{arrival, one_stop, query, window};
+use edition_store::Edition;
+use made_feeds::{Unread, ring, town};
+use segment_queue::Desk;
+use std::alloc::Global;
+use std::thread::Threads;
+use tb_base::{Memory, Sec, Timetable};
+
+// Times at which one leaves.
+const LEAVING: [Sec; 5] = [28_800, 28_801, 29_400, 30_060, 31_200];
+
+// Times by which one arrives.
+const ARRIVING: [Sec; 5] = [29_399, 30_599, 30_600, 31_500, 33_300];
+
+// Compares for a query between two stops.
+fn try_query(
+    alloc: Global,
+    edition: &Edition,
+    desk: &mut Desk,
+    from: u32,
+    to: u32,
+    leave: Sec,
+) -> Result<Tally, Refused>
+    requires from { from < length edition.now.table.stops }
+    requires to { to < length edition.now.table.stops }
+{
+    let query = query(alloc, edition.table(), from, to, leave)?;
+    compare_values(alloc, edition, desk, &query)
+}
+
+// Compares for queries between two stops.
+fn try_queries(
+    alloc: Global,
+    edition: &Edition,
+    desk: &mut Desk,
+    from: u32,
+    to: u32,
+) -> Result<Tally, Refused>
+    requires from { from < length edition.now.table.stops }
+    requires to { to < length edition.now.table.stops }
+{
+    let mut tally = Tally::NOTHING;
+    for leave in LEAVING {
+        tally.add(try_query(alloc, edition, desk, from, to, leave)?);
+    }
+    Ok(tally)
+}
+
+// Compares for a time to arrive by between two stops.
+fn try_arrival(
+    alloc: Global,
+    edition: &Edition,
+    mirrored: &Edition,
+    desk: &mut Desk,
+    from: u32,
+    to: u32,
+    by: Sec,
+) -> Result<Tally, Refused>
+    requires mirror { IsMirror edition.now.table mirrored.now.table }
+    requires from { from < length edition.now.table.stops }
+    requires to { to < length edition.now.table.stops }
+{
+    let by = arrival(alloc, edition.table(), from, to, by)?;
+    compare_departures(alloc, edition, mirrored, desk, &by)
+}
+
+// Compares for times to arrive by between two stops.
+fn try_arrivals(
+    alloc: Global,
+    edition: &Edition,
+    mirrored: &Edition,
+    desk: &mut Desk,
+    from: u32,
+    to: u32,
+) -> Result<Tally, Refused>
+    requires mirror { IsMirror edition.now.table mirrored.now.table }
+    requires from { from < length edition.now.table.stops }
+    requires to { to < length edition.now.table.stops }
+{
+    let mut tally = Tally::NOTHING;
+    for by in ARRIVING {
+        tally.add(try_arrival(alloc, edition, mirrored, desk, from, to, by)?);
+    }
+    Ok(tally)
+}
+
+// Compares for the window between two stops that begins at a time.
+fn try_window(
+    alloc: Global,
+    edition: &Edition,
+    desk: &mut Desk,
+    from: u32,
+    to: u32,
+    first: Sec,
+) -> Result<Tally, Refused>
+    requires from { from < length edition.now.table.stops }
+    requires to { to < length edition.now.table.stops }
+{
+    let window = window(alloc, edition.table(), from, to, first, SECONDS)?;
+    compare_slots(alloc, edition, desk, &window, SECONDS)
+}
+
+// Compares from one stop to each.
+fn try_from(
+    alloc: Global,
+    edition: &Edition,
+    mirrored: &Edition,
+    desk: &mut Desk,
+    from: u32,
+    first: Sec,
+) -> Result<Tally, Refused>
+    requires mirror { IsMirror edition.now.table mirrored.now.table }
+    requires from { from < length edition.now.table.stops }
+{
+    let mut tally = Tally::NOTHING;
+    for to in 0..edition.table().stop_count() {
+        tally.add(try_queries(alloc, edition, desk, from, to)?);
+        tally.add(try_arrivals(alloc, edition, mirrored, desk, from, to)?);
+        tally.add(try_window(alloc, edition, desk, from, to, first)?);
+    }
+    Ok(tally)
+}
+
+// Compares from one stop to all at once.
+fn try_origin(
+    alloc: Global,
+    edition: &Edition,
+    desk: &mut Desk,
+    from: u32,
+) -> Result<Tally, Refused>
+    requires { from < length edition.now.table.stops }
+{
+    let origins = one_stop(alloc, edition.table(), from)?;
+    let mut tally = Tally::NOTHING;
+    for leave in LEAVING {
+        let leave = leave.min(359_999);
+        let reached = compare_reach(alloc, edition, desk, origins.as_slice(), leave)?;
+        tally.add(reached);
+    }
+    Ok(tally)
+}
+
+// Compares all over an edition and that of the mirror.
+fn try_editions(
+    alloc: Global,
+    edition: &Edition,
+    mirrored: &Edition,
+    desk: &mut Desk,
+    first: Sec,
+) -> Result<Tally, Refused>
+    requires { IsMirror edition.now.table mirrored.now.table }
+{
+    let mut tally = Tally::FEED;
+    for from in 0..edition.table().stop_count() {
+        tally.add(try_from(alloc, edition, mirrored, desk, from, first)?);
+        tally.add(try_origin(alloc, edition, desk, from)?);
+    }
+    Ok(tally)
+}
+
+// Compares all over an edition. An edition that isn't handed on is dropped by a call: at the end of
+// a scope each part of it would be dropped by itself, and the proof would go through all of them.
+fn try_edition<R: Threads + Sync>(
+    rt: &R,
+    alloc: Global,
+    edition: &Edition,
+    first: Sec,
+    desk: &mut Desk,
+) -> Result<Tally, Refused> {
+    compare_hops(rt, alloc, edition)?;
+    match mirror_built(rt, alloc, edition.table()) {
+        Ok(mirrored) => {
+            let compared = try_editions(alloc, edition, &mirrored, desk, first);
+            drop(mirrored);
+            compared
+        }
+        Err(Memory) => Err(Refused::Memory),
+    }
+}
+
+// Compares all over a timetable, between all of its stops, in windows that begin at a time.
+fn try_between_all<R: Threads + Sync>(
+    rt: &R,
+    alloc: Global,
+    table: Timetable,
+    first: Sec,
+    desk: &mut Desk,
+) -> Result<Tally, Refused> {
+    match built(rt, alloc, table) {
+        Ok(edition) => {
+            let compared = try_edition(rt, alloc, &edition, first, desk);
+            drop(edition);
+            compared
+        }
+        Err(Memory) => Err(Refused::Memory),
+    }
+}
+
+impl MadeFeed {
+    fn timetable(self, alloc: Global) -> Result<Timetable, Unread> {
+        match self {
+            MadeFeed::Town => town(alloc),
+            MadeFeed::Ring => ring(alloc),
+        }
+    }
+
+    // When the windows begin that are asked for.
+    fn first_time(self) -> Sec {
+        match self {
+            MadeFeed::Town => 28_700,
+            MadeFeed::Ring => 30_000,
+        }
+    }
+}
+
+/// Compares all over a feed that is made by hand, between all of its stops.
+pub fn try_made<R: Threads + Sync>(
+    rt: &R,
+    alloc: Global,
+    feed: MadeFeed,
+    desk: &mut Desk,
+) -> Result<Tally, Refused> {
+    match feed.timetable(alloc) {
+        Ok(table) => try_between_all(rt, alloc, table, feed.first_time(), desk),
+        Err(unread) => Err(Refused::from(unread)),
+    }
+}

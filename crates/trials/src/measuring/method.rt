@@ -1,0 +1,69 @@
+//! What is measured, and how a word says it.
+use gtfs_rows::number_of;
+use service_day::{Day, day_of};
+
+/// What is asked of an edition.
+#[derive(Clone, Copy, PartialEq, Eq, Debug)]
+pub enum Asking {
+    Search,
+    Profile,
+    Reach,
+}
+
+/// What is done with a store of editions.
+#[derive(Clone, Copy, PartialEq, Eq, Debug)]
+pub enum Storing {
+    Pin,
+    Publish,
+}
+
+/// What is done so often: over a timetable alone, over the edition of its mirror, over its edition,
+/// or over a store of that.
+#[derive(Clone, Copy, PartialEq, Eq, Debug)]
+pub enum Method {
+    Plain,
+    Latest,
+    OverEdition(Asking),
+    OverStore(Storing),
+}
+
+/// How often what is done over which day of a feed.
+#[derive(Drop)]
+pub struct Measurement<'a> {
+    pub method: Method,
+    pub count: u32,
+    /// The folder of the feed.
+    pub dir: &'a str,
+    pub day: Day,
+}
+
+/// The method of a name.
+pub fn method_named(name: &str) -> Option<Method> {
+    match name {
+        "plain" => Some(Method::Plain),
+        "latest" => Some(Method::Latest),
+        "search" => Some(Method::OverEdition(Asking::Search)),
+        "profile" => Some(Method::OverEdition(Asking::Profile)),
+        "reach" => Some(Method::OverEdition(Asking::Reach)),
+        "pin" => Some(Method::OverStore(Storing::Pin)),
+        "publish" => Some(Method::OverStore(Storing::Publish)),
+        _ => None,
+    }
+}
+
+impl Measurement<'_> {
+    /// What is measured by a method, as a text `COUNT:DIR@DATE` says; none where it has no meaning.
+    pub fn of_text(method: Method, text: &str) -> Option<Measurement<'_>> {
+        let (count, feed) = text.split_once(':')?;
+        let (dir, date) = feed.rsplit_once('@')?;
+        let Ok(day) = day_of(date.as_bytes()) else {
+            return None;
+        };
+        Some(Measurement {
+            method,
+            count: number_of(count.as_bytes())?,
+            dir,
+            day,
+        })
+    }
+}

@@ -1,0 +1,38 @@
+//! The parts that the words of the command line name.
+use crate::comparing::Comparison;
+use crate::measuring::method::{Measurement, method_named};
+use made_feeds::Seeds;
+use std::alloc::Global;
+
+/// A part of what the program does.
+#[derive(Drop)]
+pub enum Part<'a> {
+    /// Ways to a result are compared.
+    Compared(Comparison),
+    /// Questions are measured.
+    Measured(Measurement<'a>),
+}
+
+// The part of a word; none where it has no meaning.
+fn part_of(word: &str) -> Option<Part<'_>> {
+    let (name, rest) = word.split_once(':')?;
+    match name {
+        "answers" => Some(Part::Compared(Comparison::Answers(Seeds::of_text(rest)?))),
+        "late" => Some(Part::Compared(Comparison::Late(Seeds::of_text(rest)?))),
+        _ => Some(Part::Measured(Measurement::of_text(method_named(name)?, rest)?)),
+    }
+}
+
+/// The parts of words, of which there are some; none where one has no meaning.
+pub fn parts_of(alloc: Global, words: &[String]) -> Option<Vec<Part<'_>>> {
+    if words.is_empty() {
+        return None;
+    }
+    let mut parts = Vec::new(alloc);
+    for word in words {
+        if parts.push(part_of(word.as_str())?).is_err() {
+            return None;
+        }
+    }
+    Some(parts)
+}
