@@ -149,9 +149,10 @@ def commit_of(program):
     """
     stamp = f"{program}.stamp"
     with contextlib.suppress(OSError), open(stamp, encoding="utf-8") as file:
-        name, found, *_ = file.read().split()
-        if name == "commit" and os.path.getmtime(stamp) >= os.path.getmtime(program):
-            return found
+        words = file.read().split()
+        is_current = os.path.getmtime(stamp) >= os.path.getmtime(program)
+        if is_current and words[:1] == ["commit"] and len(words) > 1:
+            return words[1]
     return commit()
 
 

@@ -55,6 +55,9 @@ class Tables(unittest.TestCase):
             self.assertEqual("0123abc", commit_of(program))
             os.utime(program, ns=(2**61, 2**61))
             self.assertEqual(commit(), commit_of(program))
+            write(folder, "router.stamp", "0123abc")
+            os.utime(program, ns=(0, 0))
+            self.assertEqual(commit(), commit_of(program))
 
 
 class Examples(unittest.TestCase):
