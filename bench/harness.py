@@ -147,12 +147,11 @@ def commit_of(program):
     """The commit that a program was built of, by the stamp that its build left, or else that of
     this checkout.
     """
-    stamp = f"{program}.stamp"
+    stamp = f"{program}.built"
     with contextlib.suppress(OSError), open(stamp, encoding="utf-8") as file:
-        words = file.read().split()
-        is_current = os.path.getmtime(stamp) >= os.path.getmtime(program)
-        if is_current and words[:1] == ["commit"] and len(words) > 1:
-            return words[1]
+        name, found = file.readline().split()
+        if name == "commit" and os.path.getmtime(stamp) >= os.path.getmtime(program):
+            return found
     return commit()
 
 

@@ -86,7 +86,7 @@ def built_program(top):
 
 
 def stamp_file(top):
-    return built_program(top) + ".stamp"
+    return built_program(top) + ".built"
 
 
 def is_current(top):
@@ -97,7 +97,7 @@ def is_current(top):
             return False
         with open(stamp, encoding="utf-8") as file:
             words = dict(line.split(maxsplit=1) for line in file)
-    except OSError:
+    except (OSError, ValueError):
         return False
     if words.get("sources", "").strip() != sum_of_sources(top):
         return False

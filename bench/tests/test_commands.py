@@ -50,13 +50,10 @@ class Tables(unittest.TestCase):
         with tempfile.TemporaryDirectory() as folder:
             program = os.path.join(folder, "router")
             self.assertEqual(commit(), commit_of(program))
-            for name, text in (("router", ""), ("router.stamp", "commit 0123abc\nsources 1\n")):
+            for name, text in (("router", ""), ("router.built", "commit 0123abc\nsources 1\n")):
                 write(folder, name, text)
             self.assertEqual("0123abc", commit_of(program))
             os.utime(program, ns=(2**61, 2**61))
-            self.assertEqual(commit(), commit_of(program))
-            write(folder, "router.stamp", "0123abc")
-            os.utime(program, ns=(0, 0))
             self.assertEqual(commit(), commit_of(program))
 
 
