@@ -148,7 +148,7 @@ def commit_of(program):
     this checkout.
     """
     stamp = f"{program}.built"
-    with contextlib.suppress(OSError), open(stamp, encoding="utf-8") as file:
+    with contextlib.suppress(OSError, ValueError), open(stamp, encoding="utf-8") as file:
         name, found = file.readline().split()
         if name == "commit" and os.path.getmtime(stamp) >= os.path.getmtime(program):
             return found
