@@ -1,3 +1,4 @@
 pub mod Journeys
 pub mod Faults
 pub mod Builds
+pub mod Questions
