@@ -13,6 +13,7 @@ COMMANDS = (
     "lanes",
     "limits",
     "hostile-shapes",
+    "fuzz",
     "outside-faults",
     "refused-memory",
     "statuses",

@@ -58,9 +58,11 @@ def asking_words(feed, count, method):
 # What a process holds at most counts from the one that it was forked of, and this one may hold the
 # text of a feed: so a small one starts the program, and writes what that took.
 STARTER = """
-import os, sys, time
-report, count, *words = sys.argv[1:]
+import os, resource, sys, time
+report, limit, count, *words = sys.argv[1:]
 os.set_inheritable(int(report), False)
+if limit != "0":
+    resource.setrlimit(resource.RLIMIT_CPU, (int(limit), int(limit) + 1))
 env = dict(word.split("=", 1) for word in words[: int(count)])
 words = words[int(count) :]
 start = time.perf_counter()
@@ -71,15 +73,17 @@ os.write(int(report), " ".join(map(str, (status, *took))).encode())
 """
 
 
-def run_by_starter(command, env, **how):
-    """Runs a command, and returns its status as the system gives it, and what it took: seconds by
-    the clock and of processor time, and kilobytes that it held at most.
+def run_by_starter(command, env, limit, **how):
+    """Runs a command, with at most so many seconds of processor time if the limit isn't 0, and
+    returns its status as the system gives it, and what it took: seconds by the clock and of
+    processor time, and kilobytes that it held at most.
     """
     given = [f"{name}={value}" for name, value in (env or {}).items()]
     with tempfile.TemporaryFile() as report:
         number = report.fileno()
-        starter = [sys.executable, "-I", "-S", "-c", STARTER, str(number), str(len(given))]
-        subprocess.run([*starter, *given, *command], pass_fds=[number], **how)
+        starter = [sys.executable, "-I", "-S", "-c", STARTER]
+        words = [str(number), str(limit), str(len(given)), *given, *command]
+        subprocess.run([*starter, *words], pass_fds=[number], **how)
         fields = text_of(report).split()
     if not fields:
         raise BenchError(f"{command[0]} can't be run")
@@ -101,7 +105,9 @@ class Run:
     that is told only from some ten megabytes on, which is what starts it.
     """
 
-    def __init__(self, program, words, given=b"", cwd=None, out=None, env=None, before=None):
+    def __init__(
+        self, program, words, given=b"", cwd=None, out=None, env=None, before=None, limit=0
+    ):
         with contextlib.ExitStack() as files:
             stdin, stdout, stderr = (files.enter_context(tempfile.TemporaryFile()) for _ in "012")
             stdin.write(given)
@@ -110,7 +116,7 @@ class Run:
             if before:
                 status = run_after(before, [program, *words], **how)
             else:
-                status, *took = run_by_starter([program, *words], env, **how)
+                status, *took = run_by_starter([program, *words], env, limit, **how)
                 self.clock, self.seconds, kilobytes = took
                 self.megabytes, self.mebibytes = kilobytes / 1000, kilobytes / 1024
             if os.WIFSIGNALED(status):

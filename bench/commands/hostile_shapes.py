@@ -1,27 +1,68 @@
 """Feeds of shapes that are made to cost time.
 
-Writes each feed at one size and at twice that, runs `direct` or `build` over it, and prints status,
-processor seconds and memory of both: what grows with the bytes alone at most doubles.
+Writes each shape at one size, at twice and at four times that, runs the command over it that meets
+what is dear in it, and prints status and first line, the processor seconds of each size, by how
+much they grow, and what `direct` takes that only reads the largest one. What grows with the bytes
+doubles. Shapes of keys that collide need a C compiler.
 """
+import argparse
+import os
 import tempfile
 
 from feeds.shapes import SHAPES
-from harness import DAY, Run, Table, commit_of, known, megabytes_of, router
-
-# A size of feeds.shapes at which most have 50 megabytes.
-SIZE = 500_000
+from harness import DAY, Run, Table, commit_of, count, known, megabytes_of, router
 
 
 def add_arguments(parser):
     names = " ".join(SHAPES)
     parser.add_argument("names", metavar="NAME", nargs="*", help=f"of {names} (else all)")
+    parser.add_argument("--scale", type=scale, default=1, help="sizes are so many times as great")
+    limit = "seconds of processor time after which a run ends (else 60)"
+    parser.add_argument("--limit", type=count, default=60, help=limit)
 
 
-def words_for(name, folder):
-    """The command that meets what is dear in the shape."""
-    if name.startswith("trips_that_overtake"):
-        return ["build", folder, DAY]
-    return ["direct", folder, DAY, "A", "B", "08:00:00"]
+def scale(text):
+    try:
+        found = float(text)
+    except ValueError:
+        found = 0
+    if not 0 < found < 1000:
+        raise argparse.ArgumentTypeError(f"{text} is no number above 0")
+    return found
+
+
+def words_for(command, folder):
+    """The words of a command of that name."""
+    ask = [DAY, "A", "B", "08:00:00"]
+    return {
+        "direct": ["direct", folder, *ask],
+        "station": ["--station", "60", "direct", folder, *ask],
+        "close": ["--close", "direct", folder, *ask],
+        "build": ["build", folder, DAY],
+        "late": ["late", folder, DAY, os.path.join(folder, "late"), *ask[1:]],
+        "serve": ["serve", f"{folder}@{DAY}"],
+        "verify": ["verify", folder, *ask],
+    }[command]
+
+
+def given_in(folder):
+    """What comes by standard input: a script or a claim, where the shape has one."""
+    for name in ("script", "claim"):
+        path = os.path.join(folder, name)
+        if os.path.exists(path):
+            with open(path, "rb") as file:
+                return file.read()
+    return b""
+
+
+def run_shape(program, shape, size, limit):
+    """The megabytes of the shape, the run over it, and one that reads the feed."""
+    with tempfile.TemporaryDirectory() as folder:
+        shape.make(folder, size)
+        given = given_in(folder)
+        ended = Run(program, words_for(shape.command, folder), given, limit=limit)
+        reading = Run(program, words_for("direct", folder), limit=limit)
+        return megabytes_of(folder), ended, reading
 
 
 def run(words):
@@ -30,23 +71,43 @@ def run(words):
     table = Table(
         commit_of(program),
         "shape",
-        "MB",
+        "command",
+        "n",
         "status",
         "first line",
-        "processor seconds",
-        "memory MB",
-        "twice the size: MB",
-        "seconds",
+        "seconds at n",
+        "2n",
+        "4n",
+        "2n to n",
+        "4n to 2n",
+        "reading 4n",
+        "MB of 4n",
         "memory MB",
     )
     for name in names:
-        cells = []
-        for size in (SIZE, 2 * SIZE):
-            with tempfile.TemporaryDirectory() as folder:
-                SHAPES[name](folder, size)
-                ended = Run(program, words_for(name, folder))
-                said = [] if cells else [ended.status, ended.first_line()]
-                took = f"{ended.seconds:.2f}", f"{ended.megabytes:.0f}"
-                cells += [f"{megabytes_of(folder):.0f}", *said, *took]
-        table.row(name.replace("_", " "), *cells)
+        shape = SHAPES[name]
+        size = max(1, int(shape.size * words.scale))
+        taken = []
+        for times in (1, 2, 4):
+            megabytes, ended, reading = run_shape(program, shape, times * size, words.limit)
+            taken.append(ended.seconds)
+            if ended.status == "SIGXCPU":
+                break
+        grown = [f"{later / max(0.01, sooner):.1f}" for sooner, later in zip(taken, taken[1:])]
+        table.row(
+            name.replace("_", " "),
+            f"`{shape.command}`",
+            size,
+            ended.status,
+            ended.first_line(),
+            *padded([f"{seconds:.2f}" for seconds in taken], 3),
+            *padded(grown, 2),
+            f"{reading.seconds:.2f}",
+            f"{megabytes:.1f}",
+            f"{ended.megabytes:.0f}",
+        )
     return 0
+
+
+def padded(cells, length):
+    return cells + ["-"] * (length - len(cells))

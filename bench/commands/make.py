@@ -36,8 +36,13 @@ def add_network(parser):
 def add_shape(parser):
     parser.add_argument("folder", metavar="FOLDER")
     parser.add_argument("name", metavar="NAME", choices=shapes.SHAPES, help=" ".join(shapes.SHAPES))
-    parser.add_argument("--size", type=count, default=1_000_000, help="1,000,000: some 100 MB")
-    parser.set_defaults(make=lambda words: shapes.SHAPES[words.name](words.folder, words.size))
+    parser.add_argument("--size", type=count, help="else that of hostile-shapes")
+
+    def make(words):
+        shape = shapes.SHAPES[words.name]
+        shape.make(words.folder, words.size or shape.size)
+
+    parser.set_defaults(make=make)
 
 
 def add_limit(parser):

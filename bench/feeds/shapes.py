@@ -1,8 +1,22 @@
-"""Feeds of shapes that are made to cost time. Each function writes one into a folder, of a size
-that grows with n: at n a million most have 100 megabytes.
+"""Feeds of shapes that are made to cost time, with the files that some commands read beside them.
+Each function writes one into a folder, of a size that grows with n.
 """
-from feeds import smallest
+import typing
+
+from feeds import collisions, lines, smallest
 from harness import DAY, clock, write
+
+DAYS = "monday,tuesday,wednesday,thursday,friday,saturday,sunday"
+
+
+class Shape(typing.NamedTuple):
+    """What writes a shape into a folder, at which n it is a good deal but no trouble, and the name
+    of the command that meets what is dear in it, of those in commands.hostile_shapes.
+    """
+
+    make: typing.Callable
+    size: int
+    command: str = "direct"
 
 
 def feed(folder, **files):
@@ -77,7 +91,7 @@ def long_ids(folder, n):
 
 def one_trip(folder, n):
     """A trip with all rows, the last one first."""
-    rows = (f"t0,{clock(i // 8)},,{'AB'[i % 2]},{i}\n" for i in reversed(range(2 * n)))
+    rows = (f"t0,{clock(i // 16)},,{'AB'[i % 2]},{i}\n" for i in reversed(range(2 * n)))
     feed(folder)
     smallest.write_rows(folder, "stop_times.txt", smallest.TIMES, rows)
 
@@ -107,45 +121,214 @@ def exceptions_of_one_service(folder, n):
     smallest.write_rows(folder, "calendar_dates.txt", smallest.DATES, dates)
 
 
-def running(folder, count, calls_of):
-    """A feed of so many trips, each with the times and stops that the function gives for it."""
-    calls = ((i, place, call) for i in range(count) for place, call in enumerate(calls_of(i)))
-    times = (f"t{i},{clock(secs)},,{stop},{place}\n" for i, place, (secs, stop) in calls)
-    smallest.make(folder, trips=(f"S,t{i}\n" for i in range(count)), times=times)
+def stations_behind_their_platforms(folder, n):
+    """Platforms whose stations all stand in later rows."""
+    rows = "".join(f"P{i},,S{i}\n" for i in range(n)) + "".join(f"S{i},1,\n" for i in range(n))
+    feed(folder, stops=f"stop_id,location_type,parent_station\nA,,\nB,,\n{rows}")
 
 
-def trips_that_overtake(folder, n):
-    """Trips of which each later one overtakes all before it, so that each has a line of its own."""
-    running(folder, n // 50, lambda i: [(28_800 + i, "A"), (86_400 - i, "B")])
+def platforms_of_one_station(folder, n):
+    """Which an option joins each to each."""
+    rows = "".join(f"P{i},,S\n" for i in range(int(n**0.5)))
+    feed(folder, stops=f"stop_id,location_type,parent_station\nA,,\nB,,\nS,1,\n{rows}")
 
 
-def trips_that_overtake_between(folder, n):
-    """The same, but that they end in order."""
-    running(folder, n // 50, lambda i: [(28_800 + i, "A"), (72_000 - i, "B"), (73_000 + i, "A")])
+def services(folder, n):
+    """A row of calendar.txt each."""
+    rows = "".join(f"S{i},1,1,1,1,1,1,1,20260101,20261231\n" for i in range(n))
+    feed(folder, calendar=f"service_id,{DAYS},start_date,end_date\n{rows}")
 
 
-SHAPES = {
-    shape.__name__: shape
-    for shape in (
-        one_long_line,
-        one_long_field_in_quotes,
-        quotes,
-        quotes_that_open_and_close,
-        commas,
-        columns,
-        columns_of_one_name,
-        columns_in_each_row,
-        line_ends,
-        blanks,
-        no_bytes_but_zero,
-        equal_ids,
-        equal_transfers,
-        long_ids,
-        one_trip,
-        one_trip_without_times,
-        calendar_for_each_trip,
-        exceptions_of_one_service,
-        trips_that_overtake,
-        trips_that_overtake_between,
+def starts_of_one_trip(folder, n):
+    """A row of frequencies.txt for each start."""
+    rows = "".join(f"t0,{clock(i // 8)},{clock(i // 8 + 1)},1\n" for i in range(n))
+    feed(folder, frequencies=f"trip_id,start_time,end_time,headway_secs\n{rows}")
+
+
+def one_row_of_many_starts(folder, n):
+    """A trip of a hundred calls that starts every second."""
+    smallest.make(folder, times=(f"t0,{clock(i)},,{'AB'[i % 2]},{i}\n" for i in range(100)))
+    row = f"t0,0:00:00,{clock(n)},1\n"
+    write(folder, "frequencies.txt", f"trip_id,start_time,end_time,headway_secs\n{row}")
+
+
+def chain_of_footpaths(folder, n):
+    """Footpaths from each stop to the next, which are to be closed: each pair is joined then."""
+    rows = "".join(f"P{i},P{i + 1},2,1\n" for i in range(n))
+    feed(folder, stops=f"stop_id\nA\nB\n{stops_of(n + 1)}", transfers=smallest.TRANSFERS + rows)
+
+
+def footpaths_between_all(folder, n):
+    """Footpaths from each of some stops to each."""
+    side = range(int(n**0.5))
+    rows = "".join(f"P{i},P{j},2,60\n" for i in side for j in side if i != j)
+    stops = f"stop_id\nA\nB\n{stops_of(len(side))}"
+    feed(folder, stops=stops, transfers=smallest.TRANSFERS + rows)
+
+
+def stops_of(count):
+    return "".join(f"P{i}\n" for i in range(count))
+
+
+def lines_at_one_stop(folder, n):
+    """As many lines end at a stop as begin there, and one can change from each to each."""
+    trips = [f"S,t{i}\n" for i in range(2 * n)]
+    times = (
+        row
+        for i in range(n)
+        for row in (
+            f"t{i},6:00:00,,P{i},0\nt{i},7:00:00,,A,1\n"
+            f"t{n + i},8:00:00,,A,0\nt{n + i},9:00:00,,P{i},1\n"
+        )
     )
+    smallest.make(folder, f"stop_id\nA\nB\n{stops_of(n)}", trips, times)
+
+
+def stop_ids_that_collide(folder, n):
+    feed(folder, stops="stop_id\nA\nB\n" + "".join(f"{name}\n" for name in collisions.names(n)))
+
+
+def trip_ids_that_collide(folder, n):
+    """Trips that run, with two rows each."""
+    names = collisions.names(n)
+    rows = (f"{name},{8 + call}:00:00,,{'AB'[call]},{call}\n" for name in names for call in (0, 1))
+    smallest.make(folder, trips=(f"S,{name}\n" for name in names), times=rows)
+
+
+def late_trips_whose_ids_collide(folder, n):
+    """The same, one of which is late."""
+    trip_ids_that_collide(folder, n)
+    write(folder, "late", f"late {collisions.names(n)[-1]} 0 60\n")
+
+
+def service_ids_that_collide(folder, n):
+    """Each with a row that adds it, and a trip."""
+    names = collisions.names(n)
+    smallest.make(folder, trips=(f"{name},t{i}\n" for i, name in enumerate(names)))
+    dates = (f"{name},{DAY},1\n" for name in names)
+    smallest.write_rows(folder, "calendar_dates.txt", smallest.DATES, dates)
+
+
+def calendar_ids_that_collide(folder, n):
+    rows = "".join(f"{name},1,1,1,1,1,1,1,20260101,20261231\n" for name in collisions.names(n))
+    feed(folder, calendar=f"service_id,{DAYS},start_date,end_date\n{rows}")
+
+
+def transfers_that_collide(folder, n):
+    """Rows that forbid a way, between pairs of stops."""
+    count, pairs = collisions.pairs(n)
+    names = ["A", "B", *(f"P{i}" for i in range(count - 2))]
+    rows = "".join(f"{names[i]},{names[j]},3,\n" for i, j in pairs)
+    feed(folder, stops="stop_id\n" + "\n".join(names), transfers=smallest.TRANSFERS + rows)
+
+
+def sequences_that_collide(folder, n):
+    """Rows of some trips, the first two not in order."""
+    keys = collisions.sequences(n)
+    keys[:2] = keys[1::-1]
+    trips = [f"X,t{i}\n" for i in range(keys[-1][0] + 1)]
+    rows = (f"t{trip},8:00:00,,A,{number}\n" for trip, number in keys)
+    smallest.make(folder, trips=trips, times=rows)
+
+
+def lates_of_one_trip(folder, n):
+    """As many delays of a trip as it has calls, each of which moves it from its start on."""
+    times = (f"t0,{clock(i // 8)},,{'AB'[i % 2]},{i}\n" for i in range(n))
+    smallest.make(folder, times=times)
+    write(folder, "late", "late t0 0 0\n" * n)
+
+
+def lates_of_many_trips(folder, n):
+    """A delay of each trip."""
+    smallest.make(folder, trips=(f"S,t{i}\n" for i in range(n)), times=smallest.times_of(n, 2))
+    write(folder, "late", "".join(f"late t{i} 0 60\n" for i in range(n)))
+
+
+def remarks_of_a_late_file(folder, n):
+    feed(folder)
+    write(folder, "late", "#\n" * n)
+
+
+def requests_of_a_script(folder, n):
+    feed(folder)
+    write(folder, "script", "lane a\n" + "ask A B 08:00:00\n" * n)
+
+
+def requests_of_long_names(folder, n):
+    """Each for a stop that isn't there, with a name of some hundred quotes."""
+    feed(folder)
+    name = '"' + '""' * 490 + '"'
+    write(folder, "script", "lane a\n" + f"ask {name} B 08:00:00\n" * n)
+
+
+def remarks_of_a_script(folder, n):
+    feed(folder)
+    write(folder, "script", "lane a\nask A B 08:00:00\n" + "#\n" * n)
+
+
+def rides_of_a_claim(folder, n):
+    """Rides on the last of as many trips."""
+    smallest.make(folder, trips=(f"S,t{i}\n" for i in range(n)), times=smallest.times_of(n, 2))
+    ride = f"ride t{n - 1} A 08:00:00 B 08:01:00\n"
+    write(folder, "claim", f"arrive 08:01:00 rides {n}\n" + ride * n)
+
+
+def rides_of_a_claim_on_one_trip(folder, n):
+    """Rides on a trip with as many calls, from the first to the last of them."""
+    times = (f"t0,{clock(i)},,{'AB'[i % 2]},{i}\n" for i in range(2 * n))
+    smallest.make(folder, times=times)
+    ride = f"ride t0 A 00:00:00 B {clock(2 * n - 1)}\n"
+    write(folder, "claim", f"arrive 08:01:00 rides {n}\n" + ride * n)
+
+
+READING = (
+    one_long_line,
+    one_long_field_in_quotes,
+    quotes,
+    quotes_that_open_and_close,
+    commas,
+    columns,
+    columns_of_one_name,
+    columns_in_each_row,
+    line_ends,
+    blanks,
+    no_bytes_but_zero,
+    equal_ids,
+    equal_transfers,
+    long_ids,
+    one_trip_without_times,
+    calendar_for_each_trip,
+    exceptions_of_one_service,
+)
+OTHERS = {
+    one_trip: (500_000, "direct"),
+    stations_behind_their_platforms: (12_000, "direct"),
+    platforms_of_one_station: (400_000, "station"),
+    services: (50_000, "direct"),
+    starts_of_one_trip: (50_000, "direct"),
+    one_row_of_many_starts: (25_000, "direct"),
+    chain_of_footpaths: (350, "close"),
+    footpaths_between_all: (250_000, "direct"),
+    lines_at_one_stop: (1_000, "build"),
+    stop_ids_that_collide: (10_000, "direct"),
+    trip_ids_that_collide: (10_000, "direct"),
+    late_trips_whose_ids_collide: (10_000, "late"),
+    service_ids_that_collide: (10_000, "direct"),
+    calendar_ids_that_collide: (10_000, "direct"),
+    transfers_that_collide: (10_000, "direct"),
+    sequences_that_collide: (10_000, "direct"),
+    lates_of_one_trip: (10_000, "late"),
+    lates_of_many_trips: (50_000, "late"),
+    remarks_of_a_late_file: (4_000_000, "late"),
+    requests_of_a_script: (5_000, "serve"),
+    requests_of_long_names: (5_000, "serve"),
+    remarks_of_a_script: (4_000_000, "serve"),
+    rides_of_a_claim: (6_000, "verify"),
+    rides_of_a_claim_on_one_trip: (6_000, "verify"),
+}
+SHAPES = {
+    **{make.__name__: Shape(make, 250_000) for make in READING},
+    **{make.__name__: Shape(make, 20_000, "build") for make in lines.SHAPES},
+    **{make.__name__: Shape(make, *how) for make, how in OTHERS.items()},
+    "footpaths_between_all_to_close": Shape(footpaths_between_all, 250_000, "close"),
 }

@@ -8,7 +8,7 @@ import tempfile
 import unittest
 
 from commands import documents
-from feeds import city, network, shapes
+from feeds import city, collisions, network, shapes
 from harness import TOP, BenchError, Run, Table, commit, commit_of, done, limited, write
 
 
@@ -90,9 +90,21 @@ class Feeds(unittest.TestCase):
         self.assertIn("frequencies.txt", halves[0])
 
     def test_shapes_grow(self):
-        for make in shapes.SHAPES.values():
-            small, large = (sum(map(len, self.rows(make, n)[1].values())) for n in (200, 400))
-            self.assertLess(small, large)
+        for name, shape in shapes.SHAPES.items():
+            small, large = (self.rows(shape.make, n)[1] for n in (200, 400))
+            self.assertNotEqual(small, large, name)
+            sizes = [sum(map(len, texts.values())) for texts in (small, large)]
+            self.assertEqual(sorted(sizes), sizes, name)
+
+    def test_names_and_numbers_that_collide(self):
+        zero = collisions.zero_bits(1000)
+        names, (_, pairs) = collisions.names(1000), collisions.pairs(1000)
+        self.assertEqual(1000, len(set(names)))
+        hashes = [collisions.name_hash(name) for name in names]
+        hashes += [collisions.table_hash([(i * 100_000 + j, 8)]) for i, j in pairs]
+        keys = collisions.sequences(1000)
+        hashes += [collisions.table_hash([(trip, 4), (row, 4)]) for trip, row in keys]
+        self.assertEqual([0] * 3000, [number & zero for number in hashes])
 
 
 class Words(unittest.TestCase):

@@ -1,0 +1,163 @@
+"""Inputs that are made of the examples by changes, and what becomes of them.
+
+Changes words, scripts, files of delays, claims and whole feeds of `examples/` by chance, runs the
+program over them, and holds what comes against the documents: the status, one line on standard
+error with the first fault, nothing on standard output then, the form of an answer, and processor
+time that grows with the input. The same seed makes the same cases. A case with which something is
+wrong is kept in a folder, with what was run and what came of it.
+"""
+import collections
+import json
+import os
+import resource
+import shutil
+import signal
+import subprocess
+import sys
+import tempfile
+import time
+
+from fuzzing.cases import Maker, bytes_of, lay_out
+from fuzzing.judging import Ended, Judge
+from harness import Table, commit_of, count, router
+
+# A run that takes longer by the clock is killed.
+LONGEST = 120
+
+
+def add_arguments(parser):
+    parser.add_argument("--minutes", type=float, default=1, help="by the clock (else 1)")
+    parser.add_argument("--seed", default="1", help="any word (else 1)")
+    parser.add_argument("--workers", type=count, default=1, help="processes (else 1)")
+    parser.add_argument("--case", type=int, metavar="N", help="this one alone, which is shown")
+    keep = "the folder for cases with which something is wrong (else fuzz-kept)"
+    parser.add_argument("--keep", default="fuzz-kept", metavar="FOLDER", help=keep)
+
+
+def signal_or_status(status):
+    return signal.Signals(-status).name if status < 0 else status
+
+
+def run_case(program, case, folder):
+    """Runs the program where a case is laid out."""
+    before = resource.getrusage(resource.RUSAGE_CHILDREN)
+    with open(os.path.join(folder, "given"), "rb") as given:
+        pipe = subprocess.PIPE
+        words = [program.encode(), *case.words]
+        child = subprocess.Popen(words, stdin=given, stdout=pipe, stderr=pipe, cwd=folder)
+        try:
+            out, err = child.communicate(timeout=LONGEST)
+        except subprocess.TimeoutExpired:
+            child.kill()
+            out, err = child.communicate()
+    after = resource.getrusage(resource.RUSAGE_CHILDREN)
+    seconds = after.ru_utime + after.ru_stime - before.ru_utime - before.ru_stime
+    texts = (text.decode(errors="replace") for text in (out, err))
+    return Ended(signal_or_status(child.returncode), *texts, seconds)
+
+
+def tried(program, case):
+    """What came of a case, and what is wrong with that, or None."""
+    with tempfile.TemporaryDirectory() as folder:
+        lay_out(case, folder)
+        ended = run_case(program, case, folder)
+        return ended, Judge(case, folder).wrong(ended)
+
+
+def keep(folder, name, case, ended, wrong):
+    """Keeps a case and what came of it."""
+    to = os.path.join(folder, name)
+    shutil.rmtree(to, ignore_errors=True)
+    os.makedirs(to)
+    lay_out(case, to)
+    told = {
+        "wrong": wrong,
+        "words": [word.decode(errors="backslashreplace") for word in case.words],
+        "status": ended.status,
+        "out": ended.out[:2000],
+        "err": ended.err[:2000],
+        "seconds": ended.seconds,
+    }
+    with open(os.path.join(to, "told.json"), "w", encoding="utf-8") as file:
+        json.dump(told, file, indent=1, ensure_ascii=False)
+    print(f"bench: {to}: {wrong}"[:300], file=sys.stderr, flush=True)
+
+
+class Counts:
+    """What became of many cases."""
+
+    def __init__(self):
+        self.statuses, self.faults = collections.Counter(), collections.Counter()
+        self.bytes = self.slowest = self.wrong = 0
+
+    def add(self, case, ended, wrong):
+        self.statuses[str(ended.status)] += 1
+        fault = ended.err.partition("refused: ")[2].split(" ")[:2]
+        if fault != [""]:
+            self.faults[f"{ended.status} {' '.join(fault)}".strip()] += 1
+        self.bytes += bytes_of(case)
+        self.slowest = max(self.slowest, ended.seconds)
+        self.wrong += wrong is not None
+
+    def __iadd__(self, other):
+        self.statuses += other.statuses
+        self.faults += other.faults
+        self.bytes, self.wrong = self.bytes + other.bytes, self.wrong + other.wrong
+        self.slowest = max(self.slowest, other.slowest)
+        return self
+
+
+def run_some(program, words, worker):
+    """Tries every so manyth case, until the time is over."""
+    maker, counts, number = Maker(words.seed), Counts(), worker
+    end = time.monotonic() + words.minutes * 60
+    while time.monotonic() < end:
+        case = maker.case(number)
+        ended, wrong = tried(program, case)
+        counts.add(case, ended, wrong)
+        if wrong:
+            keep(words.keep, f"{words.seed}-{number}", case, ended, wrong)
+        number += words.workers
+    return counts
+
+
+def show(maker, program, number):
+    case = maker.case(number)
+    ended, wrong = tried(program, case)
+    print(" ".join(word.decode(errors="backslashreplace") for word in case.words))
+    print(f"status {ended.status}, {ended.seconds:.2f} s\n{ended.out}{ended.err}", end="")
+    print(wrong or "as it has to be")
+    return 1 if wrong else 0
+
+
+def run_all(program, words):
+    """Tries cases in as many processes as are asked for."""
+    if words.workers == 1:
+        return run_some(program, words, 0)
+    # pickled, counts come back from the processes
+    import multiprocessing
+
+    with multiprocessing.Pool(words.workers) as pool:
+        found = pool.starmap(run_some, [(program, words, it) for it in range(words.workers)], 1)
+    counts = Counts()
+    for one in found:
+        counts += one
+    return counts
+
+
+def run(words):
+    program = router()
+    if words.case is not None:
+        return show(Maker(words.seed), program, words.case)
+    counts = run_all(program, words)
+    runs = sum(counts.statuses.values())
+    table = Table(commit_of(program), "what came", "runs")
+    for status, number in sorted(counts.statuses.items()):
+        table.row(f"status {status}", number)
+    for fault, number in sorted(counts.faults.items()):
+        table.row(f"status {fault}", number)
+    table.row("all", runs)
+    table.row("MB of input", f"{counts.bytes / 1e6:.0f}")
+    table.row("seconds of the slowest", f"{counts.slowest:.2f}")
+    table.row("wrong", counts.wrong)
+    return 1 if counts.wrong else 0

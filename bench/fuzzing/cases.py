@@ -1,0 +1,227 @@
+"""Cases: the words of a command, the files where it runs, and standard input, all by a number."""
+import collections
+import os
+import random
+
+from fuzzing import changes
+from harness import DAY, TOP
+
+EXAMPLES = os.path.join(TOP, "examples")
+FEEDS = ("f1", "town", "valley")
+COMMANDS = ("direct", "ask", "profile", "latest", "reach", "verify", "late", "build", "serve")
+TIMES = ("0:00:00", "06:55:00", "08:00:00", "08:05:00", "8:30:00", "24:10:00", "75:59:59")
+DATES = (DAY, DAY, DAY, DAY, DAY, "20260303", "20260307", "20260406", "20270101", "00010101")
+# A folder in place of a file.
+FOLDER = object()
+
+Case = collections.namedtuple("Case", "words files given")
+
+
+def read(path):
+    with open(path, "rb") as file:
+        return file.read()
+
+
+def example_feeds():
+    folders = {feed: os.path.join(EXAMPLES, feed) for feed in FEEDS}
+    return {
+        feed: {name: read(os.path.join(folder, name)) for name in sorted(os.listdir(folder))}
+        for feed, folder in folders.items()
+    }
+
+
+def column(data, name):
+    """The fields of a column of a plain file."""
+    rows = [line.split(",") for line in data.decode("utf-8-sig").split()]
+    at = rows[0].index(name)
+    return [row[at] for row in rows[1:] if len(row) > at]
+
+
+class Maker:
+    """Makes the cases of a seed: the same number gives the same case."""
+
+    def __init__(self, seed):
+        self.seed = seed
+        self.feeds = example_feeds()
+        self.texts = {it: read(os.path.join(EXAMPLES, it)) for it in ("script", "late", "claim")}
+
+    def case(self, number):
+        drawn = random.Random(f"{self.seed}:{number}")
+        return Draw(self, drawn).case()
+
+
+class Draw:
+    """One case by a source of random numbers."""
+
+    def __init__(self, maker, drawn):
+        self.maker, self.drawn = maker, drawn
+        self.name = drawn.choice(FEEDS)
+        self.feed = dict(maker.feeds[self.name])
+        self.stops = column(self.feed["stops.txt"], "stop_id") + ["nowhere"]
+        self.trips = column(self.feed["trips.txt"], "trip_id") + ["none"]
+
+    def often(self, chance):
+        return self.drawn.random() < chance
+
+    def case(self):
+        command = self.drawn.choice(COMMANDS)
+        words = self.options() + [command, *self.words_behind(command)]
+        given = self.given(command)
+        if self.often(0.01):
+            words, given = ["city", str(self.drawn.randrange(12))], b""
+        if self.often(0.15):
+            words = self.changed_words(words)
+        else:
+            words = [word.encode() for word in words]
+        if self.often(0.3):
+            self.feed["frequencies.txt"] = self.frequencies()
+        files = {f"f/{name}": data for name, data in self.changed_feed().items()}
+        if command == "serve":
+            files.update((f"g/{name}", data) for name, data in self.feed.items())
+        if command == "late":
+            files["late"] = self.sometimes_changed(self.lates())
+        return Case(words, files, given)
+
+    def options(self):
+        words = []
+        for name, values in (
+            ("--change", ("0", "60", "121", "86400", "86401", "-1", "")),
+            ("--station", ("0", "120", "120", "86400", "99999999")),
+            ("--workers", ("1", "2", "4", "64", "0", "65")),
+        ):
+            if self.often(0.2):
+                value = self.drawn.choice(values)
+                words += [f"{name}={value}"] if self.often(0.3) else [name, value]
+        return words + [word for word in ("--close", "--plain") if self.often(0.25)]
+
+    def words_behind(self, command):
+        time, later = sorted(self.drawn.choice(TIMES) for _ in "12")
+        ends = [self.drawn.choice(self.stops), self.drawn.choice(self.stops)]
+        if self.name == "f1" and self.often(0.5):
+            ends, time = ["A", "D"], "08:00:00"
+        day = ["f", self.drawn.choice(DATES)]
+        if command == "serve":
+            days = [f"{folder}@{self.drawn.choice(DATES)}" for folder in ("f", "g", "f", "g")]
+            return days[: self.drawn.choice((1, 1, 2, 4))]
+        return {
+            "profile": [*day, *ends, time, later],
+            "reach": [*day, ends[0], time],
+            "late": [*day, "late", *ends, time],
+            "build": [*day, *(["list"] if self.often(0.5) else [])],
+        }.get(command, [*day, *ends, time])
+
+    def changed_words(self, words):
+        words = [word.encode() for word in words]
+        for _ in range(self.drawn.choice((1, 1, 2, 4))):
+            at = self.drawn.randrange(len(words) + 1)
+            if self.often(0.5) and at < len(words):
+                change = self.drawn.choice(changes.BYTES)
+                words[at] = change(self.drawn, words[at])[:70_000]
+            else:
+                known = self.drawn.choice(self.known_words()).encode()
+                put = known if self.often(0.8) else changes.token(self.drawn)
+                words = words[:at] + [put] * self.often(0.7) + words[at + self.often(0.5) :]
+        # the system takes no word with a zero byte
+        return [word.replace(b"\0", b"0") for word in words[:300]]
+
+    def known_words(self):
+        options = ("--close", "--plain", "--change", "--station=60", "--workers", "--help", "-h")
+        others = ("--", "-", "f", "g", "late", "list", f"f@{DAY}", "city")
+        return (*options, *others, *COMMANDS, *DATES, *TIMES, *self.stops)
+
+    def frequencies(self):
+        rows = [b"trip_id,start_time,end_time,headway_secs,exact_times"]
+        for _ in range(self.drawn.randrange(4)):
+            start = self.drawn.randrange(30)
+            span = self.drawn.randrange(1, 5)
+            headway = self.drawn.choice((60, 300, 1800, 7200))
+            trip = self.drawn.choice(self.trips[:-1])
+            rows.append(f"{trip},{start}:00:00,{start + span}:00:00,{headway},".encode())
+        return b"\n".join(rows) + b"\n"
+
+    def changed_feed(self):
+        feed = dict(self.feed)
+        if self.often(0.2):
+            return feed
+        for _ in range(self.drawn.choice((1, 1, 1, 2, 4))):
+            name = self.drawn.choice(sorted(feed))
+            chance = self.drawn.random()
+            if chance < 0.03:
+                del feed[name]
+            elif chance < 0.05:
+                feed[name] = FOLDER
+            elif chance < 0.08:
+                feed[name] = feed[self.drawn.choice(sorted(feed))]
+            elif feed[name] is not FOLDER:
+                change = changes.changed_a_little if self.often(0.7) else changes.changed
+                feed[name] = change(self.drawn, feed[name])
+            if not feed:
+                break
+        return feed
+
+    def sometimes_changed(self, data):
+        return changes.changed(self.drawn, data) if self.often(0.5) else data
+
+    def given(self, command):
+        if command == "serve":
+            return self.sometimes_changed(self.script())
+        if command == "verify":
+            return self.sometimes_changed(self.claim())
+        return b""
+
+    def script(self):
+        if self.often(0.3):
+            return self.maker.texts["script"]
+        lines = ["lane a"]
+        for _ in range(self.drawn.randrange(12)):
+            first, last = sorted(self.drawn.choice(TIMES) for _ in "12")
+            ends = f"{self.drawn.choice(self.stops)} {self.drawn.choice(self.stops)}"
+            since = f"since {self.drawn.randrange(5)} " if self.often(0.3) else ""
+            line = (f"ask {ends} {first}", f"profile {ends} {first} {last}", "lane b", "# remark")
+            line = line[self.drawn.choice((0, 0, 1, 2, 3))]
+            lines.append(since + line if line[0] in "ap" else line)
+        return "\n".join(lines).encode() + b"\n"
+
+    def lates(self):
+        if self.often(0.2):
+            return self.maker.texts["late"]
+        lines = ["# delays"]
+        for _ in range(self.drawn.randrange(8)):
+            word = "late-before" if self.often(0.1) else "late"
+            secs = self.drawn.choice((0, 60, 120, 3600, 86_400, 86_401, -60, -86_400, 9))
+            lines.append(f"{word} {self.drawn.choice(self.trips)} {self.drawn.randrange(4)} {secs}")
+        return "\n".join(lines).encode() + b"\n"
+
+    def claim(self):
+        if self.often(0.5):
+            return self.maker.texts["claim"]
+        lines = [f"arrive {self.drawn.choice(TIMES).zfill(8)} rides {self.drawn.randrange(3)}"]
+        for _ in range(self.drawn.randrange(4)):
+            times = [self.drawn.choice(TIMES).zfill(8) for _ in "12"]
+            stops = [self.drawn.choice(self.stops) for _ in "12"]
+            if self.often(0.3):
+                lines.append(f"  walk {stops[0]} {stops[1]} {self.drawn.randrange(200)}")
+            else:
+                trip = self.drawn.choice(self.trips)
+                lines.append(f"  ride {trip} {stops[0]} {times[0]} {stops[1]} {times[1]}")
+        return "\n".join(lines).encode() + b"\n"
+
+
+def lay_out(case, folder):
+    """Writes the files of a case into an empty folder."""
+    for name in ("f", "g"):
+        os.makedirs(os.path.join(folder, name), exist_ok=True)
+    for name, data in case.files.items():
+        path = os.path.join(folder, name)
+        if data is FOLDER:
+            os.mkdir(path)
+        else:
+            with open(path, "wb") as file:
+                file.write(data)
+    with open(os.path.join(folder, "given"), "wb") as file:
+        file.write(case.given)
+
+
+def bytes_of(case):
+    files = [data for data in case.files.values() if data is not FOLDER]
+    return sum(map(len, [*case.words, *files, case.given]))

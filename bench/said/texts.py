@@ -1,0 +1,140 @@
+"""The first bad line of a script, a file of delays or a claim, as docs/FORMATS.md says, as far as
+that takes no timetable.
+"""
+import re
+
+from said.words import number_of, time_of
+
+LONGEST_LINE = 1024
+MOST_BYTES = 33_554_432
+MOST_BYTES_OF_CLAIM = 1_048_576
+MOST_LANES = 64
+MOST_REQUESTS = 20_000
+
+
+def lines_of(text):
+    """The lines of bytes, as pairs of their number and of themselves."""
+    lines = text.split(b"\n")
+    if not lines[-1]:
+        lines.pop()
+    return enumerate((line[:-1] if line.endswith(b"\r") else line for line in lines), 1)
+
+
+def words_of(line):
+    """The words of a line; none where it is skipped, and None where it is bad."""
+    if len(line) > LONGEST_LINE:
+        return None
+    try:
+        text = line.decode()
+    except UnicodeDecodeError:
+        return None
+    if text.startswith("#"):
+        return []
+    word = r'"(?:[^"]|"")*"(?![^ \t])|[^ \t"][^ \t]*'
+    if not re.fullmatch(rf"[ \t]*(?:(?:{word})(?:[ \t]+(?:{word}))*)?[ \t]*", text):
+        return None
+    return [unquoted(found) for found in re.findall(word, text)]
+
+
+def unquoted(word):
+    return word[1:-1].replace('""', '"') if word.startswith('"') else word
+
+
+def script_fault(text):
+    """The first fault of a script as it is shown, or None."""
+    if len(text) > MOST_BYTES:
+        return "5 TooLong"
+    lanes = requests = 0
+    for number, line in lines_of(text):
+        words = words_of(line)
+        if words == []:
+            continue
+        fault = line_fault(words, lanes)
+        is_lane = bool(words) and words[0] == "lane"
+        if fault != "1 BadLine":
+            lanes, requests = lanes + is_lane, requests + (not is_lane)
+            if lanes > MOST_LANES:
+                fault = "2 TooManyLanes"
+            elif requests > MOST_REQUESTS:
+                fault = "3 TooManyLines"
+        if fault:
+            return f"{fault} line {number}"
+    return None if lanes else "1 BadLine line 0"
+
+
+def line_fault(words, lanes):
+    """What is wrong with the form of a line of a script, or its times."""
+    if words is None:
+        return "1 BadLine"
+    if words[0] == "lane":
+        return None if len(words) == 2 else "1 BadLine"
+    if words[0] == "since":
+        if len(words) < 2 or number_of(words[1]) is None:
+            return "1 BadLine"
+        words = words[2:]
+    times = {("ask", 4): 1, ("profile", 5): 2}.get((words[0] if words else "", len(words)))
+    if times is None or not lanes:
+        return "1 BadLine"
+    if any(time_of(word) is None for word in words[-times:]):
+        return "4 BadTime"
+    return None
+
+
+def is_late(words):
+    if not words or len(words) != 4 or words[0] not in ("late", "late-before"):
+        return False
+    secs = words[3][1:] if words[3].startswith("-") else words[3]
+    return number_of(words[2]) is not None and number_of(secs) is not None
+
+
+def late_fault(text):
+    """The first bad line of a file of delays, or that it is too long, or None."""
+    if len(text) > MOST_BYTES:
+        return "7 TooLarge"
+    for number, line in lines_of(text):
+        words = words_of(line)
+        if words != [] and not is_late(words):
+            return f"5 BadLine line {number}"
+    return None
+
+
+def is_shown_time(text):
+    """Whether it is a time as it is shown, from -24:00:00 to 123:59:59."""
+    found = re.fullmatch(r"(-?)([0-9]{2,3}):([0-5][0-9]):([0-5][0-9])", text)
+    if not found or found[1] and number_of(text[1:].replace(":", "")) == 0:
+        return False
+    hours, minutes, seconds = (int(part) for part in found.groups()[1:])
+    total = hours * 3600 + minutes * 60 + seconds
+    return total <= 86_400 if found[1] else total <= 123 * 3600 + 3599
+
+
+def is_leg(words):
+    if words[0] == "walk":
+        return len(words) == 4 and number_of(words[3]) is not None
+    if words[0] != "ride" or len(words) not in (6, 7) or words[6:] not in ([], ["day-before"]):
+        return False
+    return is_shown_time(words[3]) and is_shown_time(words[5])
+
+
+def is_value(words):
+    return (
+        len(words) == 4
+        and (words[0], words[2]) == ("arrive", "rides")
+        and is_shown_time(words[1])
+        and number_of(words[3]) is not None
+    )
+
+
+def claim_fault(text):
+    """The first bad line of a claim, or that it is too long, or None."""
+    if len(text) > MOST_BYTES_OF_CLAIM:
+        return "4 TooLong"
+    has_value = False
+    for number, line in lines_of(text):
+        words = words_of(line)
+        if words == []:
+            continue
+        if words is None or not (is_leg if has_value else is_value)(words):
+            return f"1 BadLine line {number}"
+        has_value = True
+    return None if has_value else "1 BadLine line 0"

@@ -1,0 +1,116 @@
+"""Which words are a command line, as docs/FORMATS.md says."""
+import re
+
+VALUES = {"--change": (0, 86_400), "--station": (0, 86_400), "--workers": (1, 64)}
+FLAGS = ("--close", "--plain")
+LATEST = 273_599
+DAYS_OF_MONTH = (31, 28, 31, 30, 31, 30, 31, 31, 30, 31, 30, 31)
+
+
+def number_of(text, digits=9):
+    """The number that one to so many digits write, if they do."""
+    return int(text) if re.fullmatch(r"[0-9]{1,%d}" % digits, text) else None
+
+
+def time_of(text):
+    """The seconds of a time, if it is one."""
+    found = re.fullmatch(r"([0-9]{1,2}):([0-5][0-9]):([0-5][0-9])", text)
+    return found and int(found[1]) * 3600 + int(found[2]) * 60 + int(found[3])
+
+
+def is_date(text):
+    if not re.fullmatch(r"[0-9]{8}", text):
+        return False
+    year, month, day = int(text[:4]), int(text[4:6]), int(text[6:])
+    if year == 0 or not 1 <= month <= 12:
+        return False
+    leap = year % 4 == 0 and (year % 100 != 0 or year % 400 == 0)
+    return 1 <= day <= DAYS_OF_MONTH[month - 1] + (month == 2 and leap)
+
+
+def without_options(words):
+    """The words without options, or None where an option isn't as it has to be."""
+    left, seen, at = [], set(), 0
+    while at < len(words):
+        word = words[at]
+        at += 1
+        if word == "--":
+            return left + words[at:]
+        name, equals, value = word.partition("=")
+        if name in VALUES and name not in seen:
+            if not equals:
+                if at == len(words):
+                    return None
+                value = words[at]
+                at += 1
+            least, most = VALUES[name]
+            number = number_of(value)
+            if number is None or not least <= number <= most:
+                return None
+        elif word not in FLAGS or word in seen:
+            if word.startswith("-") and word != "-":
+                return None
+            left.append(word)
+            continue
+        seen.add(name)
+    return left
+
+
+def are_of_day(folder_date, rest, *checks):
+    """Whether a folder and a date stand there, and words for which the checks hold."""
+    return (
+        len(folder_date) == 2
+        and is_date(folder_date[1])
+        and len(rest) == len(checks)
+        and all(check(word) for check, word in zip(checks, rest))
+    )
+
+
+def anything(_):
+    return True
+
+
+def is_time(text):
+    return time_of(text) is not None
+
+
+def is_latest_time(text):
+    return is_time(text) and time_of(text) <= LATEST
+
+
+def is_day(word):
+    folder, at, date = word.rpartition("@")
+    return bool(at and folder) and is_date(date)
+
+
+ENDS = (anything, anything)
+CHECKS = {
+    "direct": (*ENDS, is_time),
+    "ask": (*ENDS, is_time),
+    "profile": (*ENDS, is_time, is_time),
+    "latest": (*ENDS, is_latest_time),
+    "reach": (anything, is_time),
+    "verify": (*ENDS, is_time),
+}
+
+
+def are_valid(words):
+    """Whether words, as bytes, are a command line."""
+    try:
+        words = without_options([word.decode() for word in words])
+    except UnicodeDecodeError:
+        return False
+    if not words:
+        return False
+    name, *rest = words
+    if name in CHECKS:
+        return are_of_day(rest[:2], rest[2:], *CHECKS[name])
+    if name == "late":
+        return are_of_day(rest[:2], rest[2:], anything, *CHECKS["ask"])
+    if name == "build":
+        return are_of_day(rest[:2], [], *()) and rest[2:] in ([], ["list"])
+    if name == "serve":
+        return 1 <= len(rest) <= 100 and all(map(is_day, rest))
+    if name == "city":
+        return len(rest) == 1 and 2 <= (number_of(rest[0]) or 0) <= 40
+    return False

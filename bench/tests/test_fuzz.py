@@ -1,0 +1,126 @@
+"""Tests of the cases of the fuzzer, and of what the documents say, told again."""
+import os
+import tempfile
+import unittest
+
+from fuzzing.cases import Case, Maker, lay_out
+from fuzzing.judging import Ended, Judge
+from harness import FEEDS
+from said import answers, feeds, texts, words
+
+
+class Cases(unittest.TestCase):
+    def test_the_same_seed_makes_the_same_cases(self):
+        one, other = ([Maker(seed).case(number) for number in range(50)] for seed in ("1", "1"))
+        self.assertEqual(one, other)
+        self.assertNotEqual(one, [Maker("2").case(number) for number in range(50)])
+
+    def test_each_case_can_be_laid_out(self):
+        for number in range(200):
+            with tempfile.TemporaryDirectory() as folder:
+                lay_out(Maker("1").case(number), folder)
+
+
+class Words(unittest.TestCase):
+    def valid(self, line):
+        return words.are_valid([word.encode() for word in line.split()])
+
+    def test_a_command_line(self):
+        self.assertTrue(self.valid("ask f 20260302 A D 08:00:00"))
+        self.assertTrue(self.valid("--change=60 ask f --close 20260302 A --workers 2 D 8:00:00"))
+        self.assertTrue(self.valid("--plain -- ask f 20260302 -A --close 8:00:00"))
+        self.assertTrue(self.valid("serve a@b@20260302 f@20260303"))
+        self.assertTrue(self.valid("build f 20240229 list"))
+
+    def test_no_command_line(self):
+        self.assertFalse(words.are_valid([]))
+        self.assertFalse(words.are_valid([b"city", b"\xff"]))
+        for line in (
+            "ask f 20260229 A D 08:00:00",
+            "ask f 20260302 A D 08:00",
+            "--close --close ask f 20260302 A D 08:00:00",
+            "--change ask f 20260302 A D 08:00:00",
+            "--workers 65 city 2",
+            "latest f 20260302 A D 76:00:00",
+            "serve @20260302",
+            "city 41",
+            "--help",
+        ):
+            self.assertFalse(self.valid(line), line)
+
+
+class Texts(unittest.TestCase):
+    def test_words_of_a_line(self):
+        self.assertEqual(["a", 'b "c"', ""], texts.words_of(b' a\t"b ""c""" ""'))
+        self.assertEqual([], texts.words_of(b"# x"))
+        for line in (b'"a', b'"a"b', b"\xff", b"x" * 1025):
+            self.assertIsNone(texts.words_of(line))
+
+    def test_faults(self):
+        self.assertIsNone(texts.script_fault(b"lane a\r\n\nsince 2 ask A B 8:00:00"))
+        self.assertEqual("1 BadLine line 0", texts.script_fault(b""))
+        self.assertEqual("1 BadLine line 1", texts.script_fault(b"ask A B 8:00:00\nlane a\n"))
+        self.assertEqual("4 BadTime line 2", texts.script_fault(b"lane a\nask A B 8:00\n"))
+        self.assertEqual("2 TooManyLanes line 65", texts.script_fault(b"lane a\n" * 65))
+        self.assertIsNone(texts.late_fault(b"late T1 1 -120\nlate-before T1 0 60"))
+        self.assertEqual("5 BadLine line 2", texts.late_fault(b"\nlate T1 1 x\n"))
+        self.assertIsNone(texts.claim_fault(b"arrive 08:30:00 rides 1\nwalk A B 60\n"))
+        self.assertEqual("1 BadLine line 1", texts.claim_fault(b"walk A B 60\n"))
+
+
+class Feeds(unittest.TestCase):
+    def fault_with(self, name, text):
+        with tempfile.TemporaryDirectory() as folder:
+            for it in os.listdir(os.path.join(FEEDS, "f1")):
+                with open(os.path.join(FEEDS, "f1", it), "rb") as file:
+                    data = text.encode() if it == name else file.read()
+                with open(os.path.join(folder, it), "wb") as file:
+                    file.write(data)
+            try:
+                feeds.check(folder, ".")
+            except feeds.Fault as fault:
+                return str(fault)
+
+    def test_first_faults(self):
+        self.assertIsNone(self.fault_with("", ""))
+        self.assertEqual(
+            "4 MissingColumn trips.txt row 1 column service_id", self.fault_with("trips.txt", "")
+        )
+        stops = 'stop_id\r\nA\r\n,\r\n"B"\r\nA\r\n'
+        self.assertEqual(
+            "10 DuplicateId stops.txt row 5 column stop_id", self.fault_with("stops.txt", stops)
+        )
+
+    def test_records(self):
+        text = 'a,"b ""c"",d"e\n\n"x\ny",\r"'
+        self.assertEqual([["a", 'b "c",de'], ["x\ny", ""], [""]], list(feeds.records(text)))
+
+
+class Judging(unittest.TestCase):
+    def wrong(self, status, out, err):
+        words = b"ask f 20260302 A D 08:00:00".split()
+        files = {f"f/{name}": data for name, data in Maker("1").feeds["f1"].items()}
+        with tempfile.TemporaryDirectory() as folder:
+            case = Case(words, files, b"")
+            lay_out(case, folder)
+            return Judge(case, folder).wrong(Ended(status, out, err, 0.01))
+
+    def test_what_may_come(self):
+        self.assertIsNone(self.wrong(0, "no journey\n", ""))
+        self.assertIsNone(self.wrong(3, "", "router: feed refused: 18 OpenFootpaths A B C\n"))
+        for status, out, err in (
+            ("SIGSEGV", "", ""),
+            (0, "no journey", ""),
+            (0, "no journey\n", "more\n"),
+            (1, "", ""),
+            (2, "", f"{answers.USAGE}\n"),
+            (3, "", "router: feed refused: 1 MissingFile stops.txt\n"),
+            (3, "x", "router: feed refused: 18 OpenFootpaths A B C\n"),
+            (6, "", "router: out of memory\n"),
+            (0, "arrive 09:00:00 rides 1\narrive 09:00:00 rides 2\n", ""),
+        ):
+            self.assertIsNotNone(self.wrong(status, out, err), (status, out, err))
+
+
+if __name__ == "__main__":
+    unittest.main()
