@@ -2,6 +2,7 @@ pub mod LineLaws
 pub mod OrderLaws
 pub mod RowLemmas
 pub mod EventLemmas
+pub mod PatternLemmas
 pub mod Placing
 pub mod TripOrders
 pub mod CallLemmas

@@ -1,7 +1,7 @@
 -- A trip is placed by a look at the lines of its bucket alone.
-use Rattle.std.proofs.Common.{◌≡◌, ◌≢◌, ◌∙◌, sym, ap, subst, refl, ℕ, zero, suc, ◌+◌, ◌-◌, ◌<◌, ◌⊎◌, inl, inr, Bool, true, false, cond, List, [], ◌∷◌, ◌++◌, length, get_or, set, fold, find, replicate, ◌/◌, ◌%◌, ◌^◌, Option, Some, None, arith, length-set, get_or-set_same, get_or-set_other}
+use Rattle.std.proofs.Common.{◌≡◌, ◌≢◌, ◌∙◌, sym, ap, subst, refl, ℕ, zero, suc, ◌+◌, ◌-◌, ◌<◌, ◌⊎◌, inl, inr, Bool, true, false, cond, List, [], ◌∷◌, ◌++◌, length, get_or, set, find, replicate, Some, None, arith, length-set, get_or-set_same, get_or-set_other}
 use Rattle.std.specs.Prelude.{All, AllPairs, Contains}
-use Rattle.std.proofs.lemmas.Bool.{cases_eq, and_parts}
+use Rattle.std.proofs.lemmas.Bool.{cases_eq}
 use Rattle.std.proofs.lemmas.List.{get_or_append_left, get_or_push, length_push}
 use Rattle.std.proofs.lemmas.List.Elements.{All-push, All-weaker, All-contains, Contains-push, Contains-append_left}
 use Rattle.std.proofs.lemmas.List.Quantifiers.{all_pairs_push}
@@ -11,9 +11,8 @@ use Rattle.tb_base.specs.Lines.{may_follow, place_trip, last_trip}
 use Rattle.tb_base.proofs.Ordered.{Member, Member-from_Contains, Contains-from_Member, AllPairs-head, AllPairs-tail}
 use Rattle.tb_base.proofs.Members.{find_found}
 use Rattle.tb_base.proofs.NumberFacts.{below_or_at}
-use Rattle.tb_base.proofs.LineFacts.{event_no_later}
-use Rattle.line_split.specs.Patterns.{mix, marks_of, bucket_of}
-use Rattle.line_split.specs.Buckets.{AreBucketed}
+use Rattle.line_split.specs.Patterns.{AreNumbered}
+use Rattle.line_split.specs.Buckets.{AreBucketed, last_of}
 
 -- whether a trip with these events may join line l
 abbrev pub joins : TimetableData → List (List ℕ) → List Event → ℕ → Bool
@@ -35,24 +34,6 @@ module _ (T : TimetableData) (t : ℕ) where
   place_trip-behind (line ∷ lines) none =
       ap (λ b. cond b ((line ++ t ∷ []) ∷ lines) (line ∷ place_trip T lines t)) (none 0 (omega arith))
       ∙ ap (λ (ls : List (List ℕ)). line ∷ ls) (place_trip-behind lines (λ k below. none (suc k) (omega arith)))
-
--- ---- trips of one pattern have one hash
-
-abbrev step : ℕ → Event → ℕ
-step hash e = mix (mix hash e.stop) (marks_of e)
-
-same_hash : (hash : ℕ) (es fs : List Event) → may_follow es fs ≡ true → fold step hash es ≡ fold step hash fs
-same_hash hash [] [] h = refl
-same_hash hash [] (f ∷ fs) h = cc
-same_hash hash (e ∷ es) [] h = cc
-same_hash hash (e ∷ es) (f ∷ fs) h =
-    let p = and_parts _ (may_follow es fs) h in
-    let n = event_no_later e f p.0 in
-    let one : step hash e ≡ step hash f = cc (n.stop, n.board, n.alight) in
-    ap (λ x. fold step x es) one ∙ same_hash (step hash f) es fs p.1
-
-pub same_bucket : (count : ℕ) (es fs : List Event) → may_follow es fs ≡ true → bucket_of count es ≡ bucket_of count fs
-same_bucket count es fs h = ap (λ hash. (hash / 2 ^ 32) % count) (same_hash 0 es fs h)
 
 -- ---- the first that passes, of numbers that ascend
 
@@ -78,13 +59,13 @@ module _ (test : ℕ → Bool) where
 
 -- ---- a look at the bucket is enough
 
-module _ (T : TimetableData) (lines buckets : List (List ℕ)) (are : AreBucketed T lines buckets) (t : ℕ) where
+module _ (T : TimetableData) (numbers : List ℕ) (lines buckets : List (List ℕ)) (numbered : AreNumbered T numbers (length buckets)) (are : AreBucketed T numbers lines buckets) (t : ℕ) (inside : t < length T.trips) where
   abbrev own_bucket : List ℕ
-  own_bucket = get_or buckets (bucket_of (length buckets) (events_of T t)) []
+  own_bucket = get_or buckets (get_or numbers t 0) []
 
   joined_inside : (k : ℕ) → k < length lines → joins T lines (events_of T t) k ≡ true → Member k own_bucket
   joined_inside k h j =
-      let e = same_bucket (length buckets) (events_of T (last_trip (get_or lines k []))) (events_of T t) j in
+      let e = numbered.same (last_of lines k) t (are.trips k h) inside j in
       Member-from_Contains k own_bucket (subst (λ b. Contains (get_or buckets b []) k) e (are.there k h))
 
   not_joined : (k : ℕ) → k < length lines → (Member k own_bucket → joins T lines (events_of T t) k ≡ false) → joins T lines (events_of T t) k ≡ false
@@ -94,21 +75,16 @@ module _ (T : TimetableData) (lines buckets : List (List ℕ)) (are : AreBuckete
       by_test true e = none (joined_inside k h (sym e))
       by_test false e = sym e
 
-  -- what was looked for, with names for what it was looked for in
-  pub look : (events : List Event) (count bucket : ℕ) (row : List ℕ) (found : Option ℕ) → events ≡ events_of T t → count ≡ length buckets → bucket ≡ bucket_of count events → row ≡ get_or buckets bucket [] → found ≡ find (joins T lines events) row →
-      find (joins T lines (events_of T t)) own_bucket ≡ found
-  look events count bucket row found e n b r f = rw (← e, ← n, ← b, ← r) (sym f)
-
   pub found_inside : (l : ℕ) → find (joins T lines (events_of T t)) own_bucket ≡ Some l → (l < length lines) × (joins T lines (events_of T t) l ≡ true)
   found_inside l h =
       let found = find_found (joins T lines (events_of T t)) own_bucket l h in
-      (All-contains (λ k. k < length lines) own_bucket l (are.known (bucket_of (length buckets) (events_of T t))) (Contains-from_Member l own_bucket found.0), found.1)
+      (All-contains (λ k. k < length lines) own_bucket l (are.known (get_or numbers t 0)) (Contains-from_Member l own_bucket found.0), found.1)
 
   pub placed_on : (l : ℕ) → find (joins T lines (events_of T t)) own_bucket ≡ Some l → place_trip T lines t ≡ set lines l (get_or lines l [] ++ t ∷ [])
   placed_on l h =
       let found = found_inside l h in
       place_trip-at T t lines l found.0
-      (λ k below. not_joined k (omega (arith, below, found.0)) (λ m. find-first (joins T lines (events_of T t)) own_bucket (are.ascending (bucket_of (length buckets) (events_of T t))) l h k m below)) found.1
+      (λ k below. not_joined k (omega (arith, below, found.0)) (λ m. find-first (joins T lines (events_of T t)) own_bucket (are.ascending (get_or numbers t 0)) l h k m below)) found.1
 
   pub placed_behind : find (joins T lines (events_of T t)) own_bucket ≡ None → place_trip T lines t ≡ lines ++ (t ∷ []) ∷ []
   placed_behind h = place_trip-behind T t lines (λ k below. not_joined k below (find-none (joins T lines (events_of T t)) own_bucket h k))
@@ -126,50 +102,63 @@ last_trip-push line t =
 abbrev extended : List (List ℕ) → ℕ → ℕ → List (List ℕ)
 extended lines l t = set lines l (get_or lines l [] ++ t ∷ [])
 
-module _ (T : TimetableData) (lines buckets : List (List ℕ)) (are : AreBucketed T lines buckets) (t : ℕ) where
-  pub bucketed_on : (l : ℕ) → l < length lines → joins T lines (events_of T t) l ≡ true → AreBucketed T (set lines l (get_or lines l [] ++ t ∷ [])) buckets
+module _ (T : TimetableData) (numbers : List ℕ) (lines buckets : List (List ℕ)) (numbered : AreNumbered T numbers (length buckets)) (are : AreBucketed T numbers lines buckets) (t : ℕ) (inside : t < length T.trips) where
+  pub bucketed_on : (l : ℕ) → l < length lines → joins T lines (events_of T t) l ≡ true → AreBucketed T numbers (set lines l (get_or lines l [] ++ t ∷ [])) buckets
   bucketed_on l h j = record {
     known = λ b. subst (λ n. All (λ k. k < n) (get_or buckets b [])) (sym (length-set lines l (get_or lines l [] ++ t ∷ []))) (are.known b);
     ascending = are.ascending;
+    trips = λ k below. known k (omega (arith, below, length-set lines l (get_or lines l [] ++ t ∷ []))) (cases_eq k l);
     there = λ k below. stands k (omega (arith, below, length-set lines l (get_or lines l [] ++ t ∷ []))) (cases_eq k l);
   }
     where
-      at_l : get_or (extended lines l t) l [] ≡ get_or lines l [] ++ t ∷ []
-      at_l = get_or-set_same lines l (get_or lines l [] ++ t ∷ []) [] h
+      last_joined : (k : ℕ) → k ≡ l → last_of (extended lines l t) k ≡ t
+      last_joined k e = ap (last_of (extended lines l t)) e ∙ ap last_trip (get_or-set_same lines l (get_or lines l [] ++ t ∷ []) [] h) ∙ last_trip-push (get_or lines l []) t
 
-      stands : (k : ℕ) → k < length lines → (k ≡ l) ⊎ (k ≢ l) → Contains (get_or buckets (bucket_of (length buckets) (events_of T (last_trip (get_or (extended lines l t) k [])))) []) k
+      last_kept : (k : ℕ) → k ≢ l → last_of (extended lines l t) k ≡ last_of lines k
+      last_kept k e = ap last_trip (get_or-set_other lines l k (get_or lines l [] ++ t ∷ []) [] e)
+
+      known : (k : ℕ) → k < length lines → (k ≡ l) ⊎ (k ≢ l) → last_of (extended lines l t) k < length T.trips
+      known k below (inl e) = subst (λ u. u < length T.trips) (sym (last_joined k e)) inside
+      known k below (inr e) = subst (λ u. u < length T.trips) (sym (last_kept k e)) (are.trips k below)
+
+      stands : (k : ℕ) → k < length lines → (k ≡ l) ⊎ (k ≢ l) → Contains (get_or buckets (get_or numbers (last_of (extended lines l t) k) 0) []) k
       stands k below (inl e) =
-          let last : last_trip (get_or (extended lines l t) k []) ≡ t = ap (λ i. last_trip (get_or (extended lines l t) i [])) e ∙ ap last_trip at_l ∙ last_trip-push (get_or lines l []) t in
-          let old : Contains (get_or buckets (bucket_of (length buckets) (events_of T (last_trip (get_or lines l [])))) []) k = subst (λ i. Contains (get_or buckets (bucket_of (length buckets) (events_of T (last_trip (get_or lines i [])))) []) k) e (are.there k below) in
-          subst (λ u. Contains (get_or buckets (bucket_of (length buckets) (events_of T u)) []) k) (sym last) (subst (λ b. Contains (get_or buckets b []) k) (same_bucket (length buckets) (events_of T (last_trip (get_or lines l []))) (events_of T t) j) old)
-      stands k below (inr e) =
-          subst (λ row. Contains (get_or buckets (bucket_of (length buckets) (events_of T (last_trip row))) []) k) (sym (get_or-set_other lines l k (get_or lines l [] ++ t ∷ []) [] e)) (are.there k below)
+          let old : Contains (get_or buckets (get_or numbers (last_of lines l) 0) []) k = subst (λ i. Contains (get_or buckets (get_or numbers (last_of lines i) 0) []) k) e (are.there k below) in
+          subst (λ u. Contains (get_or buckets (get_or numbers u 0) []) k) (sym (last_joined k e)) (subst (λ b. Contains (get_or buckets b []) k) (numbered.same (last_of lines l) t (are.trips l h) inside j) old)
+      stands k below (inr e) = subst (λ u. Contains (get_or buckets (get_or numbers u 0) []) k) (sym (last_kept k e)) (are.there k below)
 
   abbrev own : ℕ
-  own = bucket_of (length buckets) (events_of T t)
+  own = get_or numbers t 0
 
   abbrev pub more_buckets : List (List ℕ)
-  more_buckets = set buckets (bucket_of (length buckets) (events_of T t)) (get_or buckets (bucket_of (length buckets) (events_of T t)) [] ++ length lines ∷ [])
+  more_buckets = set buckets (get_or numbers t 0) (get_or buckets (get_or numbers t 0) [] ++ length lines ∷ [])
 
-  pub more_buckets-is : (bucket n : ℕ) (new : List (List ℕ)) → bucket ≡ bucket_of (length buckets) (events_of T t) → n ≡ length lines → new ≡ set buckets bucket (get_or buckets bucket [] ++ n ∷ []) → new ≡ more_buckets
-  more_buckets-is bucket n new e k h = h ∙ (λ i. set buckets (e i) (get_or buckets (e i) [] ++ k i ∷ []))
-
-  pub bucketed_behind : bucket_of (length buckets) (events_of T t) < length buckets → AreBucketed T (lines ++ (t ∷ []) ∷ []) more_buckets
-  bucketed_behind h = record {
+  pub bucketed_behind : AreBucketed T numbers (lines ++ (t ∷ []) ∷ []) more_buckets
+  bucketed_behind = record {
     known = λ b. subst (λ n. All (λ k. k < n) (get_or more_buckets b [])) (sym (length_push lines (t ∷ []))) (all_known b (cases_eq b own));
     ascending = λ b. up b (cases_eq b own);
-    there = λ k below. subst (λ n. Contains (get_or more_buckets (bucket_of n (events_of T (last_trip (get_or (lines ++ (t ∷ []) ∷ []) k [])))) []) k) (sym (length-set buckets own (get_or buckets own [] ++ length lines ∷ [])))
-        (stands k (below_or_at k (length lines) (omega (arith, below, length_push lines (t ∷ [])))));
+    trips = λ k below. in_table k (below_or_at k (length lines) (omega (arith, below, length_push lines (t ∷ []))));
+    there = λ k below. stands k (below_or_at k (length lines) (omega (arith, below, length_push lines (t ∷ []))));
   }
     where
+      h : own < length buckets
+      h = numbered.below t inside
+
       at_own : get_or more_buckets own [] ≡ get_or buckets own [] ++ length lines ∷ []
       at_own = get_or-set_same buckets own (get_or buckets own [] ++ length lines ∷ []) [] h
 
       at_other : (b : ℕ) → b ≢ own → get_or more_buckets b [] ≡ get_or buckets b []
       at_other b e = get_or-set_other buckets own b (get_or buckets own [] ++ length lines ∷ []) [] e
 
-      new_line : get_or (lines ++ (t ∷ []) ∷ []) (length lines) [] ≡ t ∷ []
-      new_line = get_or_push lines (t ∷ []) [] (length lines) refl
+      last_new : (k : ℕ) → k ≡ length lines → last_of (lines ++ (t ∷ []) ∷ []) k ≡ t
+      last_new k e = ap (last_of (lines ++ (t ∷ []) ∷ [])) e ∙ ap last_trip (get_or_push lines (t ∷ []) [] (length lines) refl)
+
+      last_kept : (k : ℕ) → k < length lines → last_of (lines ++ (t ∷ []) ∷ []) k ≡ last_of lines k
+      last_kept k below = ap last_trip (get_or_append_left lines ((t ∷ []) ∷ []) [] k below)
+
+      in_table : (k : ℕ) → (k < length lines) ⊎ (k ≡ length lines) → last_of (lines ++ (t ∷ []) ∷ []) k < length T.trips
+      in_table k (inl below) = subst (λ u. u < length T.trips) (sym (last_kept k below)) (are.trips k below)
+      in_table k (inr e) = subst (λ u. u < length T.trips) (sym (last_new k e)) inside
 
       wider : (b : ℕ) → All (λ k. k < length lines + 1) (get_or buckets b [])
       wider b = All-weaker (λ k. k < length lines) (λ k. k < length lines + 1) (λ k l. omega (arith, l)) (get_or buckets b []) (are.known b)
@@ -186,13 +175,12 @@ module _ (T : TimetableData) (lines buckets : List (List ℕ)) (are : AreBuckete
       kept b k m (inl e) = rw (e, at_own) (Contains-append_left (get_or buckets own []) (length lines ∷ []) k (subst (λ x. Contains (get_or buckets x []) k) e m))
       kept b k m (inr e) = rw (at_other b e) m
 
-      stands : (k : ℕ) → (k < length lines) ⊎ (k ≡ length lines) → Contains (get_or more_buckets (bucket_of (length buckets) (events_of T (last_trip (get_or (lines ++ (t ∷ []) ∷ []) k [])))) []) k
+      stands : (k : ℕ) → (k < length lines) ⊎ (k ≡ length lines) → Contains (get_or more_buckets (get_or numbers (last_of (lines ++ (t ∷ []) ∷ []) k) 0) []) k
       stands k (inl below) =
-          let b : ℕ = bucket_of (length buckets) (events_of T (last_trip (get_or lines k []))) in
-          subst (λ row. Contains (get_or more_buckets (bucket_of (length buckets) (events_of T (last_trip row))) []) k) (sym (get_or_append_left lines ((t ∷ []) ∷ []) [] k below)) (kept b k (are.there k below) (cases_eq b own))
+          subst (λ u. Contains (get_or more_buckets (get_or numbers u 0) []) k) (sym (last_kept k below))
+          (kept (get_or numbers (last_of lines k) 0) k (are.there k below) (cases_eq (get_or numbers (last_of lines k) 0) own))
       stands k (inr e) =
-          let row : get_or (lines ++ (t ∷ []) ∷ []) k [] ≡ t ∷ [] = ap (λ i. get_or (lines ++ (t ∷ []) ∷ []) i []) e ∙ new_line in
-          subst (λ row. Contains (get_or more_buckets (bucket_of (length buckets) (events_of T (last_trip row))) []) k) (sym row)
+          subst (λ u. Contains (get_or more_buckets (get_or numbers u 0) []) k) (sym (last_new k e))
           (subst (λ xs. Contains xs k) (sym at_own) (subst (λ i. Contains (get_or buckets own [] ++ length lines ∷ []) i) (sym e) (Contains-push (get_or buckets own []) (length lines))))
 
 pub none_in : (n b : ℕ) → get_or (replicate n (let none : List ℕ = [] in none)) b [] ≡ []

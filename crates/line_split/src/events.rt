@@ -1,10 +1,10 @@
 //! The events of trips side by side.
 ghost use Rattle.std.specs.Prelude.{◌≡◌, ◌<◌, ◌==◌, ◌&&◌, int_le};
-ghost use Rattle.std.specs.Ordering.{int_cmp, ordering_then};
+ghost use Rattle.std.specs.Ordering.{int_cmp, nat_cmp, ordering_then};
 ghost use Rattle.std.specs.Cmp.Lexicographic.{slice_cmp};
 ghost use Rattle.tb_base.specs.TimetableData.{events_of};
 ghost use Rattle.tb_base.specs.Lines.{may_follow, same_mark, times_of};
-ghost use Rattle.line_split.specs.Patterns.{mix, pattern_hash, marks_of};
+ghost use Rattle.line_split.specs.Patterns.{mix, pattern_hash, pattern_of, marks_of};
 
 use std::cmp::Ordering;
 use tb_base::{Event, Timetable, TripNo};
@@ -67,6 +67,31 @@ fn compare_event(e: &Event, f: &Event) -> Ordering
     ensures { result ≡ ordering_then (int_cmp e.now.arr f.now.arr) (int_cmp e.now.dep f.now.dep) }
 {
     e.arr.cmp(&f.arr).then(e.dep.cmp(&f.dep))
+}
+
+/// How the patterns of two trips compare, as lists of stops and marks.
+pub(crate) fn compare_patterns(first: &[Event], second: &[Event]) -> Ordering
+    ensures { result ≡ slice_cmp nat_cmp (pattern_of first.now) (pattern_of second.now) }
+{
+    let both = first.len().min(second.len());
+    for i in 0..both {
+        let order = compare_call(&first[i], &second[i]);
+        if order != Ordering::Equal {
+            return order;
+        }
+    }
+    first.len().cmp(&second.len())
+}
+
+// How the stops and marks of two events compare.
+fn compare_call(e: &Event, f: &Event) -> Ordering
+    ensures { result ≡ ordering_then (nat_cmp e.now.stop f.now.stop)
+        (nat_cmp (marks_of e.now) (marks_of f.now)) }
+{
+    e.stop
+        .index()
+        .cmp(&f.stop.index())
+        .then(marks_of(e).cmp(&marks_of(f)))
 }
 
 // One step of the hash.

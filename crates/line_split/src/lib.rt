@@ -22,6 +22,7 @@ mod lines;
 mod nested;
 mod onward;
 mod order;
+mod patterns;
 mod place;
 mod places;
 

@@ -2,15 +2,16 @@
 ghost use Rattle.std.specs.Prelude.{◌≡◌, ◌<◌, ◌≤◌, ◌++◌, ◌∷◌, [], IfOk, OnOk, All, find, fold, length, replicate, slice_index_or, slice_set};
 ghost use Rattle.tb_base.specs.TimetableData.{events_of};
 ghost use Rattle.tb_base.specs.Lines.{last_trip, may_follow, place_trip};
-ghost use Rattle.line_split.specs.Patterns.{bucket_of};
+ghost use Rattle.line_split.specs.Patterns.{AreNumbered};
 ghost use Rattle.line_split.specs.Buckets.{AreBucketed};
 ghost use Rattle.line_split.specs.Ends.{AreEnds, AreEndsOf};
 
 use super::ends::{Ends, end_of};
-use super::events::{events_of, may_follow, pattern_hash};
+use super::events::{events_of, may_follow};
 use super::nested::Nested;
+use super::patterns::patterns_of;
 use std::alloc::Global;
-use tb_base::{Event, Memory, Sec, Timetable, TripNo};
+use tb_base::{Memory, Sec, Timetable, TripNo};
 
 /// The lines: each trip in turn joins the first line that it may follow the last trip of, else it
 /// opens a new one.
@@ -19,17 +20,20 @@ pub(crate) fn place_trips(
     table: &Timetable,
     order: &[TripNo],
 ) -> Result<Nested<TripNo>, Memory>
+    requires { All (λ t. t < length table.now.trips) order.now }
     ensures placed { IfOk result (λ lines. lines ≡ fold (place_trip table.now) [] order.now) }
     ensures count { IfOk result (λ lines. length lines ≤ length order.now) }
     ensures rows { IfOk result (λ lines. All (λ line. length line ≤ length order.now) lines) }
 {
+    let (numbers, count) = patterns_of(alloc, table)?;
     let mut lines = Nested::new(alloc);
-    let mut buckets = Nested::with_rows(alloc, order.len())?;
-    let mut ends = no_ends(alloc, order.len())?;
+    let mut buckets = Nested::with_rows(alloc, count)?;
+    let mut ends = no_ends(alloc, count)?;
     for trip in order {
         place(
             alloc,
             table,
+            numbers.as_slice(),
             &mut lines,
             &mut buckets,
             ends.as_mut_slice(),
@@ -50,43 +54,35 @@ fn no_ends(alloc: Global, count: usize) -> Result<Vec<Ends>, Memory>
     Ok(ends)
 }
 
-// Places one trip. The buckets hold the numbers of the lines, by the hash of their pattern; the
+// Places one trip. The buckets hold the numbers of the lines, by the number of their pattern; the
 // ends of their lines are those of the trips that opened them.
 fn place(
     alloc: Global,
     table: &Timetable,
+    numbers: &[usize],
     lines: &mut Nested<TripNo>,
     buckets: &mut Nested<usize>,
     ends: &mut [Ends],
     trip: TripNo,
 ) -> Result<(), Memory>
-    requires room { 0 < length buckets.old }
-    requires bucketed { AreBucketed table.now lines.old buckets.old }
+    requires trip { trip < length table.now.trips }
+    requires numbered { AreNumbered table.now numbers.now (length buckets.old) }
+    requires bucketed { AreBucketed table.now numbers.now lines.old buckets.old }
     requires ends { AreEnds table.now lines.old buckets.old ends.old }
     ensures placed { OnOk result (lines.new ≡ place_trip table.now lines.old trip) }
     ensures room { OnOk result (length buckets.new ≡ length buckets.old) }
-    ensures bucketed { OnOk result (AreBucketed table.now lines.new buckets.new) }
+    ensures bucketed { OnOk result (AreBucketed table.now numbers.now lines.new buckets.new) }
     ensures ends { OnOk result (AreEnds table.now lines.new buckets.new ends.new) }
 {
-    let events = events_of(table, trip);
-    let bucket = bucket_of(events, buckets.len());
+    let bucket = numbers[trip.index()];
     match first_line(table, lines, buckets.row(bucket), &ends[bucket], trip) {
         Some(line) => lines.add(line, trip),
         None => {
-            add_end(ends, bucket, end_of(events))?;
+            add_end(ends, bucket, end_of(events_of(table, trip)))?;
             buckets.add(bucket, lines.len())?;
             lines.open_with(alloc, trip)
         }
     }
-}
-
-// The bucket of a pattern.
-fn bucket_of(events: &[Event], count: usize) -> usize
-    requires { 0 < count }
-    ensures value { result ≡ bucket_of count events.now }
-    ensures below { result < count }
-{
-    (pattern_hash(events) >> 32) as usize % count
 }
 
 // The last trip of a line.

@@ -1,50 +1,53 @@
-use Rattle.std.proofs.Common.{◌≡◌, arith, rules, ap, sym, subst, ◌∙◌, ◌<◌, [], ◌∷◌, ◌++◌, find, get_or, set, length}
+use Rattle.std.proofs.Common.{ℕ, List, ◌≡◌, rules, ap, sym, subst, ◌∙◌, ◌<◌, [], ◌∷◌, ◌++◌, find, get_or, set, length}
 use Rattle.std.specs.Int.{w32}
 use Rattle.std.specs.Prelude.{FitsSigned}
 use Rattle.std.proofs.lemmas.Int.{to_z-of_z}
-use Rattle.line_split.specs.Patterns.{bucket_of}
 use Rattle.tb_base.specs.TimetableData.{events_of}
 use Rattle.line_split.specs.Buckets.{AreBucketed}
 use Rattle.line_split.specs.Ends.{AreEnds, end_of}
 use Rattle.line_split.proofs.EndLemmas.{ends_joined, ends_opened}
-use Rattle.line_split.proofs.Placing.{look, found_inside, placed_on, placed_behind, bucketed_on, bucketed_behind, joins, more_buckets-is}
+use Rattle.line_split.proofs.Placing.{found_inside, placed_on, placed_behind, bucketed_on, bucketed_behind, joins}
 use Rattle.line_split.proofs.RowLemmas.{on_ok_subst}
 use Rattle.line_split.proofs.place.place.Goals as goal
 
+own_row : (row : List ℕ) (buckets : List (List ℕ)) (numbers : List ℕ) (i t : ℕ) → row ≡ get_or buckets (get_or numbers i 0) [] → i ≡ t → row ≡ get_or buckets (get_or numbers t 0) []
+own_row row buckets numbers i t h e = h ∙ ap (λ j. get_or buckets (get_or numbers j 0) []) e
+
 pub add-requires : goal.add-requires
 add-requires c =
-    let f = look c.args.table.now c.args.lines.now c.args.buckets.now c.requires.bucketed c.args.trip _ _ _ _ _ c.events_of-events.ensures c.len.ensures c.bucket_of-bucket.ensures.value c.row.ensures (c.first_line.ensures ∙ ap (λ es. find (joins c.args.table.now c.args.lines.now es) c.row.result.now) (sym c.events_of-events.ensures)) ∙ c.in-Some.is in
-    (found_inside c.args.table.now c.args.lines.now c.args.buckets.now c.requires.bucketed c.args.trip c.in-Some.line f).0
+    let f = ap (find (joins c.args.table.now c.args.lines.now (events_of c.args.table.now c.args.trip))) (sym (own_row c.row.result.now c.args.buckets.now c.args.numbers.now c.index.result c.args.trip c.row.ensures c.index.ensures)) ∙ sym c.first_line.ensures ∙ c.in-Some.is in
+    (found_inside c.args.table.now c.args.numbers.now c.args.lines.now c.args.buckets.now c.requires.numbered c.requires.bucketed c.args.trip c.requires.trip c.in-Some.line f).0
 
 pub returns-in-Some-clause-placed : goal.returns-in-Some-clause-placed
 returns-in-Some-clause-placed c =
-    let f = look c.args.table.now c.args.lines.now c.args.buckets.now c.requires.bucketed c.args.trip _ _ _ _ _ c.events_of-events.ensures c.len.ensures c.bucket_of-bucket.ensures.value c.row.ensures (c.first_line.ensures ∙ ap (λ es. find (joins c.args.table.now c.args.lines.now es) c.row.result.now) (sym c.events_of-events.ensures)) ∙ c.in-Some.is in
-    rw (placed_on c.args.table.now c.args.lines.now c.args.buckets.now c.requires.bucketed c.args.trip c.in-Some.line f) c.add.ensures
+    let f = ap (find (joins c.args.table.now c.args.lines.now (events_of c.args.table.now c.args.trip))) (sym (own_row c.row.result.now c.args.buckets.now c.args.numbers.now c.index.result c.args.trip c.row.ensures c.index.ensures)) ∙ sym c.first_line.ensures ∙ c.in-Some.is in
+    rw (placed_on c.args.table.now c.args.numbers.now c.args.lines.now c.args.buckets.now c.requires.numbered c.requires.bucketed c.args.trip c.requires.trip c.in-Some.line f) c.add.ensures
 
 pub returns-in-Some-clause-bucketed : goal.returns-in-Some-clause-bucketed
 returns-in-Some-clause-bucketed c =
-    let f = look c.args.table.now c.args.lines.now c.args.buckets.now c.requires.bucketed c.args.trip _ _ _ _ _ c.events_of-events.ensures c.len.ensures c.bucket_of-bucket.ensures.value c.row.ensures (c.first_line.ensures ∙ ap (λ es. find (joins c.args.table.now c.args.lines.now es) c.row.result.now) (sym c.events_of-events.ensures)) ∙ c.in-Some.is in
-    let found = found_inside c.args.table.now c.args.lines.now c.args.buckets.now c.requires.bucketed c.args.trip c.in-Some.line f in
-    on_ok_subst c.add.result (λ ls. AreBucketed c.args.table.now ls c.args.buckets.now) c.add.new.self _ c.add.ensures (bucketed_on c.args.table.now c.args.lines.now c.args.buckets.now c.requires.bucketed c.args.trip c.in-Some.line found.0 found.1)
+    let T = c.args.table.now in
+    let f = ap (find (joins c.args.table.now c.args.lines.now (events_of c.args.table.now c.args.trip))) (sym (own_row c.row.result.now c.args.buckets.now c.args.numbers.now c.index.result c.args.trip c.row.ensures c.index.ensures)) ∙ sym c.first_line.ensures ∙ c.in-Some.is in
+    let found = found_inside T c.args.numbers.now c.args.lines.now c.args.buckets.now c.requires.numbered c.requires.bucketed c.args.trip c.requires.trip c.in-Some.line f in
+    on_ok_subst c.add.result (λ ls. AreBucketed c.args.table.now c.args.numbers.now ls c.args.buckets.now) c.add.new.self _ c.add.ensures
+    (bucketed_on T c.args.numbers.now c.args.lines.now c.args.buckets.now c.requires.numbered c.requires.bucketed c.args.trip c.requires.trip c.in-Some.line found.0 found.1)
 
 pub returns-in_ok-add-in-None-clause-placed : goal.returns-in_ok-add-in-None-clause-placed
 returns-in_ok-add-in-None-clause-placed c =
-    let f = look c.args.table.now c.args.lines.now c.args.buckets.now c.requires.bucketed c.args.trip _ _ _ _ _ c.events_of-events.ensures c.len.ensures c.bucket_of-bucket.ensures.value c.row.ensures (c.first_line.ensures ∙ ap (λ es. find (joins c.args.table.now c.args.lines.now es) c.row.result.now) (sym c.events_of-events.ensures)) ∙ c.in-None.is in
-    rw (placed_behind c.args.table.now c.args.lines.now c.args.buckets.now c.requires.bucketed c.args.trip f) c.open_with.ensures
+    let f = ap (find (joins c.args.table.now c.args.lines.now (events_of c.args.table.now c.args.trip))) (sym (own_row c.row.result.now c.args.buckets.now c.args.numbers.now c.index.result c.args.trip c.row.ensures c.index.ensures)) ∙ sym c.first_line.ensures ∙ c.in-None.is in
+    rw (placed_behind c.args.table.now c.args.numbers.now c.args.lines.now c.args.buckets.now c.requires.numbered c.requires.bucketed c.args.trip c.requires.trip f) c.open_with.ensures
 
 pub returns-in_ok-add-in-None-clause-bucketed : goal.returns-in_ok-add-in-None-clause-bucketed
 returns-in_ok-add-in-None-clause-bucketed c =
-    let own : c.bucket_of-bucket.result ≡ bucket_of (length c.args.buckets.now) (events_of c.args.table.now c.args.trip)
-    = rw (← c.len.ensures, ← c.events_of-events.ensures) c.bucket_of-bucket.ensures.value in
-    let below : bucket_of (length c.args.buckets.now) (events_of c.args.table.now c.args.trip) < length c.args.buckets.now = omega (arith, own, c.bucket_of-bucket.ensures.below, c.len.ensures) in
-    let more = more_buckets-is c.args.table.now c.args.lines.now c.args.buckets.now c.requires.bucketed c.args.trip _ _ c.add-in-None.new.self own c.len-in-None.ensures c.in_ok-add-in-None.ensures in
-    on_ok_subst c.open_with.result (λ ls. AreBucketed c.args.table.now ls c.add-in-None.new.self) c.open_with.new.self _ c.open_with.ensures
-    (rw more (bucketed_behind c.args.table.now c.args.lines.now c.args.buckets.now c.requires.bucketed c.args.trip below))
+    let T = c.args.table.now in
+    let listed = c.in_ok-add-in-None.ensures ∙ (λ i. set c.args.buckets.now (get_or c.args.numbers.now (c.index.ensures i) 0) (get_or c.args.buckets.now (get_or c.args.numbers.now (c.index.ensures i) 0) [] ++ c.len.ensures i ∷ [])) in
+    on_ok_subst c.open_with.result (λ ls. AreBucketed c.args.table.now c.args.numbers.now ls c.add-in-None.new.self) c.open_with.new.self _ c.open_with.ensures
+    (subst (λ bs. AreBucketed T c.args.numbers.now (c.args.lines.now ++ (c.args.trip ∷ []) ∷ []) bs) (sym listed) (bucketed_behind T c.args.numbers.now c.args.lines.now c.args.buckets.now c.requires.numbered c.requires.bucketed c.args.trip c.requires.trip))
 
 pub returns-in-Some-clause-ends : goal.returns-in-Some-clause-ends
 returns-in-Some-clause-ends c =
-    let f = look c.args.table.now c.args.lines.now c.args.buckets.now c.requires.bucketed c.args.trip _ _ _ _ _ c.events_of-events.ensures c.len.ensures c.bucket_of-bucket.ensures.value c.row.ensures (c.first_line.ensures ∙ ap (λ es. find (joins c.args.table.now c.args.lines.now es) c.row.result.now) (sym c.events_of-events.ensures)) ∙ c.in-Some.is in
-    let found = found_inside c.args.table.now c.args.lines.now c.args.buckets.now c.requires.bucketed c.args.trip c.in-Some.line f in
+    let T = c.args.table.now in
+    let f = ap (find (joins c.args.table.now c.args.lines.now (events_of c.args.table.now c.args.trip))) (sym (own_row c.row.result.now c.args.buckets.now c.args.numbers.now c.index.result c.args.trip c.row.ensures c.index.ensures)) ∙ sym c.first_line.ensures ∙ c.in-Some.is in
+    let found = found_inside T c.args.numbers.now c.args.lines.now c.args.buckets.now c.requires.numbered c.requires.bucketed c.args.trip c.requires.trip c.in-Some.line f in
     on_ok_subst c.add.result (λ ls. AreEnds c.args.table.now ls c.args.buckets.now c.args.ends.now) c.add.new.self _ c.add.ensures (ends_joined c.args.table.now c.args.lines.now c.args.buckets.now c.args.ends.now c.args.trip c.in-Some.line found.0 found.1 c.requires.ends)
 
 pub returns-in_ok-add-in-None-clause-ends : goal.returns-in_ok-add-in-None-clause-ends
@@ -52,11 +55,11 @@ returns-in_ok-add-in-None-clause-ends c =
     let T = c.args.table.now in
     let lines = c.args.lines.now in
     let buckets = c.args.buckets.now in
-    let b = c.bucket_of-bucket.result in
+    let b = get_or c.args.numbers.now c.index.result 0 in
     let fits : FitsSigned w32 c.end_of.result = search rules in
-    let below : c.bucket_of-bucket.result < length c.args.buckets.now = omega (arith, c.bucket_of-bucket.ensures.below, c.len.ensures) in
-    let is = to_z-of_z w32 c.end_of.result fits ∙ c.end_of.ensures ∙ ap end_of c.events_of-events.ensures in
-    let listed = c.in_ok-add-in-None.ensures ∙ ap (λ n. set buckets b (get_or buckets b [] ++ n ∷ [])) c.len-in-None.ensures in
+    let below : get_or c.args.numbers.now c.index.result 0 < length c.args.buckets.now = subst (λ i. get_or c.args.numbers.now i 0 < length c.args.buckets.now) (sym c.index.ensures) (c.requires.numbered.below c.args.trip c.requires.trip) in
+    let is = to_z-of_z w32 c.end_of.result fits ∙ c.end_of.ensures ∙ ap end_of c.events_of.ensures in
+    let listed = c.in_ok-add-in-None.ensures ∙ ap (λ n. set buckets b (get_or buckets b [] ++ n ∷ [])) c.len.ensures in
     on_ok_subst c.open_with.result (λ ls. AreEnds T ls c.add-in-None.new.self c.add_end.new.ends) c.open_with.new.self _ c.open_with.ensures
     (subst (λ bs. AreEnds T (lines ++ (c.args.trip ∷ []) ∷ []) bs c.add_end.new.ends) (sym listed)
     (subst (λ es. AreEnds T (lines ++ (c.args.trip ∷ []) ∷ []) (set buckets b (get_or buckets b [] ++ length lines ∷ [])) es) (sym c.in_ok-add_end-in-None.ensures)

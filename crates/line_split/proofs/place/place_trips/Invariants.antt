@@ -7,7 +7,7 @@ use Rattle.line_split.proofs.place.place_trips.Given as goal
 abbrev pub invariant-loop-trip : goal.invariant-loop-trip
 invariant-loop-trip l = record {
   placed : l.lines ≡ fold (place_trip l.table) [] (take l.trip-index l.order);
-  room : length l.buckets ≡ length l.order;
-  bucketed : AreBucketed l.table l.lines l.buckets;
+  room : length l.buckets ≡ l.count;
+  bucketed : AreBucketed l.table l.numbers.items l.lines l.buckets;
   ends : AreEnds l.table l.lines l.buckets l.ends.items;
 }
