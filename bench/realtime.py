@@ -17,9 +17,8 @@ TRIPS = {
     "DUPLICATED": "added trips",
     "REPLACEMENT": "replaced trips",
     "UNSCHEDULED": "unscheduled trips",
-    "CANCELED": "cancelled trips",
-    "DELETED": "cancelled trips",
 }
+CANCELLED = ("CANCELED", "DELETED")
 
 
 class Unsaid(Exception):
@@ -74,18 +73,27 @@ class Converter:
         if (trip.name, day) in self.said:
             raise Unsaid("second updates of a trip")
         self.said.add((trip.name, day))
-        moves = self.without_running_back(trip, self.moves_of(update, trip, day))
         is_before = day != self.date
-        word = "late-before" if is_before else "late"
-        lines, now = [], 0
-        for at, move in enumerate(moves):
-            if move != now:
-                stop_beyond(trip, at, move, move - now, is_before)
-                lines.append(f"{word} {quoted(trip.name)} {at} {move - now}")
-                now = move
+        if relation_of(descriptor, TRIP_RELATIONS) in CANCELLED:
+            said = [("cancel",)]
+        else:
+            said = self.said_of(update, trip, day, is_before)
+        day_word = ["day-before"] if is_before else []
+        lines = [" ".join([word, quoted(trip.name), *rest, *day_word]) for word, *rest in said]
         if any("\n" in line or len(line.encode()) > LONGEST_LINE for line in lines):
             raise Unsaid("trips whose id doesn't fit into a line")
         return lines
+
+    def said_of(self, update, trip, day, is_before):
+        """What is said of a trip that runs, by words but for its name: its delays, then its skips."""
+        moves, skipped = self.moves_of(update, trip, day)
+        said, now = [], 0
+        for at, move in enumerate(self.without_running_back(trip, moves)):
+            if move != now:
+                stop_beyond(trip, at, move, move - now, is_before)
+                said.append(("late", str(at), str(move - now)))
+                now = move
+        return said + [("skip", str(at)) for at in skipped]
 
     def day_of(self, descriptor):
         """The day on which the trip begins: the date, or the day before."""
@@ -97,7 +105,7 @@ class Converter:
 
     def trip_of(self, descriptor, day):
         relation = relation_of(descriptor, TRIP_RELATIONS)
-        if relation != "SCHEDULED":
+        if relation != "SCHEDULED" and relation not in CANCELLED:
             raise Unsaid(TRIPS.get(relation, f"trips with the relationship {relation}"))
         trip_id = field(descriptor, "tripId")
         if not trip_id:
@@ -123,7 +131,7 @@ class Converter:
     def moves_of(self, update, trip, day):
         """By how many seconds each call is moved: as its update says, or else as the one before is
         left. A call whose arrival and departure are moved otherwise is moved as its arrival, the
-        first one as its departure.
+        first one as its departure. And the calls that are skipped.
         """
         stops, last = self.stops_of(update, trip), len(trip.calls) - 1
         now = 0 if stops else int(field(update, "delay", 0))
@@ -134,7 +142,8 @@ class Converter:
                 self.unsaid["calls left with another delay than they are reached with"] += 1
             moves.append(arrival if at else departure)
             now = departure
-        return moves
+        skipped = [at for at, stop in stops.items() if is_skipped(stop)]
+        return moves, sorted(skipped)
 
     def delays_at(self, stop, call, day, now):
         """The delays of arrival and departure at a call, where that before is left with `now`."""
@@ -142,7 +151,8 @@ class Converter:
         if relation == "NO_DATA":
             return 0, 0
         if relation != "SCHEDULED":
-            self.unsaid["skipped stops" if relation == "SKIPPED" else "unscheduled stops"] += 1
+            if not is_skipped(stop):
+                self.unsaid["unscheduled stops"] += 1
             return now, now
         arrival = self.delay_of(field(stop, "arrival", {}), call.arrival, day)
         departure = self.delay_of(field(stop, "departure", {}), call.departure, day)
@@ -167,6 +177,11 @@ class Converter:
                 moves[at] = left - trip.calls[at].arrival
                 self.unsaid["calls reached before the one before is left, moved to later"] += 1
         return moves
+
+
+def is_skipped(stop):
+    """Whether an update says that the trip doesn't stop there."""
+    return relation_of(stop, STOP_RELATIONS) == "SKIPPED"
 
 
 def call_of(stop, trip, first):

@@ -1,10 +1,10 @@
 """A late file from trip updates of GTFS Realtime.
 
 Reads a feed message in protobuf's JSON form, which any protobuf library writes of the binary one,
-and writes the file of delays that `./router late FEED DATE FILE ..` reads: the updates of trips
-that began on DATE or the day before. How much of it the file can't say, as cancelled and added
-trips, skipped stops and other platforms, is said on standard error, with counts. Arrival and
-departure at a stop have one delay in the file; where they differ it is the arrival's.
+and writes the file that `./router late FEED DATE FILE ..` reads: delays, cancelled trips and skipped
+stops of trips that began on DATE or the day before. How much of it the file can't say, as added
+trips and other platforms, is said on standard error, with counts. Arrival and departure at a stop
+have one delay in the file; where they differ it is the arrival's.
 """
 import argparse
 import json

@@ -96,7 +96,7 @@ class Delays(unittest.TestCase):
 
     def test_trips_of_the_day_before(self):
         stops = [stop(2, 300)]
-        self.check(["late-before N1 1 300"], {}, update(stops, "N1", startDate="20260301"))
+        self.check(["late N1 1 300 day-before"], {}, update(stops, "N1", startDate="20260301"))
         absent = {"trips that the day doesn't have": 1}
         self.check([], absent, update(stops, "T1", startDate="20260301"))
         self.check([], {"trips of other days": 1}, update(stops, "N1", startDate="20260228"))
@@ -114,28 +114,40 @@ class Delays(unittest.TestCase):
         stops = [{"stopSequence": 3, "arrival": {"time": "1772435520"}}]
         self.check(["late T1 1 120"], {}, update(stops))
 
+    def test_cancelled_trips(self):
+        entities = [
+            update(scheduleRelationship="CANCELED"),
+            update(trip_id="N1", startDate="20260301", scheduleRelationship=3),
+            update(trip_id="F1", startTime="07:10:00", scheduleRelationship="DELETED"),
+        ]
+        self.check(["cancel T1", "cancel N1 day-before", "cancel F1#07:10:00"], {}, *entities)
+
+    def test_skipped_stops(self):
+        skipped = {"scheduleRelationship": "SKIPPED"}
+        stops = [stop(1, 60, 60), {"stopSequence": 3, **skipped}, {"stopSequence": 9, **skipped}]
+        self.check(["late T1 0 60", "skip T1 1", "skip T1 3"], {}, update(stops))
+        before = update([{"stopSequence": 2, **skipped}], "N1", startDate="20260301")
+        self.check(["skip N1 1 day-before"], {}, before)
+
     def test_what_the_file_cannot_say(self):
-        skipped = {"stopSequence": 3, "scheduleRelationship": "SKIPPED"}
+        wanted = {"stopSequence": 3, "scheduleRelationship": "UNSCHEDULED"}
         platform = {"stopTimeProperties": {"assignedStopId": "B2"}}
         entities = [
-            update(trip_id="T1", scheduleRelationship="CANCELED"),
-            update(trip_id="T1", scheduleRelationship=3),
             update(trip_id="new", scheduleRelationship="ADDED"),
             update(trip_id="F1", scheduleRelationship="UNSCHEDULED"),
             update(trip_id="W1", stops=[stop(1, 60, 60)]),
             update(trip_id=None, routeId="R"),
-            update([stop(1, 60, 60), skipped, stop(4, 60, **platform)]),
+            update([stop(1, 60, 60), wanted, stop(4, 60, **platform)]),
             update([stop(1, 90, 90)]),
             update([stop(2, 90_000)], "N1"),
             {"vehicle": {}},
         ]
         unsaid = {
-            "cancelled trips": 2,
             "added trips": 1,
             "unscheduled trips": 1,
             "trips that the day doesn't have": 1,
             "trips without an id": 1,
-            "skipped stops": 1,
+            "unscheduled stops": 1,
             "calls at another platform": 1,
             "second updates of a trip": 1,
             "trips moved by more than a day, or beyond the times of a day": 1,

@@ -1,4 +1,4 @@
--- A trip with the same times that calls nowhere near one with other times is not touched.
+-- A trip with the same events that calls nowhere near one with other events is not touched.
 use Rattle.std.proofs.Common.{◌≡◌, ◌∙◌, sym, ap, subst, refl, ℕ, ◌+◌, ◌-◌, ◌<◌, ◌≤◌, ◌⊎◌, inl, inr, Bool, true, false, cond, ◌==◌, ◌&&◌, ◌||◌, not, List, [], ◌∷◌, length, map, get_or, Option, Some, None, ℤ, pos, ◌+ℤ◌, arith}
 use Rattle.std.specs.Prelude.{filter, filter_map, flat_map, nat_lt, int_le, All, AllPairs}
 use Rattle.std.specs.List.{list_any}
@@ -25,10 +25,10 @@ use Rattle.tb_laws.specs.Rows.{row_of}
 use Rattle.line_split.proofs.LineLaws.{lines_divide}
 use Rattle.line_split.specs.LinesData.{LinesData}
 use Rattle.late_edit.specs.Near.{MarksNear}
-use Rattle.late_edit.specs.Retimed.{IsRetimed}
-use Rattle.late_edit.specs.Touched.{TellsOtherTimes, candidates_of, has_other_times, is_touched, same_transfer}
+use Rattle.late_edit.specs.Updated.{IsUpdated}
+use Rattle.late_edit.specs.Touched.{TellsOtherEvents, candidates_of, has_other_events, is_touched, same_transfer}
 use Rattle.late_edit.proofs.ListFacts.{filter-none, filter_map-none, find-same, flat_map-filter, flat_map-none, flat_map-same, list_any-by, list_any-found, list_any-none, Member-get_or, Member-numbers_down_back}
-use Rattle.late_edit.proofs.Retimings.{same_rows, same_trip}
+use Rattle.late_edit.proofs.SameEvents.{same_rows, same_trip}
 use Rattle.late_edit.proofs.SameLines.{IsCalm, calls, line_calls, lines-same}
 use Rattle.late_edit.proofs.Untouched.{rows_at}
 
@@ -90,16 +90,16 @@ module _ (T : TimetableData) (t i q : ℕ) where
       by_change j None k = cc
       by_change j (Some secs) k = by_trip j (arrival_at T t i +ℤ pos secs) (earliest_trip T line j (arrival_at T t i +ℤ pos secs)) refl k
 
--- ---- a line of trips with the same times
+-- ---- a line of trips with the same events
 
-module _ (T U : TimetableData) (same : IsRetimed T U) (t i q : ℕ) (own : events_of T t ≡ events_of U t) where
-  hops-same : (line : List ℕ) → ((u : ℕ) → Member u line → has_other_times T U u ≡ false) → hops_onto T t i q line ≡ hops_onto U t i q line
+module _ (T U : TimetableData) (same : IsUpdated T U) (t i q : ℕ) (own : events_of T t ≡ events_of U t) where
+  hops-same : (line : List ℕ) → ((u : ℕ) → Member u line → has_other_events T U u ≡ false) → hops_onto T t i q line ≡ hops_onto U t i q line
   hops-same [] calm = refl
   hops-same (x ∷ xs) calm = λ k.
       filter_map (λ j. hop-same j k) (filter (λ j. ((get_or (events x (inl refl) k) j no_event).stop == q) && ((get_or (events x (inl refl) k) j no_event).board && nat_lt (j + 1) (length (events x (inl refl) k)))) (numbers_below (length (events x (inl refl) k))))
     where
       events : (u : ℕ) → Member u (x ∷ xs) → events_of T u ≡ events_of U u
-      events u m = same_trip T U same u (calm u m)
+      events u m = same_trip T U u (calm u m)
 
       first-same : (j secs : ℕ) → earliest_trip T (x ∷ xs) j (arrival_at T t i +ℤ pos secs) ≡ earliest_trip U (x ∷ xs) j (arrival_at U t i +ℤ pos secs)
       first-same j secs = find-same (λ u. int_le (arrival_at T t i +ℤ pos secs) (departure_at T u j)) (λ u. int_le (arrival_at U t i +ℤ pos secs) (departure_at U u j)) (x ∷ xs)
@@ -110,19 +110,19 @@ module _ (T U : TimetableData) (same : IsRetimed T U) (t i q : ℕ) (own : event
           option_and_then (λ secs. option_and_then (λ u. cond (is_own_line_onward (x ∷ xs) t i u j) None (Some (record { trip = u; at = j }))) (first-same j secs k))
           (change_between (same.footpaths k) (get_or (own k) i no_event).stop (get_or (events x (inl refl) k) j no_event).stop)
 
--- ---- a trip that calls nowhere near one with other times
+-- ---- a trip that calls nowhere near one with other events
 
-module _ (L M : LinesData) (same : IsRetimed L.table M.table) (a : AreLines L.table L.lines) (b : AreLines M.table M.lines)
-    (others marks : List Bool) (told : TellsOtherTimes L.table M.table others) (marked : MarksNear L.table others marks) where
+module _ (L M : LinesData) (same : IsUpdated L.table M.table) (a : AreLines L.table L.lines) (b : AreLines M.table M.lines)
+    (others marks : List Bool) (told : TellsOtherEvents L.table M.table others) (marked : MarksNear L.table others marks) where
   calm_near : (p q secs : ℕ) → p < length L.table.stops → get_or marks p false ≡ false → change L.table p q ≡ Some secs → IsCalm L.table M.table q
-  calm_near p q secs inside far changes u calls_there = false_from_ne_true (has_other_times L.table M.table u) (λ other. clash other (list_any-found (λ (e : Event). e.stop == q) (events_of L.table u) calls_there) (cases_lt u (length L.table.trips)))
+  calm_near p q secs inside far changes u calls_there = false_from_ne_true (has_other_events L.table M.table u) (λ other. clash other (list_any-found (λ (e : Event). e.stop == q) (events_of L.table u) calls_there) (cases_lt u (length L.table.trips)))
     where
       at : (e : Event) → Member e (events_of L.table u) → (k : ℕ) × (k < length (events_of L.table u)) × (event_at L.table u k ≡ e)
       at e m =
           let c = Contains-from_Member e (events_of L.table u) m in
           (c.0, c.1, get_or_default (events_of L.table u) c.0 no_event e c.1 ∙ c.2)
 
-      clash : has_other_times L.table M.table u ≡ true → ((e : Event) × Member e (events_of L.table u) × ((e.stop == q) ≡ true)) → (u < length L.table.trips) ⊎ (length L.table.trips ≤ u) → ⊥
+      clash : has_other_events L.table M.table u ≡ true → ((e : Event) × Member e (events_of L.table u) × ((e.stop == q) ≡ true)) → (u < length L.table.trips) ⊎ (length L.table.trips ≤ u) → ⊥
       clash other (e, m, is) (inl there) =
           let k = at e m in
           let here : stop_at L.table u k.0 ≡ q = ap (λ (f : Event). f.stop) k.2 ∙ eqb-true e.stop q is in
@@ -132,9 +132,9 @@ module _ (L M : LinesData) (same : IsRetimed L.table M.table) (a : AreLines L.ta
           let m' : Member e [] = subst (λ (es : List Event). Member e es) none m in
           absurd m'
 
-  module _ (t : ℕ) (times : has_other_times L.table M.table t ≡ false) (i : ℕ) (inside : stop_at L.table t i < length L.table.stops) (far : get_or marks (stop_at L.table t i) false ≡ false) where
+  module _ (t : ℕ) (times : has_other_events L.table M.table t ≡ false) (i : ℕ) (inside : stop_at L.table t i < length L.table.stops) (far : get_or marks (stop_at L.table t i) false ≡ false) where
     own : events_of L.table t ≡ events_of M.table t
-    own = same_trip L.table M.table same t times
+    own = same_trip L.table M.table t times
 
     calm_after : (q secs : ℕ) → change L.table (stop_at L.table t i) q ≡ Some secs → IsCalm L.table M.table q
     calm_after q secs = calm_near (stop_at L.table t i) q secs inside far
@@ -163,28 +163,28 @@ module _ (L M : LinesData) (same : IsRetimed L.table M.table) (a : AreLines L.ta
         ∙ ap (λ (stops : List Stop). flat_map (λ q. flat_map (hops_onto M.table t i q) M.lines) (numbers_below (length stops))) same.stops in
         λ k. cond (nat_lt 0 i && (get_or (own k) i no_event).alight) (all k) []
 
-    candidates_calm : (h : Hop) → Member h (candidates L.table L.lines t i) → has_other_times L.table M.table h.trip ≡ false
+    candidates_calm : (h : Hop) → Member h (candidates L.table L.lines t i) → has_other_events L.table M.table h.trip ≡ false
     candidates_calm h m = by_test (nat_lt 0 i && (event_at L.table t i).alight) m
       where
-        on_line : (q : ℕ) (line : List ℕ) → Member line L.lines → Member h (hops_onto L.table t i q line) → (o : Option ℕ) → o ≡ change L.table (stop_at L.table t i) q → (b : Bool) → b ≡ line_calls L.table q line → has_other_times L.table M.table h.trip ≡ false
+        on_line : (q : ℕ) (line : List ℕ) → Member line L.lines → Member h (hops_onto L.table t i q line) → (o : Option ℕ) → o ≡ change L.table (stop_at L.table t i) q → (b : Bool) → b ≡ line_calls L.table q line → has_other_events L.table M.table h.trip ≡ false
         on_line q line of n None e c f = let none : Member h [] = subst (Member h) (unreached L.table t i q (sym e) line) n in absurd none
         on_line q line of n (Some secs) e true f =
             ((lines-same L.table M.table same q (calm_after q secs (sym e)) L.lines M.lines a b).1 line (Member-filter (line_calls L.table q) line L.lines of (sym f))).1 h.trip (hop_trip L.table t i q line h n)
         on_line q line of n (Some secs) e false f = let none : Member h [] = subst (Member h) (passed_by L.table t i q L.lines (lines_divide L.table L.lines a) line of (sym f)) n in absurd none
 
-        by_test : (c : Bool) → Member h (cond c (flat_map (λ q. flat_map (hops_onto L.table t i q) L.lines) (numbers_below (length L.table.stops))) []) → has_other_times L.table M.table h.trip ≡ false
+        by_test : (c : Bool) → Member h (cond c (flat_map (λ q. flat_map (hops_onto L.table t i q) L.lines) (numbers_below (length L.table.stops))) []) → has_other_events L.table M.table h.trip ≡ false
         by_test true n =
             let r = Member-flat_map_back (λ q. flat_map (hops_onto L.table t i q) L.lines) h (numbers_below (length L.table.stops)) n in
             let s = Member-flat_map_back (hops_onto L.table t i r.0) h L.lines r.2 in
             on_line r.0 s.0 s.1 s.2 (change L.table (stop_at L.table t i) r.0) refl (line_calls L.table r.0 s.0) refl
         by_test false n = absurd n
 
-  pub far_untouched : (t : ℕ) → All (IsSoundEvent (length L.table.stops)) (events_of L.table t) → list_any (λ e. get_or marks e.stop false) (events_of L.table t) ≡ false → has_other_times L.table M.table t ≡ false → is_touched L M t ≡ false
+  pub far_untouched : (t : ℕ) → All (IsSoundEvent (length L.table.stops)) (events_of L.table t) → list_any (λ e. get_or marks e.stop false) (events_of L.table t) ≡ false → has_other_events L.table M.table t ≡ false → is_touched L M t ≡ false
   far_untouched t inside far times =
-      or_from (has_other_times L.table M.table t || not (pointwise same_transfer (candidates_of L t) (candidates_of M t))) (list_any (λ r. has_other_times L.table M.table r.to_trip) (candidates_of L t))
-      (or_from (has_other_times L.table M.table t) (not (pointwise same_transfer (candidates_of L t) (candidates_of M t))) times
+      or_from (has_other_events L.table M.table t || not (pointwise same_transfer (candidates_of L t) (candidates_of M t))) (list_any (λ r. has_other_events L.table M.table r.to_trip) (candidates_of L t))
+      (or_from (has_other_events L.table M.table t) (not (pointwise same_transfer (candidates_of L t) (candidates_of M t))) times
       (not_from_true (pointwise same_transfer (candidates_of L t) (candidates_of M t)) ((same_rows (candidates_of L t) (candidates_of M t)).1 rows)))
-      (list_any_none (λ (r : Transfer). has_other_times L.table M.table r.to_trip) (candidates_of L t) (All-from_Member (λ (r : Transfer). has_other_times L.table M.table r.to_trip ≡ false) (candidates_of L t) calm))
+      (list_any_none (λ (r : Transfer). has_other_events L.table M.table r.to_trip) (candidates_of L t) (All-from_Member (λ (r : Transfer). has_other_events L.table M.table r.to_trip ≡ false) (candidates_of L t) calm))
     where
       event : (i : ℕ) → i < length (events_of L.table t) → Member (event_at L.table t i) (events_of L.table t)
       event i below = Member-get_or (events_of L.table t) i no_event below
@@ -199,11 +199,11 @@ module _ (L M : LinesData) (same : IsRetimed L.table M.table) (a : AreLines L.ta
       rows =
           flat_map-same (rows_at (candidates L.table L.lines t) t) (rows_at (candidates M.table M.lines t) t) (numbers_down (length (events_of L.table t)))
           (λ i m. let below = Member-numbers_down_back i (length (events_of L.table t)) m in ap (map (row_of t i)) (candidates_same t times i (there i below) (away i below)))
-          ∙ ap (λ (es : List Event). flat_map (rows_at (candidates M.table M.lines t) t) (numbers_down (length es))) (same_trip L.table M.table same t times)
+          ∙ ap (λ (es : List Event). flat_map (rows_at (candidates M.table M.lines t) t) (numbers_down (length es))) (same_trip L.table M.table t times)
 
-      calm : (r : Transfer) → Member r (candidates_of L t) → has_other_times L.table M.table r.to_trip ≡ false
+      calm : (r : Transfer) → Member r (candidates_of L t) → has_other_events L.table M.table r.to_trip ≡ false
       calm r m =
           let i = Member-flat_map_back (rows_at (candidates L.table L.lines t) t) r (numbers_down (length (events_of L.table t))) m in
           let below = Member-numbers_down_back i.0 (length (events_of L.table t)) i.1 in
           let h = Member-map_back (row_of t i.0) r (candidates L.table L.lines t i.0) i.2 in
-          subst (λ (x : Transfer). has_other_times L.table M.table x.to_trip ≡ false) h.2 (candidates_calm t times i.0 (there i.0 below) (away i.0 below) h.0 h.1)
+          subst (λ (x : Transfer). has_other_events L.table M.table x.to_trip ≡ false) h.2 (candidates_calm t times i.0 (there i.0 below) (away i.0 below) h.0 h.1)

@@ -13,8 +13,8 @@ use Rattle.reduce_workers.specs.Reductions.{rows_from}
 use Rattle.reduce_workers.proofs.Counts.{rows_more}
 use Rattle.reduce_workers.proofs.MoreTrips.{one_more_count}
 use Rattle.late_edit.specs.Touched.{is_touched, touched_count}
-use Rattle.late_edit.specs.Retimed.{IsRetimed, untimed_event}
-use Rattle.late_edit.proofs.Retimings.{same_length, untimed_events}
+use Rattle.late_edit.specs.Updated.{IsUpdated, bare_event}
+use Rattle.late_edit.proofs.SameEvents.{same_length, bare_events}
 use Rattle.late_edit.proofs.Untouched.{rows_at}
 use Rattle.edition_store.specs.Editions.{EditionData}
 use Rattle.late_edit.specs.Amending.{AreKeptRows, RowsData, network_of}
@@ -60,13 +60,13 @@ trip_added before after t old new row touched so_far added is told =
     }
 
 -- a trip that keeps its hops keeps its transfers
-pub same_row : (L M : LinesData) (T : TimetableData) (t : ℕ) → M.table ≡ T → IsRetimed L.table T → (IsRetimed L.table M.table → (i : ℕ) → kept_hops L.table L.lines t i ≡ kept_hops M.table M.lines t i)
+pub same_row : (L M : LinesData) (T : TimetableData) (t : ℕ) → M.table ≡ T → IsUpdated L.table T → (IsUpdated L.table M.table → (i : ℕ) → kept_hops L.table L.lines t i ≡ kept_hops M.table M.lines t i)
     → transfers_of L.table (kept_hops L.table L.lines t) t ≡ transfers_of T (kept_hops T M.lines t) t
-same_row L M T t own retimed each =
-    let as_own : IsRetimed L.table M.table = subst (IsRetimed L.table) (sym own) retimed in
+same_row L M T t own updated each =
+    let as_own : IsUpdated L.table M.table = subst (IsUpdated L.table) (sym own) updated in
     let hops : kept_hops L.table L.lines t ≡ kept_hops T M.lines t = (λ i k. each as_own k i) ∙ ap (λ U. kept_hops U M.lines t) own in
     let many : length (events_of L.table t) ≡ length (events_of T t) =
-    sym (length-map (events_of L.table t) untimed_event) ∙ (ap length (untimed_events L.table T retimed t) ∙ length-map (events_of T t) untimed_event) in
+    sym (length-map (events_of L.table t) bare_event) ∙ (ap length (bare_events L.table T updated t) ∙ length-map (events_of T t) bare_event) in
     λ i. flat_map (rows_at (hops i) t) (numbers_down (many i))
 
 -- a network is its timetable and its lines
@@ -78,7 +78,7 @@ pub all_rows : (before after : LinesData) (T : TimetableData) (n : ℕ) (r : Row
 all_rows before after T n r own are = are.rows ∙ ap (λ U. rows_from U (kept_hops U after.lines) 0 n) own
 
 -- the touched trips are counted
-pub all_touched : (e : EditionData) (M : LinesData) (T : TimetableData) (r : RowsData) → IsRetimed e.table T → AreKeptRows (network_of e) M (length T.trips) r → r.redone ≡ touched_count (network_of e) M
-all_touched e M T r retimed are =
-    let many : length T.trips ≡ length e.table.trips = sym (same_length e.table T retimed) in
+pub all_touched : (e : EditionData) (M : LinesData) (T : TimetableData) (r : RowsData) → IsUpdated e.table T → AreKeptRows (network_of e) M (length T.trips) r → r.redone ≡ touched_count (network_of e) M
+all_touched e M T r updated are =
+    let many : length T.trips ≡ length e.table.trips = sym (same_length e.table T updated) in
     are.redone ∙ (λ i. length (filter (is_touched (network_of e) M) (numbers_below (many i))))

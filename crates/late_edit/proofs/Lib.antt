@@ -1,3 +1,4 @@
+pub mod AmendedTrips
 pub mod FarTrips
 pub mod Finds
 pub mod InTurn
@@ -5,10 +6,11 @@ pub mod KeptRows
 pub mod ListFacts
 pub mod MovedEvents
 pub mod NearStops
+pub mod NewEvents
 pub mod Numbers
-pub mod OnlyTimes
+pub mod OnlyEvents
 pub mod Reading
-pub mod Retimings
+pub mod SameEvents
 pub mod SameLines
 pub mod Sound
 pub mod Untouched

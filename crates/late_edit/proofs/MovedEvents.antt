@@ -9,7 +9,7 @@ use Rattle.tb_base.specs.declared.table.Event.{Event}
 use Rattle.tb_base.specs.TimetableData.{no_event}
 use Rattle.tb_base.proofs.Lists.{list_any-over_map}
 use Rattle.late_edit.specs.Amended.{events_moved, has_time_outside, is_over_a_day, is_reached_early, moved, moved_from}
-use Rattle.late_edit.specs.Lates.{LateData}
+use Rattle.late_edit.specs.UpdateData.{LateData}
 use Rattle.late_edit.specs.declared.late.LateFault.TheVariants as fault
 
 -- one event that leaves the limits settles it

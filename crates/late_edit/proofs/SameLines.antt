@@ -1,4 +1,4 @@
--- The lines that call at a stop where no trip with other times calls are the same, in the same
+-- The lines that call at a stop where no trip with other events calls are the same, in the same
 -- order, whichever of the two timetables they are made of.
 use Rattle.std.proofs.Common.{◌≡◌, ◌∙◌, sym, ap, subst, refl, ℕ, ◌<◌, ◌-◌, ◌⊎◌, inl, inr, Bool, true, false, cond, ◌==◌, ◌||◌, IsTrue, List, [], ◌∷◌, ◌++◌, length, fold, arith}
 use Rattle.std.specs.Prelude.{filter}
@@ -16,10 +16,10 @@ use Rattle.tb_base.proofs.LineFacts.{event_no_later}
 use Rattle.tb_base.proofs.Members.{Member-append, Member-filter, Member-filter_back}
 use Rattle.tb_base.proofs.Ordered.{Member, Member-from_Contains, Contains-from_Member, same_members}
 use Rattle.line_split.proofs.TripOrders.{precedes-ranks}
-use Rattle.late_edit.specs.Retimed.{IsRetimed}
-use Rattle.late_edit.specs.Touched.{has_other_times}
+use Rattle.late_edit.specs.Updated.{IsUpdated}
+use Rattle.late_edit.specs.Touched.{has_other_events}
 use Rattle.late_edit.proofs.ListFacts.{AllPairs-also, filter-same}
-use Rattle.late_edit.proofs.Retimings.{same_calls, same_length, same_trip}
+use Rattle.late_edit.proofs.SameEvents.{same_calls, same_length, same_trip}
 
 -- trip t calls at stop q
 abbrev pub calls : TimetableData → ℕ → ℕ → Bool
@@ -88,43 +88,43 @@ module _ (T : TimetableData) (q : ℕ) where
       by_test true = refl
       by_test false = refl
 
--- ---- trips with the same times, placed in both timetables
+-- ---- trips with the same events, placed in both timetables
 
-module _ (T U : TimetableData) (same : IsRetimed T U) where
-  -- all trips of these lines have the same times, and so has the last one of each
+module _ (T U : TimetableData) (same : IsUpdated T U) where
+  -- all trips of these lines have the same events, and so has the last one of each
   abbrev pub AreCalm : List (List ℕ) → Type 0
-  AreCalm lines = (line : List ℕ) → Member line lines → (has_other_times T U (last_trip line) ≡ false) × ((u : ℕ) → Member u line → has_other_times T U u ≡ false)
+  AreCalm lines = (line : List ℕ) → Member line lines → (has_other_events T U (last_trip line) ≡ false) × ((u : ℕ) → Member u line → has_other_events T U u ≡ false)
 
-  place-calm : (lines : List (List ℕ)) (t : ℕ) → AreCalm lines → has_other_times T U t ≡ false → AreCalm (place_trip T lines t)
-  place-calm [] t calm h line (inl e) = subst (λ (l : List ℕ). (has_other_times T U (last_trip l) ≡ false) × ((u : ℕ) → Member u l → has_other_times T U u ≡ false)) e (h, λ u m. own u m)
+  place-calm : (lines : List (List ℕ)) (t : ℕ) → AreCalm lines → has_other_events T U t ≡ false → AreCalm (place_trip T lines t)
+  place-calm [] t calm h line (inl e) = subst (λ (l : List ℕ). (has_other_events T U (last_trip l) ≡ false) × ((u : ℕ) → Member u l → has_other_events T U u ≡ false)) e (h, λ u m. own u m)
     where
-      own : (u : ℕ) → Member u (t ∷ []) → has_other_times T U u ≡ false
-      own u (inl s) = ap (has_other_times T U) (sym s) ∙ h
+      own : (u : ℕ) → Member u (t ∷ []) → has_other_events T U u ≡ false
+      own u (inl s) = ap (has_other_events T U) (sym s) ∙ h
       own u (inr none) = absurd none
   place-calm [] t calm h line (inr m) = absurd m
   place-calm (l ∷ ls) t calm h line m = by_test (λ k. place-calm ls t (λ x n. calm x (inr n)) h line k) (may_join T l t) m
     where
-      joined : (u : ℕ) → Member u l ⊎ Member u (t ∷ []) → has_other_times T U u ≡ false
+      joined : (u : ℕ) → Member u l ⊎ Member u (t ∷ []) → has_other_events T U u ≡ false
       joined u (inl k) = (calm l (inl refl)).1 u k
-      joined u (inr (inl s)) = ap (has_other_times T U) (sym s) ∙ h
+      joined u (inr (inl s)) = ap (has_other_events T U) (sym s) ∙ h
       joined u (inr (inr none)) = absurd none
 
-      by_test : (Member line (place_trip T ls t) → (has_other_times T U (last_trip line) ≡ false) × ((u : ℕ) → Member u line → has_other_times T U u ≡ false))
-          → (b : Bool) → Member line (cond b ((l ++ t ∷ []) ∷ ls) (l ∷ place_trip T ls t)) → (has_other_times T U (last_trip line) ≡ false) × ((u : ℕ) → Member u line → has_other_times T U u ≡ false)
+      by_test : (Member line (place_trip T ls t) → (has_other_events T U (last_trip line) ≡ false) × ((u : ℕ) → Member u line → has_other_events T U u ≡ false))
+          → (b : Bool) → Member line (cond b ((l ++ t ∷ []) ∷ ls) (l ∷ place_trip T ls t)) → (has_other_events T U (last_trip line) ≡ false) × ((u : ℕ) → Member u line → has_other_events T U u ≡ false)
       by_test more true (inl e) =
-          subst (λ (x : List ℕ). (has_other_times T U (last_trip x) ≡ false) × ((u : ℕ) → Member u x → has_other_times T U u ≡ false)) e
-          (ap (has_other_times T U) (last_trip-push l t) ∙ h, λ u k. joined u (Member-append u l (t ∷ []) k))
+          subst (λ (x : List ℕ). (has_other_events T U (last_trip x) ≡ false) × ((u : ℕ) → Member u x → has_other_events T U u ≡ false)) e
+          (ap (has_other_events T U) (last_trip-push l t) ∙ h, λ u k. joined u (Member-append u l (t ∷ []) k))
       by_test more true (inr k) = calm line (inr k)
       by_test more false (inl e) = calm line (inl e)
       by_test more false (inr k) = more k
 
-  place-same : (lines : List (List ℕ)) (t : ℕ) → AreCalm lines → has_other_times T U t ≡ false → place_trip T lines t ≡ place_trip U lines t
+  place-same : (lines : List (List ℕ)) (t : ℕ) → AreCalm lines → has_other_events T U t ≡ false → place_trip T lines t ≡ place_trip U lines t
   place-same [] t calm h = refl
   place-same (l ∷ ls) t calm h =
       let more : place_trip T ls t ≡ place_trip U ls t = place-same ls t (λ x n. calm x (inr n)) h in
-      λ k. cond (may_follow (same_trip T U same (last_trip l) (calm l (inl refl)).0 k) (same_trip T U same t h k)) ((l ++ t ∷ []) ∷ ls) (l ∷ more k)
+      λ k. cond (may_follow (same_trip T U (last_trip l) (calm l (inl refl)).0 k) (same_trip T U t h k)) ((l ++ t ∷ []) ∷ ls) (l ∷ more k)
 
-  fold-same : (ts : List ℕ) (lines : List (List ℕ)) → AreCalm lines → ((t : ℕ) → Member t ts → has_other_times T U t ≡ false) →
+  fold-same : (ts : List ℕ) (lines : List (List ℕ)) → AreCalm lines → ((t : ℕ) → Member t ts → has_other_events T U t ≡ false) →
       (fold (place_trip T) lines ts ≡ fold (place_trip U) lines ts) × AreCalm (fold (place_trip T) lines ts)
   fold-same [] lines calm h = (refl, calm)
   fold-same (t ∷ ts) lines calm h =
@@ -136,11 +136,11 @@ module _ (T U : TimetableData) (same : IsRetimed T U) where
 not_both : (T : TimetableData) (t u : ℕ) → TripPrecedes T t u → TripPrecedes T u t → ⊥
 not_both T t u h k = false≢true (sym ((precedes-ranks T).one_way t u h) ∙ k)
 
--- no trip with other times calls at stop q
+-- no trip with other events calls at stop q
 abbrev pub IsCalm : TimetableData → TimetableData → ℕ → Type 0
-IsCalm T U q = (u : ℕ) → calls T q u ≡ true → has_other_times T U u ≡ false
+IsCalm T U q = (u : ℕ) → calls T q u ≡ true → has_other_events T U u ≡ false
 
-module _ (T U : TimetableData) (same : IsRetimed T U) (q : ℕ) (calm : IsCalm T U q) where
+module _ (T U : TimetableData) (same : IsUpdated T U) (q : ℕ) (calm : IsCalm T U q) where
   order-same : (us vs : List ℕ) → IsTripOrder T us → IsTripOrder U vs → filter (calls T q) us ≡ filter (calls U q) vs
   order-same us vs a b =
       same_members (TripPrecedes T) (not_both T) (filter (calls T q) us) (filter (calls T q) vs)
@@ -153,7 +153,7 @@ module _ (T U : TimetableData) (same : IsRetimed T U) (q : ℕ) (calm : IsCalm T
       ∙ filter-same (calls T q) (calls U q) vs (λ t m. same_calls T U same q t)
     where
       events : (t : ℕ) → Member t (filter (calls T q) vs) → events_of T t ≡ events_of U t
-      events t m = same_trip T U same t (calm t (Member-filter_back (calls T q) t vs m).1)
+      events t m = same_trip T U t (calm t (Member-filter_back (calls T q) t vs m).1)
 
       back : (t u : ℕ) → Member t (filter (calls T q) vs) → Member u (filter (calls T q) vs) → TripPrecedes U t u → TripPrecedes T t u
       back t u m n h =

@@ -1,23 +1,18 @@
--- Trips that lates move stay sound.
-use Rattle.std.proofs.Common.{◌≡◌, ◌∙◌, sym, ap, subst, refl, ℕ, ◌+◌, ◌-◌, ◌<◌, ◌≤◌, ◌≤ℤ◌, ℤ, pos, negsuc, List, [], ◌∷◌, length, get_or, set, map, take, drop, Bool, true, false, cond, not, Some, None, Option, inl, inr, arith}
-use Rattle.std.specs.Prelude.{All, AllPairs, Result, Ok, Err, MatchResult, OnErr, int_lt, nat_lt, sum_by}
+-- Events that a late moves stay sound.
+use Rattle.std.proofs.Common.{◌≡◌, ◌∙◌, sym, ap, subst, refl, ℕ, ◌+◌, ◌-◌, ◌<◌, ◌≤◌, ◌≤ℤ◌, ℤ, pos, negsuc, List, length, get_or, map, take, drop, Bool, true, false, cond, not, inl, inr, arith}
+use Rattle.std.specs.Prelude.{All, AllPairs, Result, Ok, Err, int_lt, nat_lt}
 use Rattle.std.specs.List.{list_any}
-use Rattle.std.specs.Option.{ok_or}
 use Rattle.std.proofs.lemmas.Bool.{cases_lt, not-false, or_parts}
 use Rattle.std.proofs.lemmas.Bool.Decides.{nat_tests}
 use Rattle.std.proofs.lemmas.Int.{ints}
-use Rattle.std.proofs.lemmas.List.{get_or-drop, length-append, length-drop, length-map, length-set, length-take-le}
-use Rattle.std.proofs.lemmas.List.Elements.{All-set}
-use Rattle.std.proofs.lemmas.List.Quantifiers.{position-Some}
-use Rattle.std.proofs.lemmas.List.Sums.{sum_by-set}
-use Rattle.gtfs_rows.specs.Steps.{and_then}
+use Rattle.std.proofs.lemmas.List.{get_or-drop, length-append, length-drop, length-map, length-take-le}
 use Rattle.tb_base.specs.declared.table.Event.{Event}
-use Rattle.tb_base.specs.Soundness.{IsSound, IsSoundEvent, IsSoundTrip}
-use Rattle.tb_base.specs.TimetableData.{TimetableData, TripData, no_trip}
+use Rattle.tb_base.specs.Soundness.{IsSoundEvent, IsSoundTrip}
+use Rattle.tb_base.specs.TimetableData.{TripData}
 use Rattle.tb_base.proofs.Lists.{list_any-over_map}
-use Rattle.late_edit.specs.Amended.{amended_trips, events_moved, has_time_outside, is_named, is_outside, is_over_a_day, is_reached_early, moved, moved_from, trip_named, trips_after, trips_moved, with_events, with_trips}
+use Rattle.late_edit.specs.Amended.{events_moved, has_time_outside, is_outside, is_over_a_day, is_reached_early, moved, moved_from, with_events}
 use Rattle.late_edit.specs.Finding.{IsTimedEvent}
-use Rattle.late_edit.specs.Lates.{LateData}
+use Rattle.late_edit.specs.UpdateData.{LateData}
 use Rattle.late_edit.specs.declared.late.LateFault.{LateFault}
 use Rattle.late_edit.specs.declared.late.LateFault.TheVariants as fault
 use Rattle.late_edit.proofs.MovedEvents.{early_is, kept_at, moved_at}
@@ -187,88 +182,3 @@ module _ (late : LateData) (es ms : List Event) (move : IsMove late es ms) where
         events = sound_events n sound;
         onward = sound_move n sound (subst (AllPairs (λ (e f : Event). e.dep ≤ℤ f.arr)) is h.onward);
       }
-
--- what move_events leaves is timed, whatever comes of it
-pub timed_after : (late : LateData) (es ms : List Event) (r : Result Unit LateFault) → MatchResult r (λ _. events_moved late es ≡ Ok ms) (λ f. events_moved late es ≡ Err f) → OnErr r (ms ≡ es) → All IsTimedEvent es → All IsTimedEvent ms
-timed_after late es ms (Ok u) done kept h = timed_move late es ms (is_move late es ms done) h
-timed_after late es ms (Err f) done kept h = subst (All IsTimedEvent) (sym kept) h
-
-pub timed_set : (trips : List TripData) (t : ℕ) (x : TripData) (ms : List Event) → x.events ≡ ms → All IsTimedEvent ms → All (λ u. All IsTimedEvent (TripData.events u)) trips → All (λ u. All IsTimedEvent (TripData.events u)) (set trips t x)
-timed_set trips t x ms is h all = All-set (λ u. All IsTimedEvent (TripData.events u)) trips t x (subst (All IsTimedEvent) (sym is) h) all
-
--- one trip is moved
-pub record IsOneMoved (late : LateData) (trips moved_trips : List TripData) : Type 0 where
-  pub trip : ℕ
-  pub events : List Event
-  pub named : trip_named trips late ≡ Some trip
-  pub inside : trip < length trips
-  pub move : IsMove late (get_or trips trip no_trip).events events
-  pub is : moved_trips ≡ set trips trip (with_events (get_or trips trip no_trip) events)
-
-pub after_ok : {A B E : Type 0} (r : Result A E) (next : A → Result B E) (y : B) → and_then r next ≡ Ok y → (x : A) × (r ≡ Ok x) × (next x ≡ Ok y)
-after_ok (Ok x) next y h = (x, refl, h)
-after_ok (Err e) next y h = absurd (let k : Err e ≡ Ok y = h in cc)
-
-some_ok : {A E : Type 0} (o : Option A) (e : E) (x : A) → ok_or o e ≡ Ok x → o ≡ Some x
-some_ok (Some y) e x h = (let k : Ok y ≡ Ok x = h in let s : y ≡ x = cc in ap (λ z. Some z) s)
-some_ok None e x h = absurd (let k : Err e ≡ Ok x = h in cc)
-
-pub one_moved : (late : LateData) (trips ms : List TripData) → trips_after late trips ≡ Ok ms → IsOneMoved late trips ms
-one_moved late trips ms h =
-    let a = after_ok (ok_or (trip_named trips late) (fault.UnknownTrip late.line)) (λ t. trips_moved late trips t) ms h in
-    let named = some_ok (trip_named trips late) (fault.UnknownTrip late.line) a.0 a.1 in
-    let t = get_or trips a.0 no_trip in
-    let b = after_ok (events_moved late t.events) (λ events. Ok (set trips a.0 (with_events t events))) ms a.2 in
-    record {
-      trip = a.0;
-      events = b.0;
-      named = named;
-      inside = (position-Some (is_named late.before late.trip) trips a.0 no_trip named).0;
-      move = is_move late t.events b.0 b.1;
-      is = (let e : Ok (set trips a.0 (with_events t b.0)) ≡ Ok ms = b.2 in let f : set trips a.0 (with_events t b.0) ≡ ms = cc in sym f);
-    }
-
--- what holds of trips after each late holds after all
-pub kept_by_all : (P : List TripData → Type 0) → ((late : LateData) (trips ms : List TripData) → IsOneMoved late trips ms → P trips → P ms) → (lates : List LateData) (trips ms : List TripData) → amended_trips lates trips ≡ Ok ms → P trips → P ms
-kept_by_all P step [] trips ms h p = (let e : Ok trips ≡ Ok ms = h in let f : trips ≡ ms = cc in subst P f p)
-kept_by_all P step (late ∷ lates) trips ms h p =
-    let a = after_ok (trips_after late trips) (λ m. amended_trips lates m) ms h in
-    kept_by_all P step lates a.0 ms a.2 (step late trips a.0 (one_moved late trips a.0 a.1) p)
-
--- as many trips with as many events, each sound
-record AreSoundTrips (n trip_count event_count : ℕ) (trips : List TripData) : Type 0 where
-  pub count : length trips ≡ trip_count
-  pub events : sum_by (λ t. length (TripData.events t)) trips ≡ event_count
-  pub sound : All (IsSoundTrip n) trips
-
-stay_sound : (n c e : ℕ) (late : LateData) (trips ms : List TripData) → IsOneMoved late trips ms → AreSoundTrips n c e trips → AreSoundTrips n c e ms
-stay_sound n c e late trips ms one h =
-    let t = get_or trips one.trip no_trip in
-    let moved_trip = with_events t one.events in
-    let long : length one.events ≡ length t.events = length-move late t.events one.events one.move in
-    subst (AreSoundTrips n c e) (sym one.is) (record {
-      count = length-set trips one.trip moved_trip ∙ h.count;
-      events = (let s = sum_by-set (λ (u : TripData). length u.events) trips one.trip moved_trip no_trip one.inside in let k = h.events in omega (arith, s, k, long));
-      sound = All-set (IsSoundTrip n) trips one.trip moved_trip (sound_trip late t.events one.events one.move n t refl (h.sound one.trip no_trip one.inside)) h.sound;
-    })
-
--- the amended timetable is sound
-pub sound_amended : (T : TimetableData) (lates : List LateData) (ms : List TripData) → IsSound T → amended_trips lates T.trips ≡ Ok ms → IsSound (with_trips T ms)
-sound_amended T lates ms sound h =
-    let n = length T.stops in
-    let count = length T.trips in
-    let events = sum_by (λ t. length (TripData.events t)) T.trips in
-    let k : AreSoundTrips n count events ms = kept_by_all (AreSoundTrips n count events) (stay_sound n count events) lates T.trips ms h (record { count = refl; events = refl; sound = sound.trip }) in
-    record {
-      stops = sound.stops;
-      stations = sound.stations;
-      trips = subst (λ m. m ≤ 500000) (sym k.count) sound.trips;
-      events = subst (λ m. m ≤ 10000000) (sym k.events) sound.events;
-      named = sound.named;
-      distinct = sound.distinct;
-      station = sound.station;
-      trip = k.sound;
-      change_times = sound.change_times;
-      footpaths = sound.footpaths;
-      law = sound.law;
-    }

@@ -19,10 +19,10 @@ use Rattle.tb_base.proofs.Ordered.{Member}
 use Rattle.tb_base.proofs.Members.{Member-flat_map, Member-flat_map_back, Member-map, Member-map_back, Member-filter_back}
 use Rattle.tb_laws.specs.Rows.{row_of}
 use Rattle.line_split.specs.LinesData.{LinesData}
-use Rattle.late_edit.specs.Retimed.{IsRetimed}
-use Rattle.late_edit.specs.Touched.{candidates_of, has_other_times, is_touched, same_transfer}
+use Rattle.late_edit.specs.Updated.{IsUpdated}
+use Rattle.late_edit.specs.Touched.{candidates_of, has_other_events, is_touched, same_transfer}
 use Rattle.late_edit.proofs.ListFacts.{filter-same, flat_map-same, last_or_below, list_any-none, Member-numbers_down, Member-numbers_down_back}
-use Rattle.late_edit.proofs.Retimings.{same_rows, same_trip}
+use Rattle.late_edit.proofs.SameEvents.{same_rows, same_trip}
 
 -- ---- the candidates of each event, out of those of all events
 
@@ -83,7 +83,7 @@ choices_at alight i hs = cond (nat_lt 0 i && alight) (record { at = i; hop = Non
 abbrev improve_by : TimetableData → List (List Event) → List Stop → FootpathData → List Event → Bool
 improve_by T earlier stops F events = is_improvement (record { stops = stops; stations = T.stations; trips = T.trips; footpaths = F }) earlier events
 
-improving-same : (T U : TimetableData) → IsRetimed T U → (t : ℕ) (earlier : List (List Event)) (choices : List Alternative) → ((a : Alternative) → Member a choices → alightings T t a ≡ alightings U t a) →
+improving-same : (T U : TimetableData) → IsUpdated T U → (t : ℕ) (earlier : List (List Event)) (choices : List Alternative) → ((a : Alternative) → Member a choices → alightings T t a ≡ alightings U t a) →
     improving_alternatives T t earlier choices ≡ improving_alternatives U t earlier choices
 improving-same T U same t earlier [] h = refl
 improving-same T U same t earlier (a ∷ rest) h =
@@ -99,15 +99,15 @@ improving-same T U same t earlier (a ∷ rest) h =
 
 -- ---- an untouched trip
 
-module _ (L M : LinesData) (t : ℕ) (same : IsRetimed L.table M.table) (untouched : is_touched L M t ≡ false) where
-  parts : ((has_other_times L.table M.table t || not (pointwise same_transfer (candidates_of L t) (candidates_of M t))) ≡ false) × (list_any (λ r. has_other_times L.table M.table r.to_trip) (candidates_of L t) ≡ false)
-  parts = or_parts (has_other_times L.table M.table t || not (pointwise same_transfer (candidates_of L t) (candidates_of M t))) (list_any (λ r. has_other_times L.table M.table r.to_trip) (candidates_of L t)) untouched
+module _ (L M : LinesData) (t : ℕ) (same : IsUpdated L.table M.table) (untouched : is_touched L M t ≡ false) where
+  parts : ((has_other_events L.table M.table t || not (pointwise same_transfer (candidates_of L t) (candidates_of M t))) ≡ false) × (list_any (λ r. has_other_events L.table M.table r.to_trip) (candidates_of L t) ≡ false)
+  parts = or_parts (has_other_events L.table M.table t || not (pointwise same_transfer (candidates_of L t) (candidates_of M t))) (list_any (λ r. has_other_events L.table M.table r.to_trip) (candidates_of L t)) untouched
 
-  first : (has_other_times L.table M.table t ≡ false) × (not (pointwise same_transfer (candidates_of L t) (candidates_of M t)) ≡ false)
-  first = or_parts (has_other_times L.table M.table t) (not (pointwise same_transfer (candidates_of L t) (candidates_of M t))) parts.0
+  first : (has_other_events L.table M.table t ≡ false) × (not (pointwise same_transfer (candidates_of L t) (candidates_of M t)) ≡ false)
+  first = or_parts (has_other_events L.table M.table t) (not (pointwise same_transfer (candidates_of L t) (candidates_of M t))) parts.0
 
   own : events_of L.table t ≡ events_of M.table t
-  own = same_trip L.table M.table same t first.0
+  own = same_trip L.table M.table t first.0
 
   rows : candidates_of L t ≡ candidates_of M t
   rows = (same_rows (candidates_of L t) (candidates_of M t)).0 (not-false (pointwise same_transfer (candidates_of L t) (candidates_of M t)) first.1)
@@ -123,7 +123,7 @@ module _ (L M : LinesData) (t : ℕ) (same : IsRetimed L.table M.table) (untouch
       let row = row_of t i h in
       let there : Member row (candidates_of L t) = Member-flat_map (rows_at (candidates L.table L.lines t) t) i row (numbers_down (length (events_of L.table t))) (Member-numbers_down i (length (events_of L.table t)) below)
       (Member-map (row_of t i) h (candidates L.table L.lines t i) m) in
-      same_trip L.table M.table same h.trip (list_any-none (λ (r : Transfer). has_other_times L.table M.table r.to_trip) (candidates_of L t) parts.1 row there)
+      same_trip L.table M.table h.trip (list_any-none (λ (r : Transfer). has_other_events L.table M.table r.to_trip) (candidates_of L t) parts.1 row there)
 
   no_turns : (i : ℕ) → i < length (events_of L.table t) → candidates_without_u_turns L.table L.lines t i ≡ candidates_without_u_turns M.table M.lines t i
   no_turns i below =

@@ -1,5 +1,5 @@
--- A timetable amended by late trips.
-use Rattle.std.specs.Prelude.{ℕ, ◌-◌, ◌&&◌, ◌||◌, not, List, [], ◌∷◌, ◌++◌, length, map, take, drop, set, nat_lt, position, bytes_eq, slice_index_or, Bool, Option, Result, Ok, Err, ℤ, pos, negsuc, ◌+ℤ◌, int_lt, if◌then◌else◌}
+-- A timetable amended by what is said of its trips.
+use Rattle.std.specs.Prelude.{ℕ, ◌-◌, ◌&&◌, ◌||◌, not, List, [], ◌∷◌, ◌++◌, length, map, take, drop, set, nat_lt, position, bytes_eq, slice_index_or, Bool, false, Option, Result, Ok, Err, ℤ, pos, negsuc, ◌+ℤ◌, int_lt, if◌then◌else◌}
 use Rattle.std.specs.List.{list_any}
 use Rattle.std.specs.Option.{ok_or}
 use Rattle.gtfs_rows.specs.Steps.{and_then}
@@ -8,15 +8,18 @@ use Rattle.tb_base.specs.Lines.{same_mark}
 use Rattle.tb_base.specs.TimetableData.{TimetableData, TripData, no_event, no_trip}
 use Rattle.late_edit.specs.declared.late.LateFault.{LateFault}
 use Rattle.late_edit.specs.declared.late.LateFault.TheVariants as fault
-use Rattle.late_edit.specs.Lates.{LateData}
+use Rattle.late_edit.specs.declared.update.Update.{Update}
+use Rattle.late_edit.specs.declared.update.Update.TheVariants as update
+use Rattle.late_edit.specs.Lates.{before_of, line_of, trip_of}
+use Rattle.late_edit.specs.UpdateData.{LateData, SkipData}
 
 -- a trip has this name, and began on the day before, or not
 abbrev pub is_named : Bool → List ℕ → TripData → Bool
 is_named before name t = same_mark before t.before && bytes_eq name t.name
 
--- the trip that a late names: the lowest-numbered one of its name and day
-abbrev pub trip_named : List TripData → LateData → Option ℕ
-trip_named trips late = position (is_named late.before late.trip) trips
+-- the trip that is named: the lowest-numbered one of its name and day
+abbrev pub trip_named : List TripData → Update → Option ℕ
+trip_named trips u = position (is_named (before_of u) (trip_of u)) trips
 
 -- an event with its times moved by so many seconds
 abbrev pub moved : ℤ → Event → Event
@@ -61,27 +64,45 @@ events_moved late events =
     then Err (fault.TimeRunsBack late.line)
     else Ok (moved_from late.from late.secs events)
 
+-- an event at which nobody boards or alights
+abbrev pub closed : Event → Event
+closed e = record { stop = e.stop; arr = e.arr; dep = e.dep; board = false; alight = false }
+
+-- the events of the trip, of which the one that is skipped is closed, or the fault that there is
+-- none
+abbrev pub events_skipped : SkipData → List Event → Result (List Event) LateFault
+events_skipped skip events =
+    if nat_lt skip.at (length events)
+    then Ok (set events skip.at (closed (slice_index_or events skip.at no_event)))
+    else Err (fault.BadEvent skip.line)
+
+-- the events of the trip by what is said of it, or the first fault of that
+abbrev pub events_after : Update → List Event → Result (List Event) LateFault
+events_after (update.Late late) events = events_moved late events
+events_after (update.Cancel cancel) events = Ok (map closed events)
+events_after (update.Skip skip) events = events_skipped skip events
+
 -- a trip with other events
 abbrev pub with_events : TripData → List Event → TripData
 with_events t events = record { name = t.name; before = t.before; events = events }
 
--- the trips, of which one is moved as a late says, or the late's first fault
-abbrev pub trips_moved : LateData → List TripData → ℕ → Result (List TripData) LateFault
-trips_moved late trips t =
-    and_then (events_moved late (TripData.events (slice_index_or trips t no_trip)))
+-- the trips, of which one has the events by what is said of it, or the first fault of that
+abbrev pub trips_updated : Update → List TripData → ℕ → Result (List TripData) LateFault
+trips_updated u trips t =
+    and_then (events_after u (TripData.events (slice_index_or trips t no_trip)))
     (λ events. Ok (set trips t (with_events (slice_index_or trips t no_trip) events)))
 
--- the trips after one late, or its first fault
-abbrev pub trips_after : LateData → List TripData → Result (List TripData) LateFault
-trips_after late trips =
-    and_then (ok_or (trip_named trips late) (fault.UnknownTrip late.line))
-    (λ t. trips_moved late trips t)
+-- the trips after what is said of one, or the first fault of that
+abbrev pub trips_after : Update → List TripData → Result (List TripData) LateFault
+trips_after u trips =
+    and_then (ok_or (trip_named trips u) (fault.UnknownTrip (line_of u)))
+    (λ t. trips_updated u trips t)
 
--- the trips after lates, each of which moves what those before it left, or the first fault
-abbrev pub amended_trips : List LateData → List TripData → Result (List TripData) LateFault
+-- the trips after all that is said in order, each on what those before it left, or the first fault
+abbrev pub amended_trips : List Update → List TripData → Result (List TripData) LateFault
 amended_trips [] trips = Ok trips
-amended_trips (late ∷ lates) trips =
-    and_then (trips_after late trips) (λ moved. amended_trips lates moved)
+amended_trips (u ∷ updates) trips =
+    and_then (trips_after u trips) (λ after. amended_trips updates after)
 
 -- a timetable with other trips
 abbrev pub with_trips : TimetableData → List TripData → TimetableData
@@ -92,6 +113,7 @@ with_trips T trips = record {
   footpaths = T.footpaths;
 }
 
--- the timetable amended by lates, or the first fault of one
-abbrev pub amended : TimetableData → List LateData → Result TimetableData LateFault
-amended T lates = and_then (amended_trips lates T.trips) (λ trips. Ok (with_trips T trips))
+-- the timetable amended by what is said of its trips, or the first fault of that
+abbrev pub amended : TimetableData → List Update → Result TimetableData LateFault
+amended T updates =
+    and_then (amended_trips updates T.trips) (λ trips. Ok (with_trips T trips))

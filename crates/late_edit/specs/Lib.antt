@@ -3,5 +3,6 @@ pub mod Amending
 pub mod Finding
 pub mod Lates
 pub mod Near
-pub mod Retimed
+pub mod UpdateData
+pub mod Updated
 pub mod Touched

@@ -1,4 +1,4 @@
--- The stops near trips with other times.
+-- The stops near trips with other events.
 use Rattle.std.specs.Prelude.{◌≡◌, ℕ, ◌<◌, Bool, false, IsSome, IsTrue, List, length, slice_index_or}
 use Rattle.tb_base.specs.TimetableData.{TimetableData, events_of, stop_at}
 use Rattle.tb_base.specs.Walking.{change}

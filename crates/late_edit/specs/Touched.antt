@@ -5,17 +5,20 @@ use Rattle.std.specs.Ordering.{int_eq}
 use lib.Pointwise.{pointwise}
 use Rattle.tb_base.specs.declared.table.Event.{Event}
 use Rattle.tb_base.specs.declared.transfer.Transfer.{Transfer}
+use Rattle.tb_base.specs.Lines.{same_mark}
 use Rattle.tb_base.specs.TimetableData.{TimetableData, events_of}
 use Rattle.tb_base.specs.Transfers.{candidates, numbers_below, transfers_of}
 use Rattle.line_split.specs.LinesData.{LinesData}
 
--- two events have the same arrival and the same departure
-abbrev pub same_times : Event → Event → Bool
-same_times e f = int_eq e.arr f.arr && int_eq e.dep f.dep
+-- two events have the same stop, times and marks
+abbrev pub same_event : Event → Event → Bool
+same_event e f =
+    (e.stop == f.stop) && int_eq e.arr f.arr && int_eq e.dep f.dep
+    && same_mark e.board f.board && same_mark e.alight f.alight
 
--- trip t has other times in the two timetables
-abbrev pub has_other_times : TimetableData → TimetableData → ℕ → Bool
-has_other_times T U t = not (pointwise same_times (events_of T t) (events_of U t))
+-- trip t has other events in the two timetables
+abbrev pub has_other_events : TimetableData → TimetableData → ℕ → Bool
+has_other_events T U t = not (pointwise same_event (events_of T t) (events_of U t))
 
 -- two transfers lead from the same event to the same event
 abbrev pub same_transfer : Transfer → Transfer → Bool
@@ -26,20 +29,20 @@ same_transfer r s =
 abbrev pub candidates_of : LinesData → ℕ → List Transfer
 candidates_of L t = transfers_of L.table (candidates L.table L.lines t) t
 
--- Trip t is touched by the change from one timetable with its lines to another: it has other times,
--- or another list of candidates, or a trip in that list has other times.
+-- Trip t is touched by the change from one timetable with its lines to another: it has other events,
+-- or another list of candidates, or a trip in that list has other events.
 abbrev pub is_touched : LinesData → LinesData → ℕ → Bool
 is_touched L M t =
-    has_other_times L.table M.table t
+    has_other_events L.table M.table t
     || not (pointwise same_transfer (candidates_of L t) (candidates_of M t))
-    || list_any (λ r. has_other_times L.table M.table r.to_trip) (candidates_of L t)
+    || list_any (λ r. has_other_events L.table M.table r.to_trip) (candidates_of L t)
 
 -- how many trips are touched
 abbrev pub touched_count : LinesData → LinesData → ℕ
 touched_count L M = length (filter (is_touched L M) (numbers_below (length L.table.trips)))
 
--- for each trip, whether it has other times
-pub record TellsOtherTimes (T U : TimetableData) (others : List Bool) : Type 0 where
+-- for each trip, whether it has other events
+pub record TellsOtherEvents (T U : TimetableData) (others : List Bool) : Type 0 where
   pub long : length others ≡ length T.trips
   pub told : (t : ℕ) → t < length T.trips →
-      slice_index_or others t false ≡ has_other_times T U t
+      slice_index_or others t false ≡ has_other_events T U t

@@ -3,25 +3,26 @@ ghost use Rattle.tb_base.specs.Refusals.{Yields};
 ghost use Rattle.late_edit.specs.Amended.{amended};
 ghost use Rattle.late_edit.specs.Lates.{IsOfLateAlone};
 
-use crate::late::{Late, LateFault};
-use crate::moving::MovingTrips;
+use crate::late::LateFault;
+use crate::update::Update;
+use crate::updated_trips::UpdatedTrips;
 use std::alloc::Global;
 use tb_base::{Parts, Refused, Timetable};
 
-/// The timetable amended by lates, each of which moves what those before it left, or exactly the
+/// The timetable amended by updates, each of which changes what those before it left, or exactly the
 /// first fault of one, and none of a file. Takes time by the size of the timetable, and by the
-/// events that are moved.
+/// events that are changed.
 pub fn amended(
     alloc: Global,
     table: &Timetable,
-    lates: &[Late],
+    updates: &[Update],
 ) -> Result<Timetable, Refused<LateFault>>
-    ensures table { Yields result (λ new. new) (amended table.now lates.now) }
+    ensures table { Yields result (λ new. new) (amended table.now updates.now) }
     ensures own { IfErr result IsOfLateAlone }
 {
-    let mut trips = MovingTrips::of(alloc, table)?;
-    for late in lates {
-        if let Err(fault) = trips.apply(late) {
+    let mut trips = UpdatedTrips::of(alloc, table)?;
+    for update in updates {
+        if let Err(fault) = trips.apply(update) {
             return Err(Refused::Fault(fault));
         }
     }

@@ -1,4 +1,4 @@
-//! An edition is amended by late trips.
+//! An edition is amended by what is said of its trips.
 ghost use Rattle.std.specs.Prelude.{◌≡◌, ℕ, IfErr, IfOk};
 ghost use Rattle.tb_base.specs.Refusals.{Yields};
 ghost use Rattle.tb_base.specs.Transfers.{kept_hops};
@@ -7,12 +7,13 @@ ghost use Rattle.edition_store.specs.Editions.{EditionData, kept_count};
 ghost use Rattle.late_edit.specs.Amended.{amended};
 ghost use Rattle.late_edit.specs.Amending.{network_of};
 ghost use Rattle.late_edit.specs.Lates.{IsOfLateAlone};
-ghost use Rattle.late_edit.specs.Retimed.{IsRetimed};
+ghost use Rattle.late_edit.specs.Updated.{IsUpdated};
 ghost use Rattle.late_edit.specs.Touched.{touched_count};
 
 use crate::amended_table::amended;
-use crate::late::{Late, LateFault};
+use crate::late::LateFault;
 use crate::rows::Rows;
+use crate::update::Update;
 use edition_store::{Edition, Shared};
 use line_split::{Lines, split};
 use std::alloc::Global;
@@ -33,10 +34,10 @@ struct Kept {
     redone: u32,
 }
 
-// The kept transfers of a timetable with its lines, which has other times than that of an edition.
+// The kept transfers of a timetable with its lines, which has other events than that of an edition.
 fn kept_of(alloc: Global, old: &Edition, table: &Timetable, lines: &Lines) -> Result<Kept, Memory>
     requires lines { lines.now.table ≡ table.now }
-    requires retimed { IsRetimed old.now.table table.now }
+    requires updated { IsUpdated old.now.table table.now }
     ensures table { IfOk result (λ k. k.set.table ≡ table.now) }
     ensures hops { IfOk result (λ k. (t i : ℕ) →
         packed k.set t i ≡ kept_hops table.now lines.now.lines t i) }
@@ -55,7 +56,7 @@ fn kept_of(alloc: Global, old: &Edition, table: &Timetable, lines: &Lines) -> Re
     })
 }
 
-// The edition of a timetable with its lines, which has other times than that of an edition, and how
+// The edition of a timetable with its lines, which has other events than that of an edition, and how
 // many trips are touched.
 fn amended_over(
     alloc: Global,
@@ -64,7 +65,7 @@ fn amended_over(
     lines: Lines,
 ) -> Result<Amended, Memory>
     requires lines { lines.table ≡ table }
-    requires retimed { IsRetimed old.now.table table }
+    requires updated { IsUpdated old.now.table table }
     ensures table { IfOk result (λ a. EditionData.table a.edition ≡ table) }
     ensures redone { IfOk result
         (λ a. a.redone ≡ touched_count (network_of old.now) (network_of a.edition)) }
@@ -86,17 +87,21 @@ fn amended_over(
     }
 }
 
-/// The edition of the timetable of an edition, amended by lates, and how many trips are touched by
-/// that; or exactly the first fault of a late, and none of a file. It starts no thread and waits for
+/// The edition of the timetable of an edition, amended by updates, and how many trips are touched by
+/// that; or exactly the first fault of an update, and none of a file. It starts no thread and waits for
 /// nobody.
-pub fn amend(alloc: Global, old: &Edition, lates: &[Late]) -> Result<Amended, Refused<LateFault>>
+pub fn amend(
+    alloc: Global,
+    old: &Edition,
+    updates: &[Update],
+) -> Result<Amended, Refused<LateFault>>
     ensures table { Yields result (λ a. EditionData.table a.edition)
-        (amended old.now.table lates.now) }
+        (amended old.now.table updates.now) }
     ensures own { IfErr result IsOfLateAlone }
     ensures redone { IfOk result
         (λ a. a.redone ≡ touched_count (network_of old.now) (network_of a.edition)) }
 {
-    let table = amended(alloc, old.table(), lates)?;
+    let table = amended(alloc, old.table(), updates)?;
     match split(alloc, &table) {
         Ok(lines) => Ok(amended_over(alloc, old, table, lines)?),
         Err(Memory) => {

@@ -16,7 +16,7 @@ pub struct Late {
 }
 
 impl Model for Late {
-    ghost use Rattle.late_edit.specs.Lates.{LateData};
+    ghost use Rattle.late_edit.specs.UpdateData.{LateData};
 
     ghost Value = { LateData };
 
@@ -26,6 +26,49 @@ impl Model for Late {
       before = l.before;
       from = l.from;
       secs = l.secs;
+    } };
+}
+
+/// A trip that is cancelled: at none of its events anybody boards or alights.
+#[derive(Drop)]
+pub struct Cancel {
+    /// The line of the file that says it, counted from 1.
+    pub line: u32,
+    pub trip: Name,
+    /// Whether the trip began on the day before.
+    pub before: bool,
+}
+
+impl Model for Cancel {
+    ghost use Rattle.late_edit.specs.UpdateData.{CancelData};
+
+    ghost Value = { CancelData };
+
+    ghost view = { λ c. record { line = c.line; trip = c.trip; before = c.before } };
+}
+
+/// A stop that a trip skips: at one of its events nobody boards or alights.
+#[derive(Drop)]
+pub struct Skip {
+    /// The line of the file that says it, counted from 1.
+    pub line: u32,
+    pub trip: Name,
+    /// Whether the trip began on the day before.
+    pub before: bool,
+    /// The event, counted from 0.
+    pub at: u32,
+}
+
+impl Model for Skip {
+    ghost use Rattle.late_edit.specs.UpdateData.{SkipData};
+
+    ghost Value = { SkipData };
+
+    ghost view = { λ s. record {
+      line = s.line;
+      trip = s.trip;
+      before = s.before;
+      at = s.at;
     } };
 }
 

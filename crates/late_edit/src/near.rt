@@ -1,4 +1,4 @@
-//! The stops from which a change leads to a trip with other times.
+//! The stops from which a change leads to a trip with other events.
 ghost use Rattle.std.specs.Prelude.{◌≡◌, ◌<◌, ◌||◌, ℕ, All, IfOk, IsTrue, [], false, length, slice_index_or};
 ghost use Rattle.std.specs.List.{list_any};
 ghost use Rattle.tb_base.specs.Soundness.{IsSoundEvent, IsSoundPath};

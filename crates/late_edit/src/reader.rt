@@ -2,17 +2,18 @@
 ghost use Rattle.std.specs.Prelude.{◌≡◌, ◌++◌, ◌≤◌, OnOk, length, option_to_list};
 ghost use Rattle.tb_base.specs.Refusals.{Yields};
 ghost use Rattle.text_lines.specs.LineWords.{line_words};
-ghost use Rattle.late_edit.specs.Lates.{late_on, lates_of};
+ghost use Rattle.late_edit.specs.Lates.{update_on, updates_of};
 
-use crate::late::{Late, LateFault};
-use crate::words::late_of;
+use crate::late::LateFault;
+use crate::update::Update;
+use crate::words::update_of;
 use std::alloc::Global;
 use tb_base::{Memory, Refused};
 use text_lines::{first_line, line_words};
 
 // What a line says: nothing where it has no words.
-fn late_on(alloc: Global, line: u32, text: &[u8]) -> Result<Option<Late>, Refused<LateFault>>
-    ensures { Yields result (λ late. late) (late_on line (line_words text.now)) }
+fn update_on(alloc: Global, line: u32, text: &[u8]) -> Result<Option<Update>, Refused<LateFault>>
+    ensures { Yields result (λ u. u) (update_on line (line_words text.now)) }
 {
     let Some(words) = line_words(alloc, text)? else {
         return Err(Refused::Fault(LateFault::BadLine(line)));
@@ -20,39 +21,40 @@ fn late_on(alloc: Global, line: u32, text: &[u8]) -> Result<Option<Late>, Refuse
     if words.is_empty() {
         return Ok(None);
     }
-    match late_of(alloc, line, words.as_slice())? {
-        Some(late) => Ok(Some(late)),
+    match update_of(alloc, line, words.as_slice())? {
+        Some(update) => Ok(Some(update)),
         None => Err(Refused::Fault(LateFault::BadLine(line))),
     }
 }
 
 // Adds what a line says.
-fn add(lates: &mut Vec<Late>, late: Option<Late>) -> Result<(), Memory>
-    ensures { OnOk result (lates.new.items ≡ lates.old.items ++ option_to_list late) }
+fn add(updates: &mut Vec<Update>, update: Option<Update>) -> Result<(), Memory>
+    ensures { OnOk result (updates.new.items ≡ updates.old.items ++ option_to_list update) }
 {
-    match late {
-        Some(late) => lates.push(late)?,
+    match update {
+        Some(update) => updates.push(update)?,
         None => {}
     }
     Ok(())
 }
 
-/// What a file says of late trips, in the order of its lines, or exactly its first bad line. The
-/// words of a line are those of `line_words`, and a line without words is passed over. Each other
-/// one is `late TRIP EVENT SECS`, or `late-before TRIP EVENT SECS` for a trip that began on the day
-/// before. EVENT has 1 to 9 digits, and SECS too, with a minus sign before them or not.
-pub fn read_late(alloc: Global, bytes: &[u8]) -> Result<Vec<Late>, Refused<LateFault>>
+/// What a file says of trips, in the order of its lines, or exactly its first bad line. The words of
+/// a line are those of `line_words`, and a line without words is passed over. Each other one is
+/// `late TRIP EVENT SECS`, `cancel TRIP` or `skip TRIP EVENT`, with `day-before` behind it for a trip
+/// that began on the day before; or `late-before TRIP EVENT SECS`, which says so too. EVENT has 1 to
+/// 9 digits, and SECS too, with a minus sign before them or not.
+pub fn read_late(alloc: Global, bytes: &[u8]) -> Result<Vec<Update>, Refused<LateFault>>
     requires { length bytes.now ≤ 33554432 }
-    ensures { Yields result (λ lates. lates.items) (lates_of bytes.now) }
+    ensures { Yields result (λ updates. updates.items) (updates_of bytes.now) }
 {
-    let mut lates = Vec::new(alloc);
+    let mut updates = Vec::new(alloc);
     let mut line: u32 = 0;
     let mut text = bytes;
     while let Some(cut) = first_line(text) {
         line += 1;
-        let late = late_on(alloc, line, cut.line)?;
-        add(&mut lates, late)?;
+        let update = update_on(alloc, line, cut.line)?;
+        add(&mut updates, update)?;
         text = cut.rest;
     }
-    Ok(lates)
+    Ok(updates)
 }

@@ -4,11 +4,11 @@ ghost use Rattle.tb_base.specs.Transfers.{kept_hops, transfers_of};
 ghost use Rattle.tb_laws.specs.Rows.{row_of};
 ghost use Rattle.transfer_pack.specs.Words.{lent};
 ghost use Rattle.late_edit.specs.Amending.{AreKeptRows, network_of};
-ghost use Rattle.late_edit.specs.Retimed.{IsRetimed};
+ghost use Rattle.late_edit.specs.Updated.{IsUpdated};
 ghost use Rattle.late_edit.specs.Touched.{is_touched};
 
+use crate::amendment::Amendment;
 use crate::network::Network;
-use crate::retiming::Retiming;
 use edition_store::Edition;
 use line_split::Lines;
 use std::alloc::Global;
@@ -111,7 +111,7 @@ fn row_of(
     requires lines { lines.now.table ≡ table.now }
     requires labels { labels.old.table ≡ table.now }
     requires trip { trip < length table.now.trips }
-    requires retimed { IsRetimed old.now.table table.now }
+    requires updated { IsUpdated old.now.table table.now }
     requires touched { touched ≡ is_touched (network_of old.now) lines.now trip }
     ensures labels { labels.new.table ≡ table.now }
     ensures row { IfOk result (λ row. row.items
@@ -152,7 +152,7 @@ impl Rows {
         Ok(())
     }
 
-    /// The kept transfers of a timetable with its lines, which has other times than that of an
+    /// The kept transfers of a timetable with its lines, which has other events than that of an
     /// edition. That only touched trips are reduced again is so in the code and in no clause. Refused
     /// only for want of memory.
     pub(crate) fn of(
@@ -162,19 +162,19 @@ impl Rows {
         lines: &Lines,
     ) -> Result<Rows, Memory>
         requires lines { lines.now.table ≡ table.now }
-        requires retimed { IsRetimed old.now.table table.now }
+        requires updated { IsUpdated old.now.table table.now }
         ensures { IfOk result
             (AreKeptRows (network_of old.now) lines.now (length table.now.trips)) }
     {
         table.soundness();
         lines.soundness();
         let before = Network::new(old.table(), old.lines());
-        let retiming = Retiming::between(alloc, before, Network::new(table, lines))?;
+        let amendment = Amendment::between(alloc, before, Network::new(table, lines))?;
         let mut labels = Labels::new(alloc, table)?;
         let mut rows = Rows::new(alloc);
         for t in 0..table.trip_count() {
             let trip = TripNo(t);
-            let touched = retiming.is_touched(alloc, trip)?;
+            let touched = amendment.is_touched(alloc, trip)?;
             let row = row_of(alloc, old, table, lines, &mut labels, trip, touched)?;
             rows.add(row, touched)?;
         }

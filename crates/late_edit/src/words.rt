@@ -1,9 +1,10 @@
-//! What the words of a line say of a late trip.
+//! What the words of a line say of a trip.
 ghost use Rattle.std.specs.Prelude.{◌≡◌, ◌<◌, ◌≤ℤ◌, IfOk, IfSome, option_map, pos};
 ghost use Rattle.gtfs_rows.specs.Numbers.{number_of};
-ghost use Rattle.late_edit.specs.Lates.{late_of, late_on_day, move_of};
+ghost use Rattle.late_edit.specs.Lates.{cancel_said, day_of, late_before_said, late_by, late_said, move_of, skip_said, update_of};
 
-use crate::late::Late;
+use crate::late::{Cancel, Late, Skip};
+use crate::update::Update;
 use gtfs_rows::number_of;
 use std::alloc::Global;
 use tb_base::{Memory, Name, Sec};
@@ -44,41 +45,121 @@ fn move_of(text: &[u8]) -> Option<Sec>
     }
 }
 
+// Whether the trip is one of the day before, by the words behind all others: of the date's own day
+// where there is none.
+fn day_of(words: &[Name]) -> Option<bool>
+    ensures { result ≡ day_of words.now }
+{
+    match words {
+        [] => Some(false),
+        [word] => {
+            if word.bytes() == b"day-before".as_slice() {
+                Some(true)
+            } else {
+                None
+            }
+        }
+        _ => None,
+    }
+}
+
 // TRIP EVENT SECS, of the trips that began on the day itself or on the day before.
-fn late_on_day(
+fn late_by(
     alloc: Global,
     line: u32,
     before: bool,
-    words: &[Name],
-) -> Result<Option<Late>, Memory>
-    ensures { IfOk result (λ late. late ≡ late_on_day line before words.now) }
+    trip: &Name,
+    event: &Name,
+    secs: &Name,
+) -> Result<Option<Update>, Memory>
+    ensures { IfOk result (λ u. u ≡ late_by line before trip.now event.now secs.now) }
 {
-    let [trip, event, secs] = words else {
-        return Ok(None);
-    };
     let (Some(from), Some(secs)) = (number_of(event.bytes()), move_of(secs.bytes())) else {
         return Ok(None);
     };
-    Ok(Some(Late {
+    Ok(Some(Update::Late(Late {
         line,
         trip: Name::new(alloc, trip.bytes())?,
         before,
         from,
         secs,
-    }))
+    })))
 }
 
-/// The late that a line says: `late TRIP EVENT SECS` or `late-before TRIP EVENT SECS`.
-pub(crate) fn late_of(alloc: Global, line: u32, words: &[Name]) -> Result<Option<Late>, Memory>
-    ensures { IfOk result (λ late. late ≡ late_of line words.now) }
+// TRIP EVENT SECS and its day.
+fn late_said(alloc: Global, line: u32, words: &[Name]) -> Result<Option<Update>, Memory>
+    ensures { IfOk result (λ u. u ≡ late_said line words.now) }
+{
+    let [trip, event, secs, day @ ..] = words else {
+        return Ok(None);
+    };
+    match day_of(day) {
+        Some(before) => late_by(alloc, line, before, trip, event, secs),
+        None => Ok(None),
+    }
+}
+
+// TRIP EVENT SECS of the day before.
+fn late_before_said(alloc: Global, line: u32, words: &[Name]) -> Result<Option<Update>, Memory>
+    ensures { IfOk result (λ u. u ≡ late_before_said line words.now) }
+{
+    let [trip, event, secs] = words else {
+        return Ok(None);
+    };
+    late_by(alloc, line, true, trip, event, secs)
+}
+
+// TRIP and its day.
+fn cancel_said(alloc: Global, line: u32, words: &[Name]) -> Result<Option<Update>, Memory>
+    ensures { IfOk result (λ u. u ≡ cancel_said line words.now) }
+{
+    let [trip, day @ ..] = words else {
+        return Ok(None);
+    };
+    let Some(before) = day_of(day) else {
+        return Ok(None);
+    };
+    Ok(Some(Update::Cancel(Cancel {
+        line,
+        trip: Name::new(alloc, trip.bytes())?,
+        before,
+    })))
+}
+
+// TRIP EVENT and its day.
+fn skip_said(alloc: Global, line: u32, words: &[Name]) -> Result<Option<Update>, Memory>
+    ensures { IfOk result (λ u. u ≡ skip_said line words.now) }
+{
+    let [trip, event, day @ ..] = words else {
+        return Ok(None);
+    };
+    let (Some(before), Some(at)) = (day_of(day), number_of(event.bytes())) else {
+        return Ok(None);
+    };
+    Ok(Some(Update::Skip(Skip {
+        line,
+        trip: Name::new(alloc, trip.bytes())?,
+        before,
+        at,
+    })))
+}
+
+/// What a line says of a trip: `late TRIP EVENT SECS`, `cancel TRIP` or `skip TRIP EVENT`, each with
+/// `day-before` behind it or not, or `late-before TRIP EVENT SECS`.
+pub(crate) fn update_of(alloc: Global, line: u32, words: &[Name]) -> Result<Option<Update>, Memory>
+    ensures { IfOk result (λ u. u ≡ update_of line words.now) }
 {
     match words {
         [] => Ok(None),
         [word, rest @ ..] => {
             if word.bytes() == b"late".as_slice() {
-                late_on_day(alloc, line, false, rest)
+                late_said(alloc, line, rest)
             } else if word.bytes() == b"late-before".as_slice() {
-                late_on_day(alloc, line, true, rest)
+                late_before_said(alloc, line, rest)
+            } else if word.bytes() == b"cancel".as_slice() {
+                cancel_said(alloc, line, rest)
+            } else if word.bytes() == b"skip".as_slice() {
+                skip_said(alloc, line, rest)
             } else {
                 Ok(None)
             }

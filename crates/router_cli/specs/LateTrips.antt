@@ -8,7 +8,8 @@ use Rattle.gtfs_rows.specs.Steps.{and_then}
 use Rattle.gtfs_rows.specs.declared.fault.FeedFault.{FeedFault}
 use Rattle.tb_io.specs.Files.{FileList, file_at}
 use Rattle.late_edit.specs.Amended.{amended}
-use Rattle.late_edit.specs.Lates.{LateData, lates_of}
+use Rattle.late_edit.specs.Lates.{updates_of}
+use Rattle.late_edit.specs.declared.update.Update.{Update}
 use Rattle.late_edit.specs.declared.late.LateFault.{LateFault}
 use Rattle.late_edit.specs.declared.late.LateFault.TheVariants as fault
 use Rattle.late_edit.specs.Touched.{touched_count}
@@ -20,16 +21,16 @@ use Rattle.router_cli.specs.Outcome.{EndsBy, GivesDay}
 use Rattle.router_cli.specs.declared.status.Status.{Status}
 use Rattle.router_cli.specs.declared.status.Status.TheVariants as status
 
--- what a file says of late trips, or its first fault: that it isn't there, then its size, then its
+-- what a file says of trips, or its first fault: that it isn't there, then its size, then its
 -- first bad line
-abbrev pub lates_in : Option (List ℕ) → Result (List LateData) LateFault
-lates_in None = Err fault.MissingFile
-lates_in (Some bytes) =
-    if nat_lt 33554432 (length bytes) then Err fault.TooLarge else lates_of bytes
+abbrev pub updates_in : Option (List ℕ) → Result (List Update) LateFault
+updates_in None = Err fault.MissingFile
+updates_in (Some bytes) =
+    if nat_lt 33554432 (length bytes) then Err fault.TooLarge else updates_of bytes
 
--- where the folder tells its files, the one at this path says this of late trips
-abbrev pub LatesGive : Option FileList → List ℕ → Result (List LateData) LateFault → Type 0
-LatesGive files path lates = IfSome files (λ fs. lates_in (file_at fs path) ≡ lates)
+-- where the folder tells its files, the one at this path says this of trips
+abbrev pub UpdatesGive : Option FileList → List ℕ → Result (List Update) LateFault → Type 0
+UpdatesGive files path updates = IfSome files (λ fs. updates_in (file_at fs path) ≡ updates)
 
 -- what is told of the second edition: how many trips are touched, and how many transfers are kept
 abbrev pub amended_text : ℕ → ℕ → List ℕ
@@ -50,11 +51,11 @@ pub record IsAmendedText (T U : TimetableData) (i : InquiryData) (bytes : List �
   pub shown : IsInquiryText U ShowsKept i answer
   pub text : bytes ≡ amended_text redone (kept_count U after) ++ answer
 
--- the lates make a sound timetable of this one, and the bytes are what is written of the two
-pub record IsLateText (T : TimetableData) (lates : List LateData) (i : InquiryData)
+-- the updates make a sound timetable of this one, and the bytes are what is written of the two
+pub record IsLateText (T : TimetableData) (updates : List Update) (i : InquiryData)
     (bytes : List ℕ) : Type 0 where
   pub table : TimetableData
-  pub amended : amended T lates ≡ Ok table
+  pub amended : amended T updates ≡ Ok table
   pub sound : IsSound table
   pub text : IsAmendedText T table i bytes
 
@@ -63,16 +64,17 @@ pub record IsLateAnswer (files : Option FileList) (r : LateRequestData) (bytes :
     : Type 0 where
   pub table : TimetableData
   pub day : GivesDay files r.dir r.date r.options (Ok table)
-  pub lates : List LateData
-  pub file : LatesGive files r.file (Ok lates)
-  pub text : IsLateText table lates r.inquiry bytes
+  pub updates : List Update
+  pub file : UpdatesGive files r.file (Ok updates)
+  pub text : IsLateText table updates r.inquiry bytes
 
--- the fault is the first one of the file, or the file is good and it is the first one of a late
+-- the fault is the first one of the file, or the file is good and it is the first one of an update
 abbrev pub LateRefused : Option FileList → LateRequestData → LateFault → Type 0
 LateRefused files r f =
     (T : TimetableData) × GivesDay files r.dir r.date r.options (Ok T)
-    × (LatesGive files r.file (Err f)
-    ⊎ ((lates : List LateData) × LatesGive files r.file (Ok lates) × (amended T lates ≡ Err f)))
+    × (UpdatesGive files r.file (Err f)
+    ⊎ ((updates : List Update) × UpdatesGive files r.file (Ok updates)
+    × (amended T updates ≡ Err f)))
 
 -- Why nothing is written of such a day: the feed is refused; or the day has a timetable, and its
 -- late trips are refused. Of ReadFault and Memory nothing is said here.
@@ -94,19 +96,19 @@ IsAmendEnding (Err f) = EndsBy (status.LateRefused f)
 abbrev pub IsLateEnding : Option FileList → LateRequestData → Result TimetableData FeedFault
     → Status → Type 0
 IsLateEnding files r (Ok T) s = IfSome files (λ fs.
-    IsAmendEnding (and_then (lates_in (file_at fs r.file)) (λ lates. amended T lates)) s)
+    IsAmendEnding (and_then (updates_in (file_at fs r.file)) (λ updates. amended T updates)) s)
 IsLateEnding files r (Err f) s = EndsBy (status.FeedRefused f) s
 
--- why a file gives no late trips, by the folder's count of faults before and now
-abbrev pub IsNoLates : Option FileList → List ℕ → ℕ → ℕ → Status → Type 0
-IsNoLates files path before now (status.LateRefused f) =
-    LatesGive files path (Err f) × (now ≡ before)
-IsNoLates files path before now status.ReadFault = before < now
-IsNoLates files path before now status.Memory = now ≡ before
-IsNoLates files path before now s = ⊥
+-- why a file says nothing of trips, by the folder's count of faults before and now
+abbrev pub IsNoUpdates : Option FileList → List ℕ → ℕ → ℕ → Status → Type 0
+IsNoUpdates files path before now (status.LateRefused f) =
+    UpdatesGive files path (Err f) × (now ≡ before)
+IsNoUpdates files path before now status.ReadFault = before < now
+IsNoUpdates files path before now status.Memory = now ≡ before
+IsNoUpdates files path before now s = ⊥
 
--- why late trips make no text of a timetable
-abbrev pub IsNotAmended : TimetableData → List LateData → Status → Type 0
-IsNotAmended T lates (status.LateRefused f) = amended T lates ≡ Err f
-IsNotAmended T lates status.Memory = ⊤
-IsNotAmended T lates s = ⊥
+-- why updates make no text of a timetable
+abbrev pub IsNotAmended : TimetableData → List Update → Status → Type 0
+IsNotAmended T updates (status.LateRefused f) = amended T updates ≡ Err f
+IsNotAmended T updates status.Memory = ⊤
+IsNotAmended T updates s = ⊥

@@ -9,7 +9,7 @@ ghost use Rattle.query_gate.specs.Callers.{CallerData};
 ghost use Rattle.tb_base.specs.Workers.{AreWorkers};
 ghost use Rattle.router_cli.specs.Answers.{IsInquiryText, ShowsKept};
 ghost use Rattle.router_cli.specs.Outcome.{LeavesFolder};
-ghost use Rattle.router_cli.specs.LateTrips.{IsAmendedText, IsLateAnswer, IsLateText, IsNoLateAnswer, IsNoLates, IsNotAmended, LatesGive, amended_text};
+ghost use Rattle.router_cli.specs.LateTrips.{IsAmendedText, IsLateAnswer, IsLateText, IsNoLateAnswer, IsNoUpdates, IsNotAmended, UpdatesGive, amended_text};
 
 use crate::day::table_of;
 use crate::over_edition::ask_by;
@@ -17,7 +17,7 @@ use crate::status::{Status, at_number};
 use command_line::{Inquiry, LateRequest};
 use edition_build::build_edition;
 use edition_store::{Edition, Last, Naming, Opened, Publisher, Seat, Shared, Store};
-use late_edit::{Amended, Late, LateFault, amend, read_late};
+use late_edit::{Amended, LateFault, Update, amend, read_late};
 use query_gate::Caller;
 use std::alloc::Global;
 use std::marker::Brand;
@@ -29,19 +29,19 @@ use tb_io::{Folder, Taken, take_file};
 // No file of late trips has more bytes.
 const MOST_BYTES: u64 = 33_554_432;
 
-// What a file of the folder says of late trips.
-fn lates_from<F: Folder>(alloc: Global, folder: &mut F, path: &str) -> Result<Vec<Late>, Status>
+// What a file of the folder says of trips.
+fn updates_from<F: Folder>(alloc: Global, folder: &mut F, path: &str) -> Result<Vec<Update>, Status>
     requires { F.faults folder.old < 2 ^ 64 - 1 }
-    ensures lates { IfOk result (λ lates.
-        LatesGive (F.files folder.old) path.now (Ok lates.items)) }
+    ensures updates { IfOk result (λ updates.
+        UpdatesGive (F.files folder.old) path.now (Ok updates.items)) }
     ensures kept { IfOk result (λ _. F.faults folder.new ≡ F.faults folder.old) }
-    ensures refused { IfErr result (IsNoLates (F.files folder.old) path.now
+    ensures refused { IfErr result (IsNoUpdates (F.files folder.old) path.now
         (F.faults folder.old) (F.faults folder.new)) }
     ensures files { F.files folder.new ≡ F.files folder.old }
 {
     match take_file(alloc, folder, path, MOST_BYTES) {
         Ok(Some(bytes)) => match read_late(alloc, bytes.as_slice()) {
-            Ok(lates) => Ok(lates),
+            Ok(updates) => Ok(updates),
             Err(Refused::Fault(fault)) => Err(Status::LateRefused(fault)),
             Err(Refused::Memory) => Err(Status::Memory),
         },
@@ -179,17 +179,17 @@ fn amended_answer<R: Threads + Wait + Sync, G: Gate>(
     rt: &R,
     alloc: Global,
     table: Timetable,
-    lates: &[Late],
+    updates: &[Update],
     inquiry: &Inquiry,
     workers: u32,
     gate: &G,
 ) -> Result<Vec<u8>, Refused<LateFault>>
     requires { AreWorkers workers }
-    ensures { MatchResult result (λ text. IsLateText table lates.now inquiry.now text.items)
-        (IsRefused (amended table lates.now)) }
+    ensures { MatchResult result (λ text. IsLateText table updates.now inquiry.now text.items)
+        (IsRefused (amended table updates.now)) }
 {
     let old = build_edition(rt, alloc, table, workers, gate)?;
-    match amend(alloc, old.edition(), lates) {
+    match amend(alloc, old.edition(), updates) {
         Ok(amended) => {
             amended.edition.edition().soundness();
             Ok(editions_text(rt, alloc, old, amended, inquiry)?)
@@ -206,19 +206,19 @@ fn late_answer<R: Threads + Wait + Sync, G: Gate>(
     rt: &R,
     alloc: Global,
     table: Timetable,
-    lates: &[Late],
+    updates: &[Update],
     request: &LateRequest,
     gate: &G,
 ) -> Result<Vec<u8>, Status>
     ensures text { IfOk result (λ text.
-        IsLateText table lates.now request.now.inquiry text.items) }
-    ensures refused { IfErr result (IsNotAmended table lates.now) }
+        IsLateText table updates.now request.now.inquiry text.items) }
+    ensures refused { IfErr result (IsNotAmended table updates.now) }
 {
     match amended_answer(
         rt,
         alloc,
         table,
-        lates,
+        updates,
         &request.inquiry,
         request.workers,
         gate,
@@ -249,8 +249,8 @@ pub(crate) fn late_text<R: Threads + Wait + Sync, F: Folder, G: Gate>(
         Ok(table) => table,
         Err(status) => return Err(status),
     };
-    match lates_from(alloc, folder, request.file) {
-        Ok(lates) => late_answer(rt, alloc, table, lates.as_slice(), request, gate),
+    match updates_from(alloc, folder, request.file) {
+        Ok(updates) => late_answer(rt, alloc, table, updates.as_slice(), request, gate),
         Err(status) => {
             drop(table);
             Err(status)

@@ -15,4 +15,4 @@ returns-clause-hops c =
 
 pub returns-clause-redone : goal.returns-clause-redone
 returns-clause-redone c =
-    ap (λ (r : RowsData). r.redone) c.rows.view_is ∙ all_touched c.args.old.now c.args.lines.now c.args.table.now c.in_ok-rows.rows c.requires.retimed c.in_ok-rows.ensures
+    ap (λ (r : RowsData). r.redone) c.rows.view_is ∙ all_touched c.args.old.now c.args.lines.now c.args.table.now c.in_ok-rows.rows c.requires.updated c.in_ok-rows.ensures

@@ -2,7 +2,7 @@ use Rattle.std.proofs.Common.{◌<◌, ◌∙◌, sym, ap, length, map}
 use Rattle.std.specs.Prelude.{Err}
 use Rattle.std.specs.List.{list_any}
 use Rattle.late_edit.specs.Amended.{has_time_outside, moved}
-use Rattle.late_edit.specs.Lates.{LateData}
+use Rattle.late_edit.specs.UpdateData.{LateData}
 use Rattle.late_edit.specs.declared.late.LateFault.TheVariants as fault
 use Rattle.late_edit.proofs.MovedEvents.{is_moved, rest_is, leaves_limits, over_a_day, runs_back}
 use Rattle.late_edit.proofs.moves.check_move.Goals as goal

@@ -1,6 +1,6 @@
 use Rattle.std.proofs.Common.{◌≡◌, ◌<◌, ◌≤◌, ◌∙◌, ap, length, arith}
 use Rattle.std.specs.Prelude.{int_lt}
-use Rattle.late_edit.specs.Lates.{LateData}
+use Rattle.late_edit.specs.UpdateData.{LateData}
 use Rattle.late_edit.specs.Amended.{is_reached_early, moved, moved_from}
 use Rattle.late_edit.proofs.MovedEvents.{early_is}
 use Rattle.late_edit.proofs.moves.is_reached_early.Goals as goal

@@ -9,5 +9,5 @@ returns-else-touched-clause-row c =
     let L = network_of c.args.old.now in
     let M = c.args.lines.now in
     let untouched = sym c.requires.touched ∙ c.if-touched.false in
-    let same = same_row L M c.args.table.now c.args.trip c.requires.lines c.requires.retimed (λ retimed i. c.untouched_kept.ensures L M c.args.trip i retimed untouched) in
+    let same = same_row L M c.args.table.now c.args.trip c.requires.lines c.requires.updated (λ updated i. c.untouched_kept.ensures L M c.args.trip i updated untouched) in
     IfOk-weaker c.kept_row.result _ _ (λ row is. is ∙ same) c.kept_row.ensures

@@ -1,5 +1,5 @@
-//! Late trips and questions that are drawn by numbers that look random.
-use late_edit::Late;
+//! Updates of trips and questions that are drawn by numbers that look random.
+use late_edit::{Cancel, Late, Skip, Update};
 use made_feeds::Draw;
 use std::alloc::Global;
 use tb_base::{Memory, Name, Sec, StopNo, Timetable, Trip, TripNo};
@@ -38,16 +38,20 @@ fn some_event(draw: &mut Draw, trip: &Trip) -> u32 {
     }
 }
 
+// The name of a trip, at times one that no trip has.
+fn some_name(alloc: Global, draw: &mut Draw, trip: &Trip) -> Result<Name, Memory> {
+    if draw.one_in(25) {
+        Name::new(alloc, NOBODY)
+    } else {
+        Name::new(alloc, trip.name.bytes())
+    }
+}
+
 // A late of a trip, at times with a name that no trip has, or with the other day.
 fn some_late(alloc: Global, draw: &mut Draw, trip: &Trip, line: u32) -> Result<Late, Memory> {
-    let name = if draw.one_in(25) {
-        NOBODY
-    } else {
-        trip.name.bytes()
-    };
     Ok(Late {
         line,
-        trip: Name::new(alloc, name)?,
+        trip: some_name(alloc, draw, trip)?,
         before: trip.before != draw.one_in(25),
         from: some_event(draw, trip),
         secs: some_seconds(draw),
@@ -65,38 +69,79 @@ fn taken_back(alloc: Global, late: &Late, line: u32) -> Result<Late, Memory> {
     })
 }
 
+// A trip that is cancelled, at times with a name that no trip has, or with the other day.
+fn some_cancel(alloc: Global, draw: &mut Draw, trip: &Trip, line: u32) -> Result<Cancel, Memory> {
+    Ok(Cancel {
+        line,
+        trip: some_name(alloc, draw, trip)?,
+        before: trip.before != draw.one_in(25),
+    })
+}
+
+// A stop that a trip skips, at times with a name that no trip has, or with the other day.
+fn some_skip(alloc: Global, draw: &mut Draw, trip: &Trip, line: u32) -> Result<Skip, Memory> {
+    Ok(Skip {
+        line,
+        trip: some_name(alloc, draw, trip)?,
+        before: trip.before != draw.one_in(25),
+        at: some_event(draw, trip),
+    })
+}
+
 // Adds a late of a trip, and at times one that takes it back.
 fn add_lates(
     alloc: Global,
     draw: &mut Draw,
     trip: &Trip,
-    turn: u32,
-    lates: &mut Vec<Late>,
+    line: u32,
+    updates: &mut Vec<Update>,
 ) -> Result<(), Memory> {
-    let line = turn.saturating_mul(2);
-    let late = some_late(alloc, draw, trip, line.saturating_add(1))?;
+    let late = some_late(alloc, draw, trip, line)?;
     if draw.one_in(5) {
-        let back = taken_back(alloc, &late, line.saturating_add(2))?;
-        lates.push(late)?;
-        lates.push(back)?;
+        let back = taken_back(alloc, &late, line.saturating_add(1))?;
+        updates.push(Update::Late(late))?;
+        updates.push(Update::Late(back))?;
     } else {
-        lates.push(late)?;
+        updates.push(Update::Late(late))?;
     }
     Ok(())
 }
 
-/// None to four lates of trips of a timetable, some of which are taken back by another one. A trip
+// Adds what is said of a trip: it is late, or it is cancelled, or it skips a stop.
+fn add_updates(
+    alloc: Global,
+    draw: &mut Draw,
+    trip: &Trip,
+    turn: u32,
+    updates: &mut Vec<Update>,
+) -> Result<(), Memory> {
+    let line = turn.saturating_mul(2).saturating_add(1);
+    if draw.one_in(6) {
+        updates.push(Update::Cancel(some_cancel(alloc, draw, trip, line)?))?;
+    } else if draw.one_in(4) {
+        updates.push(Update::Skip(some_skip(alloc, draw, trip, line)?))?;
+    } else {
+        add_lates(alloc, draw, trip, line, updates)?;
+    }
+    Ok(())
+}
+
+/// None to four updates of trips of a timetable; some lates are taken back by another one. A trip
 /// may be named more than once.
-pub fn some_lates(alloc: Global, draw: &mut Draw, table: &Timetable) -> Result<Vec<Late>, Memory> {
-    let mut lates = Vec::new(alloc);
+pub fn some_updates(
+    alloc: Global,
+    draw: &mut Draw,
+    table: &Timetable,
+) -> Result<Vec<Update>, Memory> {
+    let mut updates = Vec::new(alloc);
     for turn in 0..draw.below(5) {
         if table.trip_count() == 0 {
-            return Ok(lates);
+            return Ok(updates);
         }
         let trip = TripNo(draw.below(table.trip_count()));
-        add_lates(alloc, draw, table.trip(trip), turn, &mut lates)?;
+        add_updates(alloc, draw, table.trip(trip), turn, &mut updates)?;
     }
-    Ok(lates)
+    Ok(updates)
 }
 
 // A time up to ten minutes before the first departure of some trip.

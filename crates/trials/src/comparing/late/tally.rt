@@ -2,7 +2,7 @@
 use crate::comparing::refused::{Difference, Refused};
 use late_edit::LateFault;
 
-/// Lists of lates that are refused, by their first fault.
+/// Lists of updates that are refused, by their first fault.
 #[derive(Clone, Copy)]
 pub struct Faults {
     pub unknown_trips: u64,
@@ -15,10 +15,10 @@ pub struct Faults {
 #[derive(Clone, Copy)]
 pub struct Tally {
     pub feeds: u64,
-    /// Lists of lates.
+    /// Lists of updates.
     pub lists: u64,
     pub refused: Faults,
-    /// Amended editions, and those among them that have no other times.
+    /// Amended editions, and those among them that have no other events.
     pub amended: u64,
     pub unmoved: u64,
     /// Touched trips, and kept transfers, of all amended editions.
@@ -104,9 +104,9 @@ impl Tally {
             values,
             ..
         } = self;
-        let _ = println!(rt; "feeds {feeds} lists of lates {lists}");
+        let _ = println!(rt; "feeds {feeds} lists of updates {lists}");
         self.refused.write(rt);
-        let _ = println!(rt; "amended {amended} with no other times {unmoved}");
+        let _ = println!(rt; "amended {amended} with no other events {unmoved}");
         let _ = println!(rt; "touched {touched} transfers {transfers}");
         let _ = println!(rt; "queries {queries} values {values}");
         let _ = println!(rt; "no difference");

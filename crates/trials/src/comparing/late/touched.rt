@@ -1,25 +1,14 @@
-//! The trips that a change of times touches, counted one by one as they are defined.
+//! The trips that a change of events touches, counted one by one as they are defined.
 use super::parts::events_of;
 use crate::comparing::refused::{Difference, Refused, held};
 use edition_store::Edition;
 use std::alloc::Global;
-use tb_base::{Event, Memory, Transfer, TripNo};
+use tb_base::{Memory, Transfer, TripNo};
 use transfer_make::make;
 
-// Whether two events have the same times.
-fn same_times(one: &Event, other: &Event) -> bool {
-    one.arr == other.arr && one.dep == other.dep
-}
-
-// Whether a trip has other times in another edition.
-fn has_other_times(old: &Edition, new: &Edition, trip: TripNo) -> bool {
-    let before = events_of(old.table(), trip);
-    let after = events_of(new.table(), trip);
-    before.len() != after.len()
-        || !before
-            .iter()
-            .zip(after.iter())
-            .all(|(one, other)| same_times(one, other))
+// Whether a trip has other events in another edition.
+fn has_other_events(old: &Edition, new: &Edition, trip: TripNo) -> bool {
+    events_of(old.table(), trip) != events_of(new.table(), trip)
 }
 
 // The candidates of a trip, none where there is no such trip.
@@ -31,32 +20,32 @@ fn candidates(alloc: Global, edition: &Edition, trip: TripNo) -> Result<Vec<Tran
     }
 }
 
-// Whether one of the trips that some transfers lead to has other times.
-fn lead_to_other_times(old: &Edition, new: &Edition, rows: &[Transfer]) -> bool {
+// Whether one of the trips that some transfers lead to has other events.
+fn lead_to_other_events(old: &Edition, new: &Edition, rows: &[Transfer]) -> bool {
     for row in rows {
-        if has_other_times(old, new, row.to_trip) {
+        if has_other_events(old, new, row.to_trip) {
             return true;
         }
     }
     false
 }
 
-// Whether a trip is touched: it has other times, or other candidates, or a trip that they lead to
-// has other times.
+// Whether a trip is touched: it has other events, or other candidates, or a trip that they lead to
+// has other events.
 fn is_touched(alloc: Global, old: &Edition, new: &Edition, trip: TripNo) -> Result<bool, Memory> {
-    if has_other_times(old, new, trip) {
+    if has_other_events(old, new, trip) {
         return Ok(true);
     }
     let before = candidates(alloc, old, trip)?;
     let after = candidates(alloc, new, trip)?;
-    Ok(before.as_slice() != after.as_slice() || lead_to_other_times(old, new, before.as_slice()))
+    Ok(before.as_slice() != after.as_slice() || lead_to_other_events(old, new, before.as_slice()))
 }
 
-// How many trips have other times.
-fn moved_count(old: &Edition, new: &Edition) -> u32 {
+// How many trips have other events.
+fn changed_count(old: &Edition, new: &Edition) -> u32 {
     let mut count: u32 = 0;
     for t in 0..old.table().trip_count() {
-        count = count.saturating_add(has_other_times(old, new, TripNo(t)) as u32);
+        count = count.saturating_add(has_other_events(old, new, TripNo(t)) as u32);
     }
     count
 }
@@ -72,7 +61,7 @@ fn touched_count(alloc: Global, old: &Edition, new: &Edition) -> Result<u32, Mem
 }
 
 /// Holds a number of touched trips against counting them one by one, and gives how many trips have
-/// other times.
+/// other events.
 pub fn compare_touched(
     alloc: Global,
     old: &Edition,
@@ -81,8 +70,8 @@ pub fn compare_touched(
 ) -> Result<u32, Refused> {
     let counted = touched_count(alloc, old, new)?;
     held(touched == counted, Difference::Touched)?;
-    let moved = moved_count(old, new);
-    held(moved <= touched, Difference::Touched)?;
-    held(moved > 0 || touched == 0, Difference::Touched)?;
-    Ok(moved)
+    let changed = changed_count(old, new);
+    held(changed <= touched, Difference::Touched)?;
+    held(changed > 0 || touched == 0, Difference::Touched)?;
+    Ok(changed)
 }

@@ -1,5 +1,5 @@
-//! A feed that looks random, lates of its trips, and what is compared over each list of them.
-use super::drawn::some_lates;
+//! A feed that looks random, updates of its trips, and what is compared over each list of them.
+use super::drawn::some_updates;
 use super::parts::compare_editions;
 use super::questions::compare_answers;
 use super::tally::Tally;
@@ -8,14 +8,14 @@ use crate::building::built;
 use crate::comparing::feed::edition_of;
 use crate::comparing::refused::{Difference, Refused, held};
 use edition_store::Edition;
-use late_edit::{Amended, Late, LateFault, amend, amended};
+use late_edit::{Amended, LateFault, Update, amend, amended};
 use made_feeds::{Draw, Files, Reading, small_feed};
 use segment_queue::Desk;
 use std::alloc::Global;
 use std::thread::Threads;
 use tb_base::Memory;
 
-// How many lists of lates are tried over each feed.
+// How many lists of updates are tried over each feed.
 const LISTS: u32 = 8;
 
 // The day before the one that is read: 1 March 2026.
@@ -31,7 +31,7 @@ fn add_day_before(files: &mut Files) -> Result<(), Memory> {
     Ok(())
 }
 
-// Why a list of lates that is refused for nothing else ends a comparison.
+// Why a list of updates that is refused for nothing else ends a comparison.
 fn refusal(refused: tb_base::Refused<LateFault>) -> Refused {
     match refused {
         tb_base::Refused::Fault(_) => Refused::Differs(Difference::Fault),
@@ -39,28 +39,28 @@ fn refusal(refused: tb_base::Refused<LateFault>) -> Refused {
     }
 }
 
-// The edition that is built anew on the timetable of another one, amended by lates.
+// The edition that is built anew on the timetable of another one, amended by updates.
 fn built_anew<R: Threads + Sync>(
     rt: &R,
     alloc: Global,
     old: &Edition,
-    lates: &[Late],
+    updates: &[Update],
 ) -> Result<Edition, Refused> {
-    match amended(alloc, old.table(), lates) {
+    match amended(alloc, old.table(), updates) {
         Ok(table) => Ok(built(rt, alloc, table)?),
         Err(refused) => Err(refusal(refused)),
     }
 }
 
-// Holds that a timetable can't be amended by lates for the same fault.
+// Holds that a timetable can't be amended by updates for the same fault.
 fn compare_faults(
     alloc: Global,
     old: &Edition,
-    lates: &[Late],
+    updates: &[Update],
     fault: LateFault,
     tally: &mut Tally,
 ) -> Result<(), Refused> {
-    match amended(alloc, old.table(), lates) {
+    match amended(alloc, old.table(), updates) {
         Ok(table) => {
             drop(table);
             Err(Refused::Differs(Difference::Fault))
@@ -110,13 +110,13 @@ fn try_amended<R: Threads + Sync>(
     rt: &R,
     alloc: Global,
     old: &Edition,
-    lates: &[Late],
+    updates: &[Update],
     found: &Amended,
     desk: &mut Desk,
     draw: &mut Draw,
     tally: &mut Tally,
 ) -> Result<(), Refused> {
-    match built_anew(rt, alloc, old, lates) {
+    match built_anew(rt, alloc, old, updates) {
         Ok(anew) => {
             let compared = compare_amended(alloc, old, found, &anew, desk, draw, tally);
             drop(anew);
@@ -126,28 +126,28 @@ fn try_amended<R: Threads + Sync>(
     }
 }
 
-// Amends an edition by lates, and compares.
-fn try_lates<R: Threads + Sync>(
+// Amends an edition by updates, and compares.
+fn try_updates<R: Threads + Sync>(
     rt: &R,
     alloc: Global,
     old: &Edition,
-    lates: &[Late],
+    updates: &[Update],
     desk: &mut Desk,
     draw: &mut Draw,
     tally: &mut Tally,
 ) -> Result<(), Refused> {
-    match amend(alloc, old, lates) {
+    match amend(alloc, old, updates) {
         Ok(found) => {
-            let compared = try_amended(rt, alloc, old, lates, &found, desk, draw, tally);
+            let compared = try_amended(rt, alloc, old, updates, &found, desk, draw, tally);
             drop(found);
             compared
         }
-        Err(tb_base::Refused::Fault(fault)) => compare_faults(alloc, old, lates, fault, tally),
+        Err(tb_base::Refused::Fault(fault)) => compare_faults(alloc, old, updates, fault, tally),
         Err(tb_base::Refused::Memory) => Err(Refused::Memory),
     }
 }
 
-// Amends an edition by lates of its trips, and compares.
+// Amends an edition by updates of its trips, and compares.
 fn try_list<R: Threads + Sync>(
     rt: &R,
     alloc: Global,
@@ -156,14 +156,14 @@ fn try_list<R: Threads + Sync>(
     draw: &mut Draw,
     tally: &mut Tally,
 ) -> Result<(), Refused> {
-    let lates = some_lates(alloc, draw, old.table())?;
+    let updates = some_updates(alloc, draw, old.table())?;
     tally.lists = tally.lists.wrapping_add(1);
-    let compared = try_lates(rt, alloc, old, lates.as_slice(), desk, draw, tally);
-    drop(lates);
+    let compared = try_updates(rt, alloc, old, updates.as_slice(), desk, draw, tally);
+    drop(updates);
     compared
 }
 
-// Amends an edition by some lists of lates, one after another.
+// Amends an edition by some lists of updates, one after another.
 fn try_lists<R: Threads + Sync>(
     rt: &R,
     alloc: Global,
@@ -178,7 +178,7 @@ fn try_lists<R: Threads + Sync>(
     Ok(())
 }
 
-// Holds an edition, after it is amended by lists of lates, against what it was.
+// Holds an edition, after it is amended by lists of updates, against what it was.
 fn try_edition<R: Threads + Sync>(
     rt: &R,
     alloc: Global,

@@ -33,8 +33,8 @@ loop-t-preserved c =
     let M = c.args.lines.now in
     let t = c.loop-t.t in
     let row = c.in_ok-row.row.items in
-    let before = c.in_ok-retiming.ensures.before ∙ (c.new-before.ensures ∙ network_is c.args.old.now c.lines.result.now (c.lines.ensures.table) c.lines.ensures.lines) in
-    let after = c.in_ok-retiming.ensures.after ∙ c.new.ensures in
+    let before = c.in_ok-amendment.ensures.before ∙ (c.new-before.ensures ∙ network_is c.args.old.now c.lines.result.now (c.lines.ensures.table) c.lines.ensures.lines) in
+    let after = c.in_ok-amendment.ensures.after ∙ c.new.ensures in
     record {
       labels = c.row_of.ensures.labels;
       rows = trip_added L M t c.loop-t.rows c.add.new.self row c.in_ok-touched.touched c.loop-t.invariant.rows c.in_ok-add.ensures (c.in_ok-row.ensures.row ∙ ap (λ (U : TimetableData). transfers_of U (kept_hops U M.lines t) t) (sym c.requires.lines))

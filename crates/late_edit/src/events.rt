@@ -1,8 +1,8 @@
-//! Which trips have other times.
+//! Which trips have other events.
 ghost use Rattle.std.specs.Prelude.{◌≡◌, IfOk, not};
 ghost use lib.Pointwise.{pointwise};
 ghost use Rattle.tb_base.specs.TimetableData.{events_of};
-ghost use Rattle.late_edit.specs.Touched.{TellsOtherTimes, same_times};
+ghost use Rattle.late_edit.specs.Touched.{TellsOtherEvents, same_event};
 
 use std::alloc::Global;
 use tb_base::{Event, Memory, Timetable, TripNo};
@@ -18,41 +18,45 @@ fn events_of(table: &Timetable, trip: TripNo) -> &[Event]
     }
 }
 
-// Whether two events have the same arrival and the same departure.
-fn same_times(e: &Event, f: &Event) -> bool
-    ensures { result ≡ same_times e.now f.now }
+// Whether two events have the same stop, times and marks.
+fn same_event(e: &Event, f: &Event) -> bool
+    ensures { result ≡ same_event e.now f.now }
 {
-    e.arr == f.arr && e.dep == f.dep
+    e.stop == f.stop
+        && e.arr == f.arr
+        && e.dep == f.dep
+        && e.board == f.board
+        && e.alight == f.alight
 }
 
-// Whether some times differ, event for event.
-fn times_differ(old: &[Event], new: &[Event]) -> bool
-    ensures { result ≡ not (pointwise same_times old.now new.now) }
+// Whether some events differ, event for event.
+fn events_differ(old: &[Event], new: &[Event]) -> bool
+    ensures { result ≡ not (pointwise same_event old.now new.now) }
 {
     if old.len() != new.len() {
         return true;
     }
     for i in 0..old.len() {
-        if !same_times(&old[i], &new[i]) {
+        if !same_event(&old[i], &new[i]) {
             return true;
         }
     }
     false
 }
 
-/// For each trip of the first timetable, whether it has other times in the second.
-pub(crate) fn other_times(
+/// For each trip of the first timetable, whether it has other events in the second.
+pub(crate) fn other_events(
     alloc: Global,
     old: &Timetable,
     new: &Timetable,
 ) -> Result<Vec<bool>, Memory>
-    ensures { IfOk result (λ others. TellsOtherTimes old.now new.now others.items) }
+    ensures { IfOk result (λ others. TellsOtherEvents old.now new.now others.items) }
 {
     let mut others = Vec::new(alloc);
     others.reserve(old.trip_count() as usize)?;
     for number in 0..old.trip_count() {
         let trip = TripNo(number);
-        others.push(times_differ(events_of(old, trip), events_of(new, trip)))?;
+        others.push(events_differ(events_of(old, trip), events_of(new, trip)))?;
     }
     Ok(others)
 }

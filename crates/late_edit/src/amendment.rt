@@ -1,0 +1,115 @@
+//! The trips that a change of times touches.
+ghost use Rattle.std.specs.Prelude.{◌≡◌, ◌<◌, ◌||◌, IfOk, false, length};
+ghost use Rattle.std.specs.List.{list_any};
+ghost use lib.Pointwise.{pointwise};
+ghost use Rattle.late_edit.specs.Updated.{IsUpdated};
+ghost use Rattle.late_edit.specs.Touched.{has_other_events, is_touched, same_transfer};
+
+use crate::events::other_events;
+use crate::near::{calls_at, near_stops};
+use crate::network::Network;
+use std::alloc::Global;
+use std::marker::Model;
+use tb_base::{Memory, Transfer, TripNo};
+
+/// A network, and the same with other events.
+#[derive(Drop)]
+pub struct Amendment<'a> {
+    before: Network<'a>,
+    after: Network<'a>,
+    other_events: Vec<bool>,
+    near: Vec<bool>,
+}
+
+impl<'a> Model for Amendment<'a> {
+    ghost use Rattle.late_edit.specs.Updated.{IsUpdated, AmendmentData};
+    ghost use Rattle.late_edit.specs.Near.{MarksNear};
+    ghost use Rattle.late_edit.specs.Touched.{TellsOtherEvents};
+
+    ghost Value = { AmendmentData };
+
+    ghost view = { λ r. record { before = r.before; after = r.after } };
+
+    ghost invariant = { λ r. IsUpdated r.before.table r.after.table
+        × TellsOtherEvents r.before.table r.after.table r.other_events.items
+        × MarksNear r.before.table r.other_events.items r.near.items };
+}
+
+impl<'a> Amendment<'a> {
+    /// Two networks whose timetables differ in times and marks alone. Refused only for want of memory.
+    pub fn between(
+        alloc: Global,
+        before: Network<'a>,
+        after: Network<'a>,
+    ) -> Result<Amendment<'a>, Memory>
+        requires { IsUpdated before.table after.table }
+        ensures before { IfOk result (λ amendment. amendment.before ≡ before.entry) }
+        ensures after { IfOk result (λ amendment. amendment.after ≡ after.entry) }
+    {
+        let other_events = other_events(alloc, before.table(), after.table())?;
+        let near = near_stops(alloc, before.table(), other_events.as_slice())?;
+        Ok(Amendment {
+            before,
+            after,
+            other_events,
+            near,
+        })
+    }
+
+    // Whether a trip has other events; one that isn't there has none.
+    fn has_other_events(&self, trip: TripNo) -> bool
+        ensures { result
+            ≡ has_other_events self.now.before.table self.now.after.table trip }
+    {
+        trip.index() < self.other_events.len() && self.other_events[trip.index()]
+    }
+
+    // Whether one of the trips that some transfers lead to has other events.
+    fn leads_to_other_events(&self, rows: &[Transfer]) -> bool
+        ensures { result ≡ list_any
+            (λ r. has_other_events self.now.before.table self.now.after.table r.to_trip)
+            rows.now }
+    {
+        rows.iter().any(|row| self.has_other_events(row.to_trip))
+    }
+
+    // Whether a trip calls at a marked stop. One that doesn't is not touched, if its own times are
+    // the same.
+    fn is_near(&self, trip: TripNo) -> bool
+        requires { trip < length self.now.before.table.trips }
+        ensures { has_other_events self.now.before.table self.now.after.table trip ≡ false →
+            result ≡ false → is_touched self.now.before self.now.after trip ≡ false }
+    {
+        self.before.soundness();
+        self.after.soundness();
+        calls_at(self.before.events(trip), self.near.as_slice())
+    }
+
+    /// Whether a trip is touched: it has other events, or another list of candidates, or a trip in
+    /// that list has other events. Refused only for want of memory.
+    pub fn is_touched(&self, alloc: Global, trip: TripNo) -> Result<bool, Memory>
+        requires { trip < length self.now.before.table.trips }
+        ensures { IfOk result (λ touched.
+            touched ≡ is_touched self.now.before self.now.after trip) }
+    {
+        if self.has_other_events(trip) {
+            return Ok(true);
+        }
+        if !self.is_near(trip) {
+            return Ok(false);
+        }
+        let old = self.before.candidates(alloc, trip)?;
+        let new = self.after.candidates(alloc, trip)?;
+        Ok(
+            !same_transfers(old.as_slice(), new.as_slice())
+                || self.leads_to_other_events(old.as_slice()),
+        )
+    }
+}
+
+// Whether two lists of transfers are the same.
+fn same_transfers(old: &[Transfer], new: &[Transfer]) -> bool
+    ensures { result ≡ pointwise same_transfer old.now new.now }
+{
+    old == new
+}

@@ -1,0 +1,83 @@
+//! The trips of a timetable, while updates change their events.
+ghost use Rattle.std.specs.Prelude.{◌≡◌, All, Err, IfErr, IfOk, MatchResult, Ok, OnErr};
+ghost use Rattle.late_edit.specs.Amended.{events_after, trips_after};
+ghost use Rattle.late_edit.specs.Finding.{IsTimedEvent};
+ghost use Rattle.late_edit.specs.Lates.{IsOfLate};
+
+use crate::closing::{close_all, close_skipped};
+use crate::first_trips::FirstTrips;
+use crate::late::LateFault;
+use crate::moves::move_events;
+use crate::update::Update;
+use std::alloc::Global;
+use std::marker::Model;
+use tb_base::{Event, Memory, Timetable, Trip};
+
+/// The trips of a timetable, each found by its name and day, while updates change their events.
+#[derive(Drop)]
+pub(crate) struct UpdatedTrips {
+    trips: Vec<Trip>,
+    first: FirstTrips,
+}
+
+impl Model for UpdatedTrips {
+    ghost use Rattle.std.specs.Prelude.{List};
+    ghost use Rattle.tb_base.specs.TimetableData.{TripData};
+    ghost use Rattle.late_edit.specs.Finding.{AreMoving};
+
+    ghost Value = { List TripData };
+
+    ghost view = { λ m. m.trips.items };
+
+    ghost invariant = { λ m. AreMoving m.first m.trips.items };
+}
+
+// Changes the events of a trip as an update says, or tells its first fault.
+fn update_events(events: &mut [Event], update: &Update) -> Result<(), LateFault>
+    requires { All IsTimedEvent events.old }
+    ensures updated { MatchResult result (λ _. events_after update.now events.old ≡ Ok events.new)
+        (λ f. events_after update.now events.old ≡ Err f) }
+    ensures own { IfErr result IsOfLate }
+    ensures unchanged { OnErr result (events.new ≡ events.old) }
+{
+    match update {
+        Update::Late(late) => move_events(events, late),
+        Update::Cancel(_) => {
+            close_all(events);
+            Ok(())
+        }
+        Update::Skip(skip) => close_skipped(events, skip),
+    }
+}
+
+impl UpdatedTrips {
+    /// The trips of a timetable.
+    pub(crate) fn of(alloc: Global, table: &Timetable) -> Result<UpdatedTrips, Memory>
+        ensures { IfOk result (λ trips. trips ≡ table.now.trips) }
+    {
+        table.soundness();
+        let trips = table.copy_trips(alloc)?;
+        let first = FirstTrips::of(alloc, trips.as_slice())?;
+        Ok(UpdatedTrips { trips, first })
+    }
+
+    /// Changes the trip that an update names, or tells its first fault.
+    pub(crate) fn apply(&mut self, update: &Update) -> Result<(), LateFault>
+        ensures updated { MatchResult result (λ _. trips_after update.now self.old ≡ Ok self.new)
+            (λ f. trips_after update.now self.old ≡ Err f) }
+        ensures own { IfErr result IsOfLate }
+    {
+        let Some(trip) = self.first.find(update.is_before(), update.trip().bytes()) else {
+            return Err(LateFault::UnknownTrip(update.line()));
+        };
+        let updated = &mut self.trips[trip as usize];
+        update_events(updated.events.as_mut_slice(), update)
+    }
+
+    /// The trips.
+    pub(crate) fn into_trips(self) -> Vec<Trip>
+        ensures { result.items ≡ self }
+    {
+        self.trips
+    }
+}
