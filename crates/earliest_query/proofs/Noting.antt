@@ -1,7 +1,7 @@
 -- Events are weighed, and noted to go on from.
-use Rattle.std.proofs.Common.{◌≡◌, ◌∙◌, ℕ, suc, ◌+◌, ◌<◌, ◌≤◌, ◌⊎◌, inl, inr, List, [], length, Bool, refl, sym, ap, subst, arith, Option, None, Some, ℤ}
-use Rattle.std.specs.Prelude.{All, Contains, IfSome, MatchOption}
-use Rattle.std.proofs.lemmas.List.{append-nil}
+use Rattle.std.proofs.Common.{◌≡◌, ◌∙◌, ℕ, suc, ◌+◌, ◌<◌, ◌≤◌, ◌⊎◌, inl, inr, List, [], length, get_or, Bool, refl, sym, ap, subst, arith, Option, None, Some, ℤ}
+use Rattle.std.specs.Prelude.{All, Contains, IfSome, MatchOption, slice_set}
+use Rattle.std.proofs.lemmas.List.{append-nil, get_or-set_other, length-set}
 use Rattle.std.proofs.lemmas.List.Elements.{All-nil, All-push}
 use Rattle.tb_base.specs.Network.{NetData}
 use Rattle.tb_base.specs.TimetableData.{TimetableData, arrival_at, event_at, events_of, stop_at}
@@ -54,6 +54,18 @@ extends-notes D notes round = record { more = []; segments = sym (append-nil D.s
 
 pub notes-extends : (D : DeskData) (notes : List Note) (round : ℕ) → Extends (record D { notes = notes }) D round
 notes-extends D notes round = record { more = []; segments = sym (append-nil D.segments); rounds = λ n h k. absurd (omega (arith, h, k)); hits = refl }
+
+-- the notes from number k on are those of before
+pub record AreLeft (before notes : List Note) (k : ℕ) : Type 0 where
+  pub long : length notes ≡ length before
+  pub same : (j : ℕ) (d : Note) → k ≤ j → get_or notes j d ≡ get_or before j d
+
+-- note k is taken
+pub left_one_less : (before notes after : List Note) (k : ℕ) (note : Note) → AreLeft before notes k → after ≡ slice_set notes k note → AreLeft before after (k + 1)
+left_one_less before notes after k note left is = record {
+  long = ap length is ∙ length-set notes k note ∙ left.long;
+  same = λ j d above. ap (λ ns. get_or ns j d) is ∙ get_or-set_other notes k j note d (λ e. omega (arith, e, above)) ∙ left.same j d (omega (arith, above));
+}
 
 -- a note stays sound while the queue grows
 pub sound_note-kept : (N : NetData) (D E : DeskData) (joined round : ℕ) (note : Note) → Extends D E joined → IsSoundNote N D.segments round note → IsSoundNote N E.segments round note

@@ -6,11 +6,16 @@ use Rattle.tb_base.specs.TimetableData.{arrival_at}
 use Rattle.segment_queue.specs.declared.desk.Hit.{Hit}
 use Rattle.segment_queue.specs.declared.desk.Segment.{Segment}
 use Rattle.segment_queue.specs.declared.notes.Note.{Note}
+use Rattle.segment_queue.specs.declared.seen.Followed.{Followed}
 use Rattle.segment_queue.specs.declared.seen.Seen.{Seen}
 use Rattle.segment_queue.specs.Queue.{DeskData}
-use Rattle.segment_queue.specs.Scans.{seen_arr, seen_first, seen_last, seen_trip}
+use Rattle.segment_queue.specs.Scans.{followed_seen, seen_arr, seen_first, seen_last, seen_trip}
 use Rattle.segment_queue.specs.Traced.{round_of, segment_of}
 use Rattle.earliest_query.specs.UnderWay.{IsBounded, IsDone}
+
+-- the note of segment n that is followed
+abbrev pub note_of : ℕ → Followed → Note
+note_of n followed = record { segment = n; seen = followed_seen followed }
 
 -- a note is of the first indices that a segment of this round covers, and of when it reaches the
 -- first of them

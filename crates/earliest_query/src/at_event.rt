@@ -24,7 +24,7 @@ pub trait AtEvent<S: Scan> {
         segment: &Segment,
         at: u32,
         round: u32,
-        visit: &Visit<'_>,
+        visit: &Visit,
     )
         requires ready { is_ready self.old (S.net search.now.scan.now) search.now.query.now round }
         requires reached { IsReached (S.net search.now.scan.now).table search.now.query.now.from
@@ -64,6 +64,6 @@ impl<S: Scan> AtEvent<S> for HitsAlone {
         _segment: &Segment,
         _at: u32,
         _round: u32,
-        _visit: &Visit<'_>,
+        _visit: &Visit,
     ) {}
 }

@@ -2,23 +2,23 @@ ghost use Rattle.std.specs.Prelude.{◌≡◌, ◌+◌, ◌<◌, ◌≤◌, ◌�
 ghost use Rattle.tb_base.specs.Sufficiency.{AreSufficient};
 ghost use Rattle.tb_base.specs.Walking.{walk};
 ghost use Rattle.segment_queue.specs.Queue.{covered_indices};
-ghost use Rattle.segment_queue.specs.Scans.{hops_seen, seen_arr, seen_first, seen_last, seen_trip};
+ghost use Rattle.segment_queue.specs.Scans.{followed_seen, hops_seen, seen_arr, seen_first, seen_last, seen_trip};
 ghost use Rattle.segment_queue.specs.Traced.{round_of, segment_of};
 ghost use Rattle.segment_queue.specs.declared.notes.Note.{Note};
 ghost use Rattle.earliest_query.specs.Choices.{ArrivesBy, IsWeighed, alighting_hit, earlier_hit};
 ghost use Rattle.earliest_query.specs.Meeting.{IsMetInTime};
-ghost use Rattle.earliest_query.specs.Noted.{IsOf, IsSeenBehind, IsSoundNote, IsWeighedOff, notes_of};
+ghost use Rattle.earliest_query.specs.Noted.{IsOf, IsSeenBehind, IsSoundNote, IsWeighedOff, note_of, notes_of};
 ghost use Rattle.earliest_query.specs.UnderWay.{Covers, Extends, IsDealtWith, IsDone, IsImproved, IsOutdone, IsQueue, IsReachedBy, covered_before, room_of};
 
 use super::at_event::AtEvent;
 use super::search::Search;
 use super::walks::{nearest, targets};
-use segment_queue::{Desk, Hit, LastLeg, Look, Note, Scan, Seen, Steps, Visit};
+use segment_queue::{Desk, Followed, Hit, LastLeg, Look, Note, Scan, Seen, Steps, Visit};
 use std::sync::ledger::Ledger;
 use tb_base::{Hop, Path, StopNo, Value};
 
 // Whether one may alight at an event, and it is reached before the best hit so far arrives.
-fn may_improve(best: &Option<Hit>, visit: &Visit<'_>) -> bool
+fn may_improve(best: &Option<Hit>, visit: &Visit) -> bool
     ensures { MatchBool result (IsTrue visit.now.alight) (IsTrue visit.now.alight →
         ArrivesBy best.now visit.now.arr) }
 {
@@ -29,7 +29,7 @@ fn may_improve(best: &Option<Hit>, visit: &Visit<'_>) -> bool
 }
 
 // Whether the best hit so far arrives no later than an event is reached.
-pub(crate) fn is_late(best: &Option<Hit>, visit: &Visit<'_>) -> bool
+pub(crate) fn is_late(best: &Option<Hit>, visit: &Visit) -> bool
     ensures { IsTrue result ↔ ArrivesBy best.now visit.now.arr }
 {
     match best {
@@ -49,17 +49,17 @@ fn is_noted_late(best: &Option<Hit>, note: &Note) -> bool
 }
 
 // What has been seen of a trip, with the event behind it.
-fn seen_on(seen: Option<Seen>, next: &Seen) -> Seen
-    requires { IfSome seen (λ s. IsSeenBehind s next.now) }
-    ensures trip { seen_trip result ≡ seen_trip next.now }
-    ensures last { seen_last result ≡ seen_last next.now }
+fn seen_on(seen: Option<Seen>, next: Seen) -> Seen
+    requires { IfSome seen (λ s. IsSeenBehind s next) }
+    ensures trip { seen_trip result ≡ seen_trip next }
+    ensures last { seen_last result ≡ seen_last next }
     ensures first { MatchOption seen
-        ((seen_first result ≡ seen_first next.now) × (seen_arr result ≡ seen_arr next.now))
+        ((seen_first result ≡ seen_first next) × (seen_arr result ≡ seen_arr next))
         (λ s. (seen_first result ≡ seen_first s) × (seen_arr result ≡ seen_arr s)) }
 {
     match seen {
         Some(seen) => seen.and(next),
-        None => *next,
+        None => next,
     }
 }
 
@@ -90,7 +90,7 @@ pub(crate) fn earlier(best: Option<Hit>, hit: Hit) -> Option<Hit>
 }
 
 // To alight at an event, and to walk on by this path.
-fn alighting(visit: &Visit<'_>, path: Path, entry: u32, at: u32, round: u32) -> Hit
+fn alighting(visit: &Visit, path: Path, entry: u32, at: u32, round: u32) -> Hit
     requires arr { visit.now.arr ≤ℤ pos 359999 }
     requires secs { path.secs ≤ 86400 }
     ensures { result ≡ alighting_hit visit.now.arr path entry at round }
@@ -129,7 +129,7 @@ impl<S: Scan> Search<'_, S> {
     fn weigh_near(
         &self,
         best: Option<Hit>,
-        visit: &Visit<'_>,
+        visit: &Visit,
         entry: u32,
         at: u32,
         round: u32,
@@ -151,7 +151,7 @@ impl<S: Scan> Search<'_, S> {
     pub(crate) fn weigh(
         &self,
         best: Option<Hit>,
-        visit: &Visit<'_>,
+        visit: &Visit,
         entry: u32,
         at: u32,
         round: u32,
@@ -220,7 +220,7 @@ impl<S: Scan> Search<'_, S> {
             if is_late(&best, &visit) {
                 return (best, seen);
             }
-            seen = Some(seen_on(seen, &visit.seen));
+            seen = Some(seen_on(seen, visit.seen));
         }
         (best, seen)
     }
@@ -320,11 +320,20 @@ impl<S: Scan> Search<'_, S> {
     }
 
     // Follows the hop with this place among those from the events that were noted.
-    fn follow_hop(&self, desk: &mut Desk, hop: Hop, note: &Note, place: usize, round: u32)
+    fn follow_hop(
+        &self,
+        desk: &mut Desk,
+        hop: Hop,
+        segment: u32,
+        followed: &Followed<'_>,
+        place: usize,
+        round: u32,
+    )
         requires queue { IsQueue (S.net self.now.scan.now) self.now.query.now desk.old (suc round) }
-        requires note { IsSoundNote (S.net self.now.scan.now) desk.old.segments round note.now }
-        requires hop { slice_get (hops_seen (S.net self.now.scan.now).hops note.now.seen) place
-            ≡ Some hop }
+        requires note { IsSoundNote (S.net self.now.scan.now) desk.old.segments round
+            (note_of segment followed.now) }
+        requires hop { slice_get (hops_seen (S.net self.now.scan.now).hops
+            (followed_seen followed.now)) place ≡ Some hop }
         requires sufficient { AreSufficient (S.net self.now.scan.now).table
             (S.net self.now.scan.now).hops }
         ensures queue { IsQueue (S.net self.now.scan.now) self.now.query.now desk.new (suc round) }
@@ -339,36 +348,38 @@ impl<S: Scan> Search<'_, S> {
         if desk.is_passed(scan, hop.trip, hop.at) {
             return;
         }
-        let at = scan.event_of(&note.seen, place);
-        self.enter(desk, hop, Some((note.segment, at)));
+        let at = scan.event_of(followed, place);
+        self.enter(desk, hop, Some((segment, at)));
     }
 
     // Follows the hops from the events that were noted, unless one gets to the first no earlier
     // than the best hit arrives.
-    fn follow_note(&self, desk: &mut Desk, best: &Option<Hit>, note: &Note, round: u32)
+    fn follow_note(&self, desk: &mut Desk, best: &Option<Hit>, note: Note, round: u32)
         requires queue { IsQueue (S.net self.now.scan.now) self.now.query.now desk.old (suc round) }
-        requires note { IsSoundNote (S.net self.now.scan.now) desk.old.segments round note.now }
+        requires note { IsSoundNote (S.net self.now.scan.now) desk.old.segments round note }
         requires sufficient { AreSufficient (S.net self.now.scan.now).table
             (S.net self.now.scan.now).hops }
         ensures queue { IsQueue (S.net self.now.scan.now) self.now.query.now desk.new (suc round) }
         ensures extends { Extends desk.old desk.new (suc round) }
         ensures room { room_of desk.new ≡ room_of desk.old }
         ensures notes { desk.new.notes ≡ desk.old.notes }
-        ensures done { (i : ℕ) → IsOf note.now note.now.segment i →
-            IsDone (S.net self.now.scan.now) desk.new best.now note.now.segment i }
+        ensures done { (i : ℕ) → IsOf note note.segment i →
+            IsDone (S.net self.now.scan.now) desk.new best.now note.segment i }
     {
         let scan = self.scan;
         scan.soundness();
-        if is_noted_late(best, note) {
+        if is_noted_late(best, &note) {
             return;
         }
-        let hops = scan.hops_from(&note.seen);
+        let segment = note.segment;
+        let followed = scan.hops_from(note.seen);
+        let hops = followed.hops;
         for place in 0..hops.count() {
-            self.follow_hop(desk, hops.at(place), note, place, round);
+            self.follow_hop(desk, hops.at(place), segment, &followed, place, round);
         }
     }
 
-    // Follows the hops from all events that were noted.
+    // Follows the hops from all events that were noted, and leaves no note to follow.
     fn follow_notes(&self, desk: &mut Desk, best: &Option<Hit>, round: u32)
         requires queue { IsQueue (S.net self.now.scan.now) self.now.query.now desk.old (suc round) }
         requires notes { All (IsSoundNote (S.net self.now.scan.now) desk.old.segments round)
@@ -385,8 +396,8 @@ impl<S: Scan> Search<'_, S> {
         self.scan.soundness();
         for k in 0..desk.note_count() {
             desk.read_notes_ahead(self.scan, k);
-            let note = desk.note(k);
-            self.follow_note(desk, best, &note, round);
+            let note = desk.take_note(k);
+            self.follow_note(desk, best, note, round);
         }
     }
 

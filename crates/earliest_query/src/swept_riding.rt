@@ -148,7 +148,8 @@ impl<S: Scan> Search<'_, S> {
             if is_late(&best, &visit) {
                 return Ok(best);
             }
-            self.follow_level(desk, levels, round as usize, visit.out, n, at)?;
+            let followed = scan.hops_from(visit.seen);
+            self.follow_level(desk, levels, round as usize, followed.hops, n, at)?;
         }
         Ok(best)
     }

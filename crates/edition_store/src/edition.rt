@@ -5,12 +5,12 @@ ghost use Rattle.transfer_pack.specs.Packed.{packed};
 ghost use Rattle.edition_store.specs.Editions.{EditionData, IsEdition, kept_count, net_of};
 
 use line_split::Lines;
-use segment_queue::{Look, Scan, Seen, Shape, Steps, View, Visit, WalkGroups};
+use segment_queue::{Ahead, Followed, Look, Scan, Seen, Shape, Steps, View, Visit, WalkGroups};
 use std::alloc::Global;
 use std::marker::Model;
 use std::sync::ledger::Ledger;
 use tb_base::{Hop, Memory, Path, Sec, StopNo, Timetable, TripNo};
-use transfer_pack::{Hops, ReadAhead, Set};
+use transfer_pack::Set;
 
 /// The network of a day: a timetable, its lines, and the set of its kept transfers. It holds the
 /// groups of its stops too, which a search looks at.
@@ -187,19 +187,19 @@ impl Scan for Edition {
         self.view().trip_before(trip)
     }
 
-    fn hops_from(&self, seen: &Seen) -> Hops<'_> {
+    fn hops_from(&self, seen: Seen) -> Followed<'_> {
         self.view().hops_of(seen)
     }
 
-    fn event_of(&self, seen: &Seen, place: usize) -> u32 {
-        self.view().event_of(seen, place)
+    fn event_of(&self, followed: &Followed<'_>, place: usize) -> u32 {
+        self.view().event_of(followed, place)
     }
 
-    fn read_event_ahead(&self, trip: TripNo, at: u32, ahead: &mut ReadAhead) {
+    fn read_event_ahead(&self, trip: TripNo, at: u32, ahead: &mut Ahead) {
         self.view().read_event_ahead(trip, at, ahead);
     }
 
-    fn read_hops_ahead(&self, seen: &Seen, ahead: &mut ReadAhead) {
+    fn read_hops_ahead(&self, seen: &Seen, ahead: &mut Ahead) {
         self.view().read_hops_ahead(seen, ahead);
     }
 }
@@ -209,7 +209,7 @@ impl<L: Ledger> Look<L> for Edition {
         self.view().boarding(p, berth, time, steps)
     }
 
-    fn visit(&self, trip: TripNo, at: u32, steps: &mut Steps<L>) -> Visit<'_> {
+    fn visit(&self, trip: TripNo, at: u32, steps: &mut Steps<L>) -> Visit {
         self.view().look_at(trip, at, steps)
     }
 }

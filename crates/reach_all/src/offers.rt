@@ -59,7 +59,7 @@ impl<S: Scan> AtEvent<S> for Offers {
         _segment: &Segment,
         _at: u32,
         round: u32,
-        visit: &Visit<'_>,
+        visit: &Visit,
     ) {
         if self.refused {
             return;

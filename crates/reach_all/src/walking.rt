@@ -20,7 +20,7 @@ fn walked_on(value: &Value, secs: u32) -> Value
 }
 
 // The value of who alights at an event, after so many rides.
-fn alighting(visit: &Visit<'_>, round: u32) -> Value
+fn alighting(visit: &Visit, round: u32) -> Value
     ensures { result ≡ record { arrive = visit.now.arr; rides = round } }
 {
     Value {
@@ -73,7 +73,7 @@ fn offer_from<S: Scan>(
 pub(crate) fn alight<S: Scan>(
     scan: &S,
     arrivals: &mut Arrivals,
-    visit: &Visit<'_>,
+    visit: &Visit,
     round: u32,
 ) -> Result<(), Memory>
     requires stop { visit.now.stop < length (S.net scan.now).table.stops }

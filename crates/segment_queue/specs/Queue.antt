@@ -7,7 +7,7 @@ use Rattle.tb_base.specs.Transfers.{numbers_below}
 use Rattle.segment_queue.specs.declared.desk.Segment.{Segment}
 use Rattle.segment_queue.specs.declared.desk.Hit.{Hit}
 use Rattle.segment_queue.specs.declared.notes.Note.{Note}
-use Rattle.segment_queue.specs.Scans.{IsFirst, StandsBefore, trips_from}
+use Rattle.segment_queue.specs.Scans.{IsFirst, StandsBefore, no_events, trips_from}
 
 -- a desk: an index for each trip that has been reached, the segments, the hits and the notes in
 -- order, and room for how many of them
@@ -19,6 +19,10 @@ pub record DeskData : Type 0 where
   pub segment_room : ℕ
   pub hit_room : ℕ
   pub note_room : ℕ
+
+-- the note once its events were taken
+abbrev pub spent : Note → Note
+spent note = record { segment = note.segment; seen = no_events }
 
 -- the last index of trip t
 abbrev pub last_index : TimetableData → ℕ → ℕ

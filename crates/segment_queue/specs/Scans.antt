@@ -1,11 +1,12 @@
 -- What a search sees of lines: the trips from one on, the line indices at a stop, and who boards
 -- there.
-use Rattle.std.specs.Prelude.{◌≡◌, ℕ, ◌<◌, ◌≤◌, ◌==◌, Contains, List, [], ◌∷◌, Option, None, length, map, filter, flat_map, slice_index_or, if◌then◌else◌, ℤ}
+use Rattle.std.specs.Prelude.{◌≡◌, ℕ, ◌<◌, ◌≤◌, ◌==◌, Contains, List, [], ◌∷◌, Option, None, length, map, filter, flat_map, slice_index_or, if◌then◌else◌, ℤ, pos}
 use Rattle.std.specs.List.{list_any}
 use Rattle.std.specs.Option.{option_map}
 use Rattle.tb_base.specs.declared.transfer.Hop.{Hop}
 use Rattle.tb_base.specs.TimetableData.{TimetableData, events_of, stop_at}
 use Rattle.tb_base.specs.Transfers.{line_from, earliest_trip, may_be_boarded, numbers_below}
+use Rattle.segment_queue.specs.declared.seen.Followed.{Followed}
 use Rattle.segment_queue.specs.declared.seen.Seen.{Seen}
 use Rattle.transfer_pack.specs.Packed.{hops_before, hops_over}
 
@@ -61,6 +62,14 @@ seen_last s = s.last
 -- when the first of them arrives
 abbrev pub seen_arr : Seen → ℤ
 seen_arr s = s.arr
+
+-- no events: the first is behind the last
+abbrev pub no_events : Seen
+no_events = record { trip = 0; first = 1; last = 0; arr = pos 0 }
+
+-- the events whose hops are followed
+abbrev pub followed_seen : Followed → Seen
+followed_seen f = f.seen
 
 -- they are events of the timetable
 pub record AreEvents (T : TimetableData) (s : Seen) : Type 0 where

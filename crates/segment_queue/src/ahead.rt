@@ -1,4 +1,5 @@
 ghost use Rattle.std.specs.Prelude.{◌≡◌, ◌≤◌, All, length};
+ghost use Rattle.std.specs.List.{AllWithin};
 ghost use Rattle.segment_queue.specs.Queue.{IsInStep};
 ghost use Rattle.segment_queue.specs.Scans.{AreEvents};
 
@@ -11,11 +12,32 @@ use transfer_pack::ReadAhead;
 // when it is looked at.
 const STRETCH: u32 = 128;
 
+/// What was read of a network ahead. Only a desk makes one, so only what stands in its queue and in
+/// its notes is read ahead.
+#[derive(Drop)]
+pub struct Ahead {
+    pub(crate) read: ReadAhead,
+}
+
+impl Ahead {
+    // Nothing yet.
+    pub(crate) fn new() -> Ahead {
+        Ahead {
+            read: ReadAhead::new(),
+        }
+    }
+
+    // What another has read.
+    fn join(&mut self, other: Ahead) {
+        self.read.join(other.read);
+    }
+}
+
 // Reads the first and the last of the hops from the events of each of these notes ahead.
-fn read_hops<S: Scan>(scan: &S, notes: &[Note]) -> ReadAhead
+fn read_hops<S: Scan>(scan: &S, notes: &[Note]) -> Ahead
     requires { All (λ note. AreEvents (S.net scan.now).table note.seen) notes.now }
 {
-    let mut ahead = ReadAhead::new();
+    let mut ahead = Ahead::new();
     for note in notes {
         scan.read_hops_ahead(&note.seen, &mut ahead);
     }
@@ -24,23 +46,24 @@ fn read_hops<S: Scan>(scan: &S, notes: &[Note]) -> ReadAhead
 
 impl Desk {
     // Reads ahead what clips each of these segments.
-    fn read_clips<S: Scan>(&self, scan: &S, from: u32, to: u32) -> ReadAhead
+    fn read_clips<S: Scan>(&self, scan: &S, from: u32, to: u32) -> Ahead
         requires step { IsInStep (S.net scan.now) self.now }
         requires to { to ≤ length self.now.segments }
     {
-        let mut ahead = ReadAhead::new();
+        let mut ahead = Ahead::new();
         for n in from..to {
-            ahead.take(self.clipped_end(scan, &self.segments[n as usize]));
+            let end = self.clipped_end(scan, &self.segments[n as usize]);
+            ahead.read.take(end);
         }
         ahead
     }
 
     // Reads the first event that each of these segments covers ahead.
-    fn read_events<S: Scan>(&self, scan: &S, from: u32, to: u32) -> ReadAhead
+    fn read_events<S: Scan>(&self, scan: &S, from: u32, to: u32) -> Ahead
         requires step { IsInStep (S.net scan.now) self.now }
         requires to { to ≤ length self.now.segments }
     {
-        let mut ahead = ReadAhead::new();
+        let mut ahead = Ahead::new();
         for n in from..to {
             let segment = self.segments[n as usize];
             scan.read_event_ahead(segment.trip, segment.board + 1, &mut ahead);
@@ -70,7 +93,8 @@ impl Desk {
     /// Before note `k` is followed: at the first note of each stretch of 128 reads ahead the first
     /// and the last hop of each note of the stretch. At any other note it does nothing.
     pub fn read_notes_ahead<S: Scan>(&mut self, scan: &S, k: usize)
-        requires { All (λ note. AreEvents (S.net scan.now).table note.seen) self.old.notes }
+        requires { AllWithin (λ note. AreEvents (S.net scan.now).table note.seen) self.old.notes
+            k (length self.old.notes) }
         ensures { self.new ≡ self.old }
     {
         if k % STRETCH as usize != 0 {

@@ -5,13 +5,13 @@ ghost use Rattle.tb_base.specs.TimetableData.{TimetableData};
 ghost use Rattle.segment_queue.specs.Scans.{trips_from};
 ghost use Rattle.segment_queue.specs.Queue.{EntersSegment, Fits, IsClipped, IsFalling, IsInStep, IsSoundSegment, last_index, lowered, mark_of};
 
+use super::ahead::Ahead;
 use super::marks::Marks;
 use super::notes::Note;
 use super::scan::Scan;
 use std::alloc::Global;
 use std::marker::Model;
 use tb_base::{Memory, Query, StopNo, TripNo, Value};
-use transfer_pack::ReadAhead;
 
 /// A part of a trip: boarded at `board`, and looked at no further than `end`. It was hopped onto
 /// from the segment with the first number of `parent`, at the second number, an index of that
@@ -47,7 +47,7 @@ pub struct Desk {
     pub(crate) segments: Vec<Segment>,
     hits: Vec<Hit>,
     pub(crate) notes: Vec<Note>,
-    pub(crate) ahead: ReadAhead,
+    pub(crate) ahead: Ahead,
 }
 
 impl Model for Desk {
@@ -68,7 +68,7 @@ impl Model for Desk {
 }
 
 // Appends to a vector that has room, so that no memory is needed.
-pub(crate) fn push_within<T: Copy>(items: &mut Vec<T>, item: T)
+fn push_within<T: Copy>(items: &mut Vec<T>, item: T)
     requires { vec_len items.old < vec_capacity items.old }
     ensures items { items.new.items ≡ items.old.items ++ item ∷ [] }
     ensures room { vec_capacity items.new ≡ vec_capacity items.old }
@@ -148,7 +148,7 @@ impl Desk {
             segments: Vec::new(alloc),
             hits: Vec::new(alloc),
             notes: Vec::new(alloc),
-            ahead: ReadAhead::new(),
+            ahead: Ahead::new(),
         }
     }
 
@@ -158,6 +158,7 @@ impl Desk {
         ensures fits { OnOk result (Fits (S.net scan.now).table self.new) }
         ensures still { (T : TimetableData) → Fits T self.old → Fits T self.new }
         ensures step { (N : NetData) → IsInStep N self.old → IsInStep N self.new }
+        ensures marks { (more : ℕ) × (self.new.marks ≡ self.old.marks ++ replicate more None) }
         ensures segments { self.new.segments ≡ self.old.segments }
         ensures hits { self.new.hits ≡ self.old.hits }
         ensures notes { self.new.notes ≡ self.old.notes }

@@ -1,11 +1,12 @@
-ghost use Rattle.std.specs.Prelude.{◌≡◌, ◌<◌, ◌++◌, ◌∷◌, [], Some, length, slice_get};
+ghost use Rattle.std.specs.Prelude.{◌≡◌, ◌<◌, ◌++◌, ◌∷◌, [], Some, length, slice_get, slice_set};
+ghost use Rattle.segment_queue.specs.Queue.{spent};
 
-use super::desk::{Desk, push_within};
+use super::desk::Desk;
 use super::seen::Seen;
 
 /// Events that a segment covers, to go on from later: the number of the segment, and the events,
 /// which have been looked at.
-#[derive(Clone, Copy)]
+#[derive(Drop)]
 pub struct Note {
     pub segment: u32,
     pub seen: Seen,
@@ -24,7 +25,7 @@ impl Desk {
         requires { length self.old.notes < self.old.note_room }
         ensures { self.new ≡ record self.old { notes = self.old.notes ++ note ∷ [] } }
     {
-        push_within(&mut self.notes, note);
+        self.notes.push_reserved(note);
     }
 
     /// How many notes there are.
@@ -34,11 +35,17 @@ impl Desk {
         self.notes.len()
     }
 
-    /// Note `k`.
-    pub fn note(&self, k: usize) -> Note
-        requires { k < length self.now.notes }
-        ensures { slice_get self.now.notes k ≡ Some result }
+    /// Takes note `k`, and leaves one of no events in its place, by which nobody can go on.
+    pub fn take_note(&mut self, k: usize) -> Note
+        requires { k < length self.old.notes }
+        ensures taken { slice_get self.old.notes k ≡ Some result }
+        ensures spent { self.new
+            ≡ record self.old { notes = slice_set self.old.notes k (spent result) } }
     {
-        self.notes[k]
+        let note = &mut self.notes[k];
+        Note {
+            segment: note.segment,
+            seen: note.seen.take(),
+        }
     }
 }

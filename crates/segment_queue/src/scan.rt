@@ -3,15 +3,15 @@ ghost use Rattle.tb_base.specs.Lines.{AreDividedInto};
 ghost use Rattle.tb_base.specs.Soundness.{IsSound, IsSoundPath};
 ghost use Rattle.tb_base.specs.Walking.{walk};
 ghost use Rattle.tb_base.specs.TimetableData.{arrival_at, event_at, event_total, events_of, stop_at};
-ghost use Rattle.segment_queue.specs.Scans.{AreEvents, IsFirst, StandsBefore, boarding_hop, hops_seen, hops_seen_before, hops_seen_to, line_indices_at, no_line_index, seen_arr, seen_first, seen_last, seen_trip, trips_from};
+ghost use Rattle.segment_queue.specs.Scans.{AreEvents, IsFirst, StandsBefore, boarding_hop, followed_seen, hops_seen, hops_seen_before, hops_seen_to, line_indices_at, no_line_index, seen_arr, seen_first, seen_last, seen_trip, trips_from};
 ghost use Rattle.segment_queue.specs.WalkGroups.{AreWalkGroups};
 ghost use Rattle.transfer_pack.specs.Words.{lent};
 
-use super::seen::Seen;
+use super::ahead::Ahead;
+use super::seen::{Followed, Seen};
 use super::steps::Steps;
 use std::sync::ledger::Ledger;
 use tb_base::{Hop, Path, Sec, StopNo, TripNo};
-use transfer_pack::{Hops, ReadAhead};
 
 /// How large a timetable is.
 #[derive(Clone, Copy, Debug, PartialEq, Eq)]
@@ -22,14 +22,13 @@ pub struct Shape {
     pub lines: u32,
 }
 
-/// An event as a search sees it: its stop, its arrival, whether one may alight there, and the hops
-/// from it; and by what they can be read again.
-#[derive(Clone, Copy)]
-pub struct Visit<'a> {
+/// An event as a search sees it: its stop, its arrival, whether one may alight there, and by what
+/// the hops from it can be followed.
+#[derive(Drop)]
+pub struct Visit {
     pub stop: StopNo,
     pub arr: Sec,
     pub alight: bool,
-    pub out: Hops<'a>,
     pub seen: Seen,
 }
 
@@ -95,32 +94,36 @@ pub trait Scan {
             × StandsBefore (net self.now).lines v trip) };
 
     /// The hops from events that have been looked at, one event behind the other. It is no further
-    /// step.
-    fn hops_from(&self, seen: &Seen) -> Hops<'_>
-        requires { AreEvents (net self.now).table seen.now }
-        ensures { lent result ≡ hops_seen (net self.now).hops seen.now };
+    /// step, and takes what was seen: no look gives hops twice.
+    fn hops_from(&self, seen: Seen) -> Followed<'_>
+        requires { AreEvents (net self.now).table seen }
+        ensures seen { followed_seen result ≡ seen }
+        ensures hops { lent result.hops ≡ hops_seen (net self.now).hops seen };
 
-    /// The event, of those that have been looked at, from which the hop at this place among all of
+    /// The event, of those whose hops are followed, from which the hop at this place among all of
     /// theirs is. It is no further step.
-    fn event_of(&self, seen: &Seen, place: usize) -> u32
-        requires events { AreEvents (net self.now).table seen.now }
-        requires place { place < length (hops_seen (net self.now).hops seen.now) }
-        ensures first { seen_first seen.now ≤ result }
-        ensures last { result ≤ seen_last seen.now }
-        ensures begun { length (hops_seen_before (net self.now).hops seen.now result) ≤ place }
-        ensures ends { place < length (hops_seen_to (net self.now).hops seen.now result) }
+    fn event_of(&self, followed: &Followed<'_>, place: usize) -> u32
+        requires events { AreEvents (net self.now).table (followed_seen followed.now) }
+        requires place { place
+            < length (hops_seen (net self.now).hops (followed_seen followed.now)) }
+        ensures first { seen_first (followed_seen followed.now) ≤ result }
+        ensures last { result ≤ seen_last (followed_seen followed.now) }
+        ensures begun { length (hops_seen_before (net self.now).hops (followed_seen followed.now)
+            result) ≤ place }
+        ensures ends { place < length (hops_seen_to (net self.now).hops (followed_seen followed.now)
+            result) }
         ensures hop { (h : Hop) →
-            slice_get (hops_seen (net self.now).hops seen.now) place ≡ Some h →
-            Contains ((net self.now).hops (seen_trip seen.now) result) h };
+            slice_get (hops_seen (net self.now).hops (followed_seen followed.now)) place ≡ Some h →
+            Contains ((net self.now).hops (seen_trip (followed_seen followed.now)) result) h };
 
     /// Reads event `at` of a trip ahead. It shows nothing of the event, so it is no look.
-    fn read_event_ahead(&self, trip: TripNo, at: u32, ahead: &mut ReadAhead)
+    fn read_event_ahead(&self, trip: TripNo, at: u32, ahead: &mut Ahead)
         requires trip { trip < length (net self.now).table.trips }
         requires at { at < length (events_of (net self.now).table trip) };
 
     /// Reads the first and the last of the hops from events that have been looked at ahead. It
     /// shows nothing of them.
-    fn read_hops_ahead(&self, seen: &Seen, ahead: &mut ReadAhead)
+    fn read_hops_ahead(&self, seen: &Seen, ahead: &mut Ahead)
         requires { AreEvents (net self.now).table seen.now };
 }
 
@@ -129,7 +132,8 @@ pub trait Scan {
 /// `Seen` shows again when its first event arrives, and `hops_from` shows hops alone, and only
 /// those from events that have been looked at, of which looks gave the `Seen`. So a search over any
 /// `L` counts all its looks where its caller counts, since no counter that it makes is of this
-/// ledger.
+/// ledger; and it is lent the hops from an event no more often than it looks at it, since a look
+/// gives one `Seen`, which `hops_from` takes.
 pub trait Look<L: Ledger>: Scan {
     /// Who boards the line at the line index with this number at the stop, no earlier than the
     /// time. It is a step.
@@ -144,13 +148,12 @@ pub trait Look<L: Ledger>: Scan {
         ensures step { steps.new ≡ steps.old + 1 };
 
     /// Event `at` of a trip. It is a step.
-    fn visit(&self, trip: TripNo, at: u32, steps: &mut Steps<L>) -> Visit<'_>
+    fn visit(&self, trip: TripNo, at: u32, steps: &mut Steps<L>) -> Visit
         requires trip { trip < length (Self.net self.now).table.trips }
         requires at { at < length (events_of (Self.net self.now).table trip) }
         ensures stop { result.stop ≡ stop_at (Self.net self.now).table trip at }
         ensures arr { result.arr ≡ arrival_at (Self.net self.now).table trip at }
         ensures alight { result.alight ≡ (event_at (Self.net self.now).table trip at).alight }
-        ensures out { lent result.out ≡ (Self.net self.now).hops trip at }
         ensures trip { seen_trip result.seen ≡ trip }
         ensures first { seen_first result.seen ≡ at }
         ensures last { seen_last result.seen ≡ at }

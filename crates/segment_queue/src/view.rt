@@ -1,20 +1,21 @@
 ghost use Rattle.std.specs.Prelude.{◌≡◌, ◌<◌, ◌+◌, Some, All, AllPairs, MatchOption, length, slice_get};
 ghost use Rattle.tb_base.specs.Soundness.{IsSoundPath};
 ghost use Rattle.tb_base.specs.TimetableData.{arrival_at, event_at, events_of, stop_at};
-ghost use Rattle.segment_queue.specs.Scans.{AreEvents, IsFirst, StandsBefore, hops_seen, seen_arr, seen_first, seen_last, seen_trip, trips_from};
+ghost use Rattle.segment_queue.specs.Scans.{AreEvents, IsFirst, StandsBefore, followed_seen, hops_seen, seen_arr, seen_first, seen_last, seen_trip, trips_from};
 ghost use Rattle.segment_queue.specs.WalkGroups.{AreWalkGroups};
 ghost use Rattle.transfer_pack.specs.Packed.{packed};
 ghost use Rattle.transfer_pack.specs.Words.{lent};
 
+use super::ahead::Ahead;
 use super::scan::{Look, Scan, Shape, Visit};
-use super::seen::Seen;
+use super::seen::{Followed, Seen};
 use super::steps::Steps;
 use super::walk_groups::WalkGroups;
 use line_split::Lines;
 use std::marker::Model;
 use std::sync::ledger::Ledger;
 use tb_base::{Hop, Path, Sec, StopNo, Timetable, TripNo};
-use transfer_pack::{Hops, ReadAhead, Set};
+use transfer_pack::Set;
 
 /// A timetable, its lines and a set of hops, as a search looks at them.
 #[derive(Drop)]
@@ -104,14 +105,13 @@ impl<'a> View<'a> {
         lines.before(trip)
     }
 
-    /// Event `at` of a trip, for as long as the set is lent. It is a step.
-    pub fn look_at<L: Ledger>(&self, trip: TripNo, at: u32, steps: &mut Steps<L>) -> Visit<'a>
+    /// Event `at` of a trip. It is a step.
+    pub fn look_at<L: Ledger>(&self, trip: TripNo, at: u32, steps: &mut Steps<L>) -> Visit
         requires trip { trip < length self.now.0.trips }
         requires at { at < length (events_of self.now.0 trip) }
         ensures stop { result.stop ≡ stop_at self.now.0 trip at }
         ensures arr { result.arr ≡ arrival_at self.now.0 trip at }
         ensures alight { result.alight ≡ (event_at self.now.0 trip at).alight }
-        ensures out { lent result.out ≡ packed self.now.2 trip at }
         ensures trip { seen_trip result.seen ≡ trip }
         ensures first { seen_first result.seen ≡ at }
         ensures last { seen_last result.seen ≡ at }
@@ -125,7 +125,6 @@ impl<'a> View<'a> {
             stop: call.stop,
             arr: call.arr,
             alight: call.alight,
-            out: set.out(trip, at),
             seen: Seen {
                 trip,
                 first: at,
@@ -136,12 +135,14 @@ impl<'a> View<'a> {
     }
 
     /// The hops from events that have been looked at, for as long as the set is lent.
-    pub fn hops_of(&self, seen: &Seen) -> Hops<'a>
-        requires { AreEvents self.now.0 seen.now }
-        ensures { lent result ≡ hops_seen (packed self.now.2) seen.now }
+    pub fn hops_of(&self, seen: Seen) -> Followed<'a>
+        requires { AreEvents self.now.0 seen }
+        ensures seen { followed_seen result ≡ seen }
+        ensures hops { lent result.hops ≡ hops_seen (packed self.now.2) seen }
     {
         let set = self.set;
-        set.hops_over(seen.trip, seen.first, seen.last)
+        let hops = set.hops_over(seen.trip, seen.first, seen.last);
+        Followed { seen, hops }
     }
 }
 
@@ -203,23 +204,24 @@ impl<'a> Scan for View<'a> {
         self.trip_before(trip)
     }
 
-    fn hops_from(&self, seen: &Seen) -> Hops<'_> {
+    fn hops_from(&self, seen: Seen) -> Followed<'_> {
         self.hops_of(seen)
     }
 
-    fn event_of(&self, seen: &Seen, place: usize) -> u32 {
+    fn event_of(&self, followed: &Followed<'_>, place: usize) -> u32 {
         let set = self.set;
+        let seen = &followed.seen;
         set.event_of(seen.trip, seen.first, seen.last, place)
     }
 
-    fn read_event_ahead(&self, trip: TripNo, at: u32, ahead: &mut ReadAhead) {
+    fn read_event_ahead(&self, trip: TripNo, at: u32, ahead: &mut Ahead) {
         let set = self.set;
-        set.read_event_ahead(trip, at, ahead);
+        set.read_event_ahead(trip, at, &mut ahead.read);
     }
 
-    fn read_hops_ahead(&self, seen: &Seen, ahead: &mut ReadAhead) {
+    fn read_hops_ahead(&self, seen: &Seen, ahead: &mut Ahead) {
         let set = self.set;
-        set.read_hops_ahead(seen.trip, seen.first, seen.last, ahead);
+        set.read_hops_ahead(seen.trip, seen.first, seen.last, &mut ahead.read);
     }
 }
 
@@ -238,7 +240,7 @@ impl<'a, L: Ledger> Look<L> for View<'a> {
         }
     }
 
-    fn visit(&self, trip: TripNo, at: u32, steps: &mut Steps<L>) -> Visit<'_> {
+    fn visit(&self, trip: TripNo, at: u32, steps: &mut Steps<L>) -> Visit {
         self.look_at(trip, at, steps)
     }
 }

@@ -6,9 +6,9 @@ use Rattle.tb_base.specs.BestValues.{QueryData}
 use Rattle.tb_base.specs.declared.transfer.Hop.{Hop}
 use Rattle.segment_queue.specs.declared.notes.Note.{Note}
 use Rattle.segment_queue.specs.Queue.{DeskData}
-use Rattle.segment_queue.specs.Scans.{hops_seen, seen_first, seen_last, seen_trip}
+use Rattle.segment_queue.specs.Scans.{followed_seen, hops_seen, seen_first, seen_last, seen_trip}
 use Rattle.segment_queue.specs.Traced.{segment_of}
-use Rattle.earliest_query.specs.Noted.{IsSoundNote}
+use Rattle.earliest_query.specs.Noted.{IsSoundNote, note_of}
 use Rattle.earliest_query.specs.UnderWay.{Covers, Extends, IsQueue, IsReachedBy}
 use Rattle.earliest_query.proofs.Following.{IsInOne, hop_boards, hop_in_set, hop_not_last, hop_trip, in_one}
 use Rattle.earliest_query.proofs.Growing.{extends-refl}
@@ -44,7 +44,7 @@ pub is_passed-requires-clause-trip : goal.is_passed-requires-clause-trip
 is_passed-requires-clause-trip g c =
     let N : NetData = g.S.Scan.net c.args.self.now.scan.now in
     let D : DeskData = c.args.desk.now in
-    let note : Note = c.args.note.now in
+    let note : Note = note_of c.args.segment c.args.followed.now in
     let f : IsFrom N D note c.args.hop = from_some N D c.args.round c.args.place note c.args.hop c.requires.note c.requires.hop in
     hop_trip N.table N.hops D D (suc c.args.round) note.segment f.at c.args.hop c.requires.sufficient c.requires.note.inside f.covers (extends-refl D (suc c.args.round)) f.in_set
 
@@ -53,7 +53,7 @@ returns-then-is_passed g c =
     let N : NetData = g.S.Scan.net c.args.self.now.scan.now in
     let Q : QueryData = c.args.self.now.query.now in
     let D : DeskData = c.args.desk.now in
-    let note : Note = c.args.note.now in
+    let note : Note = note_of c.args.segment c.args.followed.now in
     let top : ℕ = suc c.args.round in
     let f : IsFrom N D note c.args.hop = from_some N D c.args.round c.args.place note c.args.hop c.requires.note c.requires.hop in
     let inside = hop_trip N.table N.hops D D top note.segment f.at c.args.hop c.requires.sufficient c.requires.note.inside f.covers (extends-refl D top) f.in_set in
@@ -67,10 +67,10 @@ returns-then-is_passed g c =
     }
 
 pub event_of-at-requires-clause-events : goal.event_of-at-requires-clause-events
-event_of-at-requires-clause-events g c = note_events (g.S.Scan.net c.args.self.now.scan.now) c.args.desk.now.segments c.args.round c.args.note.now c.requires.queue.step.segments c.requires.note
+event_of-at-requires-clause-events g c = note_events (g.S.Scan.net c.args.self.now.scan.now) c.args.desk.now.segments c.args.round (note_of c.args.segment c.args.followed.now) c.requires.queue.step.segments c.requires.note
 
 pub event_of-at-requires-clause-place : goal.event_of-at-requires-clause-place
-event_of-at-requires-clause-place g c = slice_get_within (hops_seen (g.S.Scan.net c.args.self.now.scan.now).hops c.args.note.now.seen) c.args.place c.args.hop c.requires.hop
+event_of-at-requires-clause-place g c = slice_get_within (hops_seen (g.S.Scan.net c.args.self.now.scan.now).hops (followed_seen c.args.followed.now)) c.args.place c.args.hop c.requires.hop
 
 pub enter-requires-clause-queue : goal.enter-requires-clause-queue
 enter-requires-clause-queue g c =
@@ -84,7 +84,7 @@ pub enter-requires-clause-trip : goal.enter-requires-clause-trip
 enter-requires-clause-trip g c =
     let N : NetData = g.S.Scan.net c.args.self.now.scan.now in
     let D : DeskData = c.args.desk.now in
-    let note : Note = c.args.note.now in
+    let note : Note = note_of c.args.segment c.args.followed.now in
     let told = c.event_of-at.ensures in
     let f = found N D c.args.round c.event_of-at.result note c.args.hop c.requires.note told.first told.last (told.hop c.args.hop c.requires.hop) in
     hop_trip N.table N.hops D D (suc c.args.round) note.segment c.event_of-at.result c.args.hop c.requires.sufficient c.requires.note.inside f.0 (extends-refl D (suc c.args.round)) f.1
@@ -93,7 +93,7 @@ pub enter-requires-clause-not_last : goal.enter-requires-clause-not_last
 enter-requires-clause-not_last g c =
     let N : NetData = g.S.Scan.net c.args.self.now.scan.now in
     let D : DeskData = c.args.desk.now in
-    let note : Note = c.args.note.now in
+    let note : Note = note_of c.args.segment c.args.followed.now in
     let told = c.event_of-at.ensures in
     let f = found N D c.args.round c.event_of-at.result note c.args.hop c.requires.note told.first told.last (told.hop c.args.hop c.requires.hop) in
     hop_not_last N.table N.hops D D (suc c.args.round) note.segment c.event_of-at.result c.args.hop c.requires.sufficient c.requires.note.inside f.0 (extends-refl D (suc c.args.round)) f.1
@@ -102,7 +102,7 @@ pub enter-requires-clause-boards : goal.enter-requires-clause-boards
 enter-requires-clause-boards g c =
     let N : NetData = g.S.Scan.net c.args.self.now.scan.now in
     let D : DeskData = c.args.desk.now in
-    let note : Note = c.args.note.now in
+    let note : Note = note_of c.args.segment c.args.followed.now in
     let told = c.event_of-at.ensures in
     let f = found N D c.args.round c.event_of-at.result note c.args.hop c.requires.note told.first told.last (told.hop c.args.hop c.requires.hop) in
     hop_boards N.table N.hops D D (suc c.args.round) note.segment c.event_of-at.result c.args.hop c.requires.sufficient c.requires.note.inside f.0 (extends-refl D (suc c.args.round)) f.1
@@ -111,7 +111,7 @@ pub enter-requires-clause-in_set : goal.enter-requires-clause-in_set
 enter-requires-clause-in_set g c =
     let N : NetData = g.S.Scan.net c.args.self.now.scan.now in
     let D : DeskData = c.args.desk.now in
-    let note : Note = c.args.note.now in
+    let note : Note = note_of c.args.segment c.args.followed.now in
     let told = c.event_of-at.ensures in
     let f = found N D c.args.round c.event_of-at.result note c.args.hop c.requires.note told.first told.last (told.hop c.args.hop c.requires.hop) in
     hop_in_set N.table N.hops D D (suc c.args.round) note.segment c.event_of-at.result c.args.hop c.requires.sufficient c.requires.note.inside f.0 (extends-refl D (suc c.args.round)) f.1

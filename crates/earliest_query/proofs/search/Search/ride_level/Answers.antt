@@ -1,13 +1,14 @@
-use Rattle.std.proofs.Common.{◌≡◌, ◌∙◌, ℕ, suc, ◌+◌, inl, sym, ap, subst, refl, arith}
+use Rattle.std.proofs.Common.{◌≡◌, ◌∙◌, ℕ, suc, ◌+◌, inl, length, sym, ap, subst, refl, arith}
 use Rattle.std.proofs.lemmas.Int.{ints}
 use Rattle.std.proofs.lemmas.Option.{get_or_from_slice_get}
 use Rattle.tb_base.specs.Network.{NetData}
 use Rattle.tb_base.specs.BestValues.{QueryData}
+use Rattle.tb_base.specs.TimetableData.{TimetableData, events_of}
 use Rattle.segment_queue.specs.declared.desk.Segment.{Segment}
 use Rattle.segment_queue.specs.Queue.{DeskData, IsSoundSegment}
 use Rattle.segment_queue.specs.Traced.{no_segment, segment_of}
 use Rattle.earliest_query.proofs.Growing.{extends-long, extends-refl, extends-round, extends-segment}
-use Rattle.earliest_query.proofs.Following.{sound_event}
+use Rattle.earliest_query.proofs.Following.{hops_seen-one, sound_event}
 use Rattle.earliest_query.proofs.LookingAt.{IsLookedAt, bounded_late, bounded_on, extends_on, followed_late, followed_on, improved_late, improved_on}
 use Rattle.earliest_query.proofs.search.Search.ride_level.Goals as goal
 
@@ -51,6 +52,18 @@ weigh-best-requires-clause-arr g c =
     let event = sound_event (g.S.Scan.net c.args.self.now.scan.now).table c.in-Some.segment.trip (c.loop-before.before + 1) c.soundness.ensures.sound sound.trip (omega (arith, sound.within, c.loop-before-test.true)) in
     omega (arith, ints, c.visit-visit.ensures.arr, event.waits, event.latest)
 
+pub hops_from-followed-requires : goal.hops_from-followed-requires
+hops_from-followed-requires g c =
+    let T : TimetableData = (g.S.Scan.net c.args.self.now.scan.now).table in
+    let same : segment_of c.args.desk.now.segments c.args.n ≡ c.in-Some.segment = get_or_from_slice_get c.args.desk.now.segments c.args.n c.in-Some.segment no_segment (sym c.in-Some.ensures) in
+    let sound = subst (IsSoundSegment T) same (c.requires.queue.sound c.args.n no_segment c.requires.segment) in
+    let look = c.visit-visit.ensures in
+    record {
+      trip = omega (arith, look.trip, sound.trip);
+      order = omega (arith, look.first, look.last);
+      within = omega (arith, look.last, ap (λ t. length (events_of T t)) look.trip, sound.within, c.loop-before-test.true);
+    }
+
 pub follow_level-requires-clause-round : goal.follow_level-requires-clause-round
 follow_level-requires-clause-round g c =
     extends-round c.args.desk.now c.loop-before.desk (suc c.args.round) c.loop-before.invariant.extends c.args.n c.requires.segment ∙ c.requires.round
@@ -71,7 +84,9 @@ follow_level-requires-clause-hops g c =
     let same : segment_of c.loop-before.desk.segments c.args.n ≡ c.in-Some.segment
     = extends-segment c.args.desk.now c.loop-before.desk (suc c.args.round) c.loop-before.invariant.extends c.args.n c.requires.segment
     ∙ get_or_from_slice_get c.args.desk.now.segments c.args.n c.in-Some.segment no_segment (sym c.in-Some.ensures) in
-    c.visit-visit.ensures.out ∙ ap (λ (s : Segment). (g.S.Scan.net c.args.self.now.scan.now).hops s.trip (c.loop-before.before + 1)) (sym same)
+    c.hops_from-followed.ensures.hops
+    ∙ hops_seen-one (g.S.Scan.net c.args.self.now.scan.now).hops c.visit-visit.result.seen c.in-Some.segment.trip (c.loop-before.before + 1) c.visit-visit.ensures.trip c.visit-visit.ensures.first c.visit-visit.ensures.last
+    ∙ ap (λ (s : Segment). (g.S.Scan.net c.args.self.now.scan.now).hops s.trip (c.loop-before.before + 1)) (sym same)
 
 pub loop-before-preserved : goal.loop-before-preserved
 loop-before-preserved g c =

@@ -1,6 +1,7 @@
-use Rattle.std.proofs.Common.{sym, subst, arith}
+use Rattle.std.proofs.Common.{◌∙◌, ◌++◌, ◌-◌, length, replicate, ap, sym, subst, arith, None}
+use Rattle.std.proofs.lemmas.List.{append-nil}
 use Rattle.segment_queue.specs.contracts.desk.Desk.{the_view}
-use Rattle.segment_queue.specs.Queue.{IsInStep}
+use Rattle.segment_queue.specs.Queue.{DeskData, IsInStep}
 use Rattle.segment_queue.proofs.InStep.{in_step-grown}
 use Rattle.segment_queue.proofs.desk.Desk.make_room.Goals as goal
 
@@ -23,3 +24,23 @@ pub returns-clause-step : goal.returns-clause-step
 returns-clause-step g c =
     λ N step. in_step-grown N (the_view c.self.inside) (the_view (record { marks = c.make_room.new.self; segments = c.make_room_for.new.items; hits = c.make_room_for-2.new.items; notes = c.make_room_for-3.new.items; ahead = c.self.inside.ahead })) _
     (subst (IsInStep N) (sym c.self.view_is) step) c.in_ok-make_room.ensures.room c.make_room_for.ensures.items c.make_room_for.ensures.grows c.make_room_for-2.ensures.grows c.make_room_for-3.ensures.grows
+
+pub returns-in_err-make_room-clause-marks : goal.returns-in_err-make_room-clause-marks
+returns-in_err-make_room-clause-marks g c =
+    (0, c.in_err-make_room.ensures.memory ∙ ap (λ (d : DeskData). d.marks) c.self.view_is ∙ sym (append-nil c.args.self.now.marks))
+
+pub returns-in_err-make_room_for-clause-marks : goal.returns-in_err-make_room_for-clause-marks
+returns-in_err-make_room_for-clause-marks g c =
+    (c.shape-shape.result.trips - length c.self.inside.marks, c.in_ok-make_room.ensures.room ∙ ap (λ (d : DeskData). d.marks ++ replicate (c.shape-shape.result.trips - length c.self.inside.marks) None) c.self.view_is)
+
+pub returns-in_err-make_room_for-2-clause-marks : goal.returns-in_err-make_room_for-2-clause-marks
+returns-in_err-make_room_for-2-clause-marks g c =
+    (c.shape-shape.result.trips - length c.self.inside.marks, c.in_ok-make_room.ensures.room ∙ ap (λ (d : DeskData). d.marks ++ replicate (c.shape-shape.result.trips - length c.self.inside.marks) None) c.self.view_is)
+
+pub returns-in_err-make_room_for-3-clause-marks : goal.returns-in_err-make_room_for-3-clause-marks
+returns-in_err-make_room_for-3-clause-marks g c =
+    (c.shape-shape.result.trips - length c.self.inside.marks, c.in_ok-make_room.ensures.room ∙ ap (λ (d : DeskData). d.marks ++ replicate (c.shape-shape.result.trips - length c.self.inside.marks) None) c.self.view_is)
+
+pub returns-clause-marks : goal.returns-clause-marks
+returns-clause-marks g c =
+    (c.shape-shape.result.trips - length c.self.inside.marks, c.in_ok-make_room.ensures.room ∙ ap (λ (d : DeskData). d.marks ++ replicate (c.shape-shape.result.trips - length c.self.inside.marks) None) c.self.view_is)
