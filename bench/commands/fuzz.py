@@ -1,10 +1,11 @@
-"""Inputs that are made of the examples by changes, and what becomes of them.
+"""Inputs that are made of feeds by changes, and what becomes of them.
 
-Changes words, scripts, files of delays, claims and whole feeds of `examples/` by chance, runs the
-program over them, and holds what comes against the documents: the status, one line on standard
-error with the first fault, nothing on standard output then, the form of an answer, and processor
-time that grows with the input. The same seed makes the same cases. A case with which something is
-wrong is kept in a folder, with what was run and what came of it.
+Changes words, scripts, files of delays, claims and whole feeds by chance, those of `examples/`, of
+the cases and small random ones, runs the program over them, and holds what comes against what the
+documents say, told again in bench/said: the status, one line on standard error with the first
+fault, nothing on standard output then, the form of an answer, its times and rides over small feeds,
+and processor time that grows with the input. The same seed makes the same cases. A case with which
+something is wrong is kept in a folder, with what was run and what came of it.
 """
 import collections
 import json

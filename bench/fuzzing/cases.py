@@ -3,11 +3,12 @@ import collections
 import os
 import random
 
-from fuzzing import changes
-from harness import DAY, TOP
+from fuzzing import changes, made
+from harness import DAY, FEEDS, TOP
 
 EXAMPLES = os.path.join(TOP, "examples")
-FEEDS = ("f1", "town", "valley")
+EXAMPLE_FEEDS = [os.path.join(EXAMPLES, name) for name in ("f1", "town", "valley")]
+CASE_FEEDS = [os.path.join(FEEDS, name) for name in ("ring", "village")]
 COMMANDS = ("direct", "ask", "profile", "latest", "reach", "verify", "late", "build", "serve")
 TIMES = ("0:00:00", "06:55:00", "08:00:00", "08:05:00", "8:30:00", "24:10:00", "75:59:59")
 DATES = (DAY, DAY, DAY, DAY, DAY, "20260303", "20260307", "20260406", "20270101", "00010101")
@@ -22,19 +23,16 @@ def read(path):
         return file.read()
 
 
-def example_feeds():
-    folders = {feed: os.path.join(EXAMPLES, feed) for feed in FEEDS}
-    return {
-        feed: {name: read(os.path.join(folder, name)) for name in sorted(os.listdir(folder))}
-        for feed, folder in folders.items()
-    }
+def feed_in(folder):
+    """The files of a feed by their names."""
+    return {name: read(os.path.join(folder, name)) for name in sorted(os.listdir(folder))}
 
 
 def column(data, name):
     """The fields of a column of a plain file."""
-    rows = [line.split(",") for line in data.decode("utf-8-sig").split()]
+    rows = [line.split(",") for line in data.decode("utf-8-sig").split("\n") if line]
     at = rows[0].index(name)
-    return [row[at] for row in rows[1:] if len(row) > at]
+    return [row[at] for row in rows[1:]]
 
 
 class Maker:
@@ -42,7 +40,7 @@ class Maker:
 
     def __init__(self, seed):
         self.seed = seed
-        self.feeds = example_feeds()
+        self.feeds = list(map(feed_in, EXAMPLE_FEEDS + CASE_FEEDS))
         self.texts = {it: read(os.path.join(EXAMPLES, it)) for it in ("script", "late", "claim")}
 
     def case(self, number):
@@ -55,10 +53,11 @@ class Draw:
 
     def __init__(self, maker, drawn):
         self.maker, self.drawn = maker, drawn
-        self.name = drawn.choice(FEEDS)
-        self.feed = dict(maker.feeds[self.name])
-        self.stops = column(self.feed["stops.txt"], "stop_id") + ["nowhere"]
-        self.trips = column(self.feed["trips.txt"], "trip_id") + ["none"]
+        self.feed = made.feed(drawn) if self.often(0.5) else dict(drawn.choice(maker.feeds))
+        self.stops = column(self.feed["stops.txt"], "stop_id")
+        self.trips = column(self.feed["trips.txt"], "trip_id")
+        times = column(self.feed["stop_times.txt"], "departure_time")
+        self.times = [*(time for time in times if time), *TIMES]
 
     def often(self, chance):
         return self.drawn.random() < chance
@@ -69,7 +68,7 @@ class Draw:
         given = self.given(command)
         if self.often(0.01):
             words, given = ["city", str(self.drawn.randrange(12))], b""
-        if self.often(0.15):
+        if self.often(0.1):
             words = self.changed_words(words)
         else:
             words = [word.encode() for word in words]
@@ -84,21 +83,19 @@ class Draw:
 
     def options(self):
         words = []
-        for name, values in (
-            ("--change", ("0", "60", "121", "86400", "86401", "-1", "")),
-            ("--station", ("0", "120", "120", "86400", "99999999")),
-            ("--workers", ("1", "2", "4", "64", "0", "65")),
+        for name, values, wrong in (
+            ("--change", ("0", "60", "121", "86400"), ("86401", "-1", "")),
+            ("--station", ("0", "60", "120", "86400"), ("86401", "99999999", "1.5")),
+            ("--workers", ("1", "2", "4", "64"), ("0", "65", "four")),
         ):
             if self.often(0.2):
-                value = self.drawn.choice(values)
+                value = self.drawn.choice(wrong if self.often(0.03) else values)
                 words += [f"{name}={value}"] if self.often(0.3) else [name, value]
         return words + [word for word in ("--close", "--plain") if self.often(0.25)]
 
     def words_behind(self, command):
-        time, later = sorted(self.drawn.choice(TIMES) for _ in "12")
-        ends = [self.drawn.choice(self.stops), self.drawn.choice(self.stops)]
-        if self.name == "f1" and self.often(0.5):
-            ends, time = ["A", "D"], "08:00:00"
+        time, later = self.two_times()
+        ends = self.ends()
         day = ["f", self.drawn.choice(DATES)]
         if command == "serve":
             days = [f"{folder}@{self.drawn.choice(DATES)}" for folder in ("f", "g", "f", "g")]
@@ -109,6 +106,20 @@ class Draw:
             "late": [*day, "late", *ends, time],
             "build": [*day, *(["list"] if self.often(0.5) else [])],
         }.get(command, [*day, *ends, time])
+
+    def two_times(self):
+        return sorted((self.drawn.choice(self.times) for _ in "12"), key=lambda it: it.zfill(8))
+
+    def ends(self):
+        """Two stops, often two of a trip."""
+        if self.often(0.03):
+            return [self.drawn.choice(self.stops), "nowhere"]
+        if self.often(0.4):
+            return self.drawn.choices(self.stops, k=2)
+        trips, stops = (column(self.feed["stop_times.txt"], it) for it in ("trip_id", "stop_id"))
+        chosen = self.drawn.choice(trips)
+        called = [stop for trip, stop in zip(trips, stops) if trip == chosen]
+        return sorted(self.drawn.choices(called, k=2), key=called.index)
 
     def changed_words(self, words):
         words = [word.encode() for word in words]
@@ -135,13 +146,13 @@ class Draw:
             start = self.drawn.randrange(30)
             span = self.drawn.randrange(1, 5)
             headway = self.drawn.choice((60, 300, 1800, 7200))
-            trip = self.drawn.choice(self.trips[:-1])
+            trip = self.drawn.choice(self.trips)
             rows.append(f"{trip},{start}:00:00,{start + span}:00:00,{headway},".encode())
         return b"\n".join(rows) + b"\n"
 
     def changed_feed(self):
         feed = dict(self.feed)
-        if self.often(0.2):
+        if self.often(0.4):
             return feed
         for _ in range(self.drawn.choice((1, 1, 1, 2, 4))):
             name = self.drawn.choice(sorted(feed))
@@ -174,8 +185,8 @@ class Draw:
             return self.maker.texts["script"]
         lines = ["lane a"]
         for _ in range(self.drawn.randrange(12)):
-            first, last = sorted(self.drawn.choice(TIMES) for _ in "12")
-            ends = f"{self.drawn.choice(self.stops)} {self.drawn.choice(self.stops)}"
+            first, last = self.two_times()
+            ends = " ".join(self.ends())
             since = f"since {self.drawn.randrange(5)} " if self.often(0.3) else ""
             line = (f"ask {ends} {first}", f"profile {ends} {first} {last}", "lane b", "# remark")
             line = line[self.drawn.choice((0, 0, 1, 2, 3))]
@@ -188,8 +199,9 @@ class Draw:
         lines = ["# delays"]
         for _ in range(self.drawn.randrange(8)):
             word = "late-before" if self.often(0.1) else "late"
-            secs = self.drawn.choice((0, 60, 120, 3600, 86_400, 86_401, -60, -86_400, 9))
-            lines.append(f"{word} {self.drawn.choice(self.trips)} {self.drawn.randrange(4)} {secs}")
+            secs = self.drawn.choice((0, 60, 60, 120, 300, 300, 900, 86_400, 86_401, -60, 9))
+            trip = "none" if self.often(0.1) else self.drawn.choice(self.trips)
+            lines.append(f"{word} {trip} {self.drawn.choice((0, 0, 1, 1, 2, 3, 9))} {secs}")
         return "\n".join(lines).encode() + b"\n"
 
     def claim(self):
@@ -197,8 +209,8 @@ class Draw:
             return self.maker.texts["claim"]
         lines = [f"arrive {self.drawn.choice(TIMES).zfill(8)} rides {self.drawn.randrange(3)}"]
         for _ in range(self.drawn.randrange(4)):
-            times = [self.drawn.choice(TIMES).zfill(8) for _ in "12"]
-            stops = [self.drawn.choice(self.stops) for _ in "12"]
+            times = [time.zfill(8) for time in self.two_times()]
+            stops = self.ends()
             if self.often(0.3):
                 lines.append(f"  walk {stops[0]} {stops[1]} {self.drawn.randrange(200)}")
             else:

@@ -1,12 +1,15 @@
 """What a run of a case may come to, by the documents, and whether it did."""
 import os
 
-from said import answers, feeds, texts, words as command_lines
+from said import answers, feeds, replies, texts, words as command_lines
+from said.journeys import Options, Timetable
 
 # A run takes at most so many seconds of processor time: at once, for each byte, for each event of
 # the day and each request.
 AT_ONCE, BY_BYTE, BY_EVENT = 1.0, 2e-5, 2e-4
-# Faults of footpaths, which are looked at last.
+# Over feeds with at most so many events and stops the answer is found again, the plain way.
+FEW_EVENTS, FEW_STOPS = 600, 20
+# Faults of footpaths, which are looked at last, where they aren't found again.
 LAW = ("18 ", "19 ")
 CLOSING = ("20 TooMany footpaths", "22 ")
 
@@ -25,12 +28,12 @@ class Judge:
         self.case, self.folder = case, folder
         self.events = 0
         self.is_valid = command_lines.are_valid(case.words)
-        self.command, self.rest, self.closes = "", [], False
+        self.command, self.rest, self.options = "", [], Options()
+        self.feed = self.timetable = None
         if self.is_valid:
             plain = [word.decode() for word in case.words]
             self.command, *self.rest = command_lines.without_options(plain)
-            before = plain[: plain.index("--")] if "--" in plain else plain
-            self.closes = "--close" in before
+            self.options = options_of(plain)
 
     def wrong(self, ended):
         """What is wrong with what came, or None."""
@@ -68,27 +71,31 @@ class Judge:
         return None
 
     def wrong_answer(self, out):
-        names = self.stops or {}
-        if any("\n" in name or "\r" in name for name in (*names, *self.trips)):
+        names = [*self.feed.stops, *self.feed.calls] if self.feed else []
+        if any(len(name.splitlines()) > 1 for name in names):
             return None
         if not answers.is_answer(self.command, out):
             return "the answer has another form"
-        unknown = self.unknown_stop()
-        if (unknown is not None) != ("unknown stop " in out) and self.command != "serve":
-            return f"unknown stop {unknown}"
-        return None
-
-    def unknown_stop(self):
-        """The first name that is neither a platform nor a station."""
         if self.command not in answers.PLACES:
             return None
-        at = 3 if self.command == "late" else 2
-        ends = self.rest[at : at + (1 if self.command == "reach" else 2)]
-        return next((name for name in ends if name not in self.places), None)
+        asked = self.rest[3 if self.command == "late" else 2 :]
+        ends = asked[: 1 if self.command == "reach" else 2]
+        unknown = next((name for name in ends if not self.is_place(name)), None)
+        if unknown is not None:
+            right = out.endswith(f"unknown stop {unknown}\n")
+            return None if right else f"the answer isn't unknown stop {unknown}"
+        if self.timetable and self.command != "verify":
+            told = replies.told(self.command, out)
+            wanted = replies.wanted(self.command, asked, self.timetable)
+            return None if told == wanted else f"the answer isn't {wanted}"
+        return None
+
+    def is_place(self, name):
+        kind = self.feed.stops.get(name, ("2", ""))[0]
+        return kind in (*feeds.PLATFORM, feeds.STATION)
 
     def allowed(self):
         """The statuses that may come, each with the fault that is shown, or the begin of it."""
-        self.stops, self.trips, self.places = {}, [], set()
         if not self.is_valid:
             return [(2, "")]
         if self.command == "city":
@@ -98,10 +105,15 @@ class Judge:
         found = self.read_feed(self.rest[0])
         if found:
             return [found]
+        if self.events <= FEW_EVENTS and len(self.feed.stops) <= FEW_STOPS:
+            self.timetable = Timetable(self.feed, self.rest[1], self.options)
+            if self.timetable.fault:
+                return [(3, self.timetable.fault)]
+            return self.allowed_of_texts()
         return [*self.allowed_of_law(), *self.allowed_of_texts()]
 
     def allowed_of_law(self):
-        return [(3, fault) for fault in (CLOSING if self.closes else LAW)]
+        return [(3, fault) for fault in (CLOSING if self.options.close else LAW)]
 
     def allowed_of_serve(self):
         fault = texts.script_fault(self.case.given)
@@ -128,6 +140,9 @@ class Judge:
         except OSError:
             return [(4, "")]
         fault = "6 MissingFile" if data is None else texts.late_fault(data)
+        if not fault and self.timetable:
+            fault = replies.amend(self.timetable.trips, data)
+            return [(8, fault)] if fault else [(0, "")]
         names = ("1 UnknownTrip", "2 TimeRunsBack", "3 OutOfRange", "4 BadEvent")
         return [(8, fault)] if fault else [(0, ""), *((8, name) for name in names)]
 
@@ -139,9 +154,19 @@ class Judge:
             return 3, str(fault)
         except OSError:
             return 4, ""
-        self.stops, self.places = feed.stops, feed.places
-        self.trips, self.events = feed.trips, self.events + feed.events
+        self.feed, self.events = feed, self.events + feed.events
         return None
+
+
+def options_of(words):
+    """The options of a valid command line."""
+    words = words[: words.index("--")] if "--" in words else words
+    values = {"--change": 0, "--station": None}
+    for word, after in zip(words, [*words[1:], ""]):
+        name, equals, value = word.partition("=")
+        if name in values:
+            values[name] = int(value if equals else after)
+    return Options(values["--change"], values["--station"], "--close" in words)
 
 
 def may_be(allowed, status, fault):

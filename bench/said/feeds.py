@@ -237,7 +237,7 @@ STATION = "1"
 
 
 def stops_of(folder):
-    """The ids of stops.txt, each with its `location_type`."""
+    """The ids of stops.txt, each with its `location_type` and its `parent_station`."""
     name = "stops.txt"
     rows = needed(checked_rows(folder, name), name)
     known, seen = {fields[0] for _, fields in rows}, set()
@@ -247,31 +247,43 @@ def stops_of(folder):
         if parent and parent not in known:
             raise Fault(11, name, row, 3)
         seen.add(stop)
-    return {stop: kind for _, (stop, kind, _) in rows}
+    return {stop: (kind, parent) for _, (stop, kind, parent) in rows}
 
 
-def times_of(folder, stops, trips):
+class Call(typing.NamedTuple):
+    """A row of stop_times.txt; a time is None where the row has none."""
+
+    row: int
+    arrival: int
+    departure: int
+    stop: str
+    board: bool
+    alight: bool
+
+
+def calls_of(folder, stops, trips):
     """The rows of stop_times.txt by trip, in order."""
     name = "stop_times.txt"
     rows = needed(checked_rows(folder, name), name)
     found = {trip: {} for trip in trips}
-    for row, (trip, arrival, departure, stop, sequence, *_) in rows:
+    for row, (trip, arrival, departure, stop, sequence, pickup, drop_off) in rows:
         if trip not in found:
             raise Fault(12, name, row, 1)
         if stop not in stops:
             raise Fault(11, name, row, 4)
-        if stops[stop] not in PLATFORM:
+        if stops[stop][0] not in PLATFORM:
             raise Fault(16, name, row, 4)
         if int(sequence) in found[trip]:
             raise Fault(13, name, row, 5)
         times = time_of(arrival or departure), time_of(departure or arrival)
-        found[trip][int(sequence)] = (row, *times)
+        found[trip][int(sequence)] = Call(row, *times, stop, pickup != "1", drop_off != "1")
     return {trip: [calls[number] for number in sorted(calls)] for trip, calls in found.items()}
 
 
-def check_transfers(folder, stops):
+def transfers_of(folder, stops):
+    """The rows of transfers.txt that aren't skipped."""
     name = "transfers.txt"
-    seen = set()
+    seen, found = set(), []
     for row, fields in checked_rows(folder, name) or []:
         if is_skipped(fields):
             continue
@@ -281,17 +293,19 @@ def check_transfers(folder, stops):
         if tuple(fields[:2]) in seen:
             raise Fault(17, name, row, 1)
         seen.add(tuple(fields[:2]))
+        found.append(fields)
+    return found
 
 
 def check_calls(calls):
     """Raises the first fault of the times of a trip."""
     if len(calls) < 2:
         return
-    for row, arrival, _ in (calls[0], calls[-1]):
+    for row, arrival, *_ in (calls[0], calls[-1]):
         if arrival is None:
             raise Fault(14, "stop_times.txt", row, 2)
     left = 0
-    for row, arrival, departure in calls:
+    for row, arrival, departure, *_ in calls:
         if arrival is None:
             continue
         if arrival < left:
@@ -310,7 +324,7 @@ def starts_of(row, fields, calls):
         return 0
     headway = int(fields[3])
     count = (end - 1 - first) // headway
-    known = [time for _, *times in calls for time in times if time is not None]
+    known = [time for call in calls for time in call[1:3] if time is not None]
     last = first + count * headway
     if first + min(known) - calls[0][2] < 0 or last + max(known) - calls[0][2] > DAY_END:
         raise Fault(23, "frequencies.txt", row, 2)
@@ -318,13 +332,18 @@ def starts_of(row, fields, calls):
 
 
 class Feed(typing.NamedTuple):
-    """Of a feed without a fault so far the stops with their kinds, the names of places, those of
-    trips, and how many events there are at most.
+    """What is in a feed without a fault so far: its stops with their kinds and parents, the rows of
+    its calendars and of frequencies.txt, pairs of a service and a trip, the calls of trips, rows of
+    transfers.txt, and how many events there are at most.
     """
 
     stops: dict
-    places: set
+    calendar: list
+    dates: list
     trips: list
+    calls: dict
+    transfers: list
+    frequencies: list
     events: int
 
 
@@ -339,20 +358,19 @@ def check(top, folder):
         raise Fault(1, "calendar.txt")
     trips = needed(checked_rows(folder, "trips.txt"), "trips.txt")
     distinct(trips, "trips.txt", 2)
-    times = times_of(folder, stops, [fields[1] for _, fields in trips])
-    check_transfers(folder, stops)
+    calls = calls_of(folder, stops, [fields[1] for _, fields in trips])
+    transfers = transfers_of(folder, stops)
     frequencies = checked_rows(folder, "frequencies.txt") or []
     for row, fields in frequencies:
-        if fields[0] not in times:
+        if fields[0] not in calls:
             raise Fault(12, "frequencies.txt", row, 1)
     for _, (_, trip) in trips:
-        check_calls(times[trip])
-    events = sum(map(len, times.values()))
+        check_calls(calls[trip])
+    events = sum(map(len, calls.values()))
     for row, fields in frequencies:
-        calls = times[fields[0]]
-        events += starts_of(row, fields, calls) * len(calls)
-    places = {stop for stop, kind in stops.items() if kind in (*PLATFORM, STATION)}
-    return Feed(stops, places, list(times), events)
+        events += starts_of(row, fields, calls[fields[0]]) * len(calls[fields[0]])
+    kept = ([fields for _, fields in rows or []] for rows in (calendar, dates, trips))
+    return Feed(stops, *kept, calls, transfers, [fields for _, fields in frequencies], events)
 
 
 SPOT = re.compile(r"(\d+) (\w+) (\w+\.txt)(?: row ([1-9]\d*) column (\w+))?")

@@ -5,8 +5,9 @@ import unittest
 
 from fuzzing.cases import Case, Maker, lay_out
 from fuzzing.judging import Ended, Judge
-from harness import FEEDS
-from said import answers, feeds, texts, words
+from harness import BEST, DAY, FEEDS
+from said import answers, feeds, replies, texts, words
+from said.journeys import Options, Timetable
 
 
 class Cases(unittest.TestCase):
@@ -96,22 +97,43 @@ class Feeds(unittest.TestCase):
         self.assertEqual([["a", 'b "c",de'], ["x\ny", ""], [""]], list(feeds.records(text)))
 
 
+class Journeys(unittest.TestCase):
+    def test_answers_of_the_example(self):
+        timetable = Timetable(feeds.check(FEEDS, "f1"), DAY, Options())
+        ends = ["A"], ["D"]
+        values = [(8 * 3600 + 50 * 60, 1), (8 * 3600 + 30 * 60, 2)]
+        self.assertEqual(values, timetable.values(*ends, 8 * 3600))
+        self.assertEqual(values, replies.told("ask", BEST))
+        self.assertEqual(values[0][0], timetable.direct(*ends, 8 * 3600))
+        slots = [(8 * 3600 + 300, *values[0]), (8 * 3600, *values[1])]
+        self.assertEqual(slots, timetable.slots(*ends, 7 * 3600, 8 * 3600 + 300))
+        self.assertEqual([(8 * 3600 + 300, 1)], timetable.latest(*ends, values[0][0]))
+
+    def test_delays(self):
+        trips = Timetable(feeds.check(FEEDS, "f1"), DAY, Options()).trips
+        self.assertEqual("1 UnknownTrip line 2", replies.amend(trips, b"#\nlate T9 0 1\n"))
+        self.assertEqual("4 BadEvent line 1", replies.amend(trips, b"late T1 9 1\n"))
+        self.assertEqual("2 TimeRunsBack line 1", replies.amend(trips, b"late T1 1 -9999\n"))
+        self.assertIsNone(replies.amend(trips, b"late T1 1 120\n"))
+
+
 class Judging(unittest.TestCase):
     def wrong(self, status, out, err):
         words = b"ask f 20260302 A D 08:00:00".split()
-        files = {f"f/{name}": data for name, data in Maker("1").feeds["f1"].items()}
+        files = {f"f/{name}": data for name, data in Maker("1").feeds[0].items()}
         with tempfile.TemporaryDirectory() as folder:
             case = Case(words, files, b"")
             lay_out(case, folder)
             return Judge(case, folder).wrong(Ended(status, out, err, 0.01))
 
     def test_what_may_come(self):
-        self.assertIsNone(self.wrong(0, "no journey\n", ""))
-        self.assertIsNone(self.wrong(3, "", "router: feed refused: 18 OpenFootpaths A B C\n"))
+        self.assertIsNone(self.wrong(0, BEST, ""))
         for status, out, err in (
             ("SIGSEGV", "", ""),
-            (0, "no journey", ""),
-            (0, "no journey\n", "more\n"),
+            (0, "no journey\n", ""),
+            (0, BEST[:-1], ""),
+            (0, BEST, "more\n"),
+            (3, "", "router: feed refused: 18 OpenFootpaths A B C\n"),
             (1, "", ""),
             (2, "", f"{answers.USAGE}\n"),
             (3, "", "router: feed refused: 1 MissingFile stops.txt\n"),
