@@ -1,6 +1,6 @@
 ghost use Rattle.std.specs.Prelude.{◌≡◌, ◌+◌, ◌≤◌, ℕ, List, IfOk, OnErr, OnOk, length};
 ghost use Rattle.tb_base.specs.TimetableData.{TimetableData};
-ghost use Rattle.tb_base.specs.OutSets.{AreRowsOf};
+ghost use Rattle.tb_base.specs.OutSets.{AreRowsOf, hops_at, row_of};
 ghost use Rattle.tb_base.specs.Lines.{AreDividedInto};
 ghost use Rattle.tb_base.specs.Sufficiency.{AreSufficient};
 ghost use Rattle.tb_base.specs.Transfers.{kept_hops};
@@ -83,12 +83,14 @@ impl Reduced {
         Ok(())
     }
 
-    /// The set of these transfers: one list a trip, of transfers from its events. If they are the
-    /// kept ones, its hops are exactly the kept hops, and it is sufficient: a search over it finds
+    /// The set of these transfers: one list a trip, of transfers from its events, whose hops it has
+    /// in their order. If they are the kept ones, its hops are exactly the kept hops, and it is sufficient: a search over it finds
     /// all best values. Refused only for want of memory.
     pub fn into_set(self, alloc: Global, table: &Timetable) -> Result<Set, Memory>
         requires { AreRowsOf table.now self.rows }
         ensures table { IfOk result (λ set. set.table ≡ table.now) }
+        ensures rows { IfOk result (λ set. (t i : ℕ) →
+            packed set t i ≡ hops_at (row_of self.rows t) i) }
         ensures hops { IfOk result (λ set. (lines : List (List ℕ)) →
             AreDividedInto table.now lines → self ≡ reduced table.now lines →
             (t i : ℕ) → packed set t i ≡ kept_hops table.now lines t i) }
