@@ -1,5 +1,5 @@
 //! Which rows of transfers.txt lead to a platform, and what they say of the ways to it.
-ghost use Rattle.std.specs.Prelude.{◌≡◌, ◌<◌, ◌≤◌, ◌+◌, ◌-◌, ℕ, IfOk, OnOk, length, map, fold, unwrap_or, All, None, is_some, ◌&&◌};
+ghost use Rattle.std.specs.Prelude.{◌≡◌, ◌<◌, ◌≤◌, ◌+◌, ◌-◌, ℕ, IfOk, OnOk, MatchResult, length, map, fold, unwrap_or, All, None, is_some, ◌&&◌};
 ghost use Rattle.footpaths.specs.Stops.{platforms, station_of};
 ghost use Rattle.footpaths.specs.Footpaths.{takes_in, rank, stations_in, said, have_one_station, secs_between};
 ghost use Rattle.footpaths.specs.BestRules.{slot, marked, marked_by, ruled, verdict_secs};
@@ -79,14 +79,22 @@ fn parent_keys(alloc: Global, stops: &StopTable) -> Result<Vec<u32>, Memory>
     Ok(keys)
 }
 
+// So many places have numbers of four bytes. More count as want of memory, and no fewer.
+fn check_count(count: usize) -> Result<(), Memory>
+    ensures { MatchResult result (λ _. count ≤ 4294967295) (λ _. 4294967296 ≤ count) }
+{
+    if count > u32::MAX as usize {
+        return Err(Memory);
+    }
+    Ok(())
+}
+
 // The places of each key below a count, and of the count itself.
 fn places_by(alloc: Global, keys: &[u32], count: u32) -> Result<Groups, Memory>
     requires { All (λ key. key ≤ count) keys.now }
     ensures { IfOk result (λ places. HasPlaces keys.now count places) }
 {
-    if keys.len() > u32::MAX as usize {
-        return Err(Memory);
-    }
+    check_count(keys.len())?;
     Groups::by_key(alloc, keys, count as usize + 1)
 }
 
