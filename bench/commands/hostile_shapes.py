@@ -55,13 +55,16 @@ def given_in(folder):
     return b""
 
 
-def run_shape(program, shape, size, limit):
-    """The megabytes of the shape, the run over it, and one that reads the feed."""
+def run_shape(program, shape, size, limit, reads):
+    """The megabytes of the shape, the run over it, and one that reads the feed, if it is wanted and
+    another.
+    """
     with tempfile.TemporaryDirectory() as folder:
         shape.make(folder, size)
         given = given_in(folder)
-        ended = Run(program, words_for(shape.command, folder), given, limit=limit)
-        reading = Run(program, words_for("direct", folder), limit=limit)
+        reading = ended = Run(program, words_for(shape.command, folder), given, limit=limit)
+        if reads and shape.command != "direct":
+            reading = Run(program, words_for("direct", folder), limit=limit)
         return megabytes_of(folder), ended, reading
 
 
@@ -89,7 +92,8 @@ def run(words):
         size = max(1, int(shape.size * words.scale))
         taken = []
         for times in (1, 2, 4):
-            megabytes, ended, reading = run_shape(program, shape, times * size, words.limit)
+            found = run_shape(program, shape, times * size, words.limit, times == 4)
+            megabytes, ended, reading = found
             taken.append(ended.seconds)
             if ended.status == "SIGXCPU":
                 break
@@ -102,7 +106,7 @@ def run(words):
             ended.first_line(),
             *padded([f"{seconds:.2f}" for seconds in taken], 3),
             *padded(grown, 2),
-            f"{reading.seconds:.2f}",
+            f"{reading.seconds:.2f}" if len(taken) == 3 else "-",
             f"{megabytes:.1f}",
             f"{ended.megabytes:.0f}",
         )

@@ -1,7 +1,7 @@
 """What a run of a case may come to, by the documents, and whether it did."""
 import os
 
-from said import answers, feeds, replies, texts, words as command_lines
+from said import answers, feeds, replies, served, texts, words as command_lines
 from said.journeys import Options, Timetable
 
 # A run takes at most so many seconds of processor time: at once, for each byte, for each event of
@@ -30,6 +30,7 @@ class Judge:
         self.is_valid = command_lines.are_valid(case.words)
         self.command, self.rest, self.options = "", [], Options()
         self.feed = self.timetable = None
+        self.days, self.feeds = [], []
         if self.is_valid:
             plain = [word.decode() for word in case.words]
             self.command, *self.rest = command_lines.without_options(plain)
@@ -76,11 +77,13 @@ class Judge:
             return None
         if not answers.is_answer(self.command, out):
             return "the answer has another form"
+        if self.command == "serve" and self.days:
+            return self.wrong_served(out)
         if self.command not in answers.PLACES:
             return None
         asked = self.rest[3 if self.command == "late" else 2 :]
         ends = asked[: 1 if self.command == "reach" else 2]
-        unknown = next((name for name in ends if not self.is_place(name)), None)
+        unknown = next((name for name in ends if not is_place(self.feed, name)), None)
         if unknown is not None:
             right = out.endswith(f"unknown stop {unknown}\n")
             return None if right else f"the answer isn't unknown stop {unknown}"
@@ -90,9 +93,15 @@ class Judge:
             return None if told == wanted else f"the answer isn't {wanted}"
         return None
 
-    def is_place(self, name):
-        kind = self.feed.stops.get(name, ("2", ""))[0]
-        return kind in (*feeds.PLATFORM, feeds.STATION)
+    def wrong_served(self, out):
+        def is_known(edition, name):
+            return is_place(self.feeds[edition - 1], name)
+
+        try:
+            served.Reader(out, self.days, is_known).read(served.lanes_of(self.case.given))
+        except served.Wrong as wrong:
+            return f"it served {wrong}"
+        return None
 
     def allowed(self):
         """The statuses that may come, each with the fault that is shown, or the begin of it."""
@@ -105,7 +114,7 @@ class Judge:
         found = self.read_feed(self.rest[0])
         if found:
             return [found]
-        if self.events <= FEW_EVENTS and len(self.feed.stops) <= FEW_STOPS:
+        if self.is_small():
             self.timetable = Timetable(self.feed, self.rest[1], self.options)
             if self.timetable.fault:
                 return [(3, self.timetable.fault)]
@@ -117,13 +126,30 @@ class Judge:
 
     def allowed_of_serve(self):
         fault = texts.script_fault(self.case.given)
-        found = self.read_feed(self.rest[0].rpartition("@")[0])
-        for day in self.rest[1:]:
-            self.read_feed(day.rpartition("@")[0])
+        days = [self.read_day(day) for day in self.rest]
         self.events *= 1 + self.case.given.count(b"\n")
-        allowed = [(7, fault)] if fault else []
-        allowed += [found] if found else [] if fault else [(0, "")]
-        return allowed + ([] if found else self.allowed_of_law())
+        found = days[0]
+        if all(days) and not fault and isinstance(found, Timetable):
+            self.days = list(zip(self.rest, (as_shown(day) for day in days)))
+        if found and not isinstance(found, Timetable):
+            return [found, *([(7, fault)] if fault else [])]
+        allowed = [(7, fault)] if fault else [(0, "")]
+        return allowed if found else [*allowed, *self.allowed_of_law()]
+
+    def read_day(self, word):
+        """The timetable of a day of `serve`, if it is small, or how the program ends without it."""
+        folder, _, date = word.rpartition("@")
+        found = self.read_feed(folder)
+        if found or not self.is_small():
+            return found
+        timetable = Timetable(self.feed, date, self.options)
+        if timetable.fault:
+            return 3, timetable.fault
+        self.feeds.append(self.feed)
+        return timetable
+
+    def is_small(self):
+        return self.feed.events <= FEW_EVENTS and len(self.feed.stops) <= FEW_STOPS
 
     def allowed_of_texts(self):
         if self.command == "late":
@@ -156,6 +182,16 @@ class Judge:
             return 4, ""
         self.feed, self.events = feed, self.events + feed.events
         return None
+
+
+def is_place(feed, name):
+    kind = feed.stops.get(name, ("2", ""))[0]
+    return kind in (*feeds.PLATFORM, feeds.STATION)
+
+
+def as_shown(day):
+    """A timetable, or the fault of a day without one."""
+    return day if isinstance(day, Timetable) else day[1]
 
 
 def options_of(words):

@@ -5,8 +5,8 @@ import unittest
 
 from fuzzing.cases import Case, Maker, lay_out
 from fuzzing.judging import Ended, Judge
-from harness import BEST, DAY, FEEDS
-from said import answers, feeds, replies, texts, words
+from harness import BEST, DAY, FEEDS, SCRIPT
+from said import answers, feeds, replies, served, texts, words
 from said.journeys import Options, Timetable
 
 
@@ -115,6 +115,22 @@ class Journeys(unittest.TestCase):
         self.assertEqual("4 BadEvent line 1", replies.amend(trips, b"late T1 9 1\n"))
         self.assertEqual("2 TimeRunsBack line 1", replies.amend(trips, b"late T1 1 -9999\n"))
         self.assertIsNone(replies.amend(trips, b"late T1 1 120\n"))
+
+
+class Served(unittest.TestCase):
+    def read(self, out):
+        timetable = Timetable(feeds.check(FEEDS, "f1"), DAY, Options())
+        reader = served.Reader(out, [("f@1", timetable)], lambda _, name: name in timetable.stops)
+        reader.read(served.lanes_of(SCRIPT.encode()))
+
+    def test_what_is_served(self):
+        replies_of_lane = f"1 edition 1\n{BEST}2 edition 1\ndeferred 2\n"
+        out = f"edition 1 f@1 trips 3 lines 3 kept 1\nlane a\n{replies_of_lane}"
+        out += f"closing edition 1\nlane a\n{replies_of_lane}"
+        self.read(out)
+        for other in (out + "more\n", out.replace("08:30:00 rides", "08:31:00 rides"), out[:-11]):
+            with self.assertRaises(served.Wrong):
+                self.read(other)
 
 
 class Judging(unittest.TestCase):
