@@ -198,10 +198,14 @@ class Draw:
             return self.maker.texts["late"]
         lines = ["# delays"]
         for _ in range(self.drawn.randrange(8)):
-            word = "late-before" if self.often(0.1) else "late"
             secs = self.drawn.choice((0, 60, 60, 120, 300, 300, 900, 86_400, 86_401, -60, 9))
             trip = "none" if self.often(0.1) else self.drawn.choice(self.trips)
-            lines.append(f"{word} {trip} {self.drawn.choice((0, 0, 1, 1, 2, 3, 9))} {secs}")
+            event = self.drawn.choice((0, 0, 1, 1, 2, 3, 9))
+            line = self.drawn.choice(
+                (f"late {trip} {event} {secs}", f"cancel {trip}", f"skip {trip} {event}")
+            )
+            line = f"late-before {trip} {event} {secs}" if self.often(0.1) else line
+            lines.append(f"{line} day-before" if self.often(0.1) else line)
         return "\n".join(lines).encode() + b"\n"
 
     def claim(self):

@@ -3,7 +3,7 @@ import re
 
 from said.answers import TIME, VALUE, seconds_of
 from said.journeys import moved
-from said.words import number_of, time_of
+from said.words import time_of
 from said import texts
 
 SLOT = re.compile(rf"^leave ({TIME}) arrive ({TIME}) rides (\d+)$", re.M)
@@ -47,22 +47,32 @@ def amend(trips, text):
         words = texts.words_of(text_of_line)
         if not words:
             continue
-        name, event, secs = words[1], number_of(words[2]), int(words[3])
-        key = name, words[0] == "late-before"
+        update = texts.update_of(words)
+        key = update.trip, update.before
         place = next((i for i, it in enumerate(trips) if (it.name, it.before) == key), None)
         if place is None:
             return f"1 UnknownTrip line {line}"
         calls = trips[place].calls
-        fault = move_fault(calls, event, secs)
+        if (update.event or 0) >= len(calls):
+            return f"4 BadEvent line {line}"
+        fault = None if update.secs is None else move_fault(calls, update.event, update.secs)
         if fault:
             return f"{fault} line {line}"
-        trips[place] = trips[place]._replace(calls=calls[:event] + moved(calls[event:], secs))
+        trips[place] = trips[place]._replace(calls=updated(calls, update))
     return None
 
 
+def updated(calls, update):
+    """The calls of a trip after an update."""
+    at = update.event
+    if update.secs is not None:
+        return calls[:at] + moved(calls[at:], update.secs)
+    first, last = (0, len(calls)) if at is None else (at, at + 1)
+    closed = [call._replace(board=False, alight=False) for call in calls[first:last]]
+    return calls[:first] + closed + calls[last:]
+
+
 def move_fault(calls, event, secs):
-    if event >= len(calls):
-        return "4 BadEvent"
     late = moved(calls[event:], secs)
     times = [time for call in late for time in (call.arrival, call.departure)]
     if abs(secs) > MOST_SECS or min(times) < EARLIEST or max(times) > LATEST:

@@ -2,6 +2,7 @@
 that takes no timetable.
 """
 import re
+import typing
 
 from said.words import number_of, time_of
 
@@ -80,11 +81,43 @@ def line_fault(words, lanes):
     return None
 
 
-def is_late(words):
-    if not words or len(words) != 4 or words[0] not in ("late", "late-before"):
-        return False
-    secs = words[3][1:] if words[3].startswith("-") else words[3]
-    return number_of(words[2]) is not None and number_of(secs) is not None
+class Update(typing.NamedTuple):
+    """What a line of a file of delays says of a trip: its seconds are None where it is no delay,
+    its event is where it is a cancellation.
+    """
+
+    trip: str
+    before: bool
+    event: int = None
+    secs: int = None
+
+
+def update_of(words):
+    """What the words of a line say of a trip, or None."""
+    if not words:
+        return None
+    kind, *words = words
+    before = kind == "late-before"
+    kind = "late" if before else kind
+    if words[-1:] == ["day-before"] and len(words) == {"late": 4, "cancel": 2, "skip": 3}.get(kind):
+        if before:
+            return None
+        before = True
+        words.pop()
+    if kind == "cancel" and len(words) == 1:
+        return Update(words[0], before)
+    if kind not in ("late", "skip") or len(words) != (3 if kind == "late" else 2):
+        return None
+    event, secs = number_of(words[1]), seconds_of(words[2]) if kind == "late" else None
+    if event is None or kind == "late" and secs is None:
+        return None
+    return Update(words[0], before, event, secs)
+
+
+def seconds_of(word):
+    """The seconds of a delay, with or without a sign, or None."""
+    number = number_of(word[1:] if word.startswith("-") else word)
+    return number if number is None or not word.startswith("-") else -number
 
 
 def late_fault(text):
@@ -93,7 +126,7 @@ def late_fault(text):
         return "7 TooLarge"
     for number, line in lines_of(text):
         words = words_of(line)
-        if words != [] and not is_late(words):
+        if words != [] and update_of(words) is None:
             return f"5 BadLine line {number}"
     return None
 

@@ -63,7 +63,9 @@ class Texts(unittest.TestCase):
         self.assertEqual("1 BadLine line 1", texts.script_fault(b"ask A B 8:00:00\nlane a\n"))
         self.assertEqual("4 BadTime line 2", texts.script_fault(b"lane a\nask A B 8:00\n"))
         self.assertEqual("2 TooManyLanes line 65", texts.script_fault(b"lane a\n" * 65))
-        self.assertIsNone(texts.late_fault(b"late T1 1 -120\nlate-before T1 0 60"))
+        self.assertIsNone(texts.late_fault(b"late T1 1 -120\nlate-before T1 0 60\ncancel T1"))
+        self.assertIsNone(texts.late_fault(b"late T1 1 9 day-before\nskip day-before 2"))
+        self.assertEqual("5 BadLine line 1", texts.late_fault(b"late-before T1 0 60 day-before"))
         self.assertEqual("5 BadLine line 2", texts.late_fault(b"\nlate T1 1 x\n"))
         self.assertIsNone(texts.claim_fault(b"arrive 08:30:00 rides 1\nwalk A B 60\n"))
         self.assertEqual("1 BadLine line 1", texts.claim_fault(b"walk A B 60\n"))
@@ -114,7 +116,9 @@ class Journeys(unittest.TestCase):
         self.assertEqual("1 UnknownTrip line 2", replies.amend(trips, b"#\nlate T9 0 1\n"))
         self.assertEqual("4 BadEvent line 1", replies.amend(trips, b"late T1 9 1\n"))
         self.assertEqual("2 TimeRunsBack line 1", replies.amend(trips, b"late T1 1 -9999\n"))
-        self.assertIsNone(replies.amend(trips, b"late T1 1 120\n"))
+        self.assertIsNone(replies.amend(trips, b"late T1 1 120\nskip T1 0\ncancel T2"))
+        boards = [[call.board for call in trip.calls] for trip in trips[:2]]
+        self.assertEqual([[False, True, True], [False, False]], boards)
 
 
 class Served(unittest.TestCase):
