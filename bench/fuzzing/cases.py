@@ -66,6 +66,9 @@ class Draw:
         command = self.drawn.choice(COMMANDS)
         words = self.options() + [command, *self.words_behind(command)]
         given = self.given(command)
+        if command == "verify" and self.often(0.6):
+            found, given = self.likely_claim()
+            words = [*words[: words.index("verify") + 1], *found]
         if self.often(0.01):
             words, given = ["city", str(self.drawn.randrange(12))], b""
         if self.often(0.1):
@@ -180,6 +183,27 @@ class Draw:
             return self.sometimes_changed(self.claim())
         return b""
 
+    def ride(self, start=None):
+        """A ride that there may be, from a stop or from any."""
+        names = ("trip_id", "stop_id", "departure_time", "arrival_time")
+        rows = list(zip(*(column(self.feed["stop_times.txt"], name) for name in names)))
+        rows = [[trip, stop, it.zfill(8), at.zfill(8)] for trip, stop, it, at in rows]
+        trip, stop, departure, _ = self.drawn.choice([it for it in rows if start in (None, it[1])])
+        later = [it for it in rows if it[0] == trip and it[3] > departure]
+        _, end, _, arrival = self.drawn.choice(later or rows)
+        return [trip, stop, departure, end, arrival]
+
+    def likely_claim(self):
+        """Words for `verify`, and a claim of one or two rides that may be right."""
+        rides = [self.ride()]
+        if self.often(0.5):
+            rides.append(self.ride(rides[0][3]))
+        begin = "0:00:00" if self.often(0.5) else rides[0][2] or "8:00:00"
+        words = ["f", self.drawn.choice(DATES), rides[0][1], rides[-1][3], begin]
+        lines = [f"arrive {rides[-1][4]} rides {len(rides)}"]
+        lines += [" ".join(("  ride", *ride)) for ride in rides]
+        return words, "\n".join(lines).encode()
+
     def script(self):
         if self.often(0.3):
             return self.maker.texts["script"]
@@ -217,9 +241,11 @@ class Draw:
             stops = self.ends()
             if self.often(0.3):
                 lines.append(f"  walk {stops[0]} {stops[1]} {self.drawn.randrange(200)}")
-            else:
+            elif self.often(0.2):
                 trip = self.drawn.choice(self.trips)
                 lines.append(f"  ride {trip} {stops[0]} {times[0]} {stops[1]} {times[1]}")
+            else:
+                lines.append(" ".join(("  ride", *self.ride())))
         return "\n".join(lines).encode() + b"\n"
 
 

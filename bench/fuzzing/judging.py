@@ -1,8 +1,9 @@
 """What a run of a case may come to, by the documents, and whether it did."""
 import os
 
-from said import answers, feeds, replies, served, texts, words as command_lines
+from said import answers, claims, feeds, replies, served, texts, words as command_lines
 from said.journeys import Options, Timetable
+from said.words import time_of
 
 # A run takes at most so many seconds of processor time: at once, for each byte, for each event of
 # the day and each request.
@@ -30,7 +31,7 @@ class Judge:
         self.is_valid = command_lines.are_valid(case.words)
         self.command, self.rest, self.options = "", [], Options()
         self.feed = self.timetable = None
-        self.days, self.feeds = [], []
+        self.days, self.feeds, self.claim = [], [], None
         if self.is_valid:
             plain = [word.decode() for word in case.words]
             self.command, *self.rest = command_lines.without_options(plain)
@@ -87,7 +88,12 @@ class Judge:
         if unknown is not None:
             right = out.endswith(f"unknown stop {unknown}\n")
             return None if right else f"the answer isn't unknown stop {unknown}"
-        if self.timetable and self.command != "verify":
+        if self.timetable and self.command == "verify":
+            found = [self.timetable.place(name) for name in ends]
+            wanted = claims.verdict(self.timetable, self.claim, *found, time_of(asked[2]))
+            told = numbers_or_text(out)
+            return None if told == wanted else f"the verdict isn't {wanted}"
+        if self.timetable:
             told = replies.told(self.command, out)
             wanted = replies.wanted(self.command, asked, self.timetable)
             return None if told == wanted else f"the answer isn't {wanted}"
@@ -157,6 +163,9 @@ class Judge:
         if self.command != "verify":
             return [(0, "")]
         fault = texts.claim_fault(self.case.given)
+        if self.timetable and fault != "4 TooLong":
+            self.claim = claims.claim_of(self.timetable, self.case.given)
+            return [(9, self.claim) if isinstance(self.claim, str) else (0, "")]
         earlier = [(9, "2 UnknownStop"), (9, "3 NoSuchRide")]
         return [(9, fault), *earlier] if fault else [(0, ""), *earlier]
 
@@ -182,6 +191,12 @@ class Judge:
             return 4, ""
         self.feed, self.events = feed, self.events + feed.events
         return None
+
+
+def numbers_or_text(verdict):
+    """The value that a verdict tells, or itself."""
+    values = replies.numbers_of(answers.OWN_VALUE.findall(verdict))
+    return values[0] if values else verdict.rstrip("\n")
 
 
 def is_place(feed, name):

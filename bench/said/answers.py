@@ -39,6 +39,7 @@ FORMS = {
 }
 # Commands about places may have met a name that no stop and no station has.
 PLACES = ("direct", "ask", "profile", "latest", "reach", "verify", "late")
+OWN_VALUE = re.compile(rf"^no value arrive ({TIME}) rides (\d+)$", re.M)
 VALUE = re.compile(rf"^arrive ({TIME}) rides (\d+)$", re.M)
 
 

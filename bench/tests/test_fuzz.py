@@ -6,7 +6,7 @@ import unittest
 from fuzzing.cases import Case, Maker, lay_out
 from fuzzing.judging import Ended, Judge
 from harness import BEST, DAY, FEEDS, SCRIPT
-from said import answers, feeds, replies, served, texts, words
+from said import answers, claims, feeds, replies, served, texts, words
 from said.journeys import Options, Timetable
 
 
@@ -135,6 +135,26 @@ class Served(unittest.TestCase):
         for other in (out + "more\n", out.replace("08:30:00 rides", "08:31:00 rides"), out[:-11]):
             with self.assertRaises(served.Wrong):
                 self.read(other)
+
+
+class Claims(unittest.TestCase):
+    def verdict(self, text, time=8 * 3600):
+        timetable = Timetable(feeds.check(FEEDS, "f1"), DAY, Options())
+        claim = claims.claim_of(timetable, text.encode())
+        if isinstance(claim, str):
+            return claim
+        return claims.verdict(timetable, claim, ["A"], ["D"], time)
+
+    def test_verdicts(self):
+        legs = "ride T1 A 08:00:00 B 08:10:00\nride T2 B 08:12:00 D 08:30:00\n"
+        claim = f"arrive 08:30:00 rides 2\n{legs}"
+        self.assertEqual("yes", self.verdict(claim))
+        self.assertEqual("no TooEarly leg 0", self.verdict(claim, 8 * 3600 + 1))
+        self.assertEqual("no Apart leg 2", self.verdict(claim + legs))
+        self.assertEqual("no WrongEnd leg 0", self.verdict(claim[: claim.index("ride T2")]))
+        self.assertEqual((8 * 3600 + 1800, 2), self.verdict(claim.replace("rides 2", "rides 3")))
+        self.assertEqual("3 NoSuchRide line 2", self.verdict(claim.replace("T1", "T2")))
+        self.assertEqual("2 UnknownStop line 3", self.verdict(claim.replace("D 08", "Z 08")))
 
 
 class Judging(unittest.TestCase):
