@@ -5,6 +5,7 @@ pub mod RideSteps
 pub mod LineSteps
 pub mod Reading
 pub mod Values
+pub mod Verdicts
 pub mod Going
 pub mod Adding
 pub mod ClaimLegs

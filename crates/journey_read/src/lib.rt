@@ -11,6 +11,7 @@
 #![tactic(auto)]
 
 mod claim;
+pub mod laws;
 mod leg_rules;
 mod legs;
 mod reader;
