@@ -1,24 +1,26 @@
 //! Which trips have had which sequence numbers.
-ghost use Rattle.std.specs.Prelude.{◌≡◌, ◌∷◌, ◌++◌, [], not, IfOk, MatchBool};
+ghost use Rattle.std.specs.Prelude.{◌≡◌, ◌∷◌, ◌++◌, [], not, IfOk, OnOk};
 ghost use Rattle.std.specs.List.{list_any};
 ghost use Rattle.trip_table.specs.References.{same_key};
+ghost use Rattle.trip_table.specs.declared.seen.SequenceKey.{SequenceKey};
 
-use indexmap::IndexSet;
 use std::alloc::Global;
+use std::collections::BTreeSet;
 use std::marker::Model;
 use tb_base::Memory;
 
 /// A trip, by the position of its row in trips.txt, and a sequence number.
-#[derive(Clone, Copy, PartialEq, Eq, Hash)]
+#[derive(Clone, Copy, PartialEq, Eq, PartialOrd, Ord)]
 pub struct SequenceKey {
     pub trip_row: u32,
     pub sequence: u32,
 }
 
-/// The sequence numbers that trips have had.
+/// The sequence numbers that trips have had, told apart by their order: no choice of numbers makes
+/// a look-up slow.
 #[derive(Drop)]
 pub struct SeenKeys {
-    keys: IndexSet<SequenceKey>,
+    keys: BTreeSet<SequenceKey>,
 }
 
 impl Model for SeenKeys {
@@ -36,19 +38,17 @@ impl SeenKeys {
         ensures { result ≡ [] }
     {
         SeenKeys {
-            keys: IndexSet::new(alloc),
+            keys: BTreeSet::new(alloc),
         }
     }
 
     /// Notes that a trip has a number, and answers whether it hadn't had it.
     pub fn add(&mut self, key: SequenceKey) -> Result<bool, Memory>
-        ensures added { IfOk result
-            (λ fresh. MatchBool fresh (self.new ≡ self.old ++ key ∷ []) (self.new ≡ self.old)) }
+        ensures added { OnOk result ((k : SequenceKey) →
+            list_any (same_key k) self.new ≡ list_any (same_key k) (self.old ++ key ∷ [])) }
         ensures fresh { IfOk result (λ fresh. fresh ≡ not (list_any (same_key key) self.old)) }
     {
-        match self.keys.insert_full(key) {
-            Ok((_, fresh)) => Ok(fresh),
-            Err(_) => Err(Memory),
-        }
+        let fresh = self.keys.insert(key)?;
+        Ok(fresh)
     }
 }

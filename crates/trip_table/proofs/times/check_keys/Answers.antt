@@ -1,4 +1,7 @@
-use Rattle.std.proofs.Common.{◌∙◌}
+use Rattle.std.proofs.Common.{◌≡◌, ◌∙◌, ◌++◌, ◌∷◌, [], subst}
+use Rattle.std.specs.List.{list_any}
+use Rattle.trip_table.specs.References.{same_key}
+use Rattle.trip_table.specs.declared.seen.SequenceKey.{SequenceKey}
 use Rattle.trip_table.proofs.NextTime.{IsNext, passes, stands_twice, keys_more}
 use Rattle.trip_table.proofs.times.check_keys.Goals as goal
 
@@ -12,7 +15,7 @@ returns-in-Ok-false c =
 pub loop-row-preserved : goal.loop-row-preserved
 loop-row-preserved c =
     let f = rw c.key_of.ensures at c.in-Ok-true.ensures.fresh in
-    let added = rw (c.key_of.ensures, c.in-Ok-true.field-0-test) at c.in-Ok-true.ensures.added in
+    let added = subst (λ q. (k : SequenceKey) → list_any (same_key k) c.add.new.self ≡ list_any (same_key k) (c.loop-row.seen ++ q ∷ [])) c.key_of.ensures c.in-Ok-true.ensures.added in
     let next : IsNext c.args.stops.now c.args.trips.now c.loop-row.seen c.args.rows.now c.loop-row.row-index c.row-item.result c.in-Ok-true.field-0 =
     record { keys = c.loop-row.invariant.keys; within = c.loop-row-test.true; here = c.row-item.is; good = c.in-None.ensures; told = f } in
     record {
