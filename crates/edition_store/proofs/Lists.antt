@@ -1,6 +1,6 @@
 -- The longer of two beginnings of one history.
-use Rattle.std.proofs.Common.{◌≡◌, ◌<◌, ◌≤◌, ◌⊎◌, List, [], ◌∷◌, ◌++◌, Bool, true, false, length, refl, sym, ap, subst, ◌∙◌, inl, inr, if◌then◌else◌, ◌||◌, arith}
-use Rattle.std.specs.Prelude.{nat_lt, MatchBool, Result, Ok, Err, MatchResult}
+use Rattle.std.proofs.Common.{◌≡◌, ◌+◌, ◌-◌, ◌<◌, ◌≤◌, suc, drop, length-append, ◌⊎◌, List, [], ◌∷◌, ◌++◌, Bool, true, false, length, refl, sym, ap, subst, ◌∙◌, inl, inr, if◌then◌else◌, ◌||◌, arith}
+use Rattle.std.specs.Prelude.{nat_lt, slice_get, Some, MatchBool, Result, Ok, Err, MatchResult}
 use Rattle.std.specs.Result.{is_err}
 use Rattle.std.proofs.Common.{fold}
 use Rattle.std.proofs.lemmas.List.{length-take, take_all}
@@ -8,7 +8,7 @@ use Rattle.std.proofs.lemmas.Bool.{false≢true}
 use Rattle.std.proofs.lemmas.Bool.Decides.{nat_tests}
 use Rattle.history.specs.Lists.{Shown, StartsWith, Extends}
 use Rattle.edition_store.specs.Lists.{is_longer, longer}
-use Rattle.history.proofs.Lists.{starts_self, starts_more, extends_self, extends_open}
+use Rattle.history.proofs.Lists.{rest_of, starts_self, starts_more, extends_self, extends_open}
 
 module _ {A : Type 0} where
   pub extends_longer : (z v w : Shown A) → Extends z v → Extends z w → Extends z (longer v w)
@@ -65,3 +65,25 @@ last_stays (y ∷ xs) s x = last_stays xs y x
 
 pub last_as : {A : Type 0} (xs : List A) (s x : A) (pending : List A) → pending ≡ xs ++ x ∷ [] → fold (λ (_ : A) (y : A). y) s pending ≡ x
 last_as {A = A} xs s x pending e = subst (λ (l : List A). fold (λ (_ : A) (y : A). y) s l ≡ x) (sym e) (last_stays xs s x)
+
+last_of_more : {A : Type 0} (xs rest : List A) (x : A) → length rest ≡ 1 → slice_get (xs ++ rest) (length xs + 1 - 1) ≡ Some x → rest ≡ x ∷ []
+last_of_more [] [] x one e = absurd (omega (arith, one))
+last_of_more [] (y ∷ []) x one e = cc e
+last_of_more [] (y ∷ z ∷ rest) x one e = absurd (omega (arith, one))
+last_of_more (w ∷ xs) rest x one e =
+    let n : length (w ∷ xs) + 1 - 1 ≡ suc (length xs + 1 - 1) = omega arith in
+    last_of_more xs rest x one (subst (λ i. slice_get ((w ∷ xs) ++ rest) i ≡ Some x) n e)
+
+-- a list of one edition is its last one
+pub one_is : {A : Type 0} (xs : List A) (x : A) → length xs ≡ 1 → slice_get xs (length xs - 1) ≡ Some x → x ∷ [] ≡ xs
+one_is xs x one e = sym (last_of_more [] xs x one (subst (λ k. slice_get xs (k - 1) ≡ Some x) one e))
+
+-- of two beginnings of one history, the one that has one edition more is the other one with its last edition
+pub next_is : {A : Type 0} (known all : Shown A) (x : A) → Extends known all ⊎ Extends all known → length all.list ≡ length known.list + 1 → slice_get all.list (length all.list - 1) ≡ Some x → known.list ++ x ∷ [] ≡ all.list
+next_is known all x (inl h) n e = absurd (let le = starts_length known.list all.list h.0 in omega (arith, le, n))
+next_is known all x (inr h) n e =
+    let rest = drop (length known.list) all.list in
+    let is : all.list ≡ known.list ++ rest = rest_of all.list known.list h.0 in
+    let one : length rest ≡ 1 = omega (arith, n, ap length is, length-append known.list rest) in
+    let at : slice_get (known.list ++ rest) (length known.list + 1 - 1) ≡ Some x = subst (λ l. slice_get l (length known.list + 1 - 1) ≡ Some x) is (subst (λ k. slice_get all.list (k - 1) ≡ Some x) n e) in
+    sym (is ∙ ap (λ l. known.list ++ l) (last_of_more known.list rest x one at))

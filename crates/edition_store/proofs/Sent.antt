@@ -47,13 +47,10 @@ module _ (J : RattleType) (g : Ghosts J.Denot) where
   inside_send : (W : RattleType) (s : shows.Ghosts W.Denot) → IsSend W → IsSend (inside.the_row J W g s)
   inside_send W s w =
       let parts : FieldsHave IsSend (inside.the_type J W g s).parts = (
-        search (sendable, crosses) depth 40 fits 100000,
+        search (history_send, sendable) depth 40 fits 100000,
         (
-          search (history_send, sendable) depth 40 fits 100000,
-          (
-            search (content_send, sendable) depth 40 fits 100000,
-            (search (w, sendable) depth 40 fits 100000, tt),
-          ),
+          search (content_send, sendable) depth 40 fits 100000,
+          (search (w, sendable) depth 40 fits 100000, tt),
         ),
       ) in
       declared_send (inside.the_type J W g s) parts

@@ -1,4 +1,4 @@
-ghost use Rattle.std.specs.Prelude.{◌≡◌, ◌<◌, ◌≤◌, true, length, IfOk, MatchBool};
+ghost use Rattle.std.specs.Prelude.{◌≡◌, ◌-◌, ◌<◌, Some, true, length, slice_get, IfOk, MatchBool};
 ghost use Rattle.history.specs.Lists.{Extends};
 ghost use Rattle.edition_store.specs.Lists.{is_longer};
 
@@ -8,31 +8,28 @@ use history::{Front, Naming};
 use left_right::Absorb;
 use std::alloc::AllocError;
 use std::marker::Model;
-use std::sync::Arc;
 use tb_base::Memory;
 
-/// One shared list of editions, of which there are 1 to 100, with the mark that nothing comes after
-/// it: a beginning of the history.
+/// A beginning of the history: a list of editions, with the mark that nothing comes after it. At run
+/// time it is the number of its editions and the last one alone, which is all that keeps an edition.
 #[derive(Drop)]
 pub struct Content<J: Naming> {
-    pub(crate) list: Arc<Vec<Shared>>,
+    pub(crate) number: u32,
+    pub(crate) last: Shared,
     pub(crate) closed: bool,
     pub(crate) front: Front<Edition, J>,
 }
 
 impl<J: Naming> Model for Content<J> {
-    ghost use Rattle.std.specs.Prelude.{◌≡◌, ◌<◌, ◌≤◌, length};
-    ghost use Rattle.std.specs.Arc.{arc_value};
     ghost use Rattle.history.specs.Lists.{Shown};
     ghost use Rattle.edition_store.specs.Editions.{EditionData};
+    ghost use Rattle.edition_store.specs.Lists.{Holds};
 
     ghost Value = { Shown EditionData };
 
-    ghost view = { λ c. record { list = (arc_value c.list).items; closed = c.closed } };
+    ghost view = { λ c. c.front };
 
-    ghost invariant = { λ c.
-        (c.front ≡ record { list = (arc_value c.list).items; closed = c.closed })
-        × (0 < length (arc_value c.list).items) × (length (arc_value c.list).items ≤ 100) };
+    ghost invariant = { λ c. Holds c.front c.number c.last c.closed };
 }
 
 impl<J: Naming> Content<J> {
@@ -41,7 +38,8 @@ impl<J: Naming> Content<J> {
         ensures { IfOk result (λ c. c ≡ self.now) }
     {
         Ok(Content {
-            list: Arc::try_clone(&self.list).map_err(|_| Memory)?,
+            number: self.number,
+            last: self.last.share()?,
             closed: self.closed,
             front: self.front.again(),
         })
@@ -61,12 +59,14 @@ impl<J: Naming> Content<J> {
         ensures { result ≡ front }
     {
         let Content {
-            list,
+            number,
+            last,
             closed: _,
             front: _,
         } = self;
         Content {
-            list,
+            number,
+            last,
             closed: true,
             front,
         }
@@ -79,7 +79,7 @@ impl<J: Naming> Content<J> {
             (Extends self.now other.now) }
     {
         self.front.compare(&other.front);
-        other.closed || self.list.len() < other.list.len()
+        other.closed || self.number < other.number
     }
 
     /// Whether nothing comes after the list.
@@ -90,12 +90,18 @@ impl<J: Naming> Content<J> {
     }
 
     /// How many editions the list has.
-    pub(crate) fn len(&self) -> usize
+    pub(crate) fn number(&self) -> u32
         ensures length { result ≡ length self.now.list }
         ensures some { 0 < result }
-        ensures most { result ≤ 100 }
     {
-        self.list.len()
+        self.number
+    }
+
+    /// The last edition of the list.
+    pub(crate) fn edition(&self) -> &Edition
+        ensures { slice_get self.now.list (length self.now.list - 1) ≡ Some result.now }
+    {
+        self.last.edition()
     }
 }
 

@@ -10,11 +10,13 @@
 //! A `Store` gives one `Publisher`, which appends editions to one list and closes it in the end,
 //! and its seats, which pin the list in other threads and never wait for it: two copies of the list
 //! are kept, and readers are moved from one to the other (`left_right`). What is pinned stays as it
-//! is for as long as it is held. To the layer above the crate promises that a pinned list begins
-//! with all that its seat has pinned or learned before, and that the whole list, once the seat
-//! learns it, begins with what it pinned. What is pinned was published: the publisher's list begins
-//! with it. A seat that has learned the whole list pins that. Which list a seat that learned
-//! nothing meets, and when, it does not promise. The types of one store carry its name `J`.
+//! is for as long as it is held. Of a list no more than its number of editions and the last one are
+//! kept, so that an edition goes with the last who holds it; a `Shelf` keeps all of a list. To the
+//! layer above the crate promises that a pinned list begins with all that its seat has pinned or
+//! learned before, and that the whole list, once the seat learns it, begins with what it pinned.
+//! What is pinned was published: the publisher's list begins with it. A seat that has learned the
+//! whole list pins that. Which list a seat that learned nothing meets, and when, it does not
+//! promise. The types of one store carry its name `J`.
 #![tactic(auto)]
 
 mod content;
@@ -25,6 +27,7 @@ mod publisher;
 mod rule;
 mod seat;
 mod shared;
+mod shelf;
 mod store;
 
 pub use edition::Edition;
@@ -33,4 +36,5 @@ pub use pinned::{Last, Pinned, Receipt};
 pub use publisher::Publisher;
 pub use seat::Seat;
 pub use shared::Shared;
+pub use shelf::Shelf;
 pub use store::Store;

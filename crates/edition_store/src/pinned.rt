@@ -1,5 +1,4 @@
-ghost use Rattle.std.specs.Prelude.{◌≡◌, ◌⊎◌, ◌-◌, ◌<◌, true, length, slice_get};
-ghost use Rattle.std.specs.Prelude.{IfSome, IfNone, Some};
+ghost use Rattle.std.specs.Prelude.{◌≡◌, ◌⊎◌, ◌-◌, Some, true, length, slice_get};
 ghost use Rattle.history.specs.Lists.{Shown, Extends};
 
 use crate::content::Content;
@@ -60,27 +59,14 @@ impl<J: Naming> Pinned<J> {
     pub fn number(&self) -> u32
         ensures { result ≡ length self.now.list }
     {
-        self.content.len() as u32
+        self.content.number()
     }
 
     /// The last edition of the list.
     pub fn edition(&self) -> &Edition
         ensures { slice_get self.now.list (length self.now.list - 1) ≡ Some result.now }
     {
-        let last = self.content.len() - 1;
-        self.content.list[last].edition()
-    }
-
-    /// The edition of this number, from 1. `None` for 0 and for numbers past the list's end.
-    pub fn earlier(&self, number: u32) -> Option<&Edition>
-        ensures some { IfSome result
-            (λ e. (0 < number) × (slice_get self.now.list (number - 1) ≡ Some e.now)) }
-        ensures none { IfNone result ((number ≡ 0) ⊎ (length self.now.list < number)) }
-    {
-        if number == 0 || number as usize > self.content.len() {
-            return None;
-        }
-        Some(self.content.list[number as usize - 1].edition())
+        self.content.edition()
     }
 
     /// Of two pinned lists of one store one extends the other. Does nothing.
@@ -96,7 +82,7 @@ impl<J: Naming> Last<J> {
     pub fn number(&self) -> u32
         ensures { result ≡ length self.now }
     {
-        self.content.len() as u32
+        self.content.number()
     }
 
     /// The whole list extends each pinned one. Does nothing.

@@ -1,5 +1,4 @@
-ghost use Rattle.std.specs.Prelude.{◌≡◌, ◌<◌, [], ◌∷◌, ◌++◌, length, false, IfOk};
-ghost use Rattle.std.specs.Arc.{arc_value};
+ghost use Rattle.std.specs.Prelude.{◌≡◌, ◌-◌, ◌^◌, ◌<◌, [], ◌∷◌, ◌++◌, length, false, IfOk};
 ghost use Rattle.history.specs.Lists.{Shown, Extends};
 
 use crate::content::Content;
@@ -9,9 +8,8 @@ use crate::rule::{Kept, Sees, View};
 use crate::shared::Shared;
 use history::{History, Naming};
 use left_right::writer::Writer;
-use std::alloc::Global;
 use std::marker::Model;
-use std::sync::{Arc, Wait};
+use std::sync::Wait;
 use tb_base::Memory;
 
 /// The writer's side of two copies, each of whose operations is a whole value.
@@ -33,7 +31,6 @@ impl<J: Naming> Shows for Writer<Content<J>, Content<J>, View, Kept> {
 /// struct's field can't have the type of the writer itself, since a `Content<J>` absorbs by a
 /// generic impl.)
 pub struct Publishing<J: Naming, W: Shows> {
-    alloc: Global,
     history: History<Edition, J>,
     kept: Content<J>,
     writer: W,
@@ -54,43 +51,24 @@ impl<J: Naming, W: Shows> Model for Publishing<J, W> {
 /// The one who publishes, which contracts see as its list. It can't be dropped: `finish` ends it.
 pub type Publisher<J> = Publishing<J, Writing<Content<J>>>;
 
-// The list with one more edition.
-fn with_edition(
-    alloc: Global,
-    now: &Vec<Shared>,
-    edition: Shared,
-) -> Result<Arc<Vec<Shared>>, Memory>
-    ensures { IfOk result (λ v. (arc_value v).items ≡ now.now.items ++ edition ∷ []) }
-{
-    let mut list = Vec::new(alloc);
-    for shared in now.iter() {
-        list.push(shared.share()?)?;
-    }
-    list.push(edition)?;
-    Ok(Arc::new(alloc, list)?)
-}
-
 // The list with one more edition, which the history has then too.
 fn grown<J: Naming>(
-    alloc: Global,
     history: &mut History<Edition, J>,
     now: &Content<J>,
     edition: Shared,
-) -> Result<Content<J>, Memory>
+) -> Content<J>
     requires same { now.now ≡ history.old }
-    requires room { length now.now.list < 100 }
+    requires room { length now.now.list < 2 ^ 32 - 1 }
     ensures history { history.new ≡
         record { list = history.old.list ++ edition ∷ []; closed = false } }
-    ensures list { IfOk result (λ c. c ≡ history.new) }
+    ensures list { result ≡ history.new }
 {
     history.publish(edition.edition());
-    match with_edition(alloc, &now.list, edition) {
-        Ok(list) => Ok(Content {
-            list,
-            closed: false,
-            front: history.front(),
-        }),
-        Err(Memory) => Err(Memory),
+    Content {
+        number: now.number() + 1,
+        last: edition,
+        closed: false,
+        front: history.front(),
     }
 }
 
@@ -125,7 +103,6 @@ fn show<J: Naming, R: Wait>(
 // The publisher of a list that its history has, which readers aren't shown yet; and a receipt.
 fn turned<J: Naming, R: Wait>(
     rt: &R,
-    alloc: Global,
     history: History<Edition, J>,
     writer: Writing<Content<J>>,
     content: Content<J>,
@@ -140,7 +117,7 @@ fn turned<J: Naming, R: Wait>(
         Ok((next, told)) => match show(rt, writer, next) {
             Ok(writer) => {
                 let receipt = Receipt { content: told };
-                Ok((Publishing::over(alloc, history, content, writer), receipt))
+                Ok((Publishing::over(history, content, writer), receipt))
             }
             Err(Memory) => {
                 drop(history);
@@ -160,7 +137,6 @@ fn turned<J: Naming, R: Wait>(
 
 impl<J: Naming> Publishing<J, Writing<Content<J>>> {
     pub(crate) fn over(
-        alloc: Global,
         history: History<Edition, J>,
         kept: Content<J>,
         writer: Writing<Content<J>>,
@@ -171,7 +147,6 @@ impl<J: Naming> Publishing<J, Writing<Content<J>>> {
         ensures { result ≡ history.list }
     {
         Publishing {
-            alloc,
             history,
             kept,
             writer,
@@ -182,7 +157,7 @@ impl<J: Naming> Publishing<J, Writing<Content<J>>> {
     pub fn count(&self) -> u32
         ensures { result ≡ length self.now }
     {
-        self.kept.len() as u32
+        self.kept.number()
     }
 
     /// A list that was pinned was published: the publisher's list begins with it by now. Changes
@@ -203,27 +178,19 @@ impl<J: Naming> Publishing<J, Writing<Content<J>>> {
         rt: &R,
         edition: Shared,
     ) -> Result<(Publisher<J>, Receipt<J>), Memory>
-        requires room { length self < 100 }
+        requires room { length self < 2 ^ 32 - 1 }
         ensures list { IfOk result (λ t. t.0 ≡ self ++ edition ∷ []) }
         ensures receipt { IfOk result (λ t. t.1 ≡
             record { list = self ++ edition ∷ []; closed = false }) }
     {
         let Publishing {
-            alloc,
             mut history,
             kept,
             writer,
         } = self;
-        let grown = grown(alloc, &mut history, &kept, edition);
+        let content = grown(&mut history, &kept, edition);
         drop(kept);
-        match grown {
-            Ok(content) => turned(rt, alloc, history, writer, content),
-            Err(Memory) => {
-                hide(rt, writer);
-                drop(history);
-                Err(Memory)
-            }
-        }
+        turned(rt, history, writer, content)
     }
 
     /// Closes the list, to which nothing is added any more, and gives all of it. From then on no
@@ -235,7 +202,6 @@ impl<J: Naming> Publishing<J, Writing<Content<J>>> {
         ensures { IfOk result (λ l. l ≡ self) }
     {
         let Publishing {
-            alloc: _,
             history,
             kept,
             writer,

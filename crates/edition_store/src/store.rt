@@ -1,5 +1,4 @@
 ghost use Rattle.std.specs.Prelude.{◌≡◌, ◌<◌, ◌≤◌, [], ◌∷◌, ◌++◌, replicate, true, false, IfOk, OnOk};
-ghost use Rattle.std.specs.Arc.{arc_value};
 ghost use Rattle.edition_store.specs.Rules.{IsFirst};
 
 use crate::content::Content;
@@ -10,20 +9,10 @@ use crate::shared::Shared;
 use history::{History, Naming, Opened};
 use left_right::writer::Writer;
 use std::alloc::Global;
-use std::sync::Arc;
 use tb_base::Memory;
 
 /// A list of editions that is published while others read it.
 pub struct Store;
-
-// The list of one edition.
-fn alone(alloc: Global, first: Shared) -> Result<Arc<Vec<Shared>>, Memory>
-    ensures { IfOk result (λ v. (arc_value v).items ≡ first ∷ []) }
-{
-    let mut list = Vec::new(alloc);
-    list.push(first)?;
-    Ok(Arc::new(alloc, list)?)
-}
 
 // One more seat that keeps the list, and has no reader yet.
 fn add_keeper<J: Naming>(keepers: &mut Vec<Seat<J>>, first: &Content<J>) -> Result<(), Memory>
@@ -99,7 +88,6 @@ fn places<J: Naming>(
 
 // The history of one edition, and the list. `opened` has the name of the store.
 fn begun<J: Naming>(
-    alloc: Global,
     opened: Opened<Edition>,
     first: Shared,
 ) -> Result<(History<Edition, J>, Content<J>), Memory>
@@ -111,21 +99,14 @@ fn begun<J: Naming>(
         drop(first);
         return Err(Memory);
     };
-    match alone(alloc, first) {
-        Ok(list) => {
-            let front = history.front();
-            let content = Content {
-                list,
-                closed: false,
-                front,
-            };
-            Ok((history, content))
-        }
-        Err(Memory) => {
-            drop(history);
-            Err(Memory)
-        }
-    }
+    let front = history.front();
+    let content = Content {
+        number: 1,
+        last: first,
+        closed: false,
+        front,
+    };
+    Ok((history, content))
 }
 
 impl Store {
@@ -145,11 +126,9 @@ impl Store {
         ensures seats { IfOk result (λ t. t.1.items ≡
             replicate seats (record { list = first ∷ []; closed = false })) }
     {
-        let (history, content) = begun::<J>(alloc, opened, first)?;
+        let (history, content) = begun::<J>(opened, first)?;
         match places(&content, alloc, seats) {
-            Ok((writer, places)) => {
-                Ok((Publishing::over(alloc, history, content, writer), places))
-            }
+            Ok((writer, places)) => { Ok((Publishing::over(history, content, writer), places)) }
             Err(Memory) => {
                 drop(history);
                 drop(content);
@@ -162,15 +141,11 @@ impl Store {
     /// its publisher has finished and the seat has learned the end. Nobody publishes, so nothing
     /// waits. `opened` has the store's name, as in `new`. Refused only for want of memory; the
     /// edition is dropped then.
-    pub fn closed<J: Naming>(
-        alloc: Global,
-        opened: Opened<Edition>,
-        only: Shared,
-    ) -> Result<Seat<J>, Memory>
+    pub fn closed<J: Naming>(opened: Opened<Edition>, only: Shared) -> Result<Seat<J>, Memory>
         requires { opened.seen.book ≡ J.book }
         ensures { IfOk result (λ s. s ≡ record { list = only ∷ []; closed = true }) }
     {
-        let (history, content) = begun::<J>(alloc, opened, only)?;
+        let (history, content) = begun::<J>(opened, only)?;
         Ok(Seat::keeping(content.closed_by(history.finish())))
     }
 }

@@ -83,8 +83,8 @@ first_outcome files options [] d e some h = absurd (omega arith)
 first_outcome files options (x ∷ xs) d e some h = (h, refl, tt)
 
 -- an item that was refused adds no edition
-pub took_fault : (files : Option FileList) (options : Options) (item : ItemData) (es : List EditionData) (os told : List Outcome) (f : FeedFault)
-    (result : Result (List EditionData) Stop) → ItemGives files options item (Err f) → IfOk result (λ p. p ≡ es) →
-    IfOk result (λ _. told ≡ os ++ Refused f ∷ []) → IfOk result (λ p. Takes files options item es p os told)
-took_fault files options item es os told f (Ok p) gives same more = ([], Refused f, same ∙ sym (append-nil es), more, (gives, tt))
-took_fault files options item es os told f (Err e) gives same more = tt
+pub took_fault : {P : Type 0} (list : P → List EditionData) (files : Option FileList) (options : Options) (item : ItemData) (es : List EditionData) (os told : List Outcome)
+    (f : FeedFault) (result : Result P Stop) → ItemGives files options item (Err f) → IfOk result (λ p. list p ≡ es) →
+    IfOk result (λ _. told ≡ os ++ Refused f ∷ []) → IfOk result (λ p. Takes files options item es (list p) os told)
+took_fault list files options item es os told f (Ok p) gives same more = ([], Refused f, same ∙ sym (append-nil es), more, (gives, tt))
+took_fault list files options item es os told f (Err e) gives same more = tt

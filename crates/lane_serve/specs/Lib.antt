@@ -3,4 +3,5 @@ pub mod Lanes
 pub mod Plans
 pub mod Served
 pub mod Seats
+pub mod Sides
 pub mod Texts

@@ -14,6 +14,7 @@
 
 mod lane;
 mod plan;
+mod publishing;
 mod reply;
 mod run;
 mod said;

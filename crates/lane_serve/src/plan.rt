@@ -4,8 +4,9 @@ ghost use Rattle.lane_serve.specs.Plans.{AreOutcomes, BeginsPublished, HasStoppe
 ghost use Rattle.lane_serve.specs.declared.plan.Outcome.TheVariants.{Refused};
 ghost use Rattle.lane_serve.specs.declared.plan.Stop.TheVariants as stop;
 
+use crate::publishing::Publishes;
 use edition_build::build_edition;
-use edition_store::{Edition, Naming, Publisher, Shared};
+use edition_store::{Edition, Shared};
 use footpaths::Options;
 use gtfs_rows::FeedFault;
 use service_day::Day;
@@ -134,53 +135,41 @@ pub(crate) fn first_outcome(alloc: Global, edition: &Edition) -> Result<Vec<Outc
 }
 
 // Publishes the edition of item i. The gate is told just before and right after.
-fn publish<J: Naming, G: Gate, R: Wait>(
+fn publish<P: Publishes, G: Gate, R: Wait>(
     rt: &R,
     gate: &G,
     i: u32,
     edition: Shared,
-    publisher: Publisher<J>,
-) -> Result<Publisher<J>, Memory>
-    requires { length publisher < 100 }
-    ensures { IfOk result (λ p. p ≡ publisher ++ edition ∷ []) }
+    publisher: P,
+) -> Result<P, Memory>
+    requires { length (P.list publisher) < 100 }
+    ensures { IfOk result (λ p. P.list p ≡ P.list publisher ++ edition ∷ []) }
 {
     gate.begin(Work::Publication(i));
-    let published = publisher.publish(rt, edition);
+    let published = publisher.with_edition(rt, edition);
     gate.done(Work::Publication(i));
-    match published {
-        Ok((publisher, receipt)) => {
-            drop(receipt);
-            Ok(publisher)
-        }
-        Err(Memory) => Err(Memory),
-    }
-}
-
-// Ends a list of which nothing is asked any more. What it gives is dropped by a call: at the end of
-// a scope each part of it would be dropped by itself, and the proof would go through all of them.
-pub(crate) fn end<J: Naming, R: Wait>(rt: &R, publisher: Publisher<J>) {
-    drop(publisher.finish(rt));
+    published
 }
 
 // Publishes item i, with its outcome.
-fn take_edition<J: Naming, G: Gate, R: Wait>(
+fn take_edition<P: Publishes, G: Gate, R: Wait>(
     rt: &R,
     gate: &G,
     i: u32,
     edition: Shared,
     outcomes: &mut Vec<Outcome>,
-    publisher: Publisher<J>,
-) -> Result<Publisher<J>, Stop>
-    requires { length publisher < 100 }
-    ensures list { IfOk result (λ p. p ≡ publisher ++ edition ∷ []) }
+    publisher: P,
+) -> Result<P, Stop>
+    requires { length (P.list publisher) < 100 }
+    ensures list { IfOk result (λ p. P.list p ≡ P.list publisher ++ edition ∷ []) }
     ensures outcome { IfOk result (λ _. outcomes.new.items
-        ≡ outcomes.old.items ++ outcome_of (length publisher + 1) edition ∷ []) }
+        ≡ outcomes.old.items ++ outcome_of (length (P.list publisher) + 1) edition ∷ []) }
     ensures stop { IfErr result (λ e. e ≡ stop.Memory) }
 {
-    let outcome = outcome_of(publisher.count() + 1, edition.edition());
+    let outcome = outcome_of(publisher.number() + 1, edition.edition());
     if outcomes.push(outcome).is_err() {
         drop(edition);
-        end(rt, publisher);
+        publisher.end(rt);
         return Err(Stop::Memory);
     }
     match publish(rt, gate, i, edition, publisher) {
@@ -190,26 +179,26 @@ fn take_edition<J: Naming, G: Gate, R: Wait>(
 }
 
 // Refuses an item.
-fn take_fault<J: Naming, R: Wait>(
+fn take_fault<P: Publishes, R: Wait>(
     rt: &R,
     fault: FeedFault,
     outcomes: &mut Vec<Outcome>,
-    publisher: Publisher<J>,
-) -> Result<Publisher<J>, Stop>
-    ensures list { IfOk result (λ p. p ≡ publisher) }
+    publisher: P,
+) -> Result<P, Stop>
+    ensures list { IfOk result (λ p. P.list p ≡ P.list publisher) }
     ensures outcome { IfOk result (λ _. outcomes.new.items
         ≡ outcomes.old.items ++ Refused fault ∷ []) }
     ensures stop { IfErr result (λ e. e ≡ stop.Memory) }
 {
     if outcomes.push(Outcome::Refused(fault)).is_err() {
-        end(rt, publisher);
+        publisher.end(rt);
         return Err(Stop::Memory);
     }
     Ok(publisher)
 }
 
 // Reads, builds and publishes item i, or refuses it.
-fn take_item<J: Naming, F: Folder, G: Gate, R: Threads + Wait + Sync>(
+fn take_item<P: Publishes, F: Folder, G: Gate, R: Threads + Wait + Sync>(
     rt: &R,
     alloc: Global,
     gate: &G,
@@ -218,22 +207,22 @@ fn take_item<J: Naming, F: Folder, G: Gate, R: Threads + Wait + Sync>(
     i: u32,
     item: &PlanItem,
     outcomes: &mut Vec<Outcome>,
-    publisher: Publisher<J>,
-) -> Result<Publisher<J>, Stop>
+    publisher: P,
+) -> Result<P, Stop>
     requires building { IsGoodBuilding building }
     requires count { F.faults folder.old < 2 ^ 64 - 1 }
-    requires room { length publisher < 100 }
+    requires room { length (P.list publisher) < 100 }
     ensures files { F.files folder.new ≡ F.files folder.old }
     ensures faults { IfOk result (λ _. F.faults folder.new ≡ F.faults folder.old) }
     ensures stop { IfErr result (HasStopped (F.faults folder.old) (F.faults folder.new)) }
     ensures taken { IfOk result (λ p. Takes (F.files folder.old) building.options item.now
-        publisher p outcomes.old.items outcomes.new.items) }
+        (P.list publisher) (P.list p) outcomes.old.items outcomes.new.items) }
 {
     match build_item(rt, alloc, gate, building, folder, item) {
         Ok(Built::Edition(edition)) => take_edition(rt, gate, i, edition, outcomes, publisher),
         Ok(Built::Refused(fault)) => take_fault(rt, fault, outcomes, publisher),
         Err(stop) => {
-            end(rt, publisher);
+            publisher.end(rt);
             Err(stop)
         }
     }
@@ -241,7 +230,7 @@ fn take_item<J: Naming, F: Folder, G: Gate, R: Threads + Wait + Sync>(
 
 // Reads, builds and publishes the plan's further items in order, behind the first one, which is
 // published.
-pub(crate) fn publish_rest<J: Naming, F: Folder, G: Gate, R: Threads + Wait + Sync>(
+pub(crate) fn publish_rest<P: Publishes, F: Folder, G: Gate, R: Threads + Wait + Sync>(
     rt: &R,
     alloc: Global,
     gate: &G,
@@ -249,19 +238,19 @@ pub(crate) fn publish_rest<J: Naming, F: Folder, G: Gate, R: Threads + Wait + Sy
     folder: &mut F,
     plan: &[PlanItem],
     outcomes: &mut Vec<Outcome>,
-    publisher: Publisher<J>,
-) -> Result<Publisher<J>, Stop>
+    publisher: P,
+) -> Result<P, Stop>
     requires building { IsGoodBuilding building }
     requires count { F.faults folder.old < 2 ^ 64 - 1 }
     requires plan { length plan.now ≤ 100 }
     requires first { AreOutcomes (F.files folder.old) building.options 0 (take 1 plan.now)
-        outcomes.old.items publisher }
+        outcomes.old.items (P.list publisher) }
     requires begins { BeginsPublished outcomes.old.items }
     ensures files { F.files folder.new ≡ F.files folder.old }
     ensures faults { IfOk result (λ _. F.faults folder.new ≡ F.faults folder.old) }
     ensures stop { IfErr result (HasStopped (F.faults folder.old) (F.faults folder.new)) }
-    ensures outcomes { IfOk result (AreOutcomes (F.files folder.old) building.options 0 plan.now
-        outcomes.new.items) }
+    ensures outcomes { IfOk result (λ p. AreOutcomes (F.files folder.old) building.options 0
+        plan.now outcomes.new.items (P.list p)) }
     ensures begins { IfOk result (λ _. BeginsPublished outcomes.new.items) }
 {
     let mut publisher = publisher;

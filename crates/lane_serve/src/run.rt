@@ -4,16 +4,18 @@ ghost use Rattle.std.specs.Thread.{IsSync};
 ghost use Rattle.gtfs_rows.specs.declared.fault.FeedFault.{FeedFault};
 ghost use Rattle.footpaths.specs.Limits.{AreWithinADay};
 ghost use Rattle.tb_base.specs.Workers.{AreWorkers};
-ghost use Rattle.lane_serve.specs.Plans.{AreOutcomes, BeginsPublished, HasStopped, IsGoodBuilding, outcome_of};
+ghost use Rattle.lane_serve.specs.Plans.{AreOutcomes, HasStopped, IsGoodBuilding, outcome_of};
 ghost use Rattle.lane_serve.specs.Script.{HasTimes, IsScript, LaneData};
 ghost use Rattle.lane_serve.specs.Seats.{HaveRun};
+ghost use Rattle.lane_serve.specs.Sides.{HasTaken, PublisherSideData};
 ghost use Rattle.lane_serve.specs.Lanes.{IsLaneRun};
 ghost use Rattle.lane_serve.specs.Served.{AreServed, FirstGives, HasRun, IsServeFault, IsServed, IsServedLane, ServedData, TellsFault, fault_for};
 
 use crate::lane::{LaneReport, ReplyText, close_lane, run_lane};
 use crate::plan::{
-    Building, Built, Outcome, PlanItem, Stop, build_item, end, first_outcome, publish_rest,
+    Building, Built, Outcome, PlanItem, Stop, build_item, first_outcome, publish_rest,
 };
+use crate::publishing::Publishes;
 use crate::script::{Lane, Script};
 use edition_store::{Edition, Last, Naming, Opened, Publisher, Seat, Shared, Store};
 use footpaths::Options;
@@ -114,142 +116,145 @@ fn run_lanes<J: Naming + Send + Sync, G: Gate, R: Threads + Sync>(
     );
 }
 
-// Takes the publisher out of its place, which is empty afterwards, and publishes.
-fn publish_side<J: Naming, F: Folder, G: Gate, R: Threads + Wait + Sync>(
-    rt: &R,
+// The publisher's side of a run: a plan, how its feeds are read and built, and what became of its
+// items so far.
+#[derive(Drop)]
+struct PublisherSide<'p> {
     alloc: Global,
-    gate: &G,
     building: Building,
+    plan: &'p [PlanItem],
+    outcomes: Vec<Outcome>,
+}
+
+impl<'p> Model for PublisherSide<'p> {
+    ghost use Rattle.std.specs.Prelude.{◌≤◌, length};
+    ghost use Rattle.lane_serve.specs.Plans.{IsGoodBuilding};
+    ghost use Rattle.lane_serve.specs.Sides.{PublisherSideData};
+
+    ghost Value = { PublisherSideData };
+
+    ghost view = { λ s. record {
+      building = s.building;
+      plan = s.plan.now;
+      outcomes = s.outcomes.items;
+    } };
+
+    ghost invariant = { λ s. IsGoodBuilding s.building × (length s.plan.now ≤ 100) };
+}
+
+// Takes the publisher out of its place, which is empty afterwards, and publishes.
+fn publish_side<P: Publishes, F: Folder, G: Gate, R: Threads + Wait + Sync>(
+    rt: &R,
+    gate: &G,
     folder: &mut F,
-    plan: &[PlanItem],
-    outcomes: &mut Vec<Outcome>,
-    slot: &mut Option<Publisher<J>>,
-) -> Result<Publisher<J>, Stop>
-    requires building { IsGoodBuilding building }
+    side: &mut PublisherSide<'_>,
+    slot: &mut Option<P>,
+) -> Result<P, Stop>
     requires count { F.faults folder.old < 2 ^ 64 - 1 }
-    requires plan { length plan.now ≤ 100 }
     requires slot { IsSome slot.old }
-    requires first { IfSome slot.old (AreOutcomes (F.files folder.old) building.options 0
-        (take 1 plan.now) outcomes.old.items) }
-    requires begins { BeginsPublished outcomes.old.items }
+    requires first { IfSome slot.old (λ p. HasTaken (F.files folder.old)
+        side.old.building.options (take 1 side.old.plan) side.old.outcomes (P.list p)) }
     ensures files { F.files folder.new ≡ F.files folder.old }
     ensures faults { IfOk result (λ _. F.faults folder.new ≡ F.faults folder.old) }
     ensures stop { IfErr result (HasStopped (F.faults folder.old) (F.faults folder.new)) }
-    ensures outcomes { IfOk result (AreOutcomes (F.files folder.old) building.options 0 plan.now
-        outcomes.new.items) }
-    ensures begins { IfOk result (λ _. BeginsPublished outcomes.new.items) }
+    ensures all { IfOk result (λ p. HasTaken (F.files folder.old) side.old.building.options
+        side.old.plan side.new.outcomes (P.list p)) }
     ensures taken { IsNone slot.new }
 {
     let Some(publisher) = slot.take() else {
         unreachable!()
     };
-    publish_rest(rt, alloc, gate, building, folder, plan, outcomes, publisher)
+    publish_rest(
+        rt,
+        side.alloc,
+        gate,
+        side.building,
+        folder,
+        side.plan,
+        &mut side.outcomes,
+        publisher,
+    )
 }
 
-// The two sides: at once, where a thread can be started.
-fn both<J: Naming + Send + Sync, F: Folder, G: Gate, R: Threads + Wait + Sync>(
+// Runs the lanes and does something beside them: at once, where a thread can be started.
+fn run_beside<J: Naming + Send + Sync, G: Gate, R: Threads + Sync, T, B: FnMut() -> T>(
     rt: &R,
     alloc: Global,
     gate: &G,
-    building: Building,
-    folder: &mut F,
-    plan: &[PlanItem],
-    outcomes: &mut Vec<Outcome>,
-    slot: &mut Option<Publisher<J>>,
     lanes: &[Lane],
     seats: &mut [Seated<J>],
-) -> Result<Publisher<J>, Stop>
-    requires building { IsGoodBuilding building }
-    requires count { F.faults folder.old < 2 ^ 64 - 1 }
-    requires plan { length plan.now ≤ 100 }
-    requires slot { IsSome slot.old }
-    requires first { IfSome slot.old (AreOutcomes (F.files folder.old) building.options 0
-        (take 1 plan.now) outcomes.old.items) }
-    requires begins { BeginsPublished outcomes.old.items }
+    beside: &mut B,
+) -> T
     requires lanes { IsScript lanes.now }
     requires seats { length seats.old ≡ length lanes.now }
-    ensures files { F.files folder.new ≡ F.files folder.old }
-    ensures faults { IfOk result (λ _. F.faults folder.new ≡ F.faults folder.old) }
-    ensures stop { IfErr result (HasStopped (F.faults folder.old) (F.faults folder.new)) }
-    ensures outcomes { IfOk result (AreOutcomes (F.files folder.old) building.options 0 plan.now
-        outcomes.new.items) }
-    ensures begins { IfOk result (λ _. BeginsPublished outcomes.new.items) }
-    ensures taken { IsNone slot.new }
+    requires beside { B.pre beside.old }
+    ensures beside { B.step beside.old result beside.new }
     ensures run { HaveRun lanes.now seats.new }
 {
-    let ((), published) = join_mut(
+    let ((), done) = join_mut(
         rt,
         &mut ||
             requires { IsScript lanes.now × (length seats.now ≡ length lanes.now) × IsSync R.row }
             ensures { HaveRun lanes.entry.now seats.exit.now }
         { run_lanes(rt, alloc, gate, lanes, seats) },
-        &mut || -> Result<Publisher<J>, Stop>
-            requires { IsGoodBuilding building
-                × (F.faults folder.now < 2 ^ 64 - 1) × (length plan.now ≤ 100) × IsSome slot.now
-                × IfSome slot.now (AreOutcomes (F.files folder.now) building.options 0
-                (take 1 plan.now) outcomes.now.items) × BeginsPublished outcomes.now.items }
-            ensures { (F.files folder.exit.now ≡ F.files folder.entry.now)
-                × IfOk result (λ _. F.faults folder.exit.now ≡ F.faults folder.entry.now)
-                × IfErr result (HasStopped (F.faults folder.entry.now) (F.faults folder.exit.now))
-                × IfOk result (AreOutcomes (F.files folder.entry.now) building.options 0
-                plan.entry.now outcomes.exit.now.items)
-                × IfOk result (λ _. BeginsPublished outcomes.exit.now.items)
-                × IsNone slot.exit.now }
-        { publish_side(rt, alloc, gate, building, folder, plan, outcomes, slot) },
+        beside,
     );
-    published
+    done
 }
 
 // A publisher's place, from which it was taken.
-fn let_go<J: Naming, R: Wait>(rt: &R, slot: Option<Publisher<J>>)
+fn let_go<P: Publishes, R: Wait>(rt: &R, slot: Option<P>)
     requires { IsNone slot }
 {
     if let Some(publisher) = slot {
-        end(rt, publisher);
+        publisher.end(rt);
     }
 }
 
-// The two sides, and then the end.
-fn sides<J: Naming + Send + Sync, F: Folder, G: Gate, R: Threads + Wait + Sync>(
+// The two sides.
+fn sides<P: Publishes, J: Naming + Send + Sync, F: Folder, G: Gate, R: Threads + Wait + Sync>(
     rt: &R,
-    alloc: Global,
     gate: &G,
-    building: Building,
     folder: &mut F,
-    plan: &[PlanItem],
-    outcomes: &mut Vec<Outcome>,
-    publisher: Publisher<J>,
+    side: &mut PublisherSide<'_>,
+    publisher: P,
     lanes: &[Lane],
     seats: &mut [Seated<J>],
-) -> Result<Last<J>, Stop>
-    requires building { IsGoodBuilding building }
+) -> Result<P, Stop>
     requires count { F.faults folder.old < 2 ^ 64 - 1 }
-    requires plan { length plan.now ≤ 100 }
-    requires first { AreOutcomes (F.files folder.old) building.options 0 (take 1 plan.now)
-        outcomes.old.items publisher }
-    requires begins { BeginsPublished outcomes.old.items }
+    requires first { HasTaken (F.files folder.old) side.old.building.options
+        (take 1 side.old.plan) side.old.outcomes (P.list publisher) }
     requires lanes { IsScript lanes.now }
     requires seats { length seats.old ≡ length lanes.now }
     ensures files { F.files folder.new ≡ F.files folder.old }
     ensures faults { IfOk result (λ _. F.faults folder.new ≡ F.faults folder.old) }
     ensures stop { IfErr result (HasStopped (F.faults folder.old) (F.faults folder.new)) }
-    ensures outcomes { IfOk result (AreOutcomes (F.files folder.old) building.options 0 plan.now
-        outcomes.new.items) }
-    ensures begins { IfOk result (λ _. BeginsPublished outcomes.new.items) }
+    ensures all { IfOk result (λ p. HasTaken (F.files folder.old) side.old.building.options
+        side.old.plan side.new.outcomes (P.list p)) }
     ensures run { HaveRun lanes.now seats.new }
 {
+    let alloc = side.alloc;
     let mut slot = Some(publisher);
-    let published = both(
-        rt, alloc, gate, building, folder, plan, outcomes, &mut slot, lanes, seats,
+    let published = run_beside(
+        rt,
+        alloc,
+        gate,
+        lanes,
+        seats,
+        &mut || -> Result<P, Stop>
+            requires { (F.faults folder.now < 2 ^ 64 - 1) × IsSome slot
+                × IfSome slot (λ p. HasTaken (F.files folder.now) side.now.building.options
+                (take 1 side.now.plan) side.now.outcomes (P.list p)) }
+            ensures { (F.files folder.exit.now ≡ F.files folder.entry.now)
+                × IfOk result (λ _. F.faults folder.exit.now ≡ F.faults folder.entry.now)
+                × IfErr result (HasStopped (F.faults folder.entry.now) (F.faults folder.exit.now))
+                × IfOk result (λ p. HasTaken (F.files folder.entry.now)
+                side.entry.now.building.options side.entry.now.plan side.exit.now.outcomes
+                (P.list p)) × IsNone slot.exit }
+        { publish_side(rt, gate, folder, side, &mut slot) },
     );
     let_go(rt, slot);
-    match published {
-        Ok(publisher) => match publisher.finish(rt) {
-            Ok(last) => Ok(last),
-            Err(Memory) => Err(Stop::Memory),
-        },
-        Err(stop) => Err(stop),
-    }
+    published
 }
 
 // A lane's report of these replies.
@@ -399,7 +404,7 @@ fn open<J: Naming, R: Wait>(
         Ok((publisher, seats)) => match seat_all(alloc, seats) {
             Ok(seated) => Ok((publisher, seated)),
             Err(Memory) => {
-                end(rt, publisher);
+                publisher.end(rt);
                 Err(Memory)
             }
         },
@@ -436,56 +441,78 @@ fn served_by<J: Naming>(
     }
 }
 
+// What a run gives, once its sides are at their ends and the list is closed.
+fn served_of<J: Naming, R: Wait>(
+    rt: &R,
+    alloc: Global,
+    publisher: Publisher<J>,
+    lanes: &[Lane],
+    outcomes: Vec<Outcome>,
+    seats: Vec<Seated<J>>,
+) -> Result<Served, Memory>
+    requires lanes { IsScript lanes.now }
+    requires run { HaveRun lanes.now seats.items }
+    ensures outcomes { IfOk result (λ s. ServedData.outcomes s ≡ outcomes.items) }
+    ensures last { IfOk result (λ s. ServedData.last s ≡ length publisher) }
+    ensures lanes { IfOk result (λ s.
+        AreServed publisher lanes.now (ServedData.lanes s) (ServedData.closing s)) }
+{
+    match publisher.finish(rt) {
+        Ok(last) => {
+            let served = served_by(alloc, &last, lanes, outcomes, seats);
+            drop(last);
+            served
+        }
+        Err(Memory) => {
+            drop(outcomes);
+            drop(seats);
+            Err(Memory)
+        }
+    }
+}
+
 // The run, where the first item is published.
 fn serve_open<J: Naming + Send + Sync, F: Folder, G: Gate, R: Threads + Wait + Sync>(
     rt: &R,
-    alloc: Global,
     gate: &G,
-    building: Building,
     folder: &mut F,
-    plan: &[PlanItem],
-    outcomes: Vec<Outcome>,
+    side: PublisherSide<'_>,
     publisher: Publisher<J>,
     lanes: &[Lane],
     seats: Vec<Seated<J>>,
 ) -> Result<Served, Stop>
-    requires building { IsGoodBuilding building }
     requires count { F.faults folder.old < 2 ^ 64 - 1 }
-    requires plan { length plan.now ≤ 100 }
-    requires first { AreOutcomes (F.files folder.old) building.options 0 (take 1 plan.now)
-        outcomes.items publisher }
-    requires begins { BeginsPublished outcomes.items }
+    requires first { HasTaken (F.files folder.old) side.building.options (take 1 side.plan)
+        side.outcomes publisher }
     requires lanes { IsScript lanes.now }
     requires seats { vec_len seats ≡ length lanes.now }
     ensures files { F.files folder.new ≡ F.files folder.old }
     ensures faults { IfOk result (λ _. F.faults folder.new ≡ F.faults folder.old) }
     ensures stop { IfErr result (HasStopped (F.faults folder.old) (F.faults folder.new)) }
-    ensures served { IfOk result (IsServed (F.files folder.old) building.options plan.now
+    ensures served { IfOk result (IsServed (F.files folder.old) side.entry.building.options side.entry.plan
         lanes.now) }
 {
-    let mut outcomes = outcomes;
+    let mut side = side;
     let mut seats = seats;
     let published = sides(
         rt,
-        alloc,
         gate,
-        building,
         folder,
-        plan,
-        &mut outcomes,
+        &mut side,
         publisher,
         lanes,
         seats.as_mut_slice(),
     );
+    let PublisherSide {
+        alloc,
+        outcomes,
+        ..
+    } = side;
     match published {
-        Ok(last) => {
-            let served = served_by(alloc, &last, lanes, outcomes, seats);
-            drop(last);
-            match served {
-                Ok(served) => Ok(served),
-                Err(Memory) => Err(Stop::Memory),
-            }
-        }
+        Ok(publisher) => match served_of(rt, alloc, publisher, lanes, outcomes, seats) {
+            Ok(served) => Ok(served),
+            Err(Memory) => Err(Stop::Memory),
+        },
         Err(stop) => {
             drop(outcomes);
             drop(seats);
@@ -523,9 +550,15 @@ fn serve_from<J: Naming + Send + Sync, F: Folder, G: Gate, R: Threads + Wait + S
     let lanes = script.lanes.as_slice();
     match first_outcome(alloc, first.edition()) {
         Ok(outcomes) => match open::<J, R>(rt, alloc, opened, first, lanes.len()) {
-            Ok((publisher, seats)) => serve_open(
-                rt, alloc, gate, building, folder, plan, outcomes, publisher, lanes, seats,
-            ),
+            Ok((publisher, seats)) => {
+                let side = PublisherSide {
+                    alloc,
+                    building,
+                    plan,
+                    outcomes,
+                };
+                serve_open(rt, gate, folder, side, publisher, lanes, seats)
+            }
             Err(Memory) => {
                 drop(outcomes);
                 Err(Stop::Memory)

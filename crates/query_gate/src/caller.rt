@@ -97,7 +97,7 @@ impl<J: Naming> Caller<J> {
         ensures { IfOk result
             (λ c. CallerData.kept c ≡ record { list = only ∷ []; closed = true }) }
     {
-        let seat = Store::closed::<J>(alloc, opened, Shared::new(alloc, only)?)?;
+        let seat = Store::closed::<J>(opened, Shared::new(alloc, only)?)?;
         Ok(Caller::new(alloc, seat))
     }
 

@@ -2,7 +2,7 @@
 ghost use Rattle.std.specs.Prelude.{◌≡◌, ◌<◌, ◌≤◌, IfOk, length};
 
 use super::days::{FAST, SLOW, Said, arrival_of_second, fast, slow, summary, text_to};
-use edition_store::{Edition, Naming, Opened, Pinned, Publisher, Receipt, Shared, Store};
+use edition_store::{Edition, Naming, Opened, Publisher, Receipt, Shared, Store};
 use query_gate::{Answer, Caller};
 use std::alloc::Global;
 use std::marker::Brand;
@@ -64,22 +64,12 @@ fn told<J: Naming>(
     Ok(summary(&answer))
 }
 
-// When T2 reaches D by the editions 0, 1 and 3 of a list.
-fn earlier<J: Naming>(pinned: &Pinned<J>) -> [Option<Sec>; 3] {
-    let arrival = |number: u32| match pinned.earlier(number) {
-        Some(edition) => arrival_of_second(edition),
-        None => None,
-    };
-    [arrival(0), arrival(1), arrival(3)]
-}
-
 // What a caller is told that has learned of the publication.
 #[derive(Drop)]
 struct Learned {
     again: (u32, Said),
     deferred: (u32, Said),
     unknown: (u32, Said),
-    earlier: [Option<Sec>; 3],
 }
 
 fn ask_learned<J: Naming>(
@@ -95,7 +85,6 @@ fn ask_learned<J: Naming>(
         again,
         deferred,
         unknown: summary(&last),
-        earlier: earlier(&last.pinned),
     })
 }
 
@@ -179,7 +168,6 @@ fn callers_are_answered_by_the_last_edition(rt: HostRuntime) -> Result<(), Fail>
     assert_eq!(rt; story.learned.again, (2, FAST));
     assert_eq!(rt; story.learned.deferred, (2, Said::Deferred(3)));
     assert_eq!(rt; story.learned.unknown, (2, Said::UnknownQ));
-    assert_eq!(rt; story.learned.earlier, [None, Some(30_600), None]);
     assert_eq!(rt; story.last, 2);
     Ok(())
 }
