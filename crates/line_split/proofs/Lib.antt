@@ -12,4 +12,4 @@ pub mod PlaceLemmas
 pub mod Counts
 pub mod CallTotals
 pub mod BerthLemmas
-pub mod EndLemmas
+pub mod FloorLemmas

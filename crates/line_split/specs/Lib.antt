@@ -5,4 +5,4 @@ pub mod LinesOf
 pub mod Layout
 pub mod Places
 pub mod Calls
-pub mod Ends
+pub mod Floors

@@ -55,6 +55,14 @@ impl<T: Drop> Nested<T> {
         self.rows[i].as_slice()
     }
 
+    /// Puts a row in the place of another.
+    pub(crate) fn put(&mut self, i: usize, row: Vec<T>)
+        requires { i < length self.old }
+        ensures { self.new ≡ set self.old i row.items }
+    {
+        self.rows[i] = row;
+    }
+
     /// A row more, behind the others.
     pub(crate) fn open_row(&mut self, row: Vec<T>) -> Result<(), Memory>
         ensures { OnOk result (self.new ≡ self.old ++ row.items ∷ []) }

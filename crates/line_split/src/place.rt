@@ -4,14 +4,17 @@ ghost use Rattle.tb_base.specs.TimetableData.{events_of};
 ghost use Rattle.tb_base.specs.Lines.{last_trip, may_follow, place_trip};
 ghost use Rattle.line_split.specs.Patterns.{AreNumbered};
 ghost use Rattle.line_split.specs.Buckets.{AreBucketed};
-ghost use Rattle.line_split.specs.Ends.{AreEnds, AreEndsOf};
+ghost use Rattle.line_split.specs.Floors.{AreFloors, AreFloorsOf};
 
-use super::ends::{Ends, end_of};
 use super::events::{events_of, may_follow};
+use super::floors::{BLOCK, is_below, no_floors, note_in};
 use super::nested::Nested;
 use super::patterns::patterns_of;
 use std::alloc::Global;
-use tb_base::{Memory, Sec, Timetable, TripNo};
+use tb_base::{Event, Memory, Timetable, TripNo};
+
+/// Before so few lines no floor is looked at.
+const FEW: usize = 8;
 
 /// The lines: each trip in turn joins the first line that it may follow the last trip of, else it
 /// opens a new one.
@@ -28,7 +31,7 @@ pub(crate) fn place_trips(
     let (numbers, count) = patterns_of(alloc, table)?;
     let mut lines = Nested::new(alloc);
     let mut buckets = Nested::with_rows(alloc, count)?;
-    let mut ends = no_ends(alloc, count)?;
+    let mut floors = no_floors(alloc, count)?;
     for trip in order {
         place(
             alloc,
@@ -36,49 +39,39 @@ pub(crate) fn place_trips(
             numbers.as_slice(),
             &mut lines,
             &mut buckets,
-            ends.as_mut_slice(),
+            floors.as_mut_slice(),
             *trip,
         )?;
     }
     Ok(lines)
 }
 
-// For each of so many buckets no end of a line.
-fn no_ends(alloc: Global, count: usize) -> Result<Vec<Ends>, Memory>
-    ensures { IfOk result (λ ends. ends.items ≡ replicate count []) }
-{
-    let mut ends = Vec::new(alloc);
-    for _bucket in 0..count {
-        ends.push(Ends::new(alloc))?;
-    }
-    Ok(ends)
-}
-
 // Places one trip. The buckets hold the numbers of the lines, by the number of their pattern; the
-// ends of their lines are those of the trips that opened them.
+// floors of their blocks are made of the trips that opened them.
 fn place(
     alloc: Global,
     table: &Timetable,
     numbers: &[usize],
     lines: &mut Nested<TripNo>,
     buckets: &mut Nested<usize>,
-    ends: &mut [Ends],
+    floors: &mut [Nested<Event>],
     trip: TripNo,
 ) -> Result<(), Memory>
     requires trip { trip < length table.now.trips }
     requires numbered { AreNumbered table.now numbers.now (length buckets.old) }
     requires bucketed { AreBucketed table.now numbers.now lines.old buckets.old }
-    requires ends { AreEnds table.now lines.old buckets.old ends.old }
+    requires floors { AreFloors table.now lines.old buckets.old floors.old }
     ensures placed { OnOk result (lines.new ≡ place_trip table.now lines.old trip) }
     ensures room { OnOk result (length buckets.new ≡ length buckets.old) }
     ensures bucketed { OnOk result (AreBucketed table.now numbers.now lines.new buckets.new) }
-    ensures ends { OnOk result (AreEnds table.now lines.new buckets.new ends.new) }
+    ensures floors { OnOk result (AreFloors table.now lines.new buckets.new floors.new) }
 {
     let bucket = numbers[trip.index()];
-    match first_line(table, lines, buckets.row(bucket), &ends[bucket], trip) {
+    match first_line(table, lines, buckets.row(bucket), &floors[bucket], trip) {
         Some(line) => lines.add(line, trip),
         None => {
-            add_end(ends, bucket, end_of(events_of(table, trip)))?;
+            let count = buckets.row(bucket).len();
+            note_in(alloc, floors, bucket, count, events_of(table, trip))?;
             buckets.add(bucket, lines.len())?;
             lines.open_with(alloc, trip)
         }
@@ -95,38 +88,32 @@ fn last_trip(trips: &[TripNo]) -> TripNo
     trips[trips.len() - 1]
 }
 
-// The end of a line more, behind the others of its bucket.
-fn add_end(ends: &mut [Ends], bucket: usize, time: Sec) -> Result<(), Memory>
-    requires { bucket < length ends.old }
-    ensures { OnOk result
-        (ends.new ≡ slice_set ends.old bucket (slice_index_or ends.old bucket [] ++ time ∷ [])) }
-{
-    ends[bucket].add(time)
-}
-
-// The first of these lines that a trip may join. Lines that end after it are passed over.
+// The first of these lines that a trip may join. A block of lines is passed over whose floor is
+// later than the trip at some event.
 fn first_line(
     table: &Timetable,
     lines: &Nested<TripNo>,
     among: &[usize],
-    ends: &Ends,
+    floors: &Nested<Event>,
     trip: TripNo,
 ) -> Option<usize>
     requires lines { All (λ l. l < length lines.now) among.now }
-    requires ends { AreEndsOf table.now lines.now among.now ends.now }
+    requires floors { AreFloorsOf table.now lines.now among.now floors.now }
     ensures { result ≡ find (λ l.
         may_follow (events_of table.now (last_trip (slice_index_or lines.now l [])))
         (events_of table.now trip)) among.now }
 {
     let events = events_of(table, trip);
-    let end = end_of(events);
-    let mut place = ends.first_by(0, end);
+    let mut place = 0;
     while place < among.len() {
-        let line = among[place];
-        if may_follow(events_of(table, last_trip(lines.row(line))), events) {
-            return Some(line);
+        let many = among.len() - place > FEW;
+        if many && place % BLOCK == 0 && !is_below(floors.row(place / BLOCK), events) {
+            place += BLOCK;
+        } else if may_follow(events_of(table, last_trip(lines.row(among[place]))), events) {
+            return Some(among[place]);
+        } else {
+            place += 1;
         }
-        place = ends.first_by(place + 1, end);
     }
     None
 }

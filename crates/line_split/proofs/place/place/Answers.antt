@@ -1,11 +1,8 @@
-use Rattle.std.proofs.Common.{ℕ, List, ◌≡◌, rules, ap, sym, subst, ◌∙◌, ◌<◌, [], ◌∷◌, ◌++◌, find, get_or, set, length}
-use Rattle.std.specs.Int.{w32}
-use Rattle.std.specs.Prelude.{FitsSigned}
-use Rattle.std.proofs.lemmas.Int.{to_z-of_z}
+use Rattle.std.proofs.Common.{ℕ, List, ◌≡◌, ap, sym, subst, ◌∙◌, ◌<◌, [], ◌∷◌, ◌++◌, find, get_or, set, length}
 use Rattle.tb_base.specs.TimetableData.{events_of}
 use Rattle.line_split.specs.Buckets.{AreBucketed}
-use Rattle.line_split.specs.Ends.{AreEnds, end_of}
-use Rattle.line_split.proofs.EndLemmas.{ends_joined, ends_opened}
+use Rattle.line_split.specs.Floors.{AreFloors, IsNoted}
+use Rattle.line_split.proofs.FloorLemmas.{floors_joined, floors_opened}
 use Rattle.line_split.proofs.Placing.{found_inside, placed_on, placed_behind, bucketed_on, bucketed_behind, joins}
 use Rattle.line_split.proofs.RowLemmas.{on_ok_subst}
 use Rattle.line_split.proofs.place.place.Goals as goal
@@ -43,24 +40,25 @@ returns-in_ok-add-in-None-clause-bucketed c =
     on_ok_subst c.open_with.result (λ ls. AreBucketed c.args.table.now c.args.numbers.now ls c.add-in-None.new.self) c.open_with.new.self _ c.open_with.ensures
     (subst (λ bs. AreBucketed T c.args.numbers.now (c.args.lines.now ++ (c.args.trip ∷ []) ∷ []) bs) (sym listed) (bucketed_behind T c.args.numbers.now c.args.lines.now c.args.buckets.now c.requires.numbered c.requires.bucketed c.args.trip c.requires.trip))
 
-pub returns-in-Some-clause-ends : goal.returns-in-Some-clause-ends
-returns-in-Some-clause-ends c =
+pub returns-in-Some-clause-floors : goal.returns-in-Some-clause-floors
+returns-in-Some-clause-floors c =
     let T = c.args.table.now in
     let f = ap (find (joins c.args.table.now c.args.lines.now (events_of c.args.table.now c.args.trip))) (sym (own_row c.row.result.now c.args.buckets.now c.args.numbers.now c.index.result c.args.trip c.row.ensures c.index.ensures)) ∙ sym c.first_line.ensures ∙ c.in-Some.is in
     let found = found_inside T c.args.numbers.now c.args.lines.now c.args.buckets.now c.requires.numbered c.requires.bucketed c.args.trip c.requires.trip c.in-Some.line f in
-    on_ok_subst c.add.result (λ ls. AreEnds c.args.table.now ls c.args.buckets.now c.args.ends.now) c.add.new.self _ c.add.ensures (ends_joined c.args.table.now c.args.lines.now c.args.buckets.now c.args.ends.now c.args.trip c.in-Some.line found.0 found.1 c.requires.ends)
+    on_ok_subst c.add.result (λ ls. AreFloors c.args.table.now ls c.args.buckets.now c.args.floors.now) c.add.new.self _ c.add.ensures (floors_joined c.args.table.now c.args.lines.now c.args.buckets.now c.args.floors.now c.args.trip c.in-Some.line found.0 found.1 c.requires.floors)
 
-pub returns-in_ok-add-in-None-clause-ends : goal.returns-in_ok-add-in-None-clause-ends
-returns-in_ok-add-in-None-clause-ends c =
+pub returns-in_ok-add-in-None-clause-floors : goal.returns-in_ok-add-in-None-clause-floors
+returns-in_ok-add-in-None-clause-floors c =
     let T = c.args.table.now in
     let lines = c.args.lines.now in
     let buckets = c.args.buckets.now in
+    let floors = c.args.floors.now in
+    let new = c.note_in.new.floors in
     let b = get_or c.args.numbers.now c.index.result 0 in
-    let fits : FitsSigned w32 c.end_of.result = search rules in
     let below : get_or c.args.numbers.now c.index.result 0 < length c.args.buckets.now = subst (λ i. get_or c.args.numbers.now i 0 < length c.args.buckets.now) (sym c.index.ensures) (c.requires.numbered.below c.args.trip c.requires.trip) in
-    let is = to_z-of_z w32 c.end_of.result fits ∙ c.end_of.ensures ∙ ap end_of c.events_of.ensures in
     let listed = c.in_ok-add-in-None.ensures ∙ ap (λ n. set buckets b (get_or buckets b [] ++ n ∷ [])) c.len.ensures in
-    on_ok_subst c.open_with.result (λ ls. AreEnds T ls c.add-in-None.new.self c.add_end.new.ends) c.open_with.new.self _ c.open_with.ensures
-    (subst (λ bs. AreEnds T (lines ++ (c.args.trip ∷ []) ∷ []) bs c.add_end.new.ends) (sym listed)
-    (subst (λ es. AreEnds T (lines ++ (c.args.trip ∷ []) ∷ []) (set buckets b (get_or buckets b [] ++ length lines ∷ [])) es) (sym c.in_ok-add_end-in-None.ensures)
-    (ends_opened T lines buckets c.args.ends.now c.args.trip b _ c.requires.ends c.requires.bucketed.known below is)))
+    let noted = subst (λ r. IsNoted (length r) (events_of T c.args.trip) (get_or floors b []) (get_or new b [])) c.row-count.ensures
+    (subst (λ es. IsNoted (length c.row-count.result.now) es (get_or floors b []) (get_or new b [])) c.events_of.ensures c.in_ok-note_in-in-None.ensures.noted) in
+    on_ok_subst c.open_with.result (λ ls. AreFloors T ls c.add-in-None.new.self new) c.open_with.new.self _ c.open_with.ensures
+    (subst (λ bs. AreFloors T (lines ++ (c.args.trip ∷ []) ∷ []) bs new) (sym listed)
+    (floors_opened T lines buckets floors new c.args.trip b c.requires.floors c.requires.bucketed.known below c.in_ok-note_in-in-None.ensures.many c.in_ok-note_in-in-None.ensures.others noted))
