@@ -73,7 +73,7 @@ class Judge:
         return None
 
     def wrong_answer(self, out):
-        names = [*self.feed.stops, *self.feed.calls] if self.feed else []
+        names = [*self.feed.stops, *self.feed.calls, *self.rest] if self.feed else []
         if any(len(name.splitlines()) > 1 for name in names):
             return None
         if not answers.is_answer(self.command, out):
