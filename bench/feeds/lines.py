@@ -103,6 +103,23 @@ def overtaking_by_turns(folder, n):
     running(folder, n, calls)
 
 
+def overtaking_one_by_one(folder, n):
+    """The same; of 64 trips one is early at one stop, and one at another, so that the earliest times
+    of many lines don't tell whether one of them can be joined.
+    """
+
+    def calls(i):
+        q, r = divmod(i, TIED)
+        one, other = (240_000 - q, 242_000 + r), 310_000 - r
+        if i % 64 == 0:
+            one, other = (139_000 - q * 3 // 10, 242_000), 345_000
+        if i % 64 == 1:
+            one, other = (241_000, 242_000), 290_000 - q * 4 // 10
+        return [(q, q, "A"), (*one, "C"), (other, 345_000, "D"), (359_000, 359_000, "B")]
+
+    running(folder, n, calls)
+
+
 def random_between(folder, n):
     """At the stops between their ends trips stand in a random order."""
     drawn = random.Random(7)
@@ -296,6 +313,7 @@ SHAPES = (
     overtaking_with_equal_ends,
     overtaking_at_the_first_stop,
     overtaking_by_turns,
+    overtaking_one_by_one,
     random_between,
     random_throughout,
     random_ends,
