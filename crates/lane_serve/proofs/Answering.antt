@@ -6,7 +6,8 @@ use Rattle.query_gate.specs.Callers.{IsEditionOf}
 use Rattle.query_gate.specs.declared.reply.Reply.{Reply}
 use Rattle.lane_serve.specs.declared.script.Line.{Line}
 use Rattle.lane_serve.specs.declared.lane.ReplyText.{ReplyText}
-use Rattle.lane_serve.specs.Lanes.{IsAnswered, IsReplyOf, reply_text}
+use Rattle.query_gate.specs.Texts.{reply_text}
+use Rattle.lane_serve.specs.Lanes.{IsAnswered, IsReplyOf}
 
 -- at a place of a list stands one edition
 pub same_edition : (o : List EditionData) (n : ℕ) (e f : EditionData) → slice_get o n ≡ Some e → slice_get o n ≡ Some f → f ≡ e

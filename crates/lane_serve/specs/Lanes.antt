@@ -1,14 +1,10 @@
 -- What a lane is answered, over a list of published editions.
-use Rattle.std.specs.Prelude.{◌≡◌, ℕ, ◌+◌, ◌≤◌, ◌==◌, ◌||◌, List, [], ◌∷◌, ◌++◌, Bool, length, codes, nat_lt, ⊤, if◌then◌else◌}
-use Rattle.std.specs.Fmt.{decimal}
-use Rattle.tb_base.specs.TimetableData.{TimetableData}
-use Rattle.answer_text.specs.Journeys.{choices_text, offers_text, unknown_text}
+use Rattle.std.specs.Prelude.{◌≡◌, ℕ, ◌+◌, ◌≤◌, ◌==◌, ◌||◌, List, [], ◌∷◌, ◌++◌, Bool, length, nat_lt, ⊤, if◌then◌else◌}
 use Rattle.edition_store.specs.Editions.{EditionData}
-use Rattle.query_gate.specs.Callers.{AnswersAsk, AnswersProfile, IsEditionOf}
+use Rattle.query_gate.specs.Callers.{Answers, IsAnsweredBy, IsEditionOf}
+use Rattle.query_gate.specs.Texts.{reply_text}
 use Rattle.query_gate.specs.declared.reply.Reply.{Reply}
-use Rattle.query_gate.specs.declared.reply.Reply.TheVariants.{Values, Slots, UnknownStop, Deferred}
 use Rattle.lane_serve.specs.declared.script.Line.{Line}
-use Rattle.lane_serve.specs.declared.script.Line.TheVariants as line
 use Rattle.lane_serve.specs.declared.lane.ReplyText.{ReplyText}
 
 -- a lane's name, and replies to requests of it
@@ -16,38 +12,16 @@ pub record ReportData : Type 0 where
   pub name : List ℕ
   pub replies : List ReplyText
 
--- `deferred N`
-abbrev pub deferred_text : ℕ → List ℕ
-deferred_text number = codes "deferred " ++ decimal number ++ codes "\n"
-
--- the lines of a reply over a timetable
-abbrev pub reply_text : TimetableData → Reply → List ℕ
-reply_text T (Values choices) = choices_text T choices.items
-reply_text T (Slots offers) = offers_text T offers.items
-reply_text T (UnknownStop name) = unknown_text name
-reply_text T (Deferred number) = deferred_text number
-
--- the edition from which on a request may be answered
-abbrev pub wanted : Line → ℕ
-wanted (line.Ask q) = q.since
-wanted (line.Profile q) = q.since
-
--- the right reply of edition n to a request: deferred exactly where a later edition is wanted
-abbrev pub Answers : ℕ → EditionData → Line → Reply → Type 0
-Answers n e (line.Ask q) reply = AnswersAsk n e q reply
-Answers n e (line.Profile q) reply = AnswersProfile n e q reply
-
--- the same of edition n of a list
+-- the right reply of edition n of a list to a request
 abbrev pub IsReplyOf : List EditionData → ℕ → Line → Reply → Type 0
-IsReplyOf es n request reply =
-    (e : EditionData) × IsEditionOf es n e × Answers n e request reply
+IsReplyOf es n request reply = IsAnsweredBy es n request.since request.question reply
 
 -- a reply's text is that of the right reply of the edition of a list that the reply names
 pub record IsAnswered (es : List EditionData) (request : Line) (r : ReplyText) : Type 0 where
   pub by : EditionData
   pub edition : IsEditionOf es r.edition by
   pub reply : Reply
-  pub right : Answers r.edition by request reply
+  pub right : Answers r.edition by request.since request.question reply
   pub text : r.text ≡ reply_text by.table reply
 
 -- One reply for each request in order, numbered from k on; the editions never go back, and the
@@ -70,7 +44,7 @@ pub record Due : Type 0 where
 
 -- the first request, and each that was deferred: whose edition is before the one that is wanted
 abbrev pub is_due : ℕ → Line → ReplyText → Bool
-is_due k request r = (k == 1) || nat_lt r.edition (wanted request)
+is_due k request r = (k == 1) || nat_lt r.edition request.since
 
 -- those of a lane's requests that are answered once more, numbered from k on
 abbrev pub to_close : ℕ → List Line → List ReplyText → List Due

@@ -1,14 +1,18 @@
 -- What a script says: lanes of requests, or the first bad line.
-use Rattle.std.specs.Prelude.{◌≡◌, ℕ, ◌+◌, ◌<◌, ◌≤◌, ◌==◌, List, [], ◌∷◌, ◌++◌, length, codes, bytes_eq, nat_lt, sum_by, ◌≤ℤ◌, pos, Option, Some, None, Result, Ok, Err, All, ⊤, if◌then◌else◌}
-use Rattle.std.specs.Option.{option_and_then, option_map}
-use Rattle.gtfs_rows.specs.Numbers.{number_of, time_of}
+use Rattle.std.specs.Prelude.{◌≡◌, ℕ, ◌+◌, ◌<◌, ◌≤◌, ◌==◌, List, [], ◌∷◌, ◌++◌, Bool, false, length, codes, bytes_eq, nat_lt, sum_by, ◌≤ℤ◌, pos, Option, Some, None, Result, Ok, Err, All, ⊤, if◌then◌else◌}
+use Rattle.std.specs.Option.{option_and_then}
+use Rattle.answer_text.specs.Questions.{needs_mirror, question_of}
+use Rattle.answer_text.specs.Questions as question
+use Rattle.answer_text.specs.declared.question.Question.{Question}
+use Rattle.answer_text.specs.declared.question.QuestionFault.{QuestionFault}
+use Rattle.answer_text.specs.declared.question.QuestionFault.TheVariants as why
+use Rattle.gtfs_rows.specs.Numbers.{number_of}
 use Rattle.gtfs_rows.specs.Steps.{and_then}
 use Rattle.text_lines.specs.LineWords.{line_words}
 use Rattle.text_lines.specs.Lines.{lines_of}
 use Rattle.lane_serve.specs.declared.said.Said.{Said}
 use Rattle.lane_serve.specs.declared.said.Said.TheVariants as said
 use Rattle.lane_serve.specs.declared.script.Line.{Line}
-use Rattle.lane_serve.specs.declared.script.Line.TheVariants as line
 use Rattle.lane_serve.specs.declared.script.ScriptFault.{ScriptFault}
 use Rattle.lane_serve.specs.declared.script.ScriptFault.TheVariants as fault
 
@@ -17,28 +21,22 @@ pub record LaneData : Type 0 where
   pub name : List ℕ
   pub lines : List Line
 
--- FROM TO TIME: a request for the best values, which is none where the time isn't one
-abbrev pub ask_of : ℕ → List (List ℕ) → Option Said
-ask_of since (from ∷ to ∷ time ∷ []) = Some (said.Request (option_map
-    (λ t. line.Ask (record { since = since; from = from; to = to; leave = t })) (time_of time)))
-ask_of since words = None
+-- a question as a request, which is none where it needs a mirror
+abbrev pub said_by : ℕ → Question → Option Said
+said_by since q =
+    if needs_mirror q then None
+    else Some (said.Request (Some (record { since = since; question = q })))
 
--- FROM TO FIRST LAST: a request for a profile, which is none where a time isn't one
-abbrev pub profile_of : ℕ → List (List ℕ) → Option Said
-profile_of since (from ∷ to ∷ first ∷ last ∷ []) = Some (said.Request (option_and_then
-    (λ t. option_map
-    (λ u. line.Profile
-    (record { since = since; from = from; to = to; first = t; last = u })) (time_of last))
-    (time_of first)))
-profile_of since words = None
+-- a request that edition `since` or a later one may answer, or why there is none
+abbrev pub requested : ℕ → Result Question QuestionFault → Option Said
+requested since (Ok q) = said_by since q
+requested since (Err why.BadForm) = None
+requested since (Err why.BadTime) = Some (said.Request None)
 
--- `ask FROM TO TIME` or `profile FROM TO FIRST LAST`
+-- a question, as `question_of` reads it
 abbrev pub request_of : ℕ → List (List ℕ) → Option Said
 request_of since [] = None
-request_of since (word ∷ words) =
-    if bytes_eq word (codes "ask") then ask_of since words
-    else if bytes_eq word (codes "profile") then profile_of since words
-    else None
+request_of since (kind ∷ words) = requested since (question_of kind words)
 
 -- N and a request, which wants edition N or a later one
 abbrev pub since_of : List (List ℕ) → Option Said
@@ -129,12 +127,11 @@ script_of bytes =
     if nat_lt 33554432 (length bytes) then Err fault.TooLong
     else script_from (record { lines = 0; requests = 0; lanes = [] }) (lines_of bytes)
 
--- the time of a request, or the end of its window, is at most 99:59:59
+-- an edition without a mirror can be asked, and the times are those that can be asked for
 abbrev pub HasTimes : Line → Type 0
-HasTimes (line.Ask q) = q.leave ≤ℤ pos 359999
-HasTimes (line.Profile q) = q.last ≤ℤ pos 359999
+HasTimes l = (needs_mirror l.question ≡ false) × question.HasTimes l.question
 
--- a line that is a request has such a time
+-- a line that is a request is such a one
 abbrev pub SaysTimes : Option Said → Type 0
 SaysTimes None = ⊤
 SaysTimes (Some said.Nothing) = ⊤
@@ -146,7 +143,7 @@ SaysTimes (Some (said.Request (Some request))) = HasTimes request
 abbrev pub request_count : List LaneData → ℕ
 request_count lanes = sum_by (λ l. length (LaneData.lines l)) lanes
 
--- at most 64 lanes with at most 20,000 requests in all, each with such a time
+-- at most 64 lanes with at most 20,000 requests in all, each of them such a one
 pub record IsWithinLimits (lanes : List LaneData) : Type 0 where
   pub few : length lanes ≤ 64
   pub requests : request_count lanes ≤ 20000

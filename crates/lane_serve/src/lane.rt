@@ -4,12 +4,11 @@ ghost use Rattle.history.specs.Lists.{Extends, StartsWith};
 ghost use Rattle.edition_store.specs.Editions.{EditionData};
 ghost use Rattle.query_gate.specs.Callers.{HasLegNumbersIn};
 ghost use Rattle.lane_serve.specs.Script.{HasTimes};
-ghost use Rattle.lane_serve.specs.Lanes.{IsAnswered, IsClosing, IsLaneRun, IsReplyOf, is_due, to_close, wanted};
+ghost use Rattle.lane_serve.specs.Lanes.{IsAnswered, IsClosing, IsLaneRun, IsReplyOf, is_due, to_close};
 
-use crate::reply::reply_text;
 use crate::script::Line;
 use edition_store::{Last, Naming};
-use query_gate::{Answer, Caller};
+use query_gate::{Answer, Caller, reply_text};
 use std::alloc::Global;
 use std::marker::Model;
 use tb_base::{Gate, Memory, Name, Work};
@@ -38,27 +37,6 @@ impl Model for LaneReport {
     ghost view = { λ r. record { name = r.name; replies = r.replies.items } };
 }
 
-// What a request is answered.
-fn asked<J: Naming>(
-    alloc: Global,
-    caller: &mut Caller<J>,
-    request: &Line,
-) -> Result<Answer<J>, Memory>
-    requires { HasTimes request.now }
-    ensures reply { IfOk result
-        (λ a. IsReplyOf a.pinned.list (length a.pinned.list) request.now a.reply) }
-    ensures numbers { IfOk result
-        (λ a. HasLegNumbersIn a.pinned.list (length a.pinned.list) a.reply) }
-    ensures kept { IfOk result (λ a. caller.new.kept ≡ a.pinned) }
-    ensures later { Extends caller.new.kept caller.old.kept }
-    ensures last { caller.old.kept.closed ≡ true → caller.new.kept ≡ caller.old.kept }
-{
-    match request {
-        Line::Ask(text) => caller.ask(alloc, text),
-        Line::Profile(text) => caller.profile(alloc, text),
-    }
-}
-
 // An answer to request k of a lane, as it is told.
 fn told<J: Naming>(
     alloc: Global,
@@ -74,7 +52,8 @@ fn told<J: Naming>(
     ensures edition { IfOk result (λ r. r.edition ≡ length answer.now.pinned.list) }
     ensures right { IfOk result (IsAnswered answer.now.pinned.list request.now) }
 {
-    let text = reply_text(alloc, answer.pinned.edition(), &answer.reply)?;
+    let edition = answer.pinned.edition();
+    let text = reply_text(alloc, edition.table(), &answer.reply)?;
     Ok(ReplyText {
         line: k,
         edition: answer.pinned.number(),
@@ -96,7 +75,7 @@ fn answer<J: Naming>(
     ensures later { Extends caller.new.kept caller.old.kept }
     ensures last { caller.old.kept.closed ≡ true → caller.new.kept ≡ caller.old.kept }
 {
-    match asked(alloc, caller, request) {
+    match caller.answer(alloc, request.since, &request.question) {
         Ok(answer) => {
             let reply = told(alloc, k, request, &answer);
             drop(answer);
@@ -140,21 +119,11 @@ pub fn run_lane<J: Naming, G: Gate>(
     Ok(replies)
 }
 
-// The edition from which on a request may be answered.
-fn wanted(request: &Line) -> u32
-    ensures { result ≡ wanted request.now }
-{
-    match request {
-        Line::Ask(text) => text.since,
-        Line::Profile(text) => text.since,
-    }
-}
-
 // Whether request k is answered once more: the first one, and each that was deferred.
 fn is_due(k: u32, request: &Line, reply: &ReplyText) -> bool
     ensures { result ≡ is_due k request.now reply.now }
 {
-    k == 1 || reply.edition < wanted(request)
+    k == 1 || reply.edition < request.since
 }
 
 /// Answers the first request of a lane and each that was deferred once more, by the last edition.

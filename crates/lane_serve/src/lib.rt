@@ -8,14 +8,12 @@
 //! and each that was deferred. To the layer above the crate promises one outcome for each item of
 //! the plan, that each reply is exactly that of the edition that it names (best values as in Witt,
 //! Trip-Based Public Transit Routing, ESA 2015), that a lane's editions never go back, and that
-//! each closing reply is the last edition's. `served_text` shows all of it as lines, each reply as
-//! `reply_text` shows it.
+//! each closing reply is the last edition's. `served_text` shows all of it as lines.
 #![tactic(auto)]
 
 mod lane;
 mod plan;
 mod publishing;
-mod reply;
 mod run;
 mod said;
 mod script;
@@ -23,7 +21,6 @@ mod texts;
 
 pub use lane::{LaneReport, ReplyText, close_lane, run_lane};
 pub use plan::{Outcome, PlanItem};
-pub use reply::reply_text;
 pub use run::{ServeFault, Served, serve};
 pub use script::{Lane, Line, Script, ScriptFault, read_script};
 pub use texts::served_text;

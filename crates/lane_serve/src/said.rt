@@ -1,12 +1,13 @@
 //! What the words of a line of a script say.
 ghost use Rattle.std.specs.Prelude.{◌≡◌, IfOk};
-ghost use Rattle.lane_serve.specs.Script.{SaysTimes, ask_of, lane_of, profile_of, request_of, said_of, since_of};
+ghost use Rattle.answer_text.specs.Questions.{HasTimes};
+ghost use Rattle.lane_serve.specs.Script.{SaysTimes, lane_of, request_of, said_by, said_of, since_of};
 
 use crate::script::Line;
-use gtfs_rows::{number_of, time_of};
-use query_gate::{AskText, ProfileText};
+use answer_text::{Question, QuestionFault, question_of};
+use gtfs_rows::number_of;
 use std::alloc::Global;
-use tb_base::{Memory, Name};
+use tb_base::{Memory, Name, Refused};
 
 // What a line says: nothing, the begin of a lane with its name, or a request, which is none where a
 // time of it isn't one.
@@ -17,68 +18,31 @@ pub(crate) enum Said {
     Request(Option<Line>),
 }
 
-// FROM TO TIME.
-fn ask_of(alloc: Global, since: u32, words: &[Name]) -> Result<Option<Said>, Memory>
-    ensures said { IfOk result (λ said. said ≡ ask_of since words.now) }
-    ensures times { IfOk result SaysTimes }
+// A question as a request, unless it needs a mirror: no edition of a plan has one.
+fn said_by(since: u32, question: Question) -> Option<Said>
+    requires { HasTimes question }
+    ensures said { result ≡ said_by since question }
+    ensures times { SaysTimes result }
 {
-    if words.len() != 3 {
-        return Ok(None);
+    if question.needs_mirror() {
+        return None;
     }
-    let Some(leave) = time_of(words[2].bytes()) else {
-        return Ok(Some(Said::Request(None)));
-    };
-    let from = Name::new(alloc, words[0].bytes())?;
-    let to = Name::new(alloc, words[1].bytes())?;
-    Ok(Some(Said::Request(Some(Line::Ask(AskText {
-        since,
-        from,
-        to,
-        leave,
-    })))))
+    Some(Said::Request(Some(Line { since, question })))
 }
 
-// FROM TO FIRST LAST.
-fn profile_of(alloc: Global, since: u32, words: &[Name]) -> Result<Option<Said>, Memory>
-    ensures said { IfOk result (λ said. said ≡ profile_of since words.now) }
-    ensures times { IfOk result SaysTimes }
-{
-    if words.len() != 4 {
-        return Ok(None);
-    }
-    let Some(first) = time_of(words[2].bytes()) else {
-        return Ok(Some(Said::Request(None)));
-    };
-    let Some(last) = time_of(words[3].bytes()) else {
-        return Ok(Some(Said::Request(None)));
-    };
-    let from = Name::new(alloc, words[0].bytes())?;
-    let to = Name::new(alloc, words[1].bytes())?;
-    Ok(Some(Said::Request(Some(Line::Profile(ProfileText {
-        since,
-        from,
-        to,
-        first,
-        last,
-    })))))
-}
-
-// `ask FROM TO TIME` or `profile FROM TO FIRST LAST`.
+// A question, which edition `since` or a later one may answer.
 fn request_of(alloc: Global, since: u32, words: &[Name]) -> Result<Option<Said>, Memory>
     ensures said { IfOk result (λ said. said ≡ request_of since words.now) }
     ensures times { IfOk result SaysTimes }
 {
     match words {
         [] => Ok(None),
-        [word, rest @ ..] => {
-            if word.bytes() == b"ask".as_slice() {
-                ask_of(alloc, since, rest)
-            } else if word.bytes() == b"profile".as_slice() {
-                profile_of(alloc, since, rest)
-            } else {
-                Ok(None)
-            }
-        }
+        [kind, rest @ ..] => match question_of(alloc, kind.bytes(), rest) {
+            Ok(question) => Ok(said_by(since, question)),
+            Err(Refused::Fault(QuestionFault::BadForm)) => Ok(None),
+            Err(Refused::Fault(QuestionFault::BadTime)) => Ok(Some(Said::Request(None))),
+            Err(Refused::Memory) => Err(Memory),
+        },
     }
 }
 

@@ -6,7 +6,7 @@ ghost use Rattle.tb_base.specs.Refusals.{Yields};
 ghost use Rattle.lane_serve.specs.Script.{HasTimes, IsScript, SaysTimes, after_lane, after_line, after_request, after_said, at_end, said_of, script_of, with_request};
 
 use crate::said::{Said, said_of};
-use query_gate::{AskText, ProfileText};
+use answer_text::Question;
 use std::alloc::Global;
 use std::marker::Model;
 use tb_base::{Memory, Name, Refused};
@@ -20,11 +20,10 @@ const MOST_REQUESTS: u32 = 20_000;
 
 /// A request.
 #[derive(Drop)]
-pub enum Line {
-    /// For the best values.
-    Ask(AskText),
-    /// For a profile.
-    Profile(ProfileText),
+pub struct Line {
+    /// The number of the first edition that may answer it, from 1; 0 for any.
+    pub since: u32,
+    pub question: Question,
 }
 
 /// A lane: its name, and its requests in order.
@@ -213,9 +212,10 @@ fn line_said(alloc: Global, text: &[u8]) -> Result<Option<Said>, Memory>
 /// The lanes of a script, or exactly its first fault: bytes in lines, each up to a line feed or the
 /// text's end, without a carriage return at its end; what stands behind the last line feed is a
 /// line, unless it is empty. The words of a line are those of `line_words`; a line without words,
-/// and one whose first byte is `#`, is passed over. `lane NAME` begins a lane; `ask FROM TO TIME`
-/// and `profile FROM TO FIRST LAST` are requests of it; `since N` before either, with N of 1 to 9
-/// digits, wants edition N or a later one.
+/// and one whose first byte is `#`, is passed over. `lane NAME` begins a lane; `ask FROM TO TIME`,
+/// `profile FROM TO FIRST LAST` and `reach FROM TIME` are requests of it, questions as
+/// `question_of` reads them; `since N` before one, with N of 1 to 9 digits, wants edition N or a
+/// later one.
 pub fn read_script(alloc: Global, bytes: &[u8]) -> Result<Script, Refused<ScriptFault>>
     ensures script { Yields result (λ s. s) (script_of bytes.now) }
     ensures good { IfOk result (λ s. IsScript s) }

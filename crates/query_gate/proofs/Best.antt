@@ -1,5 +1,5 @@
 -- An answered desk, turned into choices, holds the best choices of its query.
-use Rattle.std.proofs.Common.{◌≡◌, ℕ, ℤ, List, map, Result, Ok, Err, subst, sym}
+use Rattle.std.proofs.Common.{◌≡◌, ℕ, List, map, Result, Ok, Err, subst, sym}
 use Rattle.std.specs.Prelude.{All, IfOk}
 use Rattle.tb_base.specs.BestValues.{AreBestValues, ChoiceData, QueryData}
 use Rattle.tb_base.specs.Network.{NetData}
@@ -12,7 +12,6 @@ use Rattle.plain_rounds.specs.Shown.{SpellShortest}
 use Rattle.segment_queue.specs.Queue.{DeskData}
 use Rattle.segment_queue.specs.Traced.{IsAnswered, LegsFollow, UsesHops}
 use Rattle.segment_queue.specs.declared.desk.Hit.{Hit}
-use Rattle.query_gate.specs.Questions.{Ends, window_at}
 use Rattle.query_gate.specs.Replies.{AreBestChoices, AreBestOffers}
 
 pub best_choices : (N : NetData) (T : TimetableData) → N.table ≡ T → (Q : QueryData) (D : DeskData) → IsAnswered N Q D →
@@ -27,19 +26,6 @@ best_choices N T same Q D answered items (Ok cs) values walks hops = record {
   hops = hops N.hops answered.by_hops;
 }
 best_choices N T same Q D answered items (Err e) values walks hops = tt
-
--- The offers of a window, by a timetable and times that are known by other terms, are the best offers.
-pub best_offers : (N : NetData) (T : TimetableData) → T ≡ N.table → (ends : Ends) (a first b last : ℤ) → a ≡ first → b ≡ last → (offers : List OfferData) →
-    IsProfile T (window_at ends a b) (map OfferData.slot offers) →
-    All (λ o. SpellSlot T (window_at ends a b) (OfferData.legs o) (OfferData.slot o)) offers →
-    All (λ o. LegsFollow N.hops (OfferData.legs o)) offers → AreBestOffers N (window_at ends first last) offers
-best_offers N T same ends a first b last is_first is_last offers slots journeys hops =
-    subst (λ z. AreBestOffers N (window_at ends z last) offers) is_first
-    (subst (λ z. AreBestOffers N (window_at ends a z) offers) is_last (record {
-      slots = subst (λ t. IsProfile t (window_at ends a b) (map OfferData.slot offers)) same slots;
-      journeys = subst (λ t. All (λ o. SpellSlot t (window_at ends a b) (OfferData.legs o) (OfferData.slot o)) offers) same journeys;
-      hops = hops;
-    }))
 
 -- An edition's offers, by a timetable that is known by another term, are the best offers.
 pub offers_best : (N : NetData) (T : TimetableData) → T ≡ N.table → (W : WindowData) →

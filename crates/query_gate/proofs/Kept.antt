@@ -1,5 +1,5 @@
 -- Which of the values that were found at a time are kept. These are best.
-use Rattle.std.proofs.Common.{◌≡◌, ◌∙◌, ℕ, ◌<◌, ◌≤◌, ◌⊎◌, inl, inr, ◌&&◌, ◌||◌, not, Bool, true, false, List, [], ◌∷◌, ◌++◌, get_or, refl, sym, ap, subst, arith, ℤ, ◌≤ℤ◌, ◌<ℤ◌}
+use Rattle.std.proofs.Common.{◌≡◌, ◌∙◌, ℕ, ◌<◌, ◌⊎◌, inl, inr, ◌&&◌, ◌||◌, not, Bool, true, false, List, [], ◌∷◌, ◌++◌, get_or, refl, sym, ap, subst, arith, ℤ, ◌≤ℤ◌, ◌<ℤ◌}
 use Rattle.std.specs.Prelude.{AllPairs, Contains, int_le, nat_le, nat_lt}
 use Rattle.std.specs.List.{list_any}
 use Rattle.std.proofs.lemmas.Int.{ints}
@@ -13,7 +13,7 @@ use Rattle.tb_base.specs.BestValues.{QueryData, IsAttained, IsBest, IsNoWorse, I
 use Rattle.tb_base.proofs.Ordered.{Member, Member-from_Contains}
 use Rattle.tb_laws.specs.Pruning.{IsLate}
 use Rattle.query_gate.specs.Slots.{AreFound, is_kept, is_no_worse}
-use Rattle.tb_base.proofs.NumberFacts.{int_le-true, le-int_le, ≤ℤ-trans, ≤ℤ-antisym}
+use Rattle.tb_base.proofs.NumberFacts.{int_le-true, le-int_le, ≤ℤ-antisym}
 use Rattle.tb_base.proofs.Values.{IsNoWorse-trans, same_value}
 
 -- what the test says

@@ -1,5 +1,5 @@
 -- Legs that spell a journey have trips, stops and indices that exist.
-use Rattle.std.proofs.Common.{◌≡◌, List, [], ◌∷◌, None, Some, Option, arith, refl}
+use Rattle.std.proofs.Common.{List, [], ◌∷◌, None, Some, Option, arith, refl}
 use Rattle.std.specs.Prelude.{All, ◌<◌, length}
 use Rattle.std.proofs.lemmas.Int.{ints}
 use Rattle.std.proofs.lemmas.List.Elements.{All-cons, All-weaker}

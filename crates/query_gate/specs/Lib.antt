@@ -3,3 +3,4 @@ pub mod Replies
 pub mod Callers
 pub mod Leaving
 pub mod Slots
+pub mod Texts

@@ -1,10 +1,16 @@
--- What is asked between two named places.
-use Rattle.std.specs.Prelude.{ℕ, List, ℤ, Option, None, Some, Result, Ok, Err}
+-- What is asked, and of which places.
+use Rattle.std.specs.Prelude.{◌≡◌, ℕ, List, ℤ, Bool, false, true, Option, None, Some, Result, Ok, Err}
+use Rattle.std.specs.Option.{option_map}
 use Rattle.tb_base.specs.BestValues.{QueryData}
 use Rattle.tb_base.specs.Places.{place_named, stops_of}
 use Rattle.tb_base.specs.Profiles.{WindowData}
 use Rattle.tb_base.specs.TimetableData.{TimetableData}
 use Rattle.tb_base.specs.declared.query.Place.{Place}
+use Rattle.answer_text.specs.Questions.{needs_mirror}
+use Rattle.answer_text.specs.declared.question.Question.{Question}
+use Rattle.answer_text.specs.declared.question.Question.TheVariants as question
+use Rattle.mirror_table.specs.Departures.{ArrivalData}
+use Rattle.mirror_table.specs.Mirror.{IsMirror}
 
 -- from which edition on, from which place to which, and how early one can leave
 pub record AskData : Type 0 where
@@ -21,6 +27,22 @@ pub record ProfileData : Type 0 where
   pub to : List ℕ
   pub first : ℤ
   pub last : ℤ
+
+-- the questions that they ask
+abbrev pub ask_question : AskData → Question
+ask_question q = question.Ask q.from q.to q.leave
+
+abbrev pub profile_question : ProfileData → Question
+profile_question q = question.Profile q.from q.to q.first q.last
+
+-- M is T, or its mirror
+abbrev pub IsOrMirrors : Bool → TimetableData → TimetableData → Type 0
+IsOrMirrors true T M = IsMirror T M
+IsOrMirrors false T M = M ≡ T
+
+-- M answers a question about T: for the latest departures it is the mirror of T, else T itself
+abbrev pub Serves : TimetableData → TimetableData → Question → Type 0
+Serves T M q = IsOrMirrors (needs_mirror q) T M
 
 -- the stops of two places
 pub record Ends : Type 0 where
@@ -47,3 +69,11 @@ query_at ends leave = record { from = ends.from; to = ends.to; leave = leave }
 -- the window between two such places
 abbrev pub window_at : Ends → ℤ → ℤ → WindowData
 window_at ends first last = record { from = ends.from; to = ends.to; first = first; last = last }
+
+-- the arrival between two such places
+abbrev pub arrival_by : Ends → ℤ → ArrivalData
+arrival_by ends arrive = record { from = ends.from; to = ends.to; by = arrive }
+
+-- the stops of the place with a name
+abbrev pub stops_named : TimetableData → List ℕ → Option (List ℕ)
+stops_named T name = option_map (stops_of T) (place_named T name)

@@ -1,20 +1,25 @@
 -- Which replies are right.
-use Rattle.std.specs.Prelude.{◌≡◌, ◌<◌, ⊤, ℕ, List, Result, Ok, Err, All, map}
+use Rattle.std.specs.Prelude.{◌≡◌, ⊤, ℕ, ◌<◌, List, length, None, Some, Ok, Err, All, map}
 use Rattle.tb_base.specs.BestValues.{AreBestValues, ChoiceData, QueryData}
 use Rattle.tb_base.specs.JourneyRules.{HasNumbers, SpellSlot}
 use Rattle.tb_base.specs.Network.{NetData}
 use Rattle.tb_base.specs.Profiles.{IsProfile, OfferData, WindowData}
 use Rattle.tb_base.specs.TimetableData.{TimetableData}
-use Rattle.earliest_query.specs.Choices.{search_looks}
+use Rattle.transfer_pack.specs.Packed.{packed}
 use Rattle.plain_rounds.specs.Shown.{SpellShortest}
 use Rattle.segment_queue.specs.Queue.{DeskData}
 use Rattle.segment_queue.specs.Traced.{IsAnswered, LegsFollow}
 use Rattle.segment_queue.specs.declared.desk.Hit.{Hit}
-use Rattle.query_gate.specs.Questions.{AskData, Ends, ProfileData, ends_between, query_at, window_at}
+use Rattle.edition_store.specs.Editions.{EditionData}
+use Rattle.answer_text.specs.declared.question.Question.{Question}
+use Rattle.answer_text.specs.declared.question.Question.TheVariants as question
+use Rattle.arrive_by.specs.Latest.{AreLatestDepartures, DepartureData}
+use Rattle.reach_all.specs.Reach.{IsReach}
+use Rattle.query_gate.specs.Questions.{Ends, arrival_by, ends_between, query_at, stops_named, window_at}
 use Rattle.query_gate.specs.declared.between.Between.{Between}
 use Rattle.query_gate.specs.declared.between.Between.TheVariants as between
 use Rattle.query_gate.specs.declared.reply.Reply.{Reply}
-use Rattle.query_gate.specs.declared.reply.Reply.TheVariants.{Values, Slots, UnknownStop, Deferred}
+use Rattle.query_gate.specs.declared.reply.Reply.TheVariants as reply
 
 -- the stops of two named places, or the first name that is none
 abbrev pub IsBetween : TimetableData → List ℕ → List ℕ → Between → Type 0
@@ -42,43 +47,49 @@ pub record AreBestOffers (N : NetData) (W : WindowData) (offers : List OfferData
   pub journeys : All (λ o. SpellSlot N.table W (OfferData.legs o) (OfferData.slot o)) offers
   pub hops : All (λ o. LegsFollow N.hops (OfferData.legs o)) offers
 
--- the right reply to a question for the best values
-abbrev pub IsAskReply : NetData → AskData → Reply → Type 0
-IsAskReply N q (Values choices) =
-    (ends : Ends) × (ends_between N.table q.from q.to ≡ Ok ends)
-    × AreBestChoices N (query_at ends q.leave) choices.items
-IsAskReply N q (Slots offers) = ⊥
-IsAskReply N q (UnknownStop name) = ends_between N.table q.from q.to ≡ Err name
-IsAskReply N q (Deferred number) = ⊥
+-- both names are those of places, and so it is of their stops
+abbrev pub AtEnds : TimetableData → List ℕ → List ℕ → (Ends → Type 0) → Type 0
+AtEnds T from to P = (ends : Ends) × (ends_between T from to ≡ Ok ends) × P ends
+
+-- the first name of a question that no stop and no station has
+abbrev pub NamesNoPlace : TimetableData → Question → List ℕ → Type 0
+NamesNoPlace T (question.Ask from to leave) name = ends_between T from to ≡ Err name
+NamesNoPlace T (question.Profile from to first last) name = ends_between T from to ≡ Err name
+NamesNoPlace T (question.Latest from to arrive) name = ends_between T from to ≡ Err name
+NamesNoPlace T (question.Reach from leave) name = (stops_named T from ≡ None) × (name ≡ from)
+
+-- the right reply to a question over a network
+abbrev pub IsReply : NetData → Question → Reply → Type 0
+IsReply N q (reply.UnknownStop name) = NamesNoPlace N.table q name
+IsReply N (question.Ask from to leave) (reply.Values choices) =
+    AtEnds N.table from to (λ ends. AreBestChoices N (query_at ends leave) choices.items)
+IsReply N (question.Profile from to first last) (reply.Slots offers) =
+    AtEnds N.table from to (λ ends. AreBestOffers N (window_at ends first last) offers.items)
+IsReply N (question.Latest from to arrive) (reply.Departures ds) =
+    AtEnds N.table from to (λ ends. AreLatestDepartures N.table (arrival_by ends arrive) ds.items)
+IsReply N (question.Reach from leave) (reply.Reached lists) =
+    (stops : List ℕ) × (stops_named N.table from ≡ Some stops)
+    × IsReach N.table stops leave (map (λ list. list.items) lists.items)
+IsReply N q r = ⊥
 
 -- What a reply leaves in the desk: with values the answer to the query, whose hits have these
 -- values; of other replies nothing is said.
-abbrev pub LeavesAnswered : NetData → AskData → Reply → DeskData → Type 0
-LeavesAnswered N q (Values choices) D =
-    (ends : Ends) × (ends_between N.table q.from q.to ≡ Ok ends)
-    × IsAnswered N (query_at ends q.leave) D
-    × (map ChoiceData.value choices.items ≡ map (λ (h : Hit). h.value) D.hits)
-LeavesAnswered N q (Slots offers) D = ⊤
-LeavesAnswered N q (UnknownStop name) D = ⊤
-LeavesAnswered N q (Deferred number) D = ⊤
+abbrev pub LeavesAnswered : NetData → Question → Reply → DeskData → Type 0
+LeavesAnswered N (question.Ask from to leave) (reply.Values choices) D =
+    AtEnds N.table from to (λ ends. IsAnswered N (query_at ends leave) D
+    × (map ChoiceData.value choices.items ≡ map (λ (h : Hit). h.value) D.hits))
+LeavesAnswered N q r D = ⊤
 
--- the right reply to a question for a profile
-abbrev pub IsProfileReply : NetData → ProfileData → Reply → Type 0
-IsProfileReply N q (Values choices) = ⊥
-IsProfileReply N q (Slots offers) =
-    (ends : Ends) × (ends_between N.table q.from q.to ≡ Ok ends)
-    × AreBestOffers N (window_at ends q.first q.last) offers.items
-IsProfileReply N q (UnknownStop name) = ends_between N.table q.from q.to ≡ Err name
-IsProfileReply N q (Deferred number) = ⊥
-
--- the trips, stops and indices in all its legs exist
+-- the trips, stops and indices in all its legs exist, and there is a list of values a stop
 abbrev pub HaveNumbers : TimetableData → Reply → Type 0
-HaveNumbers T (Values choices) = All (λ c. All (HasNumbers T) (ChoiceData.legs c)) choices.items
-HaveNumbers T (Slots offers) = All (λ o. All (HasNumbers T) (OfferData.legs o)) offers.items
-HaveNumbers T (UnknownStop name) = ⊤
-HaveNumbers T (Deferred number) = ⊤
+HaveNumbers T (reply.Values choices) =
+    All (λ c. All (HasNumbers T) (ChoiceData.legs c)) choices.items
+HaveNumbers T (reply.Slots offers) = All (λ o. All (HasNumbers T) (OfferData.legs o)) offers.items
+HaveNumbers T (reply.Departures ds) = All (λ d. All (HasNumbers T) (DepartureData.legs d)) ds.items
+HaveNumbers T (reply.Reached lists) = length lists.items ≡ length T.stops
+HaveNumbers T (reply.UnknownStop name) = ⊤
+HaveNumbers T (reply.Deferred number) = ⊤
 
--- the most looks for a question between two places: those of one search; none if a name is no place
-abbrev pub looks_between : NetData → Result Ends (List ℕ) → ℕ
-looks_between N (Ok ends) = search_looks N ends.from
-looks_between N (Err name) = 0
+-- a timetable with the lines and the hops of an edition
+abbrev pub network : TimetableData → EditionData → NetData
+network T e = record { table = T; lines = e.lines; hops = packed e.set }

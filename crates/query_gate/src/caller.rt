@@ -1,17 +1,17 @@
 //! One who asks, of the editions that are published.
-ghost use Rattle.std.specs.Prelude.{◌≡◌, ◌≤◌, ◌≤ℤ◌, [], ◌∷◌, true, IfErr, IfOk, length, pos};
+ghost use Rattle.std.specs.Prelude.{◌≡◌, ◌≤◌, ◌≤ℤ◌, [], ◌∷◌, false, true, IfErr, IfOk, length, pos};
+ghost use Rattle.answer_text.specs.Questions.{HasTimes, needs_mirror};
 ghost use Rattle.history.specs.Lists.{Shown, Extends};
 ghost use Rattle.edition_store.specs.Editions.{net_of};
 ghost use Rattle.edition_store.specs.Lists.{longer};
-ghost use Rattle.query_gate.specs.Callers.{AnswersAsk, AnswersProfile, CallerData};
-ghost use Rattle.query_gate.specs.Callers.{IsAnsweredBy, IsProfiledBy, LeavesAnsweredBy};
-ghost use Rattle.query_gate.specs.Callers.{HasLegNumbersIn};
+ghost use Rattle.query_gate.specs.Callers.{Answers, CallerData, HasLegNumbersIn, IsAnsweredBy, LeavesAnsweredBy};
+ghost use Rattle.query_gate.specs.Questions.{ask_question, profile_question};
 ghost use Rattle.query_gate.specs.Replies.{HaveNumbers, LeavesAnswered};
 
-use crate::asking::AskText;
-use crate::profiling::ProfileText;
+use crate::answering::answer;
+use crate::asking::{AskText, ProfileText};
 use crate::reply::Reply;
-use crate::uncounted::{ask, profile};
+use answer_text::Question;
 use edition_store::{Edition, Last, Naming, Opened, Pinned, Receipt, Seat, Shared, Store};
 use segment_queue::Desk;
 use std::alloc::Global;
@@ -40,42 +40,27 @@ impl<J: Naming> Model for Caller<J> {
     ghost view = { λ c. record { kept = c.seat; desk = c.desk } };
 }
 
-// The reply of an edition with a number to a question for the best values.
-fn ask_of(
+// The reply of an edition with a number to a question that edition `since` or a later one may
+// answer.
+fn reply_by(
     alloc: Global,
     number: u32,
     edition: &Edition,
     desk: &mut Desk,
-    text: &AskText,
+    since: u32,
+    question: &Question,
 ) -> Result<Reply, Memory>
-    requires { text.now.leave ≤ℤ pos 359999 }
-    ensures reply { IfOk result (AnswersAsk number edition.now text.now) }
+    requires times { HasTimes question.now }
+    requires forwards { needs_mirror question.now ≡ false }
+    ensures reply { IfOk result (Answers number edition.now since question.now) }
     ensures numbers { IfOk result (HaveNumbers edition.now.table) }
     ensures desk { IfOk result
-        (λ reply. LeavesAnswered (net_of edition.now) text.now reply desk.new) }
+        (λ reply. LeavesAnswered (net_of edition.now) question.now reply desk.new) }
 {
-    if number < text.since {
-        return Ok(Reply::Deferred(text.since));
+    if number < since {
+        return Ok(Reply::Deferred(since));
     }
-    ask(alloc, edition, desk, text)
-}
-
-// The reply of an edition with a number to a question for a profile.
-fn profile_of(
-    alloc: Global,
-    number: u32,
-    edition: &Edition,
-    desk: &mut Desk,
-    text: &ProfileText,
-) -> Result<Reply, Memory>
-    requires { text.now.last ≤ℤ pos 359999 }
-    ensures reply { IfOk result (AnswersProfile number edition.now text.now) }
-    ensures numbers { IfOk result (HaveNumbers edition.now.table) }
-{
-    if text.since > number {
-        return Ok(Reply::Deferred(text.since));
-    }
-    profile(alloc, edition, desk, text)
+    answer(alloc, edition.table(), edition, desk, question)
 }
 
 impl<J: Naming> Caller<J> {
@@ -108,42 +93,67 @@ impl<J: Naming> Caller<J> {
         &self.desk
     }
 
-    /// Pins the published list once, and answers a question for the best values of its last
-    /// edition: `Deferred` exactly where a later edition is asked for, else as `ask` does. The list
-    /// extends that of each earlier answer. Waits for nobody. Refused only for want of memory: then
-    /// the caller's seat may have pinned a later list, and nothing is said of its desk.
-    pub fn ask(&mut self, alloc: Global, text: &AskText) -> Result<Answer<J>, Memory>
-        requires { text.now.leave ≤ℤ pos 359999 }
+    /// Pins the published list once, and answers a question of its last edition: `Deferred` exactly
+    /// where edition `since` is a later one, else as `answer` does. A question that needs a mirror
+    /// can't be asked. The list extends that of each earlier answer. Waits for nobody. Refused only
+    /// for want of memory: then the caller's seat may have pinned a later list, and nothing is said
+    /// of its desk.
+    pub fn answer(
+        &mut self,
+        alloc: Global,
+        since: u32,
+        question: &Question,
+    ) -> Result<Answer<J>, Memory>
+        requires times { HasTimes question.now }
+        requires forwards { needs_mirror question.now ≡ false }
         ensures reply { IfOk result
-            (λ a. IsAnsweredBy a.pinned.list (length a.pinned.list) text.now a.reply) }
+            (λ a. IsAnsweredBy a.pinned.list (length a.pinned.list) since question.now a.reply) }
         ensures numbers { IfOk result
             (λ a. HasLegNumbersIn a.pinned.list (length a.pinned.list) a.reply) }
         ensures desk { IfOk result
-            (λ a. LeavesAnsweredBy a.pinned.list text.now a.reply self.new.desk) }
+            (λ a. LeavesAnsweredBy a.pinned.list question.now a.reply self.new.desk) }
         ensures kept { IfOk result (λ a. self.new.kept ≡ a.pinned) }
         ensures later { Extends self.new.kept self.old.kept }
         ensures number { length self.old.kept.list ≤ length self.new.kept.list }
         ensures last { self.old.kept.closed ≡ true → self.new.kept ≡ self.old.kept }
     {
         let pinned = self.seat.pin()?;
-        let reply = ask_of(
+        let reply = reply_by(
             alloc,
             pinned.number(),
             pinned.edition(),
             &mut self.desk,
-            text,
+            since,
+            question,
         )?;
         Ok(Answer { pinned, reply })
     }
 
-    /// Pins the published list once, and answers a question for a profile over its last edition:
-    /// `Deferred` exactly where a later edition is asked for, else as `profile` does. The list
-    /// extends that of each earlier answer. Waits for nobody. Refused only for want of memory: then
-    /// the caller's seat may have pinned a later list.
+    /// Answers a question for the best values; see `answer`.
+    pub fn ask(&mut self, alloc: Global, text: &AskText) -> Result<Answer<J>, Memory>
+        requires { text.now.leave ≤ℤ pos 359999 }
+        ensures reply { IfOk result
+            (λ a. IsAnsweredBy a.pinned.list (length a.pinned.list) text.now.since
+            (ask_question text.now) a.reply) }
+        ensures numbers { IfOk result
+            (λ a. HasLegNumbersIn a.pinned.list (length a.pinned.list) a.reply) }
+        ensures desk { IfOk result
+            (λ a. LeavesAnsweredBy a.pinned.list (ask_question text.now) a.reply self.new.desk) }
+        ensures kept { IfOk result (λ a. self.new.kept ≡ a.pinned) }
+        ensures later { Extends self.new.kept self.old.kept }
+        ensures number { length self.old.kept.list ≤ length self.new.kept.list }
+        ensures last { self.old.kept.closed ≡ true → self.new.kept ≡ self.old.kept }
+    {
+        let question = text.question(alloc)?;
+        self.answer(alloc, text.since, &question)
+    }
+
+    /// Answers a question for a profile; see `answer`.
     pub fn profile(&mut self, alloc: Global, text: &ProfileText) -> Result<Answer<J>, Memory>
         requires { text.now.last ≤ℤ pos 359999 }
         ensures reply { IfOk result
-            (λ a. IsProfiledBy a.pinned.list (length a.pinned.list) text.now a.reply) }
+            (λ a. IsAnsweredBy a.pinned.list (length a.pinned.list) text.now.since
+            (profile_question text.now) a.reply) }
         ensures numbers { IfOk result
             (λ a. HasLegNumbersIn a.pinned.list (length a.pinned.list) a.reply) }
         ensures kept { IfOk result (λ a. self.new.kept ≡ a.pinned) }
@@ -151,15 +161,8 @@ impl<J: Naming> Caller<J> {
         ensures number { length self.old.kept.list ≤ length self.new.kept.list }
         ensures last { self.old.kept.closed ≡ true → self.new.kept ≡ self.old.kept }
     {
-        let pinned = self.seat.pin()?;
-        let reply = profile_of(
-            alloc,
-            pinned.number(),
-            pinned.edition(),
-            &mut self.desk,
-            text,
-        )?;
-        Ok(Answer { pinned, reply })
+        let question = text.question(alloc)?;
+        self.answer(alloc, text.since, &question)
     }
 
     /// From now on the caller's answers are of no less than the list of the receipt. Waits for

@@ -1,36 +1,36 @@
 //! The one door for questions about the network of a day.
 //!
-//! `ask` gives every best trade-off between early arrival and few rides between two named places,
-//! `profile` every best departure within a window, each with a journey that attains it and changes
-//! by kept transfers alone; a name that is none is answered as such. The search is that of
-//! Trip-Based Public Transit Routing (Witt, ESA 2015). `best_choices` and `best_offers` answer the
-//! two questions over any network whose hops suffice. `best_offers` sweeps the window from its last
-//! second to its first, over the times at which one can leave an origin for a first ride, and keeps
-//! from each of them to the one before what it has reached, by the number of rides, as in the
-//! profile searches of Delling, Pajor and Werneck, Round-Based Public Transit Routing (ALENEX
-//! 2012). Each counts its looks on a counter that is lent; those of `ask` and `best_choices` are
-//! bounded. `uncounted` has `best_choices` and `best_offers` for callers without a counter. A
-//! `Caller` asks of the last edition that is published, and defers what a later one is asked for.
-//! To the layer above the crate promises that each reply is exactly the one of the definitions, and
-//! that a caller's editions never go back.
+//! `answer` answers a `Question`: every best trade-off between early arrival and few rides between
+//! two named places, or to every stop; every best departure within a window; or the latest
+//! departures that arrive by a time. Each journey that is shown attains what it is shown for, and
+//! a name that is none is answered as such; `reply_text` shows a reply. The search is that of
+//! Trip-Based Public Transit Routing (Witt, ESA 2015). `best_choices` and `best_offers` search over
+//! any network whose hops suffice. `best_offers` sweeps the window from its last second to its
+//! first, over the times at which one can leave an origin for a first ride, and keeps from each of
+//! them to the one before what it has reached, by the number of rides, as in the profile searches
+//! of Delling, Pajor and Werneck, Round-Based Public Transit Routing (ALENEX 2012). Each counts its
+//! looks on a counter that is lent; those of `best_choices` are bounded. `uncounted` has both for
+//! callers without a counter. A `Caller` asks of the last edition that is published, and defers
+//! what a later one is asked for. To the layer above the crate promises that each reply is exactly
+//! the one of the definitions, and that a caller's editions never go back.
 #![tactic(auto)]
 
+mod answering;
 mod asking;
 mod between;
 mod caller;
 mod choices;
 mod leaving;
 mod offers;
-mod profiling;
 mod reply;
 mod searching;
 mod slots;
 pub mod uncounted;
 
-pub use asking::{AskText, ask};
+pub use answering::answer;
+pub use asking::{AskText, ProfileText};
 pub use between::{Between, stops_between};
 pub use caller::{Answer, Caller};
 pub use choices::best_choices;
 pub use offers::best_offers;
-pub use profiling::{ProfileText, profile};
-pub use reply::Reply;
+pub use reply::{Reply, reply_text};

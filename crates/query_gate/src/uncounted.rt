@@ -1,91 +1,18 @@
-//! Questions of callers without a counter: each call is the one of its name, on a counter of its
-//! own.
+//! Searches over an edition for callers without a counter: each call is the one of its name, on a
+//! counter of its own.
 ghost use Rattle.std.specs.Prelude.{◌≡◌, ◌<◌, ◌≤ℤ◌, [], All, IfOk, OnErr, length, map, pos};
 ghost use Rattle.tb_base.specs.BestValues.{ChoiceData};
 ghost use Rattle.edition_store.specs.Editions.{net_of};
 ghost use Rattle.segment_queue.specs.Queue.{Fits};
 ghost use Rattle.segment_queue.specs.Traced.{IsAnswered};
-ghost use Rattle.query_gate.specs.Replies.{AreBestChoices, AreBestOffers, HaveNumbers, IsAskReply, IsProfileReply, LeavesAnswered};
+ghost use Rattle.query_gate.specs.Replies.{AreBestChoices, AreBestOffers};
 
-use crate::asking::AskText;
-use crate::profiling::ProfileText;
-use crate::reply::Reply;
 use edition_store::Edition;
 use segment_queue::{Desk, Steps};
 use std::alloc::Global;
 use std::marker::Brand;
 use std::sync::ledger::{Blank, Ledger};
 use tb_base::{Choice, Memory, Offer, Query, Window};
-
-// `ask` on a ledger that nobody else counts in.
-fn ask_on<L: Ledger>(
-    alloc: Global,
-    edition: &Edition,
-    desk: &mut Desk,
-    text: &AskText,
-    blank: Blank,
-) -> Result<Reply, Memory>
-    requires name { blank.name ≡ L.name }
-    requires parts { blank.parts ≡ L.parts }
-    requires some { 0 < L.parts }
-    requires leave { text.now.leave ≤ℤ pos 359999 }
-    ensures reply { IfOk result (IsAskReply (net_of edition.now) text.now) }
-    ensures numbers { IfOk result (HaveNumbers edition.now.table) }
-    ensures desk { IfOk result
-        (λ reply. LeavesAnswered (net_of edition.now) text.now reply desk.new) }
-{
-    let mut steps = Steps::<L>::new(blank);
-    crate::asking::ask(alloc, edition, desk, text, &mut steps)
-}
-
-/// Answers a question for the best values over an edition, as `ask` does that is lent a counter.
-pub(crate) fn ask(
-    alloc: Global,
-    edition: &Edition,
-    desk: &mut Desk,
-    text: &AskText,
-) -> Result<Reply, Memory>
-    requires { text.now.leave ≤ℤ pos 359999 }
-    ensures reply { IfOk result (IsAskReply (net_of edition.now) text.now) }
-    ensures numbers { IfOk result (HaveNumbers edition.now.table) }
-    ensures desk { IfOk result
-        (λ reply. LeavesAnswered (net_of edition.now) text.now reply desk.new) }
-{
-    ask_on::<Brand>(alloc, edition, desk, text, Blank::new(1))
-}
-
-// `profile` on a ledger that nobody else counts in.
-fn profile_on<L: Ledger>(
-    alloc: Global,
-    edition: &Edition,
-    desk: &mut Desk,
-    text: &ProfileText,
-    blank: Blank,
-) -> Result<Reply, Memory>
-    requires name { blank.name ≡ L.name }
-    requires parts { blank.parts ≡ L.parts }
-    requires some { 0 < L.parts }
-    requires last { text.now.last ≤ℤ pos 359999 }
-    ensures reply { IfOk result (IsProfileReply (net_of edition.now) text.now) }
-    ensures numbers { IfOk result (HaveNumbers edition.now.table) }
-{
-    let mut steps = Steps::<L>::new(blank);
-    crate::profiling::profile(alloc, edition, desk, text, &mut steps)
-}
-
-/// Answers a question for a profile over an edition, as `profile` does that is lent a counter.
-pub(crate) fn profile(
-    alloc: Global,
-    edition: &Edition,
-    desk: &mut Desk,
-    text: &ProfileText,
-) -> Result<Reply, Memory>
-    requires { text.now.last ≤ℤ pos 359999 }
-    ensures reply { IfOk result (IsProfileReply (net_of edition.now) text.now) }
-    ensures numbers { IfOk result (HaveNumbers edition.now.table) }
-{
-    profile_on::<Brand>(alloc, edition, desk, text, Blank::new(1))
-}
 
 // The best values over an edition, on a ledger that nobody else counts in.
 fn best_choices_on<L: Ledger>(

@@ -101,7 +101,7 @@ fn said_of(reply: &Reply) -> Said {
         Reply::Values(choices) => said_of_values(choices.as_slice()),
         Reply::UnknownStop(name) if name.bytes() == b"Q".as_slice() => Said::UnknownQ,
         Reply::Deferred(since) => Said::Deferred(*since),
-        Reply::Slots(_) | Reply::UnknownStop(_) => Said::Other,
+        _ => Said::Other,
     }
 }
 

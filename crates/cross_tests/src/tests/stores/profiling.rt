@@ -20,7 +20,7 @@ fn two_slots(reply: &Reply) -> Option<(Slot, Slot)> {
         Reply::Slots(offers) if offers.len() == 2 => {
             Some((slot_of(&offers[0]), slot_of(&offers[1])))
         }
-        Reply::Slots(_) | Reply::Values(_) | Reply::UnknownStop(_) | Reply::Deferred(_) => None,
+        _ => None,
     }
 }
 

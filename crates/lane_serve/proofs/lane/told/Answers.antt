@@ -1,15 +1,16 @@
-use Rattle.std.proofs.Common.{◌∙◌}
+use Rattle.std.proofs.Common.{◌∙◌, ap}
+use Rattle.query_gate.specs.Texts.{reply_text}
 use Rattle.lane_serve.proofs.Answering.{answered, last_edition_is}
 use Rattle.lane_serve.proofs.lane.told.Goals as goal
 
 pub reply_text-requires : goal.reply_text-requires
 reply_text-requires g c =
     let a = c.args.answer.now in
-    let e = c.edition.result.now in
-    c.requires.numbers e (last_edition_is a.pinned.list c.args.request.now e a.reply c.requires.reply c.edition.ensures)
+    let e = c.edition-edition.result.now in
+    rw c.table.ensures (c.requires.numbers e (last_edition_is a.pinned.list c.args.request.now e a.reply c.requires.reply c.edition-edition.ensures))
 
 pub returns-clause-right : goal.returns-clause-right
 returns-clause-right g c =
     let a = c.args.answer.now in
-    answered a.pinned.list c.args.request.now c.edition.result.now a.reply _ c.requires.reply c.edition.ensures c.number.ensures
-    (c.in_ok-new.ensures ∙ c.as_slice.ensures.value ∙ c.in_ok-text.ensures)
+    answered a.pinned.list c.args.request.now c.edition-edition.result.now a.reply _ c.requires.reply c.edition-edition.ensures c.number.ensures
+    (c.in_ok-new.ensures ∙ c.as_slice.ensures.value ∙ c.in_ok-text.ensures ∙ ap (λ T. reply_text T a.reply) c.table.ensures)

@@ -1,4 +1,4 @@
-use Rattle.std.proofs.Common.{◌≡◌, ◌∙◌, List, rules, sym, ap, subst, arith, to_z, of_z, w32, ℤ, pos, ◌≤ℤ◌, ◌<ℤ◌}
+use Rattle.std.proofs.Common.{◌≡◌, ◌∙◌, List, rules, sym, ap, subst, arith, to_z, of_z, w32, ℤ, pos, ◌<ℤ◌}
 use Rattle.std.proofs.lemmas.Int.{ints, to_z-of_z}
 use Rattle.tb_base.specs.BestValues.{QueryData}
 use Rattle.tb_base.specs.declared.query.Value.{Value}
