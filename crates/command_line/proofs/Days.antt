@@ -1,5 +1,6 @@
 -- Words that name no day of a feed.
-use Rattle.std.proofs.Common.{◌≡◌, ◌<◌, ℕ, List, [], ◌∷◌, length, map, None, refl, arith, Bor}
+use Rattle.std.proofs.Common.{◌≡◌, ◌<◌, ◌≤◌, ℕ, List, [], ◌∷◌, length, map, drop, take, ◌-◌, get_or, None, ◌∙◌, ap, sym, refl, arith, Bor}
+use Rattle.std.proofs.lemmas.List.{take_rest}
 use Rattle.command_line.specs.DayCommands.{day_request_from}
 use Rattle.command_line.specs.LateTrips.{late_request_from}
 use Rattle.command_line.specs.Verifications.{verify_request_from}
@@ -10,6 +11,19 @@ pub too_few : (s : Settings) (name : List ℕ) (words : List (Bor (List ℕ))) �
 too_few s name [] few = refl
 too_few s name (dir ∷ []) few = refl
 too_few s name (dir ∷ date ∷ words) few = absurd (omega arith)
+
+-- two words or more are these two, and those behind them
+first_two : (words : List (Bor (List ℕ))) (d e : Bor (List ℕ)) → 2 ≤ length words →
+    map (λ word. word.now) words ≡ (get_or words 0 d).now ∷ (get_or words 1 e).now ∷ map (λ word. word.now) (drop 2 words)
+first_two [] d e many = absurd (omega arith)
+first_two (dir ∷ []) d e many = absurd (omega arith)
+first_two (dir ∷ date ∷ words) d e many = refl
+
+pub two_or_more : (words : List (Bor (List ℕ))) (d e : Bor (List ℕ)) → 2 ≤ length words →
+    map (λ word. word.now) words ≡ (get_or words 0 d).now ∷ (get_or words 1 e).now ∷ map (λ word. word.now) (take (length words - 2) (drop 2 words))
+two_or_more words d e many =
+    first_two words d e many
+    ∙ ap (λ rest. (get_or words 0 d).now ∷ (get_or words 1 e).now ∷ map (λ word. word.now) rest) (sym (take_rest words 2))
 
 -- nor one over which a journey is judged
 pub too_few_claimed : (s : Settings) (words : List (Bor (List ℕ))) → length words < 2 → None ≡ verify_request_from s (map (λ word. word.now) words)

@@ -3,6 +3,7 @@ use Rattle.std.specs.Prelude.{ℕ, ◌≤◌, ◌&&◌, nat_le, List, [], ◌∷
 use Rattle.std.specs.Option.{option_and_then, option_map}
 use Rattle.clap.specs.Words.{Text}
 use Rattle.gtfs_rows.specs.Numbers.{number_of}
+use Rattle.command_line.specs.declared.city.TheConstants.{FEWEST_ROWS, MOST_ROWS}
 use Rattle.command_line.specs.declared.settings.Settings.{Settings}
 
 -- a request about a made city: how many rows and columns it has, and how many workers reduce its
@@ -13,15 +14,15 @@ pub record CityRequestData : Type 0 where
 
 -- a city has from 2 to 40 rows, and as many columns
 pub record IsSide (n : ℕ) : Type 0 where
-  pub some : 2 ≤ n
-  pub most : n ≤ 40
+  pub some : FEWEST_ROWS ≤ n
+  pub most : n ≤ MOST_ROWS
 
-abbrev pub two_to_40 : ℕ → Option ℕ
-two_to_40 n = if nat_le 2 n && nat_le n 40 then Some n else None
+abbrev pub as_side : ℕ → Option ℕ
+as_side n = if nat_le FEWEST_ROWS n && nat_le n MOST_ROWS then Some n else None
 
 -- the number of rows and columns that the word N says
 abbrev pub side_of : Text → Option ℕ
-side_of word = option_and_then two_to_40 (number_of word)
+side_of word = option_and_then as_side (number_of word)
 
 -- a request by the word N
 abbrev pub city_request : Settings → List Text → Option CityRequestData

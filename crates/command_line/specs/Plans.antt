@@ -5,6 +5,7 @@ use Rattle.std.specs.Path.{rsplit_once}
 use Rattle.clap.specs.Words.{Text}
 use Rattle.footpaths.specs.declared.paths.Options.{Options}
 use Rattle.gtfs_rows.specs.Dates.{date_of}
+use Rattle.command_line.specs.declared.plan.TheConstants.{MOST_DAYS}
 use Rattle.command_line.specs.declared.settings.Settings.{Settings}
 
 -- a day of a feed: the folder, the word that names both, and the date
@@ -23,7 +24,7 @@ pub record ServeRequestData : Type 0 where
 -- from 1 to 100 days
 pub record IsPlan (days : List PlannedDayData) : Type 0 where
   pub some : 0 < length days
-  pub most : length days ≤ 100
+  pub most : length days ≤ MOST_DAYS
 
 -- the day of the word whose parts are DIR and DATE, where DIR isn't empty
 abbrev pub day_between : Text → Text → Text → Option PlannedDayData
@@ -46,7 +47,8 @@ planned_days (word ∷ words) =
 -- the plan of these words: 1 to 100 days
 abbrev pub plan_of : List Text → Option (List PlannedDayData)
 plan_of words =
-    if nat_lt 0 (length words) && nat_le (length words) 100 then planned_days words else None
+    if nat_lt 0 (length words) && nat_le (length words) MOST_DAYS then planned_days words
+    else None
 
 abbrev pub serve_request : Settings → List Text → Option ServeRequestData
 serve_request s words =

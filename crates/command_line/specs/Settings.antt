@@ -8,6 +8,7 @@ use Rattle.gtfs_rows.specs.Fields.{secs_of}
 use Rattle.gtfs_rows.specs.Numbers.{number_of}
 use Rattle.tb_base.specs.Workers.{AreWorkers}
 use Rattle.command_line.specs.declared.settings.Settings.{Settings}
+use Rattle.command_line.specs.declared.settings.TheConstants.{DEFAULT_WORKERS}
 
 pub record AreSettings (s : Settings) : Type 0 where
   pub options : AreWithinADay s.options
@@ -29,9 +30,9 @@ abbrev pub station_given : Option Text → Option (Option ℕ)
 station_given None = Some None
 station_given (Some text) = option_map Some (secs_of text)
 
--- the number of workers: 4 without `--workers`
+-- the number of workers, and that without `--workers`
 abbrev pub workers_given : Option Text → Option ℕ
-workers_given None = Some 4
+workers_given None = Some DEFAULT_WORKERS
 workers_given (Some text) = worker_count text
 
 abbrev pub is_true : Option Text → Bool

@@ -7,13 +7,19 @@ use crate::request::CityRequest;
 use crate::settings::Settings;
 use gtfs_rows::number_of;
 
+/// The fewest rows that a made city has.
+pub const FEWEST_ROWS: u32 = 2;
+
+/// The most rows that a made city has.
+pub const MOST_ROWS: u32 = 40;
+
 // From 2 to 40 rows and columns.
 fn side_of(word: &str) -> Option<u32>
     ensures side { result ≡ side_of word.now }
     ensures within { IfSome result IsSide }
 {
     match number_of(word.as_bytes()) {
-        Some(side) if 2 <= side && side <= 40 => Some(side),
+        Some(side) if FEWEST_ROWS <= side && side <= MOST_ROWS => Some(side),
         _ => None,
     }
 }

@@ -1,73 +1,26 @@
 //! What is asked about one day of a feed.
-ghost use Rattle.std.specs.Prelude.{◌≡◌, ◌≤ℤ◌, map, pos};
-ghost use Rattle.command_line.specs.DayCommands.{arrival_by, arrival_from, arrival_inquiry_of, command_of, day_request, day_request_from, inquiry_from, inquiry_of, list_from, list_word, origin_from, origin_inquiry_of, window_from, window_inquiry_of};
+ghost use Rattle.std.specs.Prelude.{◌≡◌, ◌<◌, ◌∷◌, IfOk, IfSome, MatchOption, length, map};
+ghost use Rattle.answer_text.specs.Questions.{HasTimes};
+ghost use Rattle.command_line.specs.DayCommands.{HasCommandTimes, command_of, day_request, day_request_from, inquiry_from, inquiry_of, list_from, list_word, question_from};
 ghost use Rattle.command_line.specs.Settings.{AreSettings};
 
-use crate::request::{ArrivalInquiry, Command, DayRequest, Inquiry, OriginInquiry, WindowInquiry};
+use crate::request::{Command, DayRequest, Inquiry};
 use crate::settings::Settings;
+use answer_text::{Question, question_of};
 use gtfs_rows::time_of;
 use service_day::day_of;
-use tb_base::Sec;
-
-// The latest time that one can ask to arrive by: 75:59:59.
-const LATEST: Sec = 273_599;
+use std::alloc::Global;
+use tb_base::{Memory, Name, Refused};
 
 fn inquiry_of<'a>(from: &'a str, to: &'a str, time: &str) -> Option<Inquiry<'a>>
     ensures { result ≡ inquiry_of from.now to.now time.now }
 {
     match time_of(time.as_bytes()) {
-        Some(time) => Some(Inquiry { from, to, time }),
-        None => None,
-    }
-}
-
-fn window_inquiry_of<'a>(
-    from: &'a str,
-    to: &'a str,
-    first: &str,
-    last: &str,
-) -> Option<WindowInquiry<'a>>
-    ensures { result ≡ window_inquiry_of from.now to.now first.now last.now }
-{
-    let Some(first) = time_of(first.as_bytes()) else {
-        return None;
-    };
-    match time_of(last.as_bytes()) {
-        Some(last) => Some(WindowInquiry {
-            from,
-            to,
-            first,
-            last,
+        Some(time) => Some(Inquiry {
+            from: from.as_bytes(),
+            to: to.as_bytes(),
+            time,
         }),
-        None => None,
-    }
-}
-
-fn arrival_by<'a>(from: &'a str, to: &'a str, by: Sec) -> Option<ArrivalInquiry<'a>>
-    requires { pos 0 ≤ℤ by }
-    ensures { result ≡ arrival_by from.now to.now by }
-{
-    if by <= LATEST {
-        Some(ArrivalInquiry { from, to, by })
-    } else {
-        None
-    }
-}
-
-fn arrival_inquiry_of<'a>(from: &'a str, to: &'a str, time: &str) -> Option<ArrivalInquiry<'a>>
-    ensures { result ≡ arrival_inquiry_of from.now to.now time.now }
-{
-    match time_of(time.as_bytes()) {
-        Some(by) => arrival_by(from, to, by),
-        None => None,
-    }
-}
-
-fn origin_inquiry_of<'a>(from: &'a str, time: &str) -> Option<OriginInquiry<'a>>
-    ensures { result ≡ origin_inquiry_of from.now time.now }
-{
-    match time_of(time.as_bytes()) {
-        Some(time) => Some(OriginInquiry { from, time }),
         None => None,
     }
 }
@@ -82,34 +35,29 @@ pub(crate) fn inquiry_from<'a>(words: &[&'a str]) -> Option<Inquiry<'a>>
     inquiry_of(words[0], words[1], words[2])
 }
 
-// What is asked by the words FROM TO TIME, where it is by when to arrive.
-fn arrival_from<'a>(words: &[&'a str]) -> Option<ArrivalInquiry<'a>>
-    ensures { result ≡ arrival_from (map (λ word. word.now) words.now) }
+// Words as names.
+fn names_of(alloc: Global, words: &[&str]) -> Result<Vec<Name>, Memory>
+    ensures { IfOk result (λ names. names.items ≡ map (λ word. word.now) words.now) }
 {
-    if words.len() != 3 {
-        return None;
+    let mut names = Vec::new(alloc);
+    for word in words {
+        names.push(Name::new(alloc, word.as_bytes())?)?;
     }
-    arrival_inquiry_of(words[0], words[1], words[2])
+    Ok(names)
 }
 
-// What is asked by the words FROM TO FIRST LAST.
-fn window_from<'a>(words: &[&'a str]) -> Option<WindowInquiry<'a>>
-    ensures { result ≡ window_from (map (λ word. word.now) words.now) }
+// The question of a kind that words ask: none where they have not its form, or a time is none.
+fn question_from(alloc: Global, kind: &str, words: &[&str]) -> Result<Option<Question>, Memory>
+    ensures question { IfOk result (λ question.
+        question ≡ question_from kind.now (map (λ word. word.now) words.now)) }
+    ensures times { IfOk result (λ question. IfSome question HasTimes) }
 {
-    if words.len() != 4 {
-        return None;
+    let names = names_of(alloc, words)?;
+    match question_of(alloc, kind.as_bytes(), names.as_slice()) {
+        Ok(question) => Ok(Some(question)),
+        Err(Refused::Fault(_)) => Ok(None),
+        Err(Refused::Memory) => Err(Memory),
     }
-    window_inquiry_of(words[0], words[1], words[2], words[3])
-}
-
-// What is asked by the words FROM TIME.
-fn origin_from<'a>(words: &[&'a str]) -> Option<OriginInquiry<'a>>
-    ensures { result ≡ origin_from (map (λ word. word.now) words.now) }
-{
-    if words.len() != 2 {
-        return None;
-    }
-    origin_inquiry_of(words[0], words[1])
 }
 
 // With a list, where the word says so.
@@ -134,59 +82,85 @@ fn list_from(words: &[&str]) -> Option<bool>
 }
 
 // A command by its name and the words behind folder and date.
-fn command_of<'a>(name: &str, words: &[&'a str]) -> Option<Command<'a>>
-    ensures { result ≡ command_of name.now (map (λ word. word.now) words.now) }
+fn command_of<'a>(
+    alloc: Global,
+    name: &str,
+    words: &[&'a str],
+) -> Result<Option<Command<'a>>, Memory>
+    ensures command { IfOk result (λ command.
+        command ≡ command_of name.now (map (λ word. word.now) words.now)) }
+    ensures times { IfOk result (λ command. IfSome command HasCommandTimes) }
 {
     match name {
-        "direct" => Some(Command::Direct(inquiry_from(words)?)),
-        "ask" => Some(Command::Ask(inquiry_from(words)?)),
-        "profile" => Some(Command::Profile(window_from(words)?)),
-        "latest" => Some(Command::Latest(arrival_from(words)?)),
-        "reach" => Some(Command::Reach(origin_from(words)?)),
-        "build" => Some(Command::Build {
-            list: list_from(words)?,
-        }),
-        _ => None,
+        "direct" => match inquiry_from(words) {
+            Some(inquiry) => Ok(Some(Command::Direct(inquiry))),
+            None => Ok(None),
+        },
+        "build" => match list_from(words) {
+            Some(list) => Ok(Some(Command::Build { list })),
+            None => Ok(None),
+        },
+        _ => match question_from(alloc, name, words)? {
+            Some(question) => Ok(Some(Command::Question(question))),
+            None => Ok(None),
+        },
     }
 }
 
 // A request by the command's name, the folder, the date, and the words behind them.
 fn day_request<'a>(
+    alloc: Global,
     settings: Settings,
     name: &str,
     dir: &'a str,
     date: &str,
     words: &[&'a str],
-) -> Option<DayRequest<'a>>
+) -> Result<Option<DayRequest<'a>>, Memory>
     requires { AreSettings settings }
-    ensures { result
-        ≡ day_request settings name.now dir.now date.now (map (λ word. word.now) words.now) }
+    ensures { IfOk result (λ request. request
+        ≡ day_request settings name.now dir.now date.now (map (λ word. word.now) words.now)) }
 {
-    let command = command_of(name, words)?;
     let Ok(day) = day_of(date.as_bytes()) else {
-        return None;
+        return Ok(None);
     };
-    Some(DayRequest {
-        options: settings.options,
-        workers: settings.workers,
-        plain: settings.plain,
-        dir,
-        day,
-        command,
-    })
+    match command_of(alloc, name, words)? {
+        Some(command) => Ok(Some(DayRequest {
+            options: settings.options,
+            workers: settings.workers,
+            plain: settings.plain,
+            dir,
+            day,
+            command,
+        })),
+        None => Ok(None),
+    }
+}
+
+// The first two words, and those behind them.
+fn parted<'w, 'a>(words: &'w [&'a str]) -> Option<(&'a str, &'a str, &'w [&'a str])>
+    ensures { MatchOption result (length words.now < 2) (λ parts.
+        map (λ word. word.now) words.now
+        ≡ parts.0.now ∷ parts.1.now ∷ map (λ word. word.now) parts.2.now) }
+{
+    match words {
+        [first, second, rest @ ..] => Some((first, second, rest)),
+        _ => None,
+    }
 }
 
 /// A request by the command's name and the words DIR DATE WORDS.
 pub(crate) fn day_request_from<'a>(
+    alloc: Global,
     settings: Settings,
     name: &str,
     words: &[&'a str],
-) -> Option<DayRequest<'a>>
+) -> Result<Option<DayRequest<'a>>, Memory>
     requires { AreSettings settings }
-    ensures { result ≡ day_request_from settings name.now (map (λ word. word.now) words.now) }
+    ensures { IfOk result (λ request.
+        request ≡ day_request_from settings name.now (map (λ word. word.now) words.now)) }
 {
-    match words {
-        [dir, date, words @ ..] => day_request(settings, name, dir, date, words),
-        _ => None,
+    match parted(words) {
+        Some((dir, date, words)) => day_request(alloc, settings, name, dir, date, words),
+        None => Ok(None),
     }
 }

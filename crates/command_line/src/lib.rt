@@ -18,7 +18,7 @@ mod verification;
 mod words;
 
 pub use request::{
-    ArrivalInquiry, CityRequest, Command, DayRequest, Inquiry, LateRequest, OriginInquiry,
-    PlannedDay, Request, ServeRequest, VerifyRequest, WindowInquiry,
+    CityRequest, Command, DayRequest, Inquiry, LateRequest, PlannedDay, Request, ServeRequest,
+    VerifyRequest,
 };
 pub use words::request_of;

@@ -9,6 +9,9 @@ use service_day::day_of;
 use std::alloc::Global;
 use tb_base::Memory;
 
+/// The most days that one request can name.
+pub const MOST_DAYS: usize = 100;
+
 // The day that `DIR@DATE` names.
 fn planned_day(word: &str) -> Option<PlannedDay<'_>>
     ensures { result ≡ planned_day word.now }
@@ -49,7 +52,7 @@ pub(crate) fn serve_request<'a>(
     ensures { IfOk result (λ request.
         request ≡ serve_request settings (map (λ word. word.now) words.now)) }
 {
-    if words.is_empty() || words.len() > 100 {
+    if words.is_empty() || words.len() > MOST_DAYS {
         return Ok(None);
     }
     match planned_days(alloc, words)? {

@@ -1,15 +1,15 @@
 //! What is asked for.
+use answer_text::Question;
 use footpaths::Options;
 use service_day::Day;
 use std::marker::Model;
 use tb_base::Sec;
 
-/// From where to where a journey is asked for, and from when on. The names are those of stops or
-/// stations.
+/// From where to where a journey leads, and from when on. The names are those of stops or stations.
 #[derive(Drop)]
 pub struct Inquiry<'a> {
-    pub from: &'a str,
-    pub to: &'a str,
+    pub from: &'a [u8],
+    pub to: &'a [u8],
     /// In seconds since noon minus twelve hours.
     pub time: Sec,
 }
@@ -25,87 +25,13 @@ impl<'a> Model for Inquiry<'a> {
     ghost invariant = { λ i. IsFileTime i.time };
 }
 
-/// From where to where journeys are asked for that leave within a window, both ends counted. The
-/// names are those of stops or stations.
-#[derive(Drop)]
-pub struct WindowInquiry<'a> {
-    pub from: &'a str,
-    pub to: &'a str,
-    /// In seconds since noon minus twelve hours.
-    pub first: Sec,
-    /// In seconds since noon minus twelve hours.
-    pub last: Sec,
-}
-
-impl<'a> Model for WindowInquiry<'a> {
-    ghost use Rattle.gtfs_rows.specs.Numbers.{IsFileTime};
-    ghost use Rattle.command_line.specs.Inquiries.{WindowInquiryData};
-
-    ghost Value = { WindowInquiryData };
-
-    ghost view = { λ i. record {
-      from = i.from.now;
-      to = i.to.now;
-      first = i.first;
-      last = i.last;
-    } };
-
-    ghost invariant = { λ i. IsFileTime i.first × IsFileTime i.last };
-}
-
-/// From where to where a journey is asked for, and by when it is to arrive. The names are those of
-/// stops or stations.
-#[derive(Drop)]
-pub struct ArrivalInquiry<'a> {
-    pub from: &'a str,
-    pub to: &'a str,
-    /// In seconds since noon minus twelve hours; at most 75:59:59.
-    pub by: Sec,
-}
-
-impl<'a> Model for ArrivalInquiry<'a> {
-    ghost use Rattle.std.specs.Prelude.{◌≤ℤ◌, pos};
-    ghost use Rattle.command_line.specs.Inquiries.{ArrivalInquiryData};
-
-    ghost Value = { ArrivalInquiryData };
-
-    ghost view = { λ i. record { from = i.from.now; to = i.to.now; by = i.by } };
-
-    ghost invariant = { λ i. (pos 0 ≤ℤ i.by) × (i.by ≤ℤ pos 273599) };
-}
-
-/// From where every stop is asked for, and from when on. The name is that of a stop or a station.
-#[derive(Drop)]
-pub struct OriginInquiry<'a> {
-    pub from: &'a str,
-    /// In seconds since noon minus twelve hours.
-    pub time: Sec,
-}
-
-impl<'a> Model for OriginInquiry<'a> {
-    ghost use Rattle.gtfs_rows.specs.Numbers.{IsFileTime};
-    ghost use Rattle.command_line.specs.Inquiries.{OriginInquiryData};
-
-    ghost Value = { OriginInquiryData };
-
-    ghost view = { λ i. record { from = i.from.now; time = i.time } };
-
-    ghost invariant = { λ i. IsFileTime i.time };
-}
-
 /// What is asked about one day of a feed.
 #[derive(Drop)]
 pub enum Command<'a> {
     /// The earliest arrival by one ride.
     Direct(Inquiry<'a>),
-    /// Every best trade-off between arrival and number of rides.
-    Ask(Inquiry<'a>),
-    /// Every best trade-off between late departure, early arrival and number of rides.
-    Profile(WindowInquiry<'a>),
-    /// Every best trade-off between late departure and number of rides, to arrive by a time.
-    Latest(ArrivalInquiry<'a>),
-    /// The same as `Ask`, to every stop.
-    Reach(OriginInquiry<'a>),
+    /// A question about the network of the day.
+    Question(Question),
     /// What is built of the timetable: its sizes and counts, and where asked for, the list of the
     /// kept transfers.
     Build {
@@ -128,7 +54,7 @@ pub struct DayRequest<'a> {
 }
 
 impl<'a> Model for DayRequest<'a> {
-    ghost use Rattle.command_line.specs.DayCommands.{DayRequestData};
+    ghost use Rattle.command_line.specs.DayCommands.{DayRequestData, HasCommandTimes};
     ghost use Rattle.footpaths.specs.Limits.{AreWithinADay};
     ghost use Rattle.tb_base.specs.Workers.{AreWorkers};
 
@@ -143,7 +69,8 @@ impl<'a> Model for DayRequest<'a> {
       command = r.command;
     } };
 
-    ghost invariant = { λ r. AreWithinADay r.options × AreWorkers r.workers };
+    ghost invariant = { λ r.
+        AreWithinADay r.options × AreWorkers r.workers × HasCommandTimes r.command };
 }
 
 /// A request to judge a claimed journey over one day of a feed.

@@ -4,11 +4,18 @@ ghost use Rattle.clap.specs.Words.{first_of, found_of, rows_of};
 ghost use Rattle.gtfs_rows.specs.Fields.{secs_of};
 ghost use Rattle.footpaths.specs.Limits.{AreWithinADay};
 ghost use Rattle.tb_base.specs.Workers.{AreWorkers};
+ghost use Rattle.command_line.specs.declared.settings.TheConstants.{LONGEST_WALK};
 ghost use Rattle.command_line.specs.Settings.{AreSettings, change_given, is_given, options_given, settings_given, station_given, worker_count, workers_given};
 
 use clap::ArgMatches;
 use footpaths::Options;
 use gtfs_rows::number_of;
+
+/// The longest walk or change that an option can name, in seconds: a day.
+pub const LONGEST_WALK: u32 = 86_400;
+
+/// How many workers there are where none are given.
+pub const DEFAULT_WORKERS: u32 = 4;
 
 /// What all options say. None has an effect where the command doesn't use it.
 #[derive(Clone, Copy)]
@@ -20,13 +27,13 @@ pub(crate) struct Settings {
     pub plain: bool,
 }
 
-// Seconds that are no more than a day.
+// Seconds of a walk or a change.
 fn secs_of(text: &str) -> Option<u32>
     ensures secs { result ≡ secs_of text.now }
-    ensures most { IfSome result (λ secs. secs ≤ 86400) }
+    ensures most { IfSome result (λ secs. secs ≤ LONGEST_WALK) }
 {
     match number_of(text.as_bytes()) {
-        Some(secs) if secs <= 86_400 => Some(secs),
+        Some(secs) if secs <= LONGEST_WALK => Some(secs),
         _ => None,
     }
 }
@@ -45,7 +52,7 @@ fn worker_count(text: &str) -> Option<u32>
 // The default change time: 0 seconds where none is given.
 fn change_given(text: Option<&str>) -> Option<u32>
     ensures secs { result ≡ change_given (option_map (λ t. t.now) text.entry) }
-    ensures most { IfSome result (λ secs. secs ≤ 86400) }
+    ensures most { IfSome result (λ secs. secs ≤ LONGEST_WALK) }
 {
     match text {
         None => Some(0),
@@ -56,7 +63,7 @@ fn change_given(text: Option<&str>) -> Option<u32>
 // The seconds between platforms of one station: none where none are given.
 fn station_given(text: Option<&str>) -> Option<Option<u32>>
     ensures secs { result ≡ station_given (option_map (λ t. t.now) text.entry) }
-    ensures most { IfSome result (λ station. IfSome station (λ secs. secs ≤ 86400)) }
+    ensures most { IfSome result (λ station. IfSome station (λ secs. secs ≤ LONGEST_WALK)) }
 {
     match text {
         None => Some(None),
@@ -64,13 +71,13 @@ fn station_given(text: Option<&str>) -> Option<Option<u32>>
     }
 }
 
-// The number of workers: 4 where none is given.
+// The number of workers.
 fn workers_given(text: Option<&str>) -> Option<u32>
     ensures count { result ≡ workers_given (option_map (λ t. t.now) text.entry) }
     ensures within { IfSome result AreWorkers }
 {
     match text {
-        None => Some(4),
+        None => Some(DEFAULT_WORKERS),
         Some(text) => worker_count(text),
     }
 }

@@ -45,7 +45,7 @@ fn request_named<'a>(
             Some(request) => Ok(Some(Request::Late(request))),
             None => Ok(None),
         },
-        _ => match day_request_from(settings, name, words) {
+        _ => match day_request_from(alloc, settings, name, words)? {
             Some(request) => Ok(Some(Request::Day(request))),
             None => Ok(None),
         },

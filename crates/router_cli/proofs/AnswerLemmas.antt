@@ -1,28 +1,30 @@
 -- Answers from their parts.
-use Rattle.std.proofs.Common.{◌≡◌, List, [], ◌∷◌, ℕ, Ok, Err, ℤ, refl, rules, subst, sym, filter_map, Option, Some, None, pos, ◌≤ℤ◌}
-use Rattle.std.specs.Prelude.{All, Contains, FitsSigned, MatchOption, MatchResult}
-use Rattle.std.specs.Int.{w32}
+use Rattle.std.proofs.Common.{◌≡◌, ℕ, Bool, Ok, Err, ℤ, false, true, List, [], ◌∷◌, refl, subst, sym, filter_map}
+use Rattle.std.specs.Prelude.{All, Contains, MatchResult}
 use Rattle.std.proofs.lemmas.List.Elements.{All-weaker}
 use Rattle.tb_base.specs.TimetableData.{TimetableData}
-use Rattle.tb_base.specs.BestValues.{ChoiceData}
+use Rattle.tb_base.specs.BestValues.{ChoiceData, QueryData}
 use Rattle.tb_base.specs.Journeys.{Ride}
-use Rattle.tb_base.specs.Profiles.{OfferData}
+use Rattle.tb_base.specs.Profiles.{OfferData, WindowData}
 use Rattle.tb_base.specs.Transfers.{kept_hops}
 use Rattle.tb_base.specs.declared.query.Leg.{Leg}
-use Rattle.tb_base.specs.declared.query.Value.{Value}
 use Rattle.tb_base.specs.declared.transfer.Hop.{Hop}
 use Rattle.segment_queue.specs.Traced.{LegsFollow, RidesFollow, ride_of}
 use Rattle.answer_text.specs.Journeys.{unknown_text}
+use Rattle.answer_text.specs.Questions.{needs_mirror}
+use Rattle.answer_text.specs.declared.question.Question.{Question}
+use Rattle.answer_text.specs.declared.question.Question.TheVariants as question
 use Rattle.edition_store.specs.Editions.{EditionData, IsEdition, net_of}
-use Rattle.reach_all.specs.Reach.{IsReach}
-use Rattle.reach_all.specs.Text.{reach_text}
-use Rattle.query_gate.specs.Questions.{AskData, Ends, ProfileData, ends_between, query_at, window_at}
-use Rattle.query_gate.specs.Replies.{IsAskReply, IsProfileReply}
+use Rattle.mirror_table.specs.Mirror.{IsMirror}
+use Rattle.query_gate.specs.Questions.{Ends, IsOrMirrors, Serves, ends_between}
+use Rattle.query_gate.specs.Replies.{AreBestChoices, AreBestOffers, IsReply, network}
+use Rattle.query_gate.specs.Texts.{reply_text}
 use Rattle.query_gate.specs.declared.reply.Reply.{Reply}
-use Rattle.query_gate.specs.declared.reply.Reply.TheVariants.{Values, Slots, UnknownStop, Deferred}
-use Rattle.lane_serve.specs.Lanes.{reply_text}
-use Rattle.router_cli.specs.Answers.{AreStopsNamed, HasKeptChanges, IsReachText, IsTextBetween, ShowsKept, ShowsProfile, ShowsReach, ask_data, profile_data, stops_named}
-use Rattle.command_line.specs.Inquiries.{InquiryData, OriginInquiryData, WindowInquiryData}
+use Rattle.query_gate.specs.declared.reply.Reply.TheVariants as reply
+use Rattle.command_line.specs.Inquiries.{InquiryData}
+use Rattle.router_cli.specs.Answers.{IsKeptReply, IsQuery, IsRightReply, IsRoundsReply, IsTextBetween, ShowsReply, kept_network}
+use Rattle.router_cli.specs.LateTrips.{ask_of}
+use Rattle.router_cli.specs.declared.over_table.Asked.{Asked}
 
 -- the text where both names are those of places
 pub known_text : (T : TimetableData) (from to : List ℕ) (IsTextOf : Ends → List ℕ → Type 0) (ends : Ends) (bytes : List ℕ) →
@@ -36,16 +38,6 @@ pub unknown_name : (T : TimetableData) (from to : List ℕ) (IsTextOf : Ends →
 unknown_name T from to IsTextOf name bytes is text =
     subst (λ r. MatchResult r (λ e. IsTextOf e bytes) (λ name. bytes ≡ unknown_text name)) (sym is) text
 
--- the same question, by names and times that are known by other terms
-pub same_ask : (i : InquiryData) (from to : List ℕ) (time : ℤ) → from ≡ i.from → to ≡ i.to → time ≡ i.time →
-    ask_data (record { from = from; to = to; time = time }) ≡ ask_data i
-same_ask i from to time same_from same_to same_time = rw (same_from, same_to, same_time) refl
-
-pub same_profile : (i : WindowInquiryData) (from to : List ℕ) (first last : ℤ) → from ≡ i.from → to ≡ i.to → first ≡ i.first → last ≡ i.last →
-    profile_data (record { from = from; to = to; first = first; last = last }) ≡ profile_data i
-same_profile i from to first last same_from same_to same_first same_last =
-    rw (same_from, same_to, same_first, same_last) refl
-
 -- rides that follow hops follow equal hops
 rides_follow : (hops others : ℕ → ℕ → List Hop) → ((t i : ℕ) → hops t i ≡ others t i) → (rides : List Ride) → RidesFollow hops rides → RidesFollow others rides
 rides_follow hops others same [] follow = tt
@@ -54,48 +46,114 @@ rides_follow hops others same (r ∷ s ∷ rest) follow =
     (subst (λ hs. Contains hs (record { trip = s.trip; at = s.board })) (same r.trip r.alight) follow.0, rides_follow hops others same (s ∷ rest) follow.1)
 
 -- legs that follow the hops of an edition change by kept transfers
-pub kept_changes : (e : EditionData) → IsEdition e → {A : Type 0} (legs_of : A → List Leg) (xs : List A) → All (λ x. LegsFollow (net_of e).hops (legs_of x)) xs → All (λ x. HasKeptChanges e.table (legs_of x)) xs
+kept_changes : (e : EditionData) → IsEdition e → {A : Type 0} (legs_of : A → List Leg) (xs : List A) →
+    All (λ x. LegsFollow (net_of e).hops (legs_of x)) xs → All (λ x. LegsFollow (kept_hops e.table e.lines) (legs_of x)) xs
 kept_changes e sound legs_of xs follow =
-    All-weaker (λ x. LegsFollow (net_of e).hops (legs_of x)) (λ x. HasKeptChanges e.table (legs_of x))
-    (λ x h. record { lines = e.lines; are_lines = sound.lines; kept = rides_follow (net_of e).hops (kept_hops e.table e.lines) sound.hops (filter_map ride_of (legs_of x)) h })
-    xs follow
+    All-weaker (λ x. LegsFollow (net_of e).hops (legs_of x)) (λ x. LegsFollow (kept_hops e.table e.lines) (legs_of x))
+    (λ x h. rides_follow (net_of e).hops (kept_hops e.table e.lines) sound.hops (filter_map ride_of (legs_of x)) h) xs follow
 
--- the text of a right reply to a question for the best values
-pub ask_shown : (e : EditionData) → IsEdition e → (q : AskData) (r : Reply) → IsAskReply (net_of e) q r → (bytes : List ℕ) → bytes ≡ reply_text e.table r →
-    IsTextBetween e.table q.from q.to (λ ends. ShowsKept e.table (query_at ends q.leave)) bytes
-ask_shown e sound q (Values choices) (ends, is, best) bytes text =
-    known_text e.table q.from q.to (λ ends. ShowsKept e.table (query_at ends q.leave)) ends bytes is
-    (record { choices = choices.items; values = best.values; journeys = best.journeys; kind = kept_changes e sound ChoiceData.legs choices.items best.hops; text = text })
-ask_shown e sound q (Slots offers) h bytes text = absurd h
-ask_shown e sound q (Deferred number) h bytes text = absurd h
-ask_shown e sound q (UnknownStop name) is bytes text = unknown_name e.table q.from q.to (λ ends. ShowsKept e.table (query_at ends q.leave)) name bytes is text
+-- so what is best over an edition is best over the kept transfers of its timetable
+pub kept_choices : (e : EditionData) → IsEdition e → (Q : QueryData) (choices : List ChoiceData) → AreBestChoices (net_of e) Q choices → AreBestChoices (kept_network e.table e.lines) Q choices
+kept_choices e sound Q choices best =
+    record { values = best.values; journeys = best.journeys; hops = kept_changes e sound ChoiceData.legs choices best.hops }
 
--- the text of a right reply to a question for a profile
-pub profile_shown : (e : EditionData) → IsEdition e → (q : ProfileData) (r : Reply) → IsProfileReply (net_of e) q r → (bytes : List ℕ) → bytes ≡ reply_text e.table r →
-    IsTextBetween e.table q.from q.to (λ ends. ShowsProfile e.table (window_at ends q.first q.last)) bytes
-profile_shown e sound q (Values choices) h bytes text = absurd h
-profile_shown e sound q (Slots offers) (ends, is, best) bytes text =
-    known_text e.table q.from q.to (λ ends. ShowsProfile e.table (window_at ends q.first q.last)) ends bytes is
-    (record { offers = offers.items; slots = best.slots; journeys = best.journeys; kept = kept_changes e sound OfferData.legs offers.items best.hops; text = text })
-profile_shown e sound q (Deferred number) h bytes text = absurd h
-profile_shown e sound q (UnknownStop name) is bytes text = unknown_name e.table q.from q.to (λ ends. ShowsProfile e.table (window_at ends q.first q.last)) name bytes is text
+kept_offers : (e : EditionData) → IsEdition e → (W : WindowData) (offers : List OfferData) → AreBestOffers (net_of e) W offers → AreBestOffers (kept_network e.table e.lines) W offers
+kept_offers e sound W offers best =
+    record { slots = best.slots; journeys = best.journeys; hops = kept_changes e sound OfferData.legs offers best.hops }
 
--- the stops of a named place, by a timetable and a name that are known by other terms
-pub named_by : (T U : TimetableData) (name other : List ℕ) → T ≡ U → name ≡ other → (stops : Option (List ℕ)) → AreStopsNamed T name stops → AreStopsNamed U other stops
-named_by T U name other same_table same_name stops named =
-    subst (λ t. AreStopsNamed t other stops) same_table (subst (λ n. AreStopsNamed T n stops) same_name named)
+-- a right reply over an edition is one over the kept transfers of its timetable
+by_kept : (e : EditionData) → IsEdition e → (q : Question) (r : Reply) → IsReply (net_of e) q r → IsReply (kept_network e.table e.lines) q r
+by_kept e sound q (reply.UnknownStop name) h = h
+by_kept e sound (question.Ask from to leave) (reply.Values choices) (ends, is, best) = (ends, is, kept_choices e sound _ choices.items best)
+by_kept e sound (question.Ask from to leave) (reply.Slots offers) h = h
+by_kept e sound (question.Ask from to leave) (reply.Departures ds) h = h
+by_kept e sound (question.Ask from to leave) (reply.Reached lists) h = h
+by_kept e sound (question.Ask from to leave) (reply.Deferred number) h = h
+by_kept e sound (question.Profile from to first last) (reply.Values choices) h = h
+by_kept e sound (question.Profile from to first last) (reply.Slots offers) (ends, is, best) = (ends, is, kept_offers e sound _ offers.items best)
+by_kept e sound (question.Profile from to first last) (reply.Departures ds) h = h
+by_kept e sound (question.Profile from to first last) (reply.Reached lists) h = h
+by_kept e sound (question.Profile from to first last) (reply.Deferred number) h = h
+by_kept e sound (question.Latest from to arrive) (reply.Values choices) h = h
+by_kept e sound (question.Latest from to arrive) (reply.Slots offers) h = h
+by_kept e sound (question.Latest from to arrive) (reply.Departures ds) h = h
+by_kept e sound (question.Latest from to arrive) (reply.Reached lists) h = h
+by_kept e sound (question.Latest from to arrive) (reply.Deferred number) h = h
+by_kept e sound (question.Reach from leave) (reply.Values choices) h = h
+by_kept e sound (question.Reach from leave) (reply.Slots offers) h = h
+by_kept e sound (question.Reach from leave) (reply.Departures ds) h = h
+by_kept e sound (question.Reach from leave) (reply.Reached lists) h = h
+by_kept e sound (question.Reach from leave) (reply.Deferred number) h = h
 
--- the text of the best values from the stops of an origin
-pub reach_shown : (T : TimetableData) (i : OriginInquiryData) (stops : List ℕ) (lists : List (List Value)) (bytes : List ℕ) →
-    Some stops ≡ stops_named T i.from → IsReach T stops i.time lists → bytes ≡ reach_text T lists → IsReachText T i bytes
-reach_shown T i stops lists bytes named reach text =
-    subst (λ o. MatchOption o (bytes ≡ unknown_text i.from) (λ s. ShowsReach T s i.time bytes)) named (lists, reach, text)
+-- one to a question that needs the mirror says nothing of lines and hops
+by_mirror : (T : TimetableData) (e : EditionData) (from to : List ℕ) (arrive : ℤ) (r : Reply) → IsReply (network T e) (question.Latest from to arrive) r → IsReply (kept_network T []) (question.Latest from to arrive) r
+by_mirror T e from to arrive (reply.UnknownStop name) h = h
+by_mirror T e from to arrive (reply.Values choices) h = h
+by_mirror T e from to arrive (reply.Slots offers) h = h
+by_mirror T e from to arrive (reply.Departures ds) h = h
+by_mirror T e from to arrive (reply.Reached lists) h = h
+by_mirror T e from to arrive (reply.Deferred number) h = h
 
--- the text where the origin is no place
-pub reach_unknown : (T : TimetableData) (i : OriginInquiryData) (bytes : List ℕ) → None ≡ stops_named T i.from → bytes ≡ unknown_text i.from → IsReachText T i bytes
-reach_unknown T i bytes named text =
-    subst (λ o. MatchOption o (bytes ≡ unknown_text i.from) (λ s. ShowsReach T s i.time bytes)) named text
+-- the right reply to a question by an edition of the timetable itself
+by_itself : (T : TimetableData) (e : EditionData) → IsEdition e → (q : Question) (r : Reply) → e.table ≡ T → IsReply (network T e) q r → IsKeptReply T q r
+by_itself T e sound q r same h =
+    subst (λ (U : TimetableData). IsKeptReply U q r) same
+    (record { lines = e.lines; are_lines = λ own. sound.lines; right = by_kept e sound q r (subst (λ U. IsReply (network U e) q r) (sym same) h) })
 
--- a time that one can ask to arrive by fits 32 bits
-pub arrival_time-fits : (z : ℤ) → pos 0 ≤ℤ z → z ≤ℤ pos 273599 → FitsSigned w32 z
-arrival_time-fits z least most = search (rules, least, most)
+-- and by one that serves it
+pub kept_reply : (T : TimetableData) (e : EditionData) → IsEdition e → (q : Question) (r : Reply) → Serves T e.table q → IsReply (network T e) q r → IsKeptReply T q r
+kept_reply T e sound (question.Ask from to leave) r same h = by_itself T e sound (question.Ask from to leave) r same h
+kept_reply T e sound (question.Profile from to first last) r same h = by_itself T e sound (question.Profile from to first last) r same h
+kept_reply T e sound (question.Latest from to arrive) r mirror h =
+    record { lines = []; are_lines = λ own. absurd (let no : true ≡ false = own in cc); right = by_mirror T e from to arrive r h }
+kept_reply T e sound (question.Reach from leave) r same h = by_itself T e sound (question.Reach from leave) r same h
+
+-- it is right where no other way was asked for
+pub right_reply : (T : TimetableData) (q : Question) (r : Reply) → IsKeptReply T q r → IsRightReply T false q r
+right_reply T (question.Ask from to leave) r h = h
+right_reply T (question.Profile from to first last) r h = h
+right_reply T (question.Latest from to arrive) r h = h
+right_reply T (question.Reach from leave) r h = h
+
+-- and where it was, since journeys by kept transfers are journeys
+any_reply : (T : TimetableData) (from to : List ℕ) (leave : ℤ) (r : Reply) → IsKeptReply T (question.Ask from to leave) r → IsRoundsReply T from to leave r
+any_reply T from to leave (reply.Values choices) h =
+    (h.right.0, h.right.1, record { values = h.right.2.values; journeys = h.right.2.journeys })
+any_reply T from to leave (reply.UnknownStop name) h = h.right
+any_reply T from to leave (reply.Slots offers) h = absurd h.right
+any_reply T from to leave (reply.Departures ds) h = absurd h.right
+any_reply T from to leave (reply.Reached lists) h = absurd h.right
+any_reply T from to leave (reply.Deferred number) h = absurd h.right
+
+either_reply : (T : TimetableData) (plain : Bool) (q : Question) (r : Reply) → IsRightReply T false q r → IsRightReply T plain q r
+either_reply T false q r h = h
+either_reply T true (question.Ask from to leave) r h = any_reply T from to leave r h
+either_reply T true (question.Profile from to first last) r h = h
+either_reply T true (question.Latest from to arrive) r h = h
+either_reply T true (question.Reach from leave) r h = h
+
+-- the text of a right reply by an edition that serves a timetable
+pub reply_shown : (T : TimetableData) (e : EditionData) → IsEdition e → (q : Question) (r : Reply) → Serves T e.table q → IsReply (network T e) q r → (bytes : List ℕ) → bytes ≡ reply_text T r →
+    ShowsReply T false q bytes
+reply_shown T e sound q r serves h bytes text =
+    record { reply = r; right = right_reply T q r (kept_reply T e sound q r serves h); text = text }
+
+-- it may be shown either way
+pub either_way : (T : TimetableData) (plain : Bool) (q : Question) (bytes : List ℕ) → ShowsReply T false q bytes → ShowsReply T plain q bytes
+either_way T plain q bytes h = record { reply = h.reply; right = either_reply T plain q h.reply h.right; text = h.text }
+
+-- an edition of a timetable, and one of its mirror, serve what they are built for
+pub serves_itself : (T M : TimetableData) (q : Question) → needs_mirror q ≡ false → M ≡ T → Serves T M q
+serves_itself T M q is same = subst (λ mirrored. IsOrMirrors mirrored T M) (sym is) same
+
+pub mirror_serves : (T M : TimetableData) (q : Question) → needs_mirror q ≡ true → IsMirror T M → Serves T M q
+mirror_serves T M q is mirror = subst (λ mirrored. IsOrMirrors mirrored T M) (sym is) mirror
+
+-- the query between two named places that are known by other terms
+pub asked_by : (T : TimetableData) (from start to target : List ℕ) (leave time : ℤ) (a : Asked) → from ≡ start → to ≡ target → leave ≡ time → IsQuery T from to leave a → IsQuery T start target time a
+asked_by T from start to target leave time a same_from same_to same_time h =
+    subst (λ t. IsQuery T start target t a) same_time (subst (λ b. IsQuery T start b leave a) same_to (subst (λ b. IsQuery T b to leave a) same_from h))
+
+-- the question of an inquiry, by names and a time that are known by other terms
+pub same_ask : (i : InquiryData) (from to : List ℕ) (leave : ℤ) → from ≡ i.from → to ≡ i.to → leave ≡ i.time → question.Ask from to leave ≡ ask_of i
+same_ask i from to leave same_from same_to same_time = rw (same_from, same_to, same_time) refl

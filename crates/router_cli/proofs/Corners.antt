@@ -13,7 +13,7 @@ use Rattle.command_line.specs.Cities.{IsSide}
 use Rattle.edition_build.specs.Reports.{IsReport}
 use Rattle.router_cli.specs.Answers.{ShowsKept}
 use Rattle.router_cli.specs.Cities.{IsCityText, corner_query}
-use Rattle.router_cli.proofs.AnswerLemmas.{kept_changes}
+use Rattle.router_cli.proofs.AnswerLemmas.{kept_choices}
 
 -- the number of a stop of the grid
 inside : (last : ℕ) → last * suc last + last < suc last * suc last
@@ -45,7 +45,7 @@ to_inside T n same side =
 pub choices_shown : (e : EditionData) → IsEdition e → (Q : QueryData) (choices : List ChoiceData) → AreBestChoices (net_of e) Q choices →
     (bytes : List ℕ) → bytes ≡ choices_text e.table choices → ShowsKept e.table Q bytes
 choices_shown e sound Q choices best bytes text =
-    record { choices = choices; values = best.values; journeys = best.journeys; kind = kept_changes e sound ChoiceData.legs choices best.hops; text = text }
+    record { lines = e.lines; are_lines = sound.lines; choices = choices; best = kept_choices e sound Q choices best; text = text }
 
 -- a city's text from its two parts
 pub city_shown : (n : ℕ) (T : TimetableData) (report choices shown bytes : List ℕ) → T ≡ city n → IsReport T false report →

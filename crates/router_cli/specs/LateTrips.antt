@@ -1,9 +1,11 @@
 -- What the program's status says of a day amended by late trips.
-use Rattle.std.specs.Prelude.{◌≡◌, ℕ, ◌<◌, ◌⊎◌, List, ◌++◌, codes, length, nat_lt, Option, Some, None, IfSome, Result, Ok, Err, if◌then◌else◌, ⊤}
+use Rattle.std.specs.Prelude.{◌≡◌, false, ℕ, ◌<◌, ◌⊎◌, List, ◌++◌, codes, length, nat_lt, Option, Some, None, IfSome, Result, Ok, Err, if◌then◌else◌, ⊤}
 use Rattle.std.specs.Fmt.{decimal}
 use Rattle.tb_base.specs.Lines.{AreLines}
 use Rattle.tb_base.specs.Soundness.{IsSound}
 use Rattle.tb_base.specs.TimetableData.{TimetableData}
+use Rattle.answer_text.specs.declared.question.Question.{Question}
+use Rattle.answer_text.specs.declared.question.Question.TheVariants as question
 use Rattle.gtfs_rows.specs.Steps.{and_then}
 use Rattle.gtfs_rows.specs.declared.fault.FeedFault.{FeedFault}
 use Rattle.tb_io.specs.Files.{FileList, file_at}
@@ -16,10 +18,14 @@ use Rattle.late_edit.specs.Touched.{touched_count}
 use Rattle.edition_store.specs.Editions.{kept_count}
 use Rattle.command_line.specs.Inquiries.{InquiryData}
 use Rattle.command_line.specs.LateTrips.{LateRequestData}
-use Rattle.router_cli.specs.Answers.{IsInquiryText, ShowsKept}
+use Rattle.router_cli.specs.Answers.{ShowsReply}
 use Rattle.router_cli.specs.Outcome.{EndsBy, GivesDay}
 use Rattle.router_cli.specs.declared.status.Status.{Status}
 use Rattle.router_cli.specs.declared.status.Status.TheVariants as status
+
+-- the question that an inquiry asks
+abbrev pub ask_of : InquiryData → Question
+ask_of i = question.Ask i.from i.to i.time
 
 -- what a file says of trips, or its first fault: that it isn't there, then its size, then its
 -- first bad line
@@ -48,7 +54,7 @@ pub record IsAmendedText (T U : TimetableData) (i : InquiryData) (bytes : List �
   pub touched : redone ≡ touched_count (record { table = T; lines = before })
       (record { table = U; lines = after })
   pub answer : List ℕ
-  pub shown : IsInquiryText U ShowsKept i answer
+  pub shown : ShowsReply U false (ask_of i) answer
   pub text : bytes ≡ amended_text redone (kept_count U after) ++ answer
 
 -- the updates make a sound timetable of this one, and the bytes are what is written of the two

@@ -1,107 +1,59 @@
 //! The text of an answer over a timetable.
-ghost use Rattle.std.specs.Prelude.{◌<◌, ◌≤ℤ◌, All, IfOk, length, pos};
+ghost use Rattle.std.specs.Prelude.{◌≡◌, IfOk, false, true};
+ghost use Rattle.answer_text.specs.Questions.{HasTimes, needs_mirror};
+ghost use Rattle.query_gate.specs.Questions.{Serves};
 ghost use Rattle.tb_base.specs.Workers.{AreWorkers};
-ghost use Rattle.router_cli.specs.Answers.{IsAnswer, IsInquiryText, IsLatestText, IsProfileText, IsReachText, ShowsKept, ShowsLatest};
+ghost use Rattle.router_cli.specs.Answers.{IsAnswer, ShowsReply};
 
-use crate::departing::{Sought, arrival_of, latest_text};
-use crate::over_edition::{ask_text, profile_text};
 use crate::over_table::{direct_text, rounds_text};
-use crate::reaching::reach_text;
-use answer_text::unknown_text;
-use arrive_by::Arrival;
-use command_line::{ArrivalInquiry, Command, DayRequest, Inquiry, OriginInquiry, WindowInquiry};
+use answer_text::Question;
+use command_line::{Command, DayRequest};
 use edition_build::{build, build_mirror, report};
+use edition_store::Edition;
+use query_gate::reply_text;
+use segment_queue::Desk;
 use std::alloc::Global;
 use std::thread::Threads;
 use tb_base::{Gate, Memory, Timetable};
 
-// The best values, over the edition of a timetable.
-fn ask_answer<G: Gate, R: Threads + Sync>(
-    rt: &R,
+// The reply to a question about a timetable, by an edition that serves it.
+fn text_by(
     alloc: Global,
-    table: Timetable,
-    inquiry: &Inquiry,
-    workers: u32,
-    gate: &G,
+    table: &Timetable,
+    edition: &Edition,
+    question: &Question,
 ) -> Result<Vec<u8>, Memory>
-    requires { AreWorkers workers }
-    ensures { IfOk result (λ text. IsInquiryText table ShowsKept inquiry.now text.items) }
+    requires times { HasTimes question.now }
+    requires serves { Serves table.now edition.now.table question.now }
+    ensures { IfOk result (λ text. ShowsReply table.now false question.now text.items) }
 {
-    let edition = build(rt, alloc, table, workers, gate)?;
-    ask_text(alloc, edition, inquiry)
+    edition.soundness();
+    let mut desk = Desk::new(alloc);
+    let answered = query_gate::answer(alloc, table, edition, &mut desk, question);
+    drop(desk);
+    let reply = answered?;
+    let text = reply_text(alloc, table, &reply);
+    drop(reply);
+    text
 }
 
-// The profile of a window, over the edition of a timetable.
-fn profile_answer<G: Gate, R: Threads + Sync>(
-    rt: &R,
-    alloc: Global,
-    table: Timetable,
-    inquiry: &WindowInquiry,
-    workers: u32,
-    gate: &G,
-) -> Result<Vec<u8>, Memory>
-    requires { AreWorkers workers }
-    ensures { IfOk result (λ text. IsProfileText table inquiry.now text.items) }
-{
-    let edition = build(rt, alloc, table, workers, gate)?;
-    profile_text(alloc, edition, inquiry)
-}
-
-// The latest departures of an arrival, over the edition of the mirror of a timetable.
-fn latest_by<G: Gate, R: Threads + Sync>(
+// The reply to a question that is answered by the mirror of a timetable.
+fn mirror_text<G: Gate, R: Threads + Sync>(
     rt: &R,
     alloc: Global,
     table: &Timetable,
-    arrival: &Arrival,
+    question: &Question,
     workers: u32,
     gate: &G,
 ) -> Result<Vec<u8>, Memory>
     requires workers { AreWorkers workers }
-    requires origins { All (λ p. p < length table.now.stops) arrival.now.from }
-    requires targets { All (λ p. p < length table.now.stops) arrival.now.to }
-    requires earliest { pos 0 ≤ℤ arrival.now.by }
-    requires latest { arrival.now.by ≤ℤ pos 273599 }
-    ensures { IfOk result (λ text. ShowsLatest table.now arrival.now text.items) }
+    requires times { HasTimes question.now }
+    requires mirror { needs_mirror question.now ≡ true }
+    ensures { IfOk result (λ text. ShowsReply table.now false question.now text.items) }
 {
     let mirrored = build_mirror(rt, alloc, table, workers, gate)?;
-    let text = latest_text(alloc, &mirrored, table, arrival);
+    let text = text_by(alloc, table, &mirrored, question);
     drop(mirrored);
-    text
-}
-
-// The latest departures, or the name that is no place.
-fn latest_answer<G: Gate, R: Threads + Sync>(
-    rt: &R,
-    alloc: Global,
-    table: &Timetable,
-    inquiry: &ArrivalInquiry,
-    workers: u32,
-    gate: &G,
-) -> Result<Vec<u8>, Memory>
-    requires { AreWorkers workers }
-    ensures { IfOk result (λ text. IsLatestText table.now inquiry.now text.items) }
-{
-    match arrival_of(alloc, table, inquiry)? {
-        Sought::Unknown(name) => unknown_text(alloc, name),
-        Sought::Arrival(arrival) => latest_by(rt, alloc, table, &arrival, workers, gate),
-    }
-}
-
-// The best values to every stop, over the edition of a timetable.
-fn reach_answer<G: Gate, R: Threads + Sync>(
-    rt: &R,
-    alloc: Global,
-    table: Timetable,
-    inquiry: &OriginInquiry,
-    workers: u32,
-    gate: &G,
-) -> Result<Vec<u8>, Memory>
-    requires { AreWorkers workers }
-    ensures { IfOk result (λ text. IsReachText table inquiry.now text.items) }
-{
-    let edition = build(rt, alloc, table, workers, gate)?;
-    let text = reach_text(alloc, &edition, inquiry);
-    drop(edition);
     text
 }
 
@@ -123,19 +75,24 @@ pub(crate) fn answer<G: Gate, R: Threads + Sync>(
             drop(table);
             text
         }
-        Command::Ask(inquiry) if request.plain => {
-            let text = rounds_text(alloc, &table, inquiry);
-            drop(table);
-            text
-        }
-        Command::Ask(inquiry) => ask_answer(rt, alloc, table, inquiry, workers, gate),
-        Command::Profile(inquiry) => profile_answer(rt, alloc, table, inquiry, workers, gate),
-        Command::Latest(inquiry) => {
-            let text = latest_answer(rt, alloc, &table, inquiry, workers, gate);
-            drop(table);
-            text
-        }
-        Command::Reach(inquiry) => reach_answer(rt, alloc, table, inquiry, workers, gate),
+        Command::Question(question) => match question {
+            Question::Ask { from, to, leave } if request.plain => {
+                let text = rounds_text(alloc, &table, from, to, *leave);
+                drop(table);
+                text
+            }
+            _ if question.needs_mirror() => {
+                let text = mirror_text(rt, alloc, &table, question, workers, gate);
+                drop(table);
+                text
+            }
+            _ => {
+                let edition = build(rt, alloc, table, workers, gate)?;
+                let text = text_by(alloc, edition.table(), &edition, question);
+                drop(edition);
+                text
+            }
+        },
         Command::Build { list } => {
             let text = report(rt, alloc, &table, *list, workers, gate);
             drop(table);

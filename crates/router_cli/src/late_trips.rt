@@ -1,5 +1,6 @@
 //! What the program writes about a day amended by late trips.
-ghost use Rattle.std.specs.Prelude.{◌≡◌, ◌<◌, ◌-◌, ◌^◌, ◌∷◌, [], ◌++◌, Err, IfErr, IfOk, MatchResult, Ok, Some, length, slice_get, true, vec_len};
+ghost use Rattle.std.specs.Prelude.{◌≡◌, ◌<◌, ◌-◌, ◌^◌, ◌∷◌, [], ◌++◌, Err, false, IfErr, IfOk, MatchResult, Ok, Some, length, slice_get, true, vec_len};
+ghost use Rattle.answer_text.specs.Questions.{HasTimes};
 ghost use Rattle.tb_base.specs.Refusals.{IsRefused};
 ghost use Rattle.edition_store.specs.Editions.{EditionData};
 ghost use Rattle.late_edit.specs.Amended.{amended};
@@ -7,23 +8,23 @@ ghost use Rattle.late_edit.specs.Touched.{touched_count};
 ghost use Rattle.late_edit.specs.Amending.{network_of};
 ghost use Rattle.query_gate.specs.Callers.{CallerData};
 ghost use Rattle.tb_base.specs.Workers.{AreWorkers};
-ghost use Rattle.router_cli.specs.Answers.{IsInquiryText, ShowsKept};
+ghost use Rattle.router_cli.specs.Answers.{ShowsReply};
 ghost use Rattle.router_cli.specs.Outcome.{LeavesFolder};
-ghost use Rattle.router_cli.specs.LateTrips.{IsAmendedText, IsLateAnswer, IsLateText, IsNoLateAnswer, IsNoUpdates, IsNotAmended, UpdatesGive, amended_text};
+ghost use Rattle.router_cli.specs.LateTrips.{IsAmendedText, IsLateAnswer, IsLateText, IsNoLateAnswer, IsNoUpdates, IsNotAmended, UpdatesGive, amended_text, ask_of};
 
 use crate::day::table_of;
-use crate::over_edition::ask_by;
 use crate::status::{Status, at_number};
+use answer_text::Question;
 use command_line::{Inquiry, LateRequest};
 use edition_build::build_edition;
 use edition_store::{Edition, Last, Naming, Opened, Publisher, Seat, Shared, Store};
 use late_edit::{Amended, LateFault, Update, amend, read_late};
-use query_gate::Caller;
+use query_gate::{Caller, reply_text};
 use std::alloc::Global;
 use std::marker::Brand;
 use std::sync::Wait;
 use std::thread::Threads;
-use tb_base::{Gate, Memory, Refused, Timetable};
+use tb_base::{Gate, Memory, Name, Refused, Timetable};
 use tb_io::{Folder, Taken, take_file};
 
 // No file of late trips has more bytes.
@@ -103,6 +104,38 @@ fn learned<J: Naming>(
     }
 }
 
+// The question that an inquiry asks.
+fn ask_question(alloc: Global, inquiry: &Inquiry) -> Result<Question, Memory>
+    ensures question { IfOk result (λ q. q ≡ ask_of inquiry.now) }
+    ensures times { IfOk result HasTimes }
+{
+    Ok(Question::Ask {
+        from: Name::new(alloc, inquiry.from)?,
+        to: Name::new(alloc, inquiry.to)?,
+        leave: inquiry.time,
+    })
+}
+
+// The best values, asked by a caller who keeps a whole list.
+fn ask_by<J: Naming>(
+    alloc: Global,
+    caller: &mut Caller<J>,
+    inquiry: &Inquiry,
+) -> Result<Vec<u8>, Memory>
+    requires { caller.old.kept.closed ≡ true }
+    ensures { (e : EditionData) →
+        slice_get caller.old.kept.list (length caller.old.kept.list - 1) ≡ Some e →
+        IfOk result (λ text. ShowsReply e.table false (ask_of inquiry.now) text.items) }
+{
+    let question = ask_question(alloc, inquiry)?;
+    let answer = caller.answer(alloc, 0, &question)?;
+    let edition = answer.pinned.edition();
+    edition.soundness();
+    let text = reply_text(alloc, edition.table(), &answer.reply);
+    drop(answer);
+    text
+}
+
 // The best values by the last edition of the whole list.
 fn ask_whole<J: Naming>(
     alloc: Global,
@@ -112,7 +145,7 @@ fn ask_whole<J: Naming>(
 ) -> Result<Vec<u8>, Memory>
     requires { 0 < vec_len seats }
     ensures { (e : EditionData) → slice_get whole.now (length whole.now - 1) ≡ Some e →
-        IfOk result (λ text. IsInquiryText e.table ShowsKept inquiry.now text.items) }
+        IfOk result (λ text. ShowsReply e.table false (ask_of inquiry.now) text.items) }
 {
     let mut caller = learned(alloc, seats, whole)?;
     let text = ask_by(alloc, &mut caller, inquiry);
@@ -131,7 +164,7 @@ fn ask_last<J: Naming, R: Wait>(
 ) -> Result<Vec<u8>, Memory>
     requires { opened.seen.book ≡ J.book }
     ensures { IfOk result (λ text.
-        IsInquiryText (EditionData.table last) ShowsKept inquiry.now text.items) }
+        ShowsReply (EditionData.table last) false (ask_of inquiry.now) text.items) }
 {
     match Store::new::<J>(alloc, opened, first, 1) {
         Ok((publisher, seats)) => match whole_with(rt, publisher, last) {

@@ -10,13 +10,10 @@
 
 mod answers;
 mod day;
-mod departing;
 mod late_trips;
 mod made_city;
-mod over_edition;
 mod over_table;
 mod program;
-mod reaching;
 mod serving;
 mod status;
 mod verdicts;

@@ -1,36 +1,35 @@
 //! Texts over a timetable, without lines and transfers.
-ghost use Rattle.std.specs.Prelude.{IfOk};
-ghost use Rattle.router_cli.specs.Answers.{IsDirectText, IsInquiryText, IsQuery, ShowsAny};
+ghost use Rattle.std.specs.Prelude.{◌≤ℤ◌, IfOk, pos, true};
+ghost use Rattle.answer_text.specs.declared.question.Question.TheVariants as question;
+ghost use Rattle.query_gate.specs.Replies.{HaveNumbers};
+ghost use Rattle.router_cli.specs.Answers.{IsDirectText, IsInquiryText, IsQuery, IsRoundsReply, ShowsReply};
 
-use answer_text::{arrival_text, choices_text, unknown_text};
+use answer_text::{arrival_text, unknown_text};
 use command_line::Inquiry;
 use plain_rounds::{direct, plain_ask};
-use query_gate::{Between, stops_between};
+use query_gate::{Between, Reply, reply_text, stops_between};
 use std::alloc::Global;
-use tb_base::{Memory, Query, Timetable};
+use tb_base::{Memory, Name, Query, Sec, Timetable};
 
-/// The query that an inquiry means over a timetable, or the name in it that is no place.
+/// The query between two named places of a timetable, or the name that is no place.
 pub(crate) enum Asked<'a> {
     Query(Query),
     Unknown(&'a [u8]),
 }
 
-/// The query between the two places of an inquiry.
+/// The query between two named places.
 pub(crate) fn query_of<'a>(
     alloc: Global,
     table: &Timetable,
-    inquiry: &Inquiry<'a>,
+    from: &'a [u8],
+    to: &'a [u8],
+    leave: Sec,
 ) -> Result<Asked<'a>, Memory>
-    ensures { IfOk result (IsQuery table.now inquiry.now) }
+    ensures { IfOk result (IsQuery table.now from.now to.now leave) }
 {
-    let (from, to) = (inquiry.from.as_bytes(), inquiry.to.as_bytes());
     match stops_between(alloc, table, from, to)? {
         Between::Unknown(name) => Ok(Asked::Unknown(name)),
-        Between::Stops(from, to) => Ok(Asked::Query(Query {
-            from,
-            to,
-            leave: inquiry.time,
-        })),
+        Between::Stops(from, to) => Ok(Asked::Query(Query { from, to, leave })),
     }
 }
 
@@ -42,26 +41,48 @@ pub(crate) fn direct_text(
 ) -> Result<Vec<u8>, Memory>
     ensures { IfOk result (λ text. IsInquiryText table.now IsDirectText inquiry.now text.items) }
 {
-    match query_of(alloc, table, inquiry)? {
+    match query_of(alloc, table, inquiry.from, inquiry.to, inquiry.time)? {
         Asked::Unknown(name) => unknown_text(alloc, name),
         Asked::Query(query) => arrival_text(alloc, direct(table, &query)),
     }
 }
 
-/// The best values, each with a journey, round by round.
+// The best values between two named places, each with a journey, round by round.
+fn rounds_reply(
+    alloc: Global,
+    table: &Timetable,
+    from: &Name,
+    to: &Name,
+    leave: Sec,
+) -> Result<Reply, Memory>
+    requires { leave ≤ℤ pos 359999 }
+    ensures reply { IfOk result (IsRoundsReply table.now from.now to.now leave) }
+    ensures numbers { IfOk result (HaveNumbers table.now) }
+{
+    table.soundness();
+    match query_of(alloc, table, from.bytes(), to.bytes(), leave)? {
+        Asked::Unknown(name) => Ok(Reply::UnknownStop(Name::new(alloc, name)?)),
+        Asked::Query(query) => {
+            let choices = plain_ask(alloc, table, &query)?;
+            Ok(Reply::Values(choices))
+        }
+    }
+}
+
+/// The reply to a question for the best values, round by round.
 pub(crate) fn rounds_text(
     alloc: Global,
     table: &Timetable,
-    inquiry: &Inquiry,
+    from: &Name,
+    to: &Name,
+    leave: Sec,
 ) -> Result<Vec<u8>, Memory>
-    ensures { IfOk result (λ text. IsInquiryText table.now ShowsAny inquiry.now text.items) }
+    requires { leave ≤ℤ pos 359999 }
+    ensures { IfOk result (λ text. ShowsReply table.now true
+        (question.Ask from.now to.now leave) text.items) }
 {
-    table.soundness();
-    match query_of(alloc, table, inquiry)? {
-        Asked::Unknown(name) => unknown_text(alloc, name),
-        Asked::Query(query) => {
-            let choices = plain_ask(alloc, table, &query)?;
-            choices_text(alloc, table, choices.as_slice())
-        }
-    }
+    let reply = rounds_reply(alloc, table, from, to, leave)?;
+    let text = reply_text(alloc, table, &reply);
+    drop(reply);
+    text
 }

@@ -56,7 +56,7 @@ fn verified_text(
     ensures { IfOk result (λ text.
         IsVerifiedText table.now inquiry.now claimed.now text.items) }
 {
-    match query_of(alloc, table, inquiry)? {
+    match query_of(alloc, table, inquiry.from, inquiry.to, inquiry.time)? {
         Asked::Unknown(name) => unknown_text(alloc, name),
         Asked::Query(query) => verdict_text(alloc, judge(table, &query, claimed)),
     }

@@ -1,9 +1,0 @@
-use Rattle.std.proofs.Common.{sym, w32}
-use Rattle.std.proofs.lemmas.Int.{to_z-of_z}
-use Rattle.gtfs_rows.proofs.FileTimes.{file_time, file_time-fits}
-use Rattle.command_line.proofs.day.origin_inquiry_of.Goals as goal
-
-pub invariant_of-result : goal.invariant_of-result
-invariant_of-result c =
-    let within = file_time c.as_bytes.result.now c.in-Some.time (sym c.in-Some.ensures) in
-    rw (to_z-of_z w32 c.in-Some.time (file_time-fits c.in-Some.time within)) within
