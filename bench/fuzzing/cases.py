@@ -212,9 +212,16 @@ class Draw:
             first, last = self.two_times()
             ends = " ".join(self.ends())
             since = f"since {self.drawn.randrange(5)} " if self.often(0.3) else ""
-            line = (f"ask {ends} {first}", f"profile {ends} {first} {last}", "lane b", "# remark")
-            line = line[self.drawn.choice((0, 0, 1, 2, 3))]
-            lines.append(since + line if line[0] in "ap" else line)
+            line = self.drawn.choice(
+                (
+                    f"ask {ends} {first}",
+                    f"profile {ends} {first} {last}",
+                    f"reach {ends.split()[0]} {first}",
+                    "lane b",
+                    "# remark",
+                )
+            )
+            lines.append(since + line if line[0] in "apr" else line)
         return "\n".join(lines).encode() + b"\n"
 
     def lates(self):

@@ -88,7 +88,8 @@ class Reader:
         if since > edition:
             self.take(f"deferred {since}")
             return
-        unknown = next((it for it in words[1:3] if not self.is_place(edition, it)), None)
+        ends = words[1:2] if words[0] == "reach" else words[1:3]
+        unknown = next((it for it in ends if not self.is_place(edition, it)), None)
         if unknown is not None:
             self.take(re.escape(f"unknown stop {unknown}"))
             return

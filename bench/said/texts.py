@@ -73,7 +73,8 @@ def line_fault(words, lanes):
         if len(words) < 2 or number_of(words[1]) is None:
             return "1 BadLine"
         words = words[2:]
-    times = {("ask", 4): 1, ("profile", 5): 2}.get((words[0] if words else "", len(words)))
+    form = (words[0] if words else "", len(words))
+    times = {("ask", 4): 1, ("profile", 5): 2, ("reach", 3): 1}.get(form)
     if times is None or not lanes:
         return "1 BadLine"
     if any(time_of(word) is None for word in words[-times:]):
