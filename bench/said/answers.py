@@ -22,7 +22,8 @@ RULES = (
     "BadNumber|TwoWalks|NoWalk|NoBoarding|NoAlighting|WrongStart|TooEarly|Apart|TooLate|WrongEnd"
 )
 COUNTS = r"trips \d+ lines \d+ kept \d+\n"
-REPLY = rf"\d+ edition \d+\n(?:deferred \d+\n|{CHOICES}|{OFFERS}|unknown stop .*\n)"
+REACHED = rf"(?:.+(?: -|(?: {TIME}/\d+)+)\n)*"
+REPLY = rf"\d+ edition \d+\n(?:deferred \d+\n|{CHOICES}|{OFFERS}|unknown stop .*\n|{REACHED})"
 LANES = rf"(?:lane .*\n(?:{REPLY})*)*"
 # What each command may write.
 FORMS = {
@@ -30,7 +31,7 @@ FORMS = {
     "ask": CHOICES,
     "profile": OFFERS,
     "latest": rf"{NO_JOURNEY}|(?:leave {TIME} rides \d+\n(?:{LEG})*)+",
-    "reach": rf"(?:.+(?: -|(?: {TIME}/\d+)+)\n)*",
+    "reach": REACHED,
     "verify": rf"yes\n|no (?:{RULES}) leg \d+\n|no value arrive {TIME} rides \d+\n",
     "late": rf"edition 2 redone \d+ kept \d+\n{CHOICES}",
     "build": rf"{SIZES}(?:{END} {END}\n)*",
