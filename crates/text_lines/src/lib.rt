@@ -21,8 +21,8 @@ pub struct Cut<'a> {
     pub rest: &'a [u8],
 }
 
-// A line without a carriage return at its end.
-fn without_cr(text: &[u8]) -> &[u8]
+/// A line without a carriage return at its end.
+pub fn without_cr(text: &[u8]) -> &[u8]
     ensures { result.now ≡ without_cr text.now }
 {
     let before = text.len().saturating_sub(1);
