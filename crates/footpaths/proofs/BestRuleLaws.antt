@@ -6,7 +6,7 @@ use Rattle.std.proofs.lemmas.Bool.{cases_Bool, ne_eqb}
 use Rattle.std.proofs.lemmas.Bool.Decides.{nat_tests}
 use Rattle.std.proofs.lemmas.List.{length-take-le, get_or-take, get_or_default, get_or-set_same, get_or-set_other}
 use Rattle.std.proofs.lemmas.List.Folds.{list_any_none, list_any_more}
-use Rattle.footpaths.specs.declared.best_rules.Verdict.{Verdict}
+use Rattle.footpaths.specs.declared.best_rules.RankedRule.{RankedRule}
 use Rattle.footpaths.specs.BestRules.{better, slot, marked}
 
 -- a stop of a list of different stops doesn't stand before its place
@@ -18,15 +18,15 @@ not_before stops i m distinct h at =
     let here : m ≡ get_or stops i d = at ∙ get_or_default stops i m d h in
     rw (get_or-take i stops k d before) (ne_eqb (get_or stops k d) m (λ e. distinct k i d before h (e ∙ here))))
 
-marked_later : (a : Bool) (held : Option Verdict) (r : ℕ) (s : Option ℕ) → a ≡ false → Some (better (marked a held r s) r s) ≡ marked (a || true) held r s
+marked_later : (a : Bool) (held : Option RankedRule) (r : ℕ) (s : Option ℕ) → a ≡ false → Some (better (marked a held r s) r s) ≡ marked (a || true) held r s
 marked_later true held r s e = cc
 marked_later false held r s e = refl
 
-marked_still : (a : Bool) (held : Option Verdict) (r : ℕ) (s : Option ℕ) → marked a held r s ≡ marked (a || false) held r s
+marked_still : (a : Bool) (held : Option RankedRule) (r : ℕ) (s : Option ℕ) → marked a held r s ≡ marked (a || false) held r s
 marked_still true held r s = refl
 marked_still false held r s = refl
 
-pub mark_one_more : (first old new : List (Option Verdict)) (stops : List ℕ) (i m r : ℕ) (s : Option ℕ) → AllPairs (λ p q. p ≢ q) stops → All (λ p. p < length first) stops → length old ≡ length first → i < length stops → m ≡ get_or stops i m
+pub mark_one_more : (first old new : List (Option RankedRule)) (stops : List ℕ) (i m r : ℕ) (s : Option ℕ) → AllPairs (λ p q. p ≢ q) stops → All (λ p. p < length first) stops → length old ≡ length first → i < length stops → m ≡ get_or stops i m
     → new ≡ set old m (Some (better (slot old m) r s)) → ((p : ℕ) → slot old p ≡ marked (list_any (λ x. x == p) (take i stops)) (slot first p) r s)
     → (p : ℕ) → slot new p ≡ marked (list_any (λ x. x == p) (take (i + 1) stops)) (slot first p) r s
 mark_one_more first old new stops i m r s distinct within many h at e before p =

@@ -2,8 +2,8 @@ pub mod StopRows
 pub mod StopPlaces
 pub mod TransferRows
 pub mod BestRuleLaws
-pub mod NetworkLaws
-pub mod VerdictLaws
+pub mod LinkedPlatformsLaws
+pub mod RankedRuleLaws
 pub mod NumberLists
 pub mod RowLaws
 pub mod BuildLaws

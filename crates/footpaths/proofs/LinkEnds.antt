@@ -9,7 +9,7 @@ use Rattle.gtfs_rows.specs.TransfersFile.{TransferData}
 use Rattle.footpaths.specs.declared.found.Found.TheVariants as found
 use Rattle.footpaths.specs.Stops.{has_stop_id, platforms, stations}
 use Rattle.footpaths.specs.Links.{end_of, link_of, links_of}
-use Rattle.footpaths.specs.Network.{IsEnd, HasLinkEnds}
+use Rattle.footpaths.specs.LinkedPlatforms.{IsEnd, HasLinkEnds}
 use Rattle.footpaths.proofs.StopPlaces.{place_below}
 use Rattle.tb_base.proofs.Lists.{length-filter_le}
 

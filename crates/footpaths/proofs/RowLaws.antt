@@ -12,12 +12,12 @@ use Rattle.footpaths.specs.declared.found.Found.TheVariants as found
 use Rattle.footpaths.specs.declared.found.Link.{Link}
 use Rattle.footpaths.specs.Stops.{platforms, station_of}
 use Rattle.footpaths.specs.Footpaths.{Rule, Unsaid, Forbidden, Takes, takes_in, fits, rank, rule_of, longer, said, first_said, secs_of}
-use Rattle.footpaths.specs.BestRules.{better, slot, marked, marked_by, ruled, verdict_secs}
-use Rattle.footpaths.specs.Network.{link_at, platform_key, station_key, platform_keys, station_keys, HasPlaces}
-use Rattle.footpaths.proofs.VerdictLaws.{fold_ruled, said_from, said_split, verdict_is}
+use Rattle.footpaths.specs.BestRules.{better, slot, marked, marked_by, ruled, ranked_secs}
+use Rattle.footpaths.specs.LinkedPlatforms.{link_at, platform_key, station_key, platform_keys, station_keys, HasPlaces}
+use Rattle.footpaths.proofs.RankedRuleLaws.{fold_ruled, said_from, said_split, ranked_is}
 use Rattle.tb_base.proofs.Lists.{length-filter_le}
-use Rattle.footpaths.proofs.NetworkLaws.{station_below}
-use Rattle.footpaths.specs.declared.best_rules.Verdict.{Verdict}
+use Rattle.footpaths.proofs.LinkedPlatformsLaws.{station_below}
+use Rattle.footpaths.specs.declared.best_rules.RankedRule.{RankedRule}
 
 eq_swapped : (a b : ℕ) → (a == b) ≡ (b == a)
 eq_swapped a b =
@@ -73,7 +73,7 @@ regroup true false r c e = rw (← e) (and_false r)
     and_false false = refl
 regroup false b r c e = refl
 
--- the rows to the platform, and then those to its station, give the verdict of what fits
+-- the rows to the platform, and then those to its station, give the ranked rule of what fits
 pub rows_rule : (stops : List StopData) (links : List Link) (none p q : ℕ) (o : Option ℕ) → q < none → station_of stops q ≡ o → ((k : ℕ) → o ≡ Some k → k < none)
     → fold (marked_by stops p) (fold (marked_by stops p) None (filter (to_platform none q) links)) (filter (to_station none o) links) ≡ ruled (said stops links p q 0) (said stops links p q 1) (said stops links p q 2)
 rows_rule stops links none p q o h s below =
@@ -104,8 +104,8 @@ no_station_rows none (l ∷ links) = no_station_rows none links
 station_is_below : (stops : List StopData) (q k : ℕ) → station_of stops q ≡ Some k → k < length stops
 station_is_below stops q k s = rw s at (station_below stops q)
 
--- the verdict at a platform after the rows to a stop, where the stop has no station
-pub one_rule : (stops : List StopData) (links : List Link) (p q : ℕ) (old new : Option Verdict) (places : List ℕ) → q < length (platforms stops) → station_of stops q ≡ None → places ≡ places_of (platform_keys (length stops) links) q → old ≡ None
+-- the ranked rule at a platform after the rows to a stop, where the stop has no station
+pub one_rule : (stops : List StopData) (links : List Link) (p q : ℕ) (old new : Option RankedRule) (places : List ℕ) → q < length (platforms stops) → station_of stops q ≡ None → places ≡ places_of (platform_keys (length stops) links) q → old ≡ None
     → new ≡ fold (marked_by stops p) old (map (link_at links) places) → new ≡ ruled (said stops links p q 0) (said stops links p q 1) (said stops links p q 2)
 one_rule stops links p q old new places h s at clear is =
     let within : q < length stops = omega (arith, h, length-filter_le (λ s. is_platform s.kind) stops) in
@@ -113,8 +113,8 @@ one_rule stops links p q old new places h s at clear is =
     let rule = rows_rule stops links (length stops) p q None within s (λ k e. cc) in
     first ∙ rw (no_station_rows (length stops) links) at rule
 
--- the verdict at a platform after the rows to a stop and to its station
-pub both_rule : (stops : List StopData) (links : List Link) (p q k : ℕ) (old first new : Option Verdict) (places later : List ℕ) → q < length (platforms stops) → station_of stops q ≡ Some k → places ≡ places_of (platform_keys (length stops) links) q → later ≡ places_of (station_keys (length stops) links) k → old ≡ None
+-- the ranked rule at a platform after the rows to a stop and to its station
+pub both_rule : (stops : List StopData) (links : List Link) (p q k : ℕ) (old first new : Option RankedRule) (places later : List ℕ) → q < length (platforms stops) → station_of stops q ≡ Some k → places ≡ places_of (platform_keys (length stops) links) q → later ≡ places_of (station_keys (length stops) links) k → old ≡ None
     → first ≡ fold (marked_by stops p) old (map (link_at links) places) → new ≡ fold (marked_by stops p) first (map (link_at links) later) → new ≡ ruled (said stops links p q 0) (said stops links p q 1) (said stops links p q 2)
 both_rule stops links p q k old first new places later h s at to clear is then =
     let within : q < length stops = omega (arith, h, length-filter_le (λ s. is_platform s.kind) stops) in
@@ -133,8 +133,8 @@ station_places stops keys groups q k h s =
     let within : k < length stops + 1 = omega (arith, station_is_below stops q k s) in
     (omega (arith, h.many), h.each k within)
 
--- one verdict more at one stop
-pub mark_at : (old new : List (Option Verdict)) (m p r : ℕ) (s : Option ℕ) → m < length old → new ≡ set old m (Some (better (slot old m) r s)) → slot new p ≡ marked (p == m) (slot old p) r s
+-- one ranked rule more at one stop
+pub mark_at : (old new : List (Option RankedRule)) (m p r : ℕ) (s : Option ℕ) → m < length old → new ≡ set old m (Some (better (slot old m) r s)) → slot new p ≡ marked (p == m) (slot old p) r s
 mark_at old new m p r s h e =
     elim (cases_Bool (p == m)) [
       | inl t ↦
@@ -158,12 +158,12 @@ first_secs Forbidden x y e = refl
 first_secs (Takes secs) x y e = refl
 
 -- the seconds at a platform after the rows and the defaults
-pub last_rule : (a b c : Rule) (own near : Bool) (change : ℕ) (station : Option ℕ) (first then last : Option Verdict) → first ≡ ruled a b c → then ≡ marked own first 3 (Some change) → last ≡ marked (near && is_some station) then 4 station
-    → verdict_secs last ≡ secs_of (first_said a (first_said b (first_said c (cond own (Takes change) (cond near (rule_of station) Unsaid)))))
+pub last_rule : (a b c : Rule) (own near : Bool) (change : ℕ) (station : Option ℕ) (first then last : Option RankedRule) → first ≡ ruled a b c → then ≡ marked own first 3 (Some change) → last ≡ marked (near && is_some station) then 4 station
+    → ranked_secs last ≡ secs_of (first_said a (first_said b (first_said c (cond own (Takes change) (cond near (rule_of station) Unsaid)))))
 last_rule a b c own near change station first then last e f g =
     let defaults : Bool → Rule = λ here. cond own (Takes change) (cond here (rule_of station) Unsaid) in
-    ap verdict_secs (g ∙ ap (λ v. marked (near && is_some station) v 4 station) (f ∙ ap (λ v. marked own v 3 (Some change)) e))
-    ∙ verdict_is a b c own (near && is_some station) change station
+    ap ranked_secs (g ∙ ap (λ v. marked (near && is_some station) v 4 station) (f ∙ ap (λ v. marked own v 3 (Some change)) e))
+    ∙ ranked_is a b c own (near && is_some station) change station
     ∙ first_secs a (first_said b (first_said c (defaults (near && is_some station)))) (first_said b (first_said c (defaults near)))
     (first_secs b (first_said c (defaults (near && is_some station))) (first_said c (defaults near))
     (first_secs c (defaults (near && is_some station)) (defaults near) (near_by own near change station)))

@@ -3,5 +3,5 @@ pub mod Stops
 pub mod Links
 pub mod Footpaths
 pub mod BestRules
-pub mod Network
+pub mod LinkedPlatforms
 pub mod Law

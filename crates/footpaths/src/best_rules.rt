@@ -1,4 +1,4 @@
-//! The best verdict so far at each stop from which one stop can be reached.
+//! The best ranked rule so far at each stop from which one stop can be reached.
 ghost use Rattle.std.specs.Prelude.{◌≡◌, ◌≢◌, ◌==◌, ◌<◌, ℕ, IfOk, OnOk, IfSome, IfNone, length, replicate, set, None, Some, All, AllPairs};
 ghost use Rattle.std.specs.List.{list_any};
 ghost use Rattle.footpaths.specs.BestRules.{better, more_secs, slot, marked};
@@ -9,7 +9,7 @@ use tb_base::Memory;
 
 /// What a rank says of a way: its seconds, or None where it is forbidden.
 #[derive(Debug, Clone, Copy, PartialEq, Eq)]
-pub struct Verdict {
+pub struct RankedRule {
     pub rank: u8,
     pub secs: Option<u32>,
 }
@@ -23,16 +23,16 @@ fn more_secs(a: Option<u32>, b: Option<u32>) -> Option<u32>
     }
 }
 
-fn better(held: Option<Verdict>, rank: u8, secs: Option<u32>) -> Verdict
+fn better(held: Option<RankedRule>, rank: u8, secs: Option<u32>) -> RankedRule
     ensures { result ≡ better held rank secs }
 {
     match held {
-        None => Verdict { rank, secs },
+        None => RankedRule { rank, secs },
         Some(held) => {
             if rank < held.rank {
-                Verdict { rank, secs }
+                RankedRule { rank, secs }
             } else if held.rank == rank {
-                Verdict {
+                RankedRule {
                     rank,
                     secs: more_secs(held.secs, secs),
                 }
@@ -43,19 +43,19 @@ fn better(held: Option<Verdict>, rank: u8, secs: Option<u32>) -> Verdict
     }
 }
 
-/// For each stop a verdict, or none.
+/// For each stop a ranked rule, or none.
 #[derive(Drop)]
 pub struct BestRules {
-    slots: Vec<Option<Verdict>>,
+    slots: Vec<Option<RankedRule>>,
     touched: Vec<u32>,
 }
 
 impl Model for BestRules {
     ghost use Rattle.std.specs.Prelude.{List, Option};
-    ghost use Rattle.footpaths.specs.declared.best_rules.Verdict.{Verdict};
+    ghost use Rattle.footpaths.specs.declared.best_rules.RankedRule.{RankedRule};
     ghost use Rattle.footpaths.specs.BestRules.{IsCovered};
 
-    ghost Value = { List (Option Verdict) };
+    ghost Value = { List (Option RankedRule) };
 
     ghost view = { λ m. m.slots.items };
 
@@ -63,7 +63,7 @@ impl Model for BestRules {
 }
 
 impl BestRules {
-    /// No verdict at any of so many stops.
+    /// No ranked rule at any of so many stops.
     pub fn new(alloc: Global, count: usize) -> Result<BestRules, Memory>
         ensures { IfOk result (λ marks. marks ≡ replicate count None) }
     {
@@ -74,7 +74,7 @@ impl BestRules {
         })
     }
 
-    /// One verdict more at a stop.
+    /// One ranked rule more at a stop.
     pub fn mark(&mut self, stop: u32, rank: u8, secs: Option<u32>) -> Result<(), Memory>
         requires { stop < length self.old }
         ensures { OnOk result
@@ -86,7 +86,7 @@ impl BestRules {
         Ok(())
     }
 
-    /// One verdict more at each of some stops.
+    /// One ranked rule more at each of some stops.
     pub fn mark_all(&mut self, stops: &[u32], rank: u8, secs: Option<u32>) -> Result<(), Memory>
         requires within { All (λ p. p < length self.old) stops.now }
         requires distinct { AllPairs (λ p q. p ≢ q) stops.now }
@@ -101,10 +101,10 @@ impl BestRules {
         Ok(())
     }
 
-    /// The verdict at a stop, which then has none.
-    pub fn take(&mut self, stop: u32) -> Option<Verdict>
+    /// The ranked rule at a stop, which then has none.
+    pub fn take(&mut self, stop: u32) -> Option<RankedRule>
         requires { stop < length self.old }
-        ensures verdict { result ≡ slot self.old stop }
+        ensures ranked { result ≡ slot self.old stop }
         ensures rest { self.new ≡ set self.old stop None }
     {
         let at = stop as usize;
@@ -113,19 +113,19 @@ impl BestRules {
         held
     }
 
-    /// Some stop that has a verdict, which then has none; None exactly where no stop has one.
-    pub fn pop(&mut self) -> Option<(u32, Verdict)>
+    /// Some stop that has a ranked rule, which then has none; None exactly where no stop has one.
+    pub fn pop(&mut self) -> Option<(u32, RankedRule)>
         ensures stop { IfSome result (λ m. m.0 < length self.old) }
-        ensures verdict { IfSome result (λ m. slot self.old m.0 ≡ Some m.1) }
+        ensures ranked { IfSome result (λ m. slot self.old m.0 ≡ Some m.1) }
         ensures rest { IfSome result (λ m. self.new ≡ set self.old m.0 None) }
         ensures none { IfNone result ((p : ℕ) → slot self.old p ≡ None) }
         ensures same { IfNone result (self.new ≡ self.old) }
     {
         while let Some(stop) = self.touched.pop() {
             let at = stop as usize;
-            if let Some(verdict) = self.slots[at] {
+            if let Some(ranked) = self.slots[at] {
                 self.slots[at] = None;
-                return Some((stop, verdict));
+                return Some((stop, ranked));
             }
         }
         None

@@ -7,11 +7,11 @@ ghost use Rattle.footpaths.specs.Limits.{AreWithinADay};
 ghost use Rattle.footpaths.specs.Links.{IsPathsRefused};
 ghost use Rattle.footpaths.specs.Footpaths.{footpaths, path_to, paths_of, check_count, secs_between};
 ghost use Rattle.tb_base.specs.Soundness.{IsSoundFootpaths};
-ghost use Rattle.footpaths.specs.BestRules.{slot, verdict_secs};
+ghost use Rattle.footpaths.specs.BestRules.{slot, ranked_secs};
 
-use crate::best_rules::{BestRules, Verdict};
+use crate::best_rules::{BestRules, RankedRule};
+use crate::linked_platforms::LinkedPlatforms;
 use crate::links::links_of;
-use crate::network::Network;
 use crate::path_rows::PathRows;
 use crate::{Options, Paths, PathsFault, StopTable};
 use gtfs_rows::TransferRow;
@@ -28,50 +28,50 @@ fn collect(marks: &mut BestRules, rows: &mut PathRows, to: StopNo) -> Result<(),
     ensures rows { OnOk result ((p : ℕ) → p < length rows.old →
         get_or rows.new p []
         ≡ get_or rows.old p []
-        ++ option_to_list (path_to p to (verdict_secs (slot marks.old p)))) }
+        ++ option_to_list (path_to p to (ranked_secs (slot marks.old p)))) }
 {
-    while let Some((from, verdict)) = marks.pop() {
-        if let Some(secs) = verdict.secs {
+    while let Some((from, ranked)) = marks.pop() {
+        if let Some(secs) = ranked.secs {
             rows.add(from, Path { to, secs })?;
         }
     }
     Ok(())
 }
 
-fn verdict_secs(verdict: Option<Verdict>) -> Option<u32>
-    ensures { result ≡ verdict_secs verdict }
+fn ranked_secs(ranked: Option<RankedRule>) -> Option<u32>
+    ensures { result ≡ ranked_secs ranked }
 {
-    match verdict {
-        Some(verdict) => verdict.secs,
+    match ranked {
+        Some(ranked) => ranked.secs,
         None => None,
     }
 }
 
 // The footpaths to one stop, after those that are there, and its change time.
 fn fill_stop(
-    network: &Network,
+    linked: &LinkedPlatforms,
     marks: &mut BestRules,
     rows: &mut PathRows,
     stop: StopNo,
     options: &Options,
 ) -> Result<Option<u32>, Memory>
-    requires stop { stop < length (platforms network.now.stops) }
-    requires marks { length marks.old ≡ length (platforms network.now.stops) }
-    requires many { length rows.old ≡ length (platforms network.now.stops) }
+    requires stop { stop < length (platforms linked.now.stops) }
+    requires marks { length marks.old ≡ length (platforms linked.now.stops) }
+    requires many { length rows.old ≡ length (platforms linked.now.stops) }
     requires clear { (p : ℕ) → slot marks.old p ≡ None }
     ensures marks { OnOk result (length marks.new ≡ length marks.old) }
     ensures many { OnOk result (length rows.new ≡ length rows.old) }
     ensures clear { OnOk result ((p : ℕ) → slot marks.new p ≡ None) }
     ensures own { IfOk result
-        (λ own. own ≡ secs_between network.now.stops options.now network.now.links stop stop) }
+        (λ own. own ≡ secs_between linked.now.stops options.now linked.now.links stop stop) }
     ensures rows { OnOk result ((p : ℕ) → p < length rows.old →
         get_or rows.new p []
         ≡ get_or rows.old p []
-        ++ option_to_list (path_to p stop (secs_between network.now.stops options.now
-        network.now.links p stop))) }
+        ++ option_to_list (path_to p stop (secs_between linked.now.stops options.now
+        linked.now.links p stop))) }
 {
-    network.mark_to(marks, stop, options)?;
-    let own = verdict_secs(marks.take(stop.0));
+    linked.mark_to(marks, stop, options)?;
+    let own = ranked_secs(marks.take(stop.0));
     collect(marks, rows, stop)?;
     Ok(own)
 }
@@ -79,19 +79,19 @@ fn fill_stop(
 // The change times and footpaths of all platforms.
 fn fill(
     alloc: Global,
-    network: &Network,
+    linked: &LinkedPlatforms,
     count: u32,
     options: &Options,
 ) -> Result<Paths, PathsFault>
-    requires { count ≡ length (platforms network.now.stops) }
+    requires { count ≡ length (platforms linked.now.stops) }
     ensures { Yields IsPathsRefused result (λ x. x) (check_count
-        (paths_of count (secs_between network.now.stops options.now network.now.links))) }
+        (paths_of count (secs_between linked.now.stops options.now linked.now.links))) }
 {
     let mut marks = BestRules::new(alloc, count as usize)?;
     let mut rows = PathRows::new(alloc, count as usize)?;
     let mut change = Vec::new(alloc);
     for stop in 0..count {
-        let own = fill_stop(network, &mut marks, &mut rows, StopNo(stop), options)?;
+        let own = fill_stop(linked, &mut marks, &mut rows, StopNo(stop), options)?;
         if change.push(own).is_err() {
             return Err(PathsFault::Memory);
         }
@@ -122,6 +122,6 @@ pub fn build_paths(
         Ok(links) => links,
         Err(fault) => return Err(fault),
     };
-    let network = Network::new(alloc, links, stops)?;
-    fill(alloc, &network, stops.platforms(), options)
+    let linked = LinkedPlatforms::new(alloc, links, stops)?;
+    fill(alloc, &linked, stops.platforms(), options)
 }

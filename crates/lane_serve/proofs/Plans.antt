@@ -9,7 +9,7 @@ use Rattle.edition_store.specs.Editions.{EditionData}
 use Rattle.lane_serve.specs.declared.plan.Outcome.{Outcome}
 use Rattle.lane_serve.specs.declared.plan.Outcome.TheVariants.{Published, Refused}
 use Rattle.lane_serve.specs.Plans.{AreOutcomes, BeginsPublished, IsEditionOfItem, ItemData, ItemGives, Takes, outcome_of}
-use Rattle.lane_serve.specs.declared.plan.Stop.{Stop}
+use Rattle.lane_serve.specs.declared.plan.PlanEnd.{PlanEnd}
 
 outcomes_append : (files : Option FileList) (options : Options) (n : ℕ) (xs ys : List ItemData) (os ps : List Outcome) (es fs : List EditionData) →
     AreOutcomes files options n xs os es → AreOutcomes files options (n + length es) ys ps fs →
@@ -84,7 +84,7 @@ first_outcome files options (x ∷ xs) d e some h = (h, refl, tt)
 
 -- an item that was refused adds no edition
 pub took_fault : {P : Type 0} (list : P → List EditionData) (files : Option FileList) (options : Options) (item : ItemData) (es : List EditionData) (os told : List Outcome)
-    (f : FeedFault) (result : Result P Stop) → ItemGives files options item (Err f) → IfOk result (λ p. list p ≡ es) →
+    (f : FeedFault) (result : Result P PlanEnd) → ItemGives files options item (Err f) → IfOk result (λ p. list p ≡ es) →
     IfOk result (λ _. told ≡ os ++ Refused f ∷ []) → IfOk result (λ p. Takes files options item es (list p) os told)
 took_fault list files options item es os told f (Ok p) gives same more = ([], Refused f, same ∙ sym (append-nil es), more, (gives, tt))
 took_fault list files options item es os told f (Err e) gives same more = tt

@@ -11,7 +11,7 @@ use Rattle.lane_serve.specs.declared.script.Line.{Line}
 use Rattle.lane_serve.specs.declared.lane.ReplyText.{ReplyText}
 use Rattle.lane_serve.specs.declared.run.Seated.{Seated}
 use Rattle.lane_serve.specs.Lanes.{IsClosing, IsLaneRun, ReportData, to_close}
-use Rattle.lane_serve.specs.Script.{HasTimes, IsScript, LaneData, request_count}
+use Rattle.lane_serve.specs.Script.{IsAskable, IsScript, LaneData, request_count}
 use Rattle.lane_serve.specs.Served.{AreServed, HasRun, IsServedLane}
 use Rattle.lane_serve.specs.Seats.{HaveRun}
 use Rattle.lane_serve.proofs.Runs.{read_again}
@@ -25,7 +25,7 @@ few_in_all (l ∷ ls) (suc i) d lt = let f : LaneData → ℕ = λ k. length (La
 pub few_requests : (lanes : List LaneData) (i : ℕ) (d : LaneData) → IsScript lanes → i < length lanes → length (LaneData.lines (get_or lanes i d)) ≤ 20000
 few_requests lanes i d s lt = let a = few_in_all lanes i d lt in let b = s.1.requests in omega arith
 
-pub good_times : (lanes : List LaneData) (i : ℕ) (d : LaneData) → IsScript lanes → i < length lanes → All HasTimes (LaneData.lines (get_or lanes i d))
+pub good_times : (lanes : List LaneData) (i : ℕ) (d : LaneData) → IsScript lanes → i < length lanes → All IsAskable (LaneData.lines (get_or lanes i d))
 good_times lanes i d s lt = s.1.times i d lt
 
 -- the requests that were taken from a lane are those of the lane that stands there

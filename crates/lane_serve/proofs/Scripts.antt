@@ -10,7 +10,7 @@ use Rattle.tb_base.specs.declared.refused.Refused.TheVariants as refused
 use Rattle.gtfs_rows.specs.Steps.{and_then}
 use Rattle.text_lines.specs.Lines.{lines_of}
 use Rattle.lane_serve.specs.declared.script.Line.{Line}
-use Rattle.lane_serve.specs.Script.{LaneData, SoFar, HasTimes, IsWithinLimits, request_count, script_from, with_request}
+use Rattle.lane_serve.specs.Script.{LaneData, SoFar, IsAskable, IsWithinLimits, request_count, script_from, with_request}
 
 -- the last lane gets one more request
 pub set_last : (lanes : List LaneData) (i : ℕ) (request : Line) (name : List ℕ) (lines : List Line) →
@@ -49,22 +49,22 @@ length_same [] request = refl
 length_same (l ∷ []) request = refl
 length_same (l ∷ m ∷ rest) request = ap suc (length_same (m ∷ rest) request)
 
-abbrev HaveTimes : LaneData → Type 0
-HaveTimes l = All HasTimes l.lines
+abbrev AreAskable : LaneData → Type 0
+AreAskable l = All IsAskable l.lines
 
-times_more : (lanes : List LaneData) (request : Line) → HasTimes request → All HaveTimes lanes →
-    All HaveTimes (with_request request lanes)
+times_more : (lanes : List LaneData) (request : Line) → IsAskable request → All AreAskable lanes →
+    All AreAskable (with_request request lanes)
 times_more [] request h all = all
 times_more (l ∷ []) request h all =
-    All-cons HaveTimes (record { name = l.name; lines = l.lines ++ request ∷ [] }) []
-    (All-append HasTimes l.lines (request ∷ []) (all 0 l (omega arith)) (All-cons HasTimes request [] h (All-nil HasTimes)))
-    (All-nil HaveTimes)
+    All-cons AreAskable (record { name = l.name; lines = l.lines ++ request ∷ [] }) []
+    (All-append IsAskable l.lines (request ∷ []) (all 0 l (omega arith)) (All-cons IsAskable request [] h (All-nil IsAskable)))
+    (All-nil AreAskable)
 times_more (l ∷ m ∷ rest) request h all =
-    All-cons HaveTimes l (with_request request (m ∷ rest)) (all 0 l (omega arith))
+    All-cons AreAskable l (with_request request (m ∷ rest)) (all 0 l (omega arith))
     (times_more (m ∷ rest) request h (λ i x lt. all (suc i) x (omega (arith, lt))))
 
 pub one_more : (lanes now : List LaneData) (request : Line) (n : ℕ) → 0 < length lanes → n ≡ request_count lanes → n < 20000 →
-    IsWithinLimits lanes → HasTimes request → now ≡ with_request request lanes →
+    IsWithinLimits lanes → IsAskable request → now ≡ with_request request lanes →
     (n + 1 ≡ request_count now) × IsWithinLimits now
 one_more lanes now request n some e lt good h is =
     let c = count_more lanes request some in

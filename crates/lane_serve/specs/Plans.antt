@@ -14,8 +14,8 @@ use Rattle.lane_serve.specs.declared.plan.Built.{Built}
 use Rattle.lane_serve.specs.declared.plan.Built.TheVariants as built
 use Rattle.lane_serve.specs.declared.plan.Outcome.{Outcome}
 use Rattle.lane_serve.specs.declared.plan.Outcome.TheVariants.{Published, Refused}
-use Rattle.lane_serve.specs.declared.plan.Stop.{Stop}
-use Rattle.lane_serve.specs.declared.plan.Stop.TheVariants as stop
+use Rattle.lane_serve.specs.declared.plan.PlanEnd.{PlanEnd}
+use Rattle.lane_serve.specs.declared.plan.PlanEnd.TheVariants as ended
 
 -- a directory of the folder, the word that names it with its day, and the day
 pub record ItemData : Type 0 where
@@ -71,11 +71,11 @@ abbrev pub IsBuilt : Option FileList → Options → ItemData → Built → Type
 IsBuilt files options item (built.Edition e) = IsEditionOfItem files options item e
 IsBuilt files options item (built.Refused f) = ItemGives files options item (Err f)
 
--- A stop for a failed read comes only where the folder's count of faults rose; for want of memory
+-- A plan ends for a failed read only where the folder's count of faults rose; for want of memory
 -- only where that count stands.
-abbrev pub HasStopped : ℕ → ℕ → Stop → Type 0
-HasStopped before now stop.ReadFault = before < now
-HasStopped before now stop.Memory = now ≡ before
+abbrev pub HasStopped : ℕ → ℕ → PlanEnd → Type 0
+HasStopped before now ended.ReadFault = before < now
+HasStopped before now ended.Memory = now ≡ before
 
 -- what is said of footpaths and of workers is within its limits
 pub record IsGoodBuilding (building : Building) : Type 0 where

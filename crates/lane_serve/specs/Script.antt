@@ -128,8 +128,8 @@ script_of bytes =
     else script_from (record { lines = 0; requests = 0; lanes = [] }) (lines_of bytes)
 
 -- an edition without a mirror can be asked, and the times are those that can be asked for
-abbrev pub HasTimes : Line → Type 0
-HasTimes l = (needs_mirror l.question ≡ false) × question.HasTimes l.question
+abbrev pub IsAskable : Line → Type 0
+IsAskable l = (needs_mirror l.question ≡ false) × question.HasTimes l.question
 
 -- a line that is a request is such a one
 abbrev pub SaysTimes : Option Said → Type 0
@@ -137,7 +137,7 @@ SaysTimes None = ⊤
 SaysTimes (Some said.Nothing) = ⊤
 SaysTimes (Some (said.Lane name)) = ⊤
 SaysTimes (Some (said.Request None)) = ⊤
-SaysTimes (Some (said.Request (Some request))) = HasTimes request
+SaysTimes (Some (said.Request (Some request))) = IsAskable request
 
 -- how many requests the lanes have
 abbrev pub request_count : List LaneData → ℕ
@@ -147,7 +147,7 @@ request_count lanes = sum_by (λ l. length (LaneData.lines l)) lanes
 pub record IsWithinLimits (lanes : List LaneData) : Type 0 where
   pub few : length lanes ≤ 64
   pub requests : request_count lanes ≤ 20000
-  pub times : All (λ l. All HasTimes (LaneData.lines l)) lanes
+  pub times : All (λ l. All IsAskable (LaneData.lines l)) lanes
 
 -- the same, with at least one lane
 abbrev pub IsScript : List LaneData → Type 0

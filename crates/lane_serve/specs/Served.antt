@@ -9,8 +9,8 @@ use Rattle.history.specs.Lists.{Shown}
 use Rattle.edition_store.specs.Editions.{EditionData}
 use Rattle.lane_serve.specs.declared.lane.ReplyText.{ReplyText}
 use Rattle.lane_serve.specs.declared.plan.Outcome.{Outcome}
-use Rattle.lane_serve.specs.declared.plan.Stop.{Stop}
-use Rattle.lane_serve.specs.declared.plan.Stop.TheVariants as stop
+use Rattle.lane_serve.specs.declared.plan.PlanEnd.{PlanEnd}
+use Rattle.lane_serve.specs.declared.plan.PlanEnd.TheVariants as ended
 use Rattle.lane_serve.specs.declared.script.Line.{Line}
 use Rattle.lane_serve.specs.declared.run.ServeFault.{ServeFault}
 use Rattle.lane_serve.specs.declared.run.ServeFault.TheVariants as fault
@@ -81,7 +81,7 @@ abbrev pub HasRun : List Line → Shown EditionData → Option (Vec ReplyText Gl
 HasRun requests kept None = ⊤
 HasRun requests kept (Some replies) = IsLaneRun kept.list requests replies.items
 
--- the fault that a stop is told as
-abbrev pub fault_for : Stop → ServeFault
-fault_for stop.ReadFault = fault.ReadFault
-fault_for stop.Memory = fault.Memory
+-- the fault that a plan's end is told as
+abbrev pub fault_for : PlanEnd → ServeFault
+fault_for ended.ReadFault = fault.ReadFault
+fault_for ended.Memory = fault.Memory

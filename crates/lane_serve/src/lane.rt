@@ -3,7 +3,7 @@ ghost use Rattle.std.specs.Prelude.{◌≡◌, ◌<◌, ◌≤◌, ◌+◌, ◌-
 ghost use Rattle.history.specs.Lists.{Extends, StartsWith};
 ghost use Rattle.edition_store.specs.Editions.{EditionData};
 ghost use Rattle.query_gate.specs.Callers.{HasLegNumbersIn};
-ghost use Rattle.lane_serve.specs.Script.{HasTimes};
+ghost use Rattle.lane_serve.specs.Script.{IsAskable};
 ghost use Rattle.lane_serve.specs.Lanes.{IsAnswered, IsClosing, IsLaneRun, IsReplyOf, is_due, to_close};
 
 use crate::script::Line;
@@ -68,7 +68,7 @@ fn answer<J: Naming>(
     k: u32,
     request: &Line,
 ) -> Result<ReplyText, Memory>
-    requires { HasTimes request.now }
+    requires { IsAskable request.now }
     ensures line { IfOk result (λ r. r.line ≡ k) }
     ensures edition { IfOk result (λ r. r.edition ≡ length caller.new.kept.list) }
     ensures right { IfOk result (IsAnswered caller.new.kept.list request.now) }
@@ -98,7 +98,7 @@ pub fn run_lane<J: Naming, G: Gate>(
     requests: &[Line],
 ) -> Result<Vec<ReplyText>, Memory>
     requires few { length requests.now ≤ 20000 }
-    requires times { All HasTimes requests.now }
+    requires times { All IsAskable requests.now }
     ensures run { IfOk result (λ v. IsLaneRun caller.new.kept.list requests.now v.items) }
     ensures longer { IfOk result (λ v. (es : List EditionData) →
         StartsWith es caller.new.kept.list → IsLaneRun es requests.now v.items) }
@@ -137,7 +137,7 @@ pub fn close_lane<J: Naming>(
     replies: &[ReplyText],
 ) -> Result<Vec<ReplyText>, Memory>
     requires few { length requests.now ≤ 20000 }
-    requires times { All HasTimes requests.now }
+    requires times { All IsAskable requests.now }
     requires replies { length replies.now ≡ length requests.now }
     ensures closing { IfOk result
         (λ v. IsClosing last.now (to_close 1 requests.now replies.now) v.items) }

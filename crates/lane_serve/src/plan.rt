@@ -2,7 +2,7 @@
 ghost use Rattle.std.specs.Prelude.{◌≡◌, ◌<◌, ◌≤◌, ◌∷◌, [], ◌++◌, ◌+◌, ◌-◌, ◌^◌, IfErr, IfOk, length, take};
 ghost use Rattle.lane_serve.specs.Plans.{AreOutcomes, BeginsPublished, HasStopped, IsBuilt, IsGoodBuilding, Takes, outcome_of};
 ghost use Rattle.lane_serve.specs.declared.plan.Outcome.TheVariants.{Refused};
-ghost use Rattle.lane_serve.specs.declared.plan.Stop.TheVariants as stop;
+ghost use Rattle.lane_serve.specs.declared.plan.PlanEnd.TheVariants as ended;
 
 use crate::publishing::Publishes;
 use edition_build::build_edition;
@@ -64,7 +64,7 @@ pub(crate) enum Built {
 
 // Why a plan isn't followed to its end.
 #[derive(Drop)]
-pub(crate) enum Stop {
+pub(crate) enum PlanEnd {
     ReadFault,
     Memory,
 }
@@ -85,12 +85,12 @@ pub(crate) fn build_item<F: Folder, G: Gate, R: Threads + Sync>(
     building: Building,
     folder: &mut F,
     item: &PlanItem,
-) -> Result<Built, Stop>
+) -> Result<Built, PlanEnd>
     requires building { IsGoodBuilding building }
     requires count { F.faults folder.old < 2 ^ 64 - 1 }
     ensures files { F.files folder.new ≡ F.files folder.old }
     ensures faults { IfOk result (λ _. F.faults folder.new ≡ F.faults folder.old) }
-    ensures stop { IfErr result (HasStopped (F.faults folder.old) (F.faults folder.new)) }
+    ensures ended { IfErr result (HasStopped (F.faults folder.old) (F.faults folder.new)) }
     ensures built { IfOk result (IsBuilt (F.files folder.old) building.options item.now) }
 {
     match read_day(
@@ -105,11 +105,11 @@ pub(crate) fn build_item<F: Folder, G: Gate, R: Threads + Sync>(
                 edition.edition().soundness();
                 Ok(Built::Edition(edition))
             }
-            Err(Memory) => Err(Stop::Memory),
+            Err(Memory) => Err(PlanEnd::Memory),
         },
         Err(DayFault::Feed(fault)) => Ok(Built::Refused(fault)),
-        Err(DayFault::ReadFault) => Err(Stop::ReadFault),
-        Err(DayFault::Memory) => Err(Stop::Memory),
+        Err(DayFault::ReadFault) => Err(PlanEnd::ReadFault),
+        Err(DayFault::Memory) => Err(PlanEnd::Memory),
     }
 }
 
@@ -159,22 +159,22 @@ fn take_edition<P: Publishes, G: Gate, R: Wait>(
     edition: Shared,
     outcomes: &mut Vec<Outcome>,
     publisher: P,
-) -> Result<P, Stop>
+) -> Result<P, PlanEnd>
     requires { length (P.list publisher) < 100 }
     ensures list { IfOk result (λ p. P.list p ≡ P.list publisher ++ edition ∷ []) }
     ensures outcome { IfOk result (λ _. outcomes.new.items
         ≡ outcomes.old.items ++ outcome_of (length (P.list publisher) + 1) edition ∷ []) }
-    ensures stop { IfErr result (λ e. e ≡ stop.Memory) }
+    ensures ended { IfErr result (λ e. e ≡ ended.Memory) }
 {
     let outcome = outcome_of(publisher.number() + 1, edition.edition());
     if outcomes.push(outcome).is_err() {
         drop(edition);
         publisher.end(rt);
-        return Err(Stop::Memory);
+        return Err(PlanEnd::Memory);
     }
     match publish(rt, gate, i, edition, publisher) {
         Ok(publisher) => Ok(publisher),
-        Err(Memory) => Err(Stop::Memory),
+        Err(Memory) => Err(PlanEnd::Memory),
     }
 }
 
@@ -184,15 +184,15 @@ fn take_fault<P: Publishes, R: Wait>(
     fault: FeedFault,
     outcomes: &mut Vec<Outcome>,
     publisher: P,
-) -> Result<P, Stop>
+) -> Result<P, PlanEnd>
     ensures list { IfOk result (λ p. P.list p ≡ P.list publisher) }
     ensures outcome { IfOk result (λ _. outcomes.new.items
         ≡ outcomes.old.items ++ Refused fault ∷ []) }
-    ensures stop { IfErr result (λ e. e ≡ stop.Memory) }
+    ensures ended { IfErr result (λ e. e ≡ ended.Memory) }
 {
     if outcomes.push(Outcome::Refused(fault)).is_err() {
         publisher.end(rt);
-        return Err(Stop::Memory);
+        return Err(PlanEnd::Memory);
     }
     Ok(publisher)
 }
@@ -208,22 +208,22 @@ fn take_item<P: Publishes, F: Folder, G: Gate, R: Threads + Wait + Sync>(
     item: &PlanItem,
     outcomes: &mut Vec<Outcome>,
     publisher: P,
-) -> Result<P, Stop>
+) -> Result<P, PlanEnd>
     requires building { IsGoodBuilding building }
     requires count { F.faults folder.old < 2 ^ 64 - 1 }
     requires room { length (P.list publisher) < 100 }
     ensures files { F.files folder.new ≡ F.files folder.old }
     ensures faults { IfOk result (λ _. F.faults folder.new ≡ F.faults folder.old) }
-    ensures stop { IfErr result (HasStopped (F.faults folder.old) (F.faults folder.new)) }
+    ensures ended { IfErr result (HasStopped (F.faults folder.old) (F.faults folder.new)) }
     ensures taken { IfOk result (λ p. Takes (F.files folder.old) building.options item.now
         (P.list publisher) (P.list p) outcomes.old.items outcomes.new.items) }
 {
     match build_item(rt, alloc, gate, building, folder, item) {
         Ok(Built::Edition(edition)) => take_edition(rt, gate, i, edition, outcomes, publisher),
         Ok(Built::Refused(fault)) => take_fault(rt, fault, outcomes, publisher),
-        Err(stop) => {
+        Err(ended) => {
             publisher.end(rt);
-            Err(stop)
+            Err(ended)
         }
     }
 }
@@ -239,7 +239,7 @@ pub(crate) fn publish_rest<P: Publishes, F: Folder, G: Gate, R: Threads + Wait +
     plan: &[PlanItem],
     outcomes: &mut Vec<Outcome>,
     publisher: P,
-) -> Result<P, Stop>
+) -> Result<P, PlanEnd>
     requires building { IsGoodBuilding building }
     requires count { F.faults folder.old < 2 ^ 64 - 1 }
     requires plan { length plan.now ≤ 100 }
@@ -248,7 +248,7 @@ pub(crate) fn publish_rest<P: Publishes, F: Folder, G: Gate, R: Threads + Wait +
     requires begins { BeginsPublished outcomes.old.items }
     ensures files { F.files folder.new ≡ F.files folder.old }
     ensures faults { IfOk result (λ _. F.faults folder.new ≡ F.faults folder.old) }
-    ensures stop { IfErr result (HasStopped (F.faults folder.old) (F.faults folder.new)) }
+    ensures ended { IfErr result (HasStopped (F.faults folder.old) (F.faults folder.new)) }
     ensures outcomes { IfOk result (λ p. AreOutcomes (F.files folder.old) building.options 0
         plan.now outcomes.new.items (P.list p)) }
     ensures begins { IfOk result (λ _. BeginsPublished outcomes.new.items) }
@@ -259,7 +259,7 @@ pub(crate) fn publish_rest<P: Publishes, F: Folder, G: Gate, R: Threads + Wait +
             rt, alloc, gate, building, folder, i as u32, &plan[i], outcomes, publisher,
         ) {
             Ok(next) => next,
-            Err(stop) => return Err(stop),
+            Err(ended) => return Err(ended),
         };
     }
     Ok(publisher)

@@ -5,7 +5,7 @@ ghost use Rattle.gtfs_rows.specs.declared.fault.FeedFault.{FeedFault};
 ghost use Rattle.footpaths.specs.Limits.{AreWithinADay};
 ghost use Rattle.tb_base.specs.Workers.{AreWorkers};
 ghost use Rattle.lane_serve.specs.Plans.{AreOutcomes, HasStopped, IsGoodBuilding, outcome_of};
-ghost use Rattle.lane_serve.specs.Script.{HasTimes, IsScript, LaneData};
+ghost use Rattle.lane_serve.specs.Script.{IsAskable, IsScript, LaneData};
 ghost use Rattle.lane_serve.specs.Seats.{HaveRun};
 ghost use Rattle.lane_serve.specs.Sides.{HasTaken, PublisherSideData};
 ghost use Rattle.lane_serve.specs.Lanes.{IsLaneRun};
@@ -13,7 +13,7 @@ ghost use Rattle.lane_serve.specs.Served.{AreServed, FirstGives, HasRun, IsServe
 
 use crate::lane::{LaneReport, ReplyText, close_lane, run_lane};
 use crate::plan::{
-    Building, Built, Outcome, PlanItem, Stop, build_item, first_outcome, publish_rest,
+    Building, Built, Outcome, PlanEnd, PlanItem, build_item, first_outcome, publish_rest,
 };
 use crate::publishing::Publishes;
 use crate::script::{Lane, Script};
@@ -149,14 +149,14 @@ fn publish_side<P: Publishes, F: Folder, G: Gate, R: Threads + Wait + Sync>(
     folder: &mut F,
     side: &mut PublisherSide<'_>,
     slot: &mut Option<P>,
-) -> Result<P, Stop>
+) -> Result<P, PlanEnd>
     requires count { F.faults folder.old < 2 ^ 64 - 1 }
     requires slot { IsSome slot.old }
     requires first { IfSome slot.old (λ p. HasTaken (F.files folder.old)
         side.old.building.options (take 1 side.old.plan) side.old.outcomes (P.list p)) }
     ensures files { F.files folder.new ≡ F.files folder.old }
     ensures faults { IfOk result (λ _. F.faults folder.new ≡ F.faults folder.old) }
-    ensures stop { IfErr result (HasStopped (F.faults folder.old) (F.faults folder.new)) }
+    ensures ended { IfErr result (HasStopped (F.faults folder.old) (F.faults folder.new)) }
     ensures all { IfOk result (λ p. HasTaken (F.files folder.old) side.old.building.options
         side.old.plan side.new.outcomes (P.list p)) }
     ensures taken { IsNone slot.new }
@@ -220,7 +220,7 @@ fn sides<P: Publishes, J: Naming + Send + Sync, F: Folder, G: Gate, R: Threads +
     publisher: P,
     lanes: &[Lane],
     seats: &mut [Seated<J>],
-) -> Result<P, Stop>
+) -> Result<P, PlanEnd>
     requires count { F.faults folder.old < 2 ^ 64 - 1 }
     requires first { HasTaken (F.files folder.old) side.old.building.options
         (take 1 side.old.plan) side.old.outcomes (P.list publisher) }
@@ -228,7 +228,7 @@ fn sides<P: Publishes, J: Naming + Send + Sync, F: Folder, G: Gate, R: Threads +
     requires seats { length seats.old ≡ length lanes.now }
     ensures files { F.files folder.new ≡ F.files folder.old }
     ensures faults { IfOk result (λ _. F.faults folder.new ≡ F.faults folder.old) }
-    ensures stop { IfErr result (HasStopped (F.faults folder.old) (F.faults folder.new)) }
+    ensures ended { IfErr result (HasStopped (F.faults folder.old) (F.faults folder.new)) }
     ensures all { IfOk result (λ p. HasTaken (F.files folder.old) side.old.building.options
         side.old.plan side.new.outcomes (P.list p)) }
     ensures run { HaveRun lanes.now seats.new }
@@ -241,7 +241,7 @@ fn sides<P: Publishes, J: Naming + Send + Sync, F: Folder, G: Gate, R: Threads +
         gate,
         lanes,
         seats,
-        &mut || -> Result<P, Stop>
+        &mut || -> Result<P, PlanEnd>
             requires { (F.faults folder.now < 2 ^ 64 - 1) × IsSome slot
                 × IfSome slot (λ p. HasTaken (F.files folder.now) side.now.building.options
                 (take 1 side.now.plan) side.now.outcomes (P.list p)) }
@@ -279,7 +279,7 @@ fn closing_of<J: Naming>(
     replies: &[ReplyText],
 ) -> Result<LaneReport, Memory>
     requires few { length lane.now.lines ≤ 20000 }
-    requires times { All HasTimes lane.now.lines }
+    requires times { All IsAskable lane.now.lines }
     requires run { IsLaneRun caller.old.kept.list lane.now.lines replies.now }
     ensures { IfOk result (λ closing. IsServedLane last.now lane.now
         (record { name = lane.now.name; replies = replies.now }) closing) }
@@ -299,7 +299,7 @@ fn reports_of<J: Naming>(
     replies: Vec<ReplyText>,
 ) -> Result<(LaneReport, LaneReport), Memory>
     requires few { length lane.now.lines ≤ 20000 }
-    requires times { All HasTimes lane.now.lines }
+    requires times { All IsAskable lane.now.lines }
     requires run { IsLaneRun caller.old.kept.list lane.now.lines replies.items }
     ensures { IfOk result (λ t. IsServedLane last.now lane.now t.0 t.1) }
 {
@@ -326,7 +326,7 @@ fn close_seated<J: Naming>(
     seated: Seated<J>,
 ) -> Result<(LaneReport, LaneReport), Memory>
     requires few { length lane.now.lines ≤ 20000 }
-    requires times { All HasTimes lane.now.lines }
+    requires times { All IsAskable lane.now.lines }
     requires run { HasRun lane.now.lines seated.caller.kept seated.replies }
     ensures { IfOk result (λ t. IsServedLane last.now lane.now t.0 t.1) }
 {
@@ -480,7 +480,7 @@ fn serve_open<J: Naming + Send + Sync, F: Folder, G: Gate, R: Threads + Wait + S
     publisher: Publisher<J>,
     lanes: &[Lane],
     seats: Vec<Seated<J>>,
-) -> Result<Served, Stop>
+) -> Result<Served, PlanEnd>
     requires count { F.faults folder.old < 2 ^ 64 - 1 }
     requires first { HasTaken (F.files folder.old) side.building.options (take 1 side.plan)
         side.outcomes publisher }
@@ -488,7 +488,7 @@ fn serve_open<J: Naming + Send + Sync, F: Folder, G: Gate, R: Threads + Wait + S
     requires seats { vec_len seats ≡ length lanes.now }
     ensures files { F.files folder.new ≡ F.files folder.old }
     ensures faults { IfOk result (λ _. F.faults folder.new ≡ F.faults folder.old) }
-    ensures stop { IfErr result (HasStopped (F.faults folder.old) (F.faults folder.new)) }
+    ensures ended { IfErr result (HasStopped (F.faults folder.old) (F.faults folder.new)) }
     ensures served { IfOk result (IsServed (F.files folder.old) side.entry.building.options side.entry.plan
         lanes.now) }
 {
@@ -511,12 +511,12 @@ fn serve_open<J: Naming + Send + Sync, F: Folder, G: Gate, R: Threads + Wait + S
     match published {
         Ok(publisher) => match served_of(rt, alloc, publisher, lanes, outcomes, seats) {
             Ok(served) => Ok(served),
-            Err(Memory) => Err(Stop::Memory),
+            Err(Memory) => Err(PlanEnd::Memory),
         },
-        Err(stop) => {
+        Err(ended) => {
             drop(outcomes);
             drop(seats);
-            Err(stop)
+            Err(ended)
         }
     }
 }
@@ -532,7 +532,7 @@ fn serve_from<J: Naming + Send + Sync, F: Folder, G: Gate, R: Threads + Wait + S
     opened: Opened<Edition>,
     first: Shared,
     script: &Script,
-) -> Result<Served, Stop>
+) -> Result<Served, PlanEnd>
     requires book { opened.seen.book ≡ J.book }
     requires building { IsGoodBuilding building }
     requires count { F.faults folder.old < 2 ^ 64 - 1 }
@@ -543,7 +543,7 @@ fn serve_from<J: Naming + Send + Sync, F: Folder, G: Gate, R: Threads + Wait + S
     requires script { IsScript script.now }
     ensures files { F.files folder.new ≡ F.files folder.old }
     ensures faults { IfOk result (λ _. F.faults folder.new ≡ F.faults folder.old) }
-    ensures stop { IfErr result (HasStopped (F.faults folder.old) (F.faults folder.new)) }
+    ensures ended { IfErr result (HasStopped (F.faults folder.old) (F.faults folder.new)) }
     ensures served { IfOk result (IsServed (F.files folder.old) building.options plan.now
         script.now) }
 {
@@ -561,22 +561,22 @@ fn serve_from<J: Naming + Send + Sync, F: Folder, G: Gate, R: Threads + Wait + S
             }
             Err(Memory) => {
                 drop(outcomes);
-                Err(Stop::Memory)
+                Err(PlanEnd::Memory)
             }
         },
         Err(Memory) => {
             drop(first);
-            Err(Stop::Memory)
+            Err(PlanEnd::Memory)
         }
     }
 }
 
-fn fault_of(stop: Stop) -> ServeFault
-    ensures { result ≡ fault_for stop }
+fn fault_of(ended: PlanEnd) -> ServeFault
+    ensures { result ≡ fault_for ended }
 {
-    match stop {
-        Stop::ReadFault => ServeFault::ReadFault,
-        Stop::Memory => ServeFault::Memory,
+    match ended {
+        PlanEnd::ReadFault => ServeFault::ReadFault,
+        PlanEnd::Memory => ServeFault::Memory,
     }
 }
 
@@ -617,11 +617,11 @@ fn serve_plan<F: Folder, G: Gate, R: Threads + Wait + Sync>(
             );
             match served {
                 Ok(served) => Ok(served),
-                Err(stop) => Err(fault_of(stop)),
+                Err(ended) => Err(fault_of(ended)),
             }
         }
         Ok(Built::Refused(fault)) => Err(ServeFault::Feed(fault)),
-        Err(stop) => Err(fault_of(stop)),
+        Err(ended) => Err(fault_of(ended)),
     }
 }
 

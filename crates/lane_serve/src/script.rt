@@ -3,7 +3,7 @@ ghost use Rattle.std.specs.Prelude.{◌≡◌, ◌<◌, ◌^◌, ◌+◌, ◌-�
 ghost use Rattle.std.specs.Option.{option_and_then};
 ghost use Rattle.text_lines.specs.LineWords.{line_words};
 ghost use Rattle.tb_base.specs.Refusals.{Yields};
-ghost use Rattle.lane_serve.specs.Script.{HasTimes, IsScript, SaysTimes, after_lane, after_line, after_request, after_said, at_end, said_of, script_of, with_request};
+ghost use Rattle.lane_serve.specs.Script.{IsAskable, IsScript, SaysTimes, after_lane, after_line, after_request, after_said, at_end, said_of, script_of, with_request};
 
 use crate::said::{Said, said_of};
 use answer_text::Question;
@@ -136,7 +136,7 @@ impl ScriptReader {
 
     // A line that is a request.
     fn take_request(&mut self, line: u32, request: Option<Line>) -> Result<(), Refused<ScriptFault>>
-        requires { IfSome request HasTimes }
+        requires { IfSome request IsAskable }
         ensures reads { Yields result (λ _. self.new) (after_request self.old line request) }
         ensures lines { OnOk result (self.new.lines ≡ line) }
     {

@@ -12,7 +12,7 @@ use Rattle.tb_base.specs.Soundness.{IsSound, IsSoundTrip}
 use Rattle.tb_base.specs.TimetableData.{TimetableData, TripData, no_trip}
 use Rattle.late_edit.specs.Amended.{amended_trips, events_after, is_named, trip_named, trips_after, trips_updated, with_events, with_trips}
 use Rattle.late_edit.specs.Finding.{IsTimedEvent}
-use Rattle.late_edit.specs.Lates.{before_of, line_of, trip_of}
+use Rattle.late_edit.specs.Updates.{before_of, line_of, trip_of}
 use Rattle.late_edit.specs.declared.late.LateFault.TheVariants as fault
 use Rattle.late_edit.specs.declared.update.Update.{Update}
 use Rattle.late_edit.proofs.NewEvents.{IsNewEvents, new_events}

@@ -17,7 +17,7 @@ use Rattle.late_edit.specs.Updated.{IsUpdated, bare_event}
 use Rattle.late_edit.proofs.SameEvents.{same_length, bare_events}
 use Rattle.late_edit.proofs.Untouched.{rows_at}
 use Rattle.edition_store.specs.Editions.{EditionData}
-use Rattle.late_edit.specs.Amending.{AreKeptRows, RowsData, network_of}
+use Rattle.late_edit.specs.Amending.{AreKeptRows, RowsData, edition_lines}
 
 -- a trip's transfers by the hops of its first n events, the last one first
 abbrev pub rows_below : (ℕ → List Hop) → ℕ → ℕ → List Transfer
@@ -69,16 +69,16 @@ same_row L M T t own updated each =
     sym (length-map (events_of L.table t) bare_event) ∙ (ap length (bare_events L.table T updated t) ∙ length-map (events_of T t) bare_event) in
     λ i. flat_map (rows_at (hops i) t) (numbers_down (many i))
 
--- a network is its timetable and its lines
-pub network_is : (e : EditionData) (L : LinesData) → L.table ≡ e.table → L.lines ≡ e.lines → L ≡ network_of e
-network_is e L table lines = λ i. record { table = table i; lines = lines i }
+-- the lines of an edition are those of its timetable
+pub edition_lines_are : (e : EditionData) (L : LinesData) → L.table ≡ e.table → L.lines ≡ e.lines → L ≡ edition_lines e
+edition_lines_are e L table lines = λ i. record { table = table i; lines = lines i }
 
 -- the transfers of all trips, over the timetable that the lines are of
 pub all_rows : (before after : LinesData) (T : TimetableData) (n : ℕ) (r : RowsData) → after.table ≡ T → AreKeptRows before after n r → r.rows ≡ rows_from T (kept_hops T after.lines) 0 n
 all_rows before after T n r own are = are.rows ∙ ap (λ U. rows_from U (kept_hops U after.lines) 0 n) own
 
 -- the touched trips are counted
-pub all_touched : (e : EditionData) (M : LinesData) (T : TimetableData) (r : RowsData) → IsUpdated e.table T → AreKeptRows (network_of e) M (length T.trips) r → r.redone ≡ touched_count (network_of e) M
+pub all_touched : (e : EditionData) (M : LinesData) (T : TimetableData) (r : RowsData) → IsUpdated e.table T → AreKeptRows (edition_lines e) M (length T.trips) r → r.redone ≡ touched_count (edition_lines e) M
 all_touched e M T r updated are =
     let many : length T.trips ≡ length e.table.trips = sym (same_length e.table T updated) in
-    are.redone ∙ (λ i. length (filter (is_touched (network_of e) M) (numbers_below (many i))))
+    are.redone ∙ (λ i. length (filter (is_touched (edition_lines e) M) (numbers_below (many i))))

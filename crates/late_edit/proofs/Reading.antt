@@ -2,7 +2,7 @@
 use Rattle.std.proofs.Common.{◌≡◌, ℕ, ◌+◌, ◌≤◌, List, length}
 use Rattle.gtfs_rows.specs.Steps.{prepend}
 use Rattle.text_lines.specs.Lines.{lines_of}
-use Rattle.late_edit.specs.Lates.{updates_from, updates_of}
+use Rattle.late_edit.specs.Updates.{updates_from, updates_of}
 use Rattle.late_edit.specs.declared.update.Update.{Update}
 
 -- what the first lines say, where the text behind them is still to be read

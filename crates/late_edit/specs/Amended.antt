@@ -10,7 +10,7 @@ use Rattle.late_edit.specs.declared.late.LateFault.{LateFault}
 use Rattle.late_edit.specs.declared.late.LateFault.TheVariants as fault
 use Rattle.late_edit.specs.declared.update.Update.{Update}
 use Rattle.late_edit.specs.declared.update.Update.TheVariants as update
-use Rattle.late_edit.specs.Lates.{before_of, line_of, trip_of}
+use Rattle.late_edit.specs.Updates.{before_of, line_of, trip_of}
 use Rattle.late_edit.specs.UpdateData.{LateData, SkipData}
 
 -- a trip has this name, and began on the day before, or not

@@ -8,8 +8,8 @@ use Rattle.reduce_workers.specs.Reductions.{count_from, rows_from}
 use Rattle.edition_store.specs.Editions.{EditionData}
 
 -- the timetable of an edition with its lines
-abbrev pub network_of : EditionData → LinesData
-network_of e = record { table = e.table; lines = e.lines }
+abbrev pub edition_lines : EditionData → LinesData
+edition_lines e = record { table = e.table; lines = e.lines }
 
 -- transfers, one list a trip, how many they are, and how many of the trips are touched
 pub record RowsData : Type 0 where
@@ -17,7 +17,7 @@ pub record RowsData : Type 0 where
   pub kept : ℕ
   pub redone : ℕ
 
--- they are the kept transfers of the first n trips of a network that was another one before
+-- they are the kept transfers of the first n trips of a timetable that was another one before
 pub record AreKeptRows (before after : LinesData) (n : ℕ) (r : RowsData) : Type 0 where
   pub rows : r.rows ≡ rows_from after.table (kept_hops after.table after.lines) 0 n
   pub kept : r.kept ≡ count_from after.table (kept_hops after.table after.lines) 0 n

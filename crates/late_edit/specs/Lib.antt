@@ -1,7 +1,7 @@
 pub mod Amended
 pub mod Amending
 pub mod Finding
-pub mod Lates
+pub mod Updates
 pub mod Near
 pub mod UpdateData
 pub mod Updated

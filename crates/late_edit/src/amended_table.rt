@@ -1,7 +1,7 @@
 ghost use Rattle.std.specs.Prelude.{IfErr};
 ghost use Rattle.tb_base.specs.Refusals.{Yields};
 ghost use Rattle.late_edit.specs.Amended.{amended};
-ghost use Rattle.late_edit.specs.Lates.{IsOfLateAlone};
+ghost use Rattle.late_edit.specs.Updates.{IsOfUpdateAlone};
 
 use crate::late::LateFault;
 use crate::update::Update;
@@ -18,7 +18,7 @@ pub fn amended(
     updates: &[Update],
 ) -> Result<Timetable, Refused<LateFault>>
     ensures table { Yields result (λ new. new) (amended table.now updates.now) }
-    ensures own { IfErr result IsOfLateAlone }
+    ensures own { IfErr result IsOfUpdateAlone }
 {
     let mut trips = UpdatedTrips::of(alloc, table)?;
     for update in updates {

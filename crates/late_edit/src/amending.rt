@@ -5,8 +5,8 @@ ghost use Rattle.tb_base.specs.Transfers.{kept_hops};
 ghost use Rattle.transfer_pack.specs.Packed.{packed};
 ghost use Rattle.edition_store.specs.Editions.{EditionData, kept_count};
 ghost use Rattle.late_edit.specs.Amended.{amended};
-ghost use Rattle.late_edit.specs.Amending.{network_of};
-ghost use Rattle.late_edit.specs.Lates.{IsOfLateAlone};
+ghost use Rattle.late_edit.specs.Amending.{edition_lines};
+ghost use Rattle.late_edit.specs.Updates.{IsOfUpdateAlone};
 ghost use Rattle.late_edit.specs.Updated.{IsUpdated};
 ghost use Rattle.late_edit.specs.Touched.{touched_count};
 
@@ -42,7 +42,7 @@ fn kept_of(alloc: Global, old: &Edition, table: &Timetable, lines: &Lines) -> Re
     ensures hops { IfOk result (λ k. (t i : ℕ) →
         packed k.set t i ≡ kept_hops table.now lines.now.lines t i) }
     ensures kept { IfOk result (λ k. k.kept ≡ kept_count table.now lines.now.lines) }
-    ensures redone { IfOk result (λ k. k.redone ≡ touched_count (network_of old.now) lines.now) }
+    ensures redone { IfOk result (λ k. k.redone ≡ touched_count (edition_lines old.now) lines.now) }
 {
     reduce_workers::laws::kept_rows();
     table.soundness();
@@ -68,7 +68,7 @@ fn amended_over(
     requires updated { IsUpdated old.now.table table }
     ensures table { IfOk result (λ a. EditionData.table a.edition ≡ table) }
     ensures redone { IfOk result
-        (λ a. a.redone ≡ touched_count (network_of old.now) (network_of a.edition)) }
+        (λ a. a.redone ≡ touched_count (edition_lines old.now) (edition_lines a.edition)) }
 {
     match kept_of(alloc, old, &table, &lines) {
         Ok(Kept { set, kept, redone }) => {
@@ -97,9 +97,9 @@ pub fn amend(
 ) -> Result<Amended, Refused<LateFault>>
     ensures table { Yields result (λ a. EditionData.table a.edition)
         (amended old.now.table updates.now) }
-    ensures own { IfErr result IsOfLateAlone }
+    ensures own { IfErr result IsOfUpdateAlone }
     ensures redone { IfOk result
-        (λ a. a.redone ≡ touched_count (network_of old.now) (network_of a.edition)) }
+        (λ a. a.redone ≡ touched_count (edition_lines old.now) (edition_lines a.edition)) }
 {
     let table = amended(alloc, old.table(), updates)?;
     match split(alloc, &table) {

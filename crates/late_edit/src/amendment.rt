@@ -6,17 +6,17 @@ ghost use Rattle.late_edit.specs.Updated.{IsUpdated};
 ghost use Rattle.late_edit.specs.Touched.{has_other_events, is_touched, same_transfer};
 
 use crate::events::other_events;
+use crate::lined_timetable::LinedTimetable;
 use crate::near::{calls_at, near_stops};
-use crate::network::Network;
 use std::alloc::Global;
 use std::marker::Model;
 use tb_base::{Memory, Transfer, TripNo};
 
-/// A network, and the same with other events.
+/// A timetable with its lines, and the same with other events.
 #[derive(Drop)]
 pub struct Amendment<'a> {
-    before: Network<'a>,
-    after: Network<'a>,
+    before: LinedTimetable<'a>,
+    after: LinedTimetable<'a>,
     other_events: Vec<bool>,
     near: Vec<bool>,
 }
@@ -36,11 +36,12 @@ impl<'a> Model for Amendment<'a> {
 }
 
 impl<'a> Amendment<'a> {
-    /// Two networks whose timetables differ in times and marks alone. Refused only for want of memory.
+    /// Of two timetables with their lines that differ in times and marks alone. Refused only for want
+    /// of memory.
     pub fn between(
         alloc: Global,
-        before: Network<'a>,
-        after: Network<'a>,
+        before: LinedTimetable<'a>,
+        after: LinedTimetable<'a>,
     ) -> Result<Amendment<'a>, Memory>
         requires { IsUpdated before.table after.table }
         ensures before { IfOk result (λ amendment. amendment.before ≡ before.entry) }

@@ -1,7 +1,7 @@
 //! Events at which nobody boards or alights.
 ghost use Rattle.std.specs.Prelude.{◌≡◌, Err, IfErr, MatchResult, Ok, OnErr, map};
 ghost use Rattle.late_edit.specs.Amended.{closed, events_skipped};
-ghost use Rattle.late_edit.specs.Lates.{IsOfLate};
+ghost use Rattle.late_edit.specs.Updates.{IsOfUpdate};
 
 use crate::late::{LateFault, Skip};
 use tb_base::Event;
@@ -32,7 +32,7 @@ pub(crate) fn close_all(events: &mut [Event])
 pub(crate) fn close_skipped(events: &mut [Event], skip: &Skip) -> Result<(), LateFault>
     ensures closed { MatchResult result (λ _. events_skipped skip.now events.old ≡ Ok events.new)
         (λ f. events_skipped skip.now events.old ≡ Err f) }
-    ensures own { IfErr result IsOfLate }
+    ensures own { IfErr result IsOfUpdate }
     ensures unchanged { OnErr result (events.new ≡ events.old) }
 {
     let at = skip.at as usize;

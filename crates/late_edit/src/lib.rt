@@ -11,10 +11,10 @@
 //!   first trip of its name and day: its events are moved from one of them on, or at all of them or
 //!   at one of them nobody boards or alights; or the first fault of an update. Times are in seconds
 //!   from noon minus twelve hours, as the GTFS Schedule Reference counts them;
-//! - of two networks whose timetables differ in times and marks alone, `Amendment` tells exactly
-//!   which trips are touched: those with other events, with another list of candidate transfers, or
-//!   with a trip of other events in that list. The law in `laws` says that every other trip keeps
-//!   the same transfers in the reduction;
+//! - of two timetables with their lines that differ in times and marks alone, `Amendment` tells
+//!   exactly which trips are touched: those with other events, with another list of candidate
+//!   transfers, or with a trip of other events in that list. The law in `laws` says that every other
+//!   trip keeps the same transfers in the reduction;
 //! - the new edition is that of exactly the amended timetable, or the first fault of an update; and
 //!   how many trips are touched.
 #![tactic(auto)]
@@ -27,9 +27,9 @@ mod events;
 mod first_trips;
 mod late;
 pub mod laws;
+mod lined_timetable;
 mod moves;
 mod near;
-mod network;
 mod reader;
 mod rows;
 mod update;
@@ -40,6 +40,6 @@ pub use amended_table::amended;
 pub use amending::{Amended, amend};
 pub use amendment::Amendment;
 pub use late::{Cancel, Late, LateFault, Skip};
-pub use network::Network;
+pub use lined_timetable::LinedTimetable;
 pub use reader::read_late;
 pub use update::Update;

@@ -3,7 +3,7 @@ ghost use Rattle.std.specs.Prelude.{◌≡◌, ◌<◌, ◌≤ℤ◌, All, Err, 
 ghost use Rattle.std.specs.List.{list_any};
 ghost use Rattle.late_edit.specs.Amended.{events_moved, has_time_outside, is_outside, is_over_a_day, is_reached_early, moved, moved_from};
 ghost use Rattle.late_edit.specs.Finding.{IsTimedEvent};
-ghost use Rattle.late_edit.specs.Lates.{IsOfLate};
+ghost use Rattle.late_edit.specs.Updates.{IsOfUpdate};
 
 use crate::late::{Late, LateFault};
 use tb_base::{Event, Sec};
@@ -104,7 +104,7 @@ fn check_move(events: &[Event], late: &Late) -> Result<(), LateFault>
     ensures fault { MatchResult result (λ _. events_moved late.now events.now
         ≡ Ok (moved_from late.now.from late.now.secs events.now))
         (λ f. events_moved late.now events.now ≡ Err f) }
-    ensures own { IfErr result IsOfLate }
+    ensures own { IfErr result IsOfUpdate }
     ensures from { OnOk result (late.now.from < length events.now) }
     ensures early { OnOk result (negsuc 86399 ≤ℤ late.now.secs) }
     ensures late { OnOk result (late.now.secs ≤ℤ pos 86400) }
@@ -127,7 +127,7 @@ pub(crate) fn move_events(events: &mut [Event], late: &Late) -> Result<(), LateF
     requires { All IsTimedEvent events.old }
     ensures moved { MatchResult result (λ _. events_moved late.now events.old ≡ Ok events.new)
         (λ f. events_moved late.now events.old ≡ Err f) }
-    ensures own { IfErr result IsOfLate }
+    ensures own { IfErr result IsOfUpdate }
     ensures unchanged { OnErr result (events.new ≡ events.old) }
 {
     check_move(events, late)?;

@@ -2,7 +2,7 @@
 ghost use Rattle.std.specs.Prelude.{◌≡◌, ◌++◌, ◌≤◌, OnOk, length, option_to_list};
 ghost use Rattle.tb_base.specs.Refusals.{Yields};
 ghost use Rattle.text_lines.specs.LineWords.{line_words};
-ghost use Rattle.late_edit.specs.Lates.{update_on, updates_of};
+ghost use Rattle.late_edit.specs.Updates.{update_on, updates_of};
 
 use crate::late::LateFault;
 use crate::update::Update;

@@ -3,12 +3,12 @@ ghost use Rattle.std.specs.Prelude.{◌≡◌, ◌+◌, ◌<◌, ◌++◌, ◌�
 ghost use Rattle.tb_base.specs.Transfers.{kept_hops, transfers_of};
 ghost use Rattle.tb_laws.specs.Rows.{row_of};
 ghost use Rattle.transfer_pack.specs.Words.{lent};
-ghost use Rattle.late_edit.specs.Amending.{AreKeptRows, network_of};
+ghost use Rattle.late_edit.specs.Amending.{AreKeptRows, edition_lines};
 ghost use Rattle.late_edit.specs.Updated.{IsUpdated};
 ghost use Rattle.late_edit.specs.Touched.{is_touched};
 
 use crate::amendment::Amendment;
-use crate::network::Network;
+use crate::lined_timetable::LinedTimetable;
 use edition_store::Edition;
 use line_split::Lines;
 use std::alloc::Global;
@@ -112,7 +112,7 @@ fn row_of(
     requires labels { labels.old.table ≡ table.now }
     requires trip { trip < length table.now.trips }
     requires updated { IsUpdated old.now.table table.now }
-    requires touched { touched ≡ is_touched (network_of old.now) lines.now trip }
+    requires touched { touched ≡ is_touched (edition_lines old.now) lines.now trip }
     ensures labels { labels.new.table ≡ table.now }
     ensures row { IfOk result (λ row. row.items
         ≡ transfers_of table.now (kept_hops table.now lines.now.lines trip) trip) }
@@ -164,12 +164,12 @@ impl Rows {
         requires lines { lines.now.table ≡ table.now }
         requires updated { IsUpdated old.now.table table.now }
         ensures { IfOk result
-            (AreKeptRows (network_of old.now) lines.now (length table.now.trips)) }
+            (AreKeptRows (edition_lines old.now) lines.now (length table.now.trips)) }
     {
         table.soundness();
         lines.soundness();
-        let before = Network::new(old.table(), old.lines());
-        let amendment = Amendment::between(alloc, before, Network::new(table, lines))?;
+        let before = LinedTimetable::new(old.table(), old.lines());
+        let amendment = Amendment::between(alloc, before, LinedTimetable::new(table, lines))?;
         let mut labels = Labels::new(alloc, table)?;
         let mut rows = Rows::new(alloc);
         for t in 0..table.trip_count() {

@@ -1,5 +1,5 @@
 ghost use Rattle.std.specs.Prelude.{◌≡◌};
-ghost use Rattle.late_edit.specs.Lates.{before_of, line_of, trip_of};
+ghost use Rattle.late_edit.specs.Updates.{before_of, line_of, trip_of};
 
 use crate::late::{Cancel, Late, Skip};
 use tb_base::Name;

@@ -2,7 +2,7 @@
 ghost use Rattle.std.specs.Prelude.{◌≡◌, All, Err, IfErr, IfOk, MatchResult, Ok, OnErr};
 ghost use Rattle.late_edit.specs.Amended.{events_after, trips_after};
 ghost use Rattle.late_edit.specs.Finding.{IsTimedEvent};
-ghost use Rattle.late_edit.specs.Lates.{IsOfLate};
+ghost use Rattle.late_edit.specs.Updates.{IsOfUpdate};
 
 use crate::closing::{close_all, close_skipped};
 use crate::first_trips::FirstTrips;
@@ -37,7 +37,7 @@ fn update_events(events: &mut [Event], update: &Update) -> Result<(), LateFault>
     requires { All IsTimedEvent events.old }
     ensures updated { MatchResult result (λ _. events_after update.now events.old ≡ Ok events.new)
         (λ f. events_after update.now events.old ≡ Err f) }
-    ensures own { IfErr result IsOfLate }
+    ensures own { IfErr result IsOfUpdate }
     ensures unchanged { OnErr result (events.new ≡ events.old) }
 {
     match update {
@@ -65,7 +65,7 @@ impl UpdatedTrips {
     pub(crate) fn apply(&mut self, update: &Update) -> Result<(), LateFault>
         ensures updated { MatchResult result (λ _. trips_after update.now self.old ≡ Ok self.new)
             (λ f. trips_after update.now self.old ≡ Err f) }
-        ensures own { IfErr result IsOfLate }
+        ensures own { IfErr result IsOfUpdate }
     {
         let Some(trip) = self.first.find(update.is_before(), update.trip().bytes()) else {
             return Err(LateFault::UnknownTrip(update.line()));

@@ -1,7 +1,7 @@
 //! What the words of a line say of a trip.
 ghost use Rattle.std.specs.Prelude.{◌≡◌, ◌<◌, ◌≤ℤ◌, IfOk, IfSome, option_map, pos};
 ghost use Rattle.gtfs_rows.specs.Numbers.{number_of};
-ghost use Rattle.late_edit.specs.Lates.{cancel_said, day_of, late_before_said, late_by, late_said, move_of, skip_said, update_of};
+ghost use Rattle.late_edit.specs.Updates.{cancel_said, day_of, late_before_said, late_by, late_said, move_of, skip_said, update_of};
 
 use crate::late::{Cancel, Late, Skip};
 use crate::update::Update;

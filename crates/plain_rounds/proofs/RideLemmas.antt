@@ -6,8 +6,8 @@ use Rattle.std.proofs.lemmas.List.{length-set, get_or-set_same, get_or-set_other
 use Rattle.std.proofs.lemmas.Bool.{cases_eq, cases_lt}
 use Rattle.tb_base.specs.TimetableData.{TimetableData, events_of, event_at, stop_at, arrival_at, MayAlight}
 use Rattle.tb_base.specs.Journeys.{alighting_stop, alighting_time}
-use Rattle.plain_rounds.specs.declared.arrivals.Arrivals.{Arrivals}
-use Rattle.plain_rounds.specs.declared.arrivals.Boarding.{Boarding}
+use Rattle.plain_rounds.specs.declared.arrivals.StopArrivals.{StopArrivals}
+use Rattle.plain_rounds.specs.declared.arrivals.FirstBoarding.{FirstBoarding}
 use Rattle.plain_rounds.specs.declared.arrivals.PlainRide.{PlainRide}
 use Rattle.plain_rounds.specs.declared.labels.StopLabel.{StopLabel}
 use Rattle.plain_rounds.specs.Labels.{IsNoLaterAt, IsLaterAt, label_at}
@@ -67,7 +67,7 @@ module _ (xs : List (Option StopLabel)) (p : ℕ) (l : StopLabel) (inside : p < 
 
 module _ (T : TimetableData) where
   -- the offered ridden by another word
-  pub TakesRides-as : (a b : Arrivals) (P Q : PlainRide → Type 0) → ((s : PlainRide) → P s → Q s) → ((s : PlainRide) → Q s → IsNoLaterAt b.labels.items (alighting_stop T (ride_of s)) (alighting_time T (ride_of s))) → TakesRides T a b P → TakesRides T a b Q
+  pub TakesRides-as : (a b : StopArrivals) (P Q : PlainRide → Type 0) → ((s : PlainRide) → P s → Q s) → ((s : PlainRide) → Q s → IsNoLaterAt b.labels.items (alighting_stop T (ride_of s)) (alighting_time T (ride_of s))) → TakesRides T a b P → TakesRides T a b Q
   TakesRides-as a b P Q f g t = record {
     long = t.long;
     grown = t.grown;
@@ -78,11 +78,11 @@ module _ (T : TimetableData) where
     taken = g;
   }
 
-  pub TakesRides-same : (a b : Arrivals) (P Q : PlainRide → Type 0) → ((s : PlainRide) → P s → Q s) → ((s : PlainRide) → Q s → P s) → TakesRides T a b P → TakesRides T a b Q
+  pub TakesRides-same : (a b : StopArrivals) (P Q : PlainRide → Type 0) → ((s : PlainRide) → P s → Q s) → ((s : PlainRide) → Q s → P s) → TakesRides T a b P → TakesRides T a b Q
   TakesRides-same a b P Q f g t = TakesRides-as a b P Q f (λ s h. t.taken s (g s h)) t
 
   -- one offer after another
-  pub TakesRides-then : (a b c : Arrivals) (P Q : PlainRide → Type 0) → TakesRides T a b P → TakesRides T b c Q → TakesRides T a c (λ s. P s ⊎ Q s)
+  pub TakesRides-then : (a b c : StopArrivals) (P Q : PlainRide → Type 0) → TakesRides T a b P → TakesRides T b c Q → TakesRides T a c (λ s. P s ⊎ Q s)
   TakesRides-then a b c P Q t u = record {
     long = u.long ∙ t.long;
     grown = omega (arith, t.grown, u.grown);
@@ -102,7 +102,7 @@ module _ (T : TimetableData) where
       by_case p l (inr k) = inr (record { place = k.place; is_place = k.is_place; new = omega (arith, k.new, t.grown); step = k.step; is_step = k.is_step; offered = inr k.offered; stop = k.stop; time = k.time })
 
   -- one more of some offers that are made in turn, from a number on
-  pub TakesRides-more : (a b c : Arrivals) (P : ℕ → PlainRide → Type 0) (from i : ℕ) → from < i + 1 → TakesRides T a b (λ s. (k : ℕ) × (from < k + 1) × (k < i) × P k s) → TakesRides T b c (P i) → TakesRides T a c (λ s. (k : ℕ) × (from < k + 1) × (k < i + 1) × P k s)
+  pub TakesRides-more : (a b c : StopArrivals) (P : ℕ → PlainRide → Type 0) (from i : ℕ) → from < i + 1 → TakesRides T a b (λ s. (k : ℕ) × (from < k + 1) × (k < i) × P k s) → TakesRides T b c (P i) → TakesRides T a c (λ s. (k : ℕ) × (from < k + 1) × (k < i + 1) × P k s)
   TakesRides-more a b c P from i start t u =
       TakesRides-same a c (λ s. ((k : ℕ) × (from < k + 1) × (k < i) × P k s) ⊎ P i s) (λ s. (k : ℕ) × (from < k + 1) × (k < i + 1) × P k s)
       (λ s h. elim h [ inl k ↦ (k.0, k.1, omega (arith, k.2), k.3) | inr k ↦ (i, start, omega arith, k) ])
@@ -114,7 +114,7 @@ module _ (T : TimetableData) where
       by_case s k g h (inr e) = inr (subst (λ j. P j s) e h)
 
   -- a step that arrives sooner than the label of its stop
-  pub TakesRides-pushed : (a b : Arrivals) (s : PlainRide) (l : StopLabel) (p : ℕ) → b.labels.items ≡ set a.labels.items p (Some l) → b.ridden.items ≡ a.ridden.items ++ s ∷ [] → p < length a.labels.items →
+  pub TakesRides-pushed : (a b : StopArrivals) (s : PlainRide) (l : StopLabel) (p : ℕ) → b.labels.items ≡ set a.labels.items p (Some l) → b.ridden.items ≡ a.ridden.items ++ s ∷ [] → p < length a.labels.items →
       l.ride ≡ Some (length a.ridden.items) → alighting_stop T (ride_of s) ≡ p → alighting_time T (ride_of s) ≡ l.time → IsLaterAt a.labels.items p l.time → MayAlight T s.trip s.alight →
       TakesRides T a b (λ x. (x ≡ s) × MayAlight T s.trip s.alight)
   TakesRides-pushed a b s l p labels ridden inside place stop time later alights = record {
@@ -144,12 +144,12 @@ module _ (T : TimetableData) where
       more : length b.ridden.items ≡ length a.ridden.items + 1
       more = ap length ridden ∙ length_push a.ridden.items s
 
-  module _ (ready : List (Option StopLabel)) (t until : ℕ) (a : Arrivals) (left : IsLeftBehind T a.labels.items t until) where
+  module _ (ready : List (Option StopLabel)) (t until : ℕ) (a : StopArrivals) (left : IsLeftBehind T a.labels.items t until) where
     within_or_behind : (m n : ℕ) → (m < n + 1) ⊎ (n < m)
     within_or_behind m n = grind arith
 
     -- one that is boarded at its first event where it can be
-    module _ (b : Arrivals) (f : Boarding) (takes : TakesRides T a b (IsAlong T t f until)) where
+    module _ (b : StopArrivals) (f : FirstBoarding) (takes : TakesRides T a b (IsAlong T t f until)) where
       pub left_from : IsLeftBehind T b.labels.items t f.at
       left_from i behind alights = by_case (within_or_behind i until)
         where
@@ -171,7 +171,7 @@ module _ (T : TimetableData) where
           back s e h = by_case s e h (cases_lt s.board f.at)
 
   -- the ridden of one more trip
-  pub TakesRides-next : (a b c : Arrivals) (P : PlainRide → Type 0) (i : ℕ) → TakesRides T a b (λ s. (s.trip < i) × P s) → TakesRides T b c (λ s. (s.trip ≡ i) × P s) → TakesRides T a c (λ s. (s.trip < i + 1) × P s)
+  pub TakesRides-next : (a b c : StopArrivals) (P : PlainRide → Type 0) (i : ℕ) → TakesRides T a b (λ s. (s.trip < i) × P s) → TakesRides T b c (λ s. (s.trip ≡ i) × P s) → TakesRides T a c (λ s. (s.trip < i + 1) × P s)
   TakesRides-next a b c P i t u =
       TakesRides-same a c (λ s. ((s.trip < i) × P s) ⊎ ((s.trip ≡ i) × P s)) (λ s. (s.trip < i + 1) × P s)
       (λ s h. elim h [ inl k ↦ (omega (arith, k.0), k.1) | inr k ↦ (omega (arith, k.0), k.1) ])

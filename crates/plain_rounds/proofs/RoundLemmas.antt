@@ -10,7 +10,7 @@ use Rattle.tb_base.specs.Walking.{walk, change}
 use Rattle.tb_base.specs.Journeys.{Ride, boarding_stop, boarding_time, alighting_stop, alighting_time}
 use Rattle.tb_base.specs.BestValues.{QueryData}
 use Rattle.tb_laws.proofs.CandidateLaws.{some_and, and_some}
-use Rattle.plain_rounds.specs.declared.arrivals.Arrivals.{Arrivals}
+use Rattle.plain_rounds.specs.declared.arrivals.StopArrivals.{StopArrivals}
 use Rattle.plain_rounds.specs.declared.arrivals.PlainRide.{PlainRide}
 use Rattle.plain_rounds.specs.declared.labels.StopLabel.{StopLabel}
 use Rattle.plain_rounds.specs.Labels.{IsNoLaterAt, Takes, IsOfferedByChange, IsOfferedByOrigin, label_at, later}
@@ -61,7 +61,7 @@ module _ (T : TimetableData) (Q : QueryData) where
   )
 
   -- the labels from which a round boards, and the arrivals before and after it
-  module _ (most : ℕ) (ready : List (Option StopLabel)) (a b : Arrivals) (takes : TakesRides T a b (IsBoardable T ready)) where
+  module _ (most : ℕ) (ready : List (Option StopLabel)) (a b : StopArrivals) (takes : TakesRides T a b (IsBoardable T ready)) where
     -- the label of a step of the round
     arrival_label : AreReady T Q most a.ridden.items ready → (p : ℕ) (l : StopLabel) → IsLabelOf T b.ridden.items (length a.ridden.items) (IsBoardable T ready) p l → IsArrivalLabel T Q b.ridden.items (suc most) p l
     arrival_label can p l of =
@@ -142,7 +142,7 @@ module _ (T : TimetableData) (Q : QueryData) where
                 (changed p (later m secs) (offered_by_change a.labels.items (alighting_stop T s) p m secs long at is))
 
   -- the labels by one more ride, after the changes from where one arrives
-  module _ (most : ℕ) (old new : List (Option StopLabel)) (ridden : List PlainRide) (b : Arrivals) (arrive : AreArrivals T Q (suc most) b) (takes : Takes old new (IsOfferedByChange T b.labels.items)) where
+  module _ (most : ℕ) (old new : List (Option StopLabel)) (ridden : List PlainRide) (b : StopArrivals) (arrive : AreArrivals T Q (suc most) b) (takes : Takes old new (IsOfferedByChange T b.labels.items)) where
     ready_label : (p : ℕ) (l : StopLabel) → IsOfferedByChange T b.labels.items p l → IsReadyLabel T Q b.ridden.items (suc most) p l
     ready_label q l (p, inside, offered) =
         let m = label_and (λ m. IsSomeAnd (change T p q) (λ secs. l ≡ later m secs)) (label_at b.labels.items p) offered in
@@ -215,5 +215,5 @@ module _ (T : TimetableData) (Q : QueryData) where
         covers (r ∷ back) p time short h = absurd (omega (arith, short))
 
   -- no arrivals before any ride
-  pub arrivals-none : (a : Arrivals) → length a.labels.items ≡ length T.stops → ((p : ℕ) (l : StopLabel) → label_at a.labels.items p ≡ Some l → ⊥) → AreArrivals T Q 0 a
+  pub arrivals-none : (a : StopArrivals) → length a.labels.items ≡ length T.stops → ((p : ℕ) (l : StopLabel) → label_at a.labels.items p ≡ Some l → ⊥) → AreArrivals T Q 0 a
   arrivals-none a long none = record { long = long; sound = λ p l h. absurd (none p l h); all = λ back r short boards. absurd (omega (arith, short)) }

@@ -4,7 +4,7 @@ use Rattle.tb_base.specs.TimetableData.{TimetableData}
 use Rattle.tb_base.specs.Walking.{walk, change}
 use Rattle.tb_base.specs.Journeys.{Ride, IsRide, boarding_stop, boarding_time, alighting_stop, alighting_time}
 use Rattle.tb_base.specs.BestValues.{QueryData}
-use Rattle.plain_rounds.specs.declared.arrivals.Arrivals.{Arrivals}
+use Rattle.plain_rounds.specs.declared.arrivals.StopArrivals.{StopArrivals}
 use Rattle.plain_rounds.specs.declared.arrivals.PlainRide.{PlainRide}
 use Rattle.plain_rounds.specs.declared.labels.StopLabel.{StopLabel}
 use Rattle.plain_rounds.specs.Labels.{IsNoLaterAt, label_at}
@@ -62,7 +62,7 @@ pub record IsArrivalLabel (T : TimetableData) (Q : QueryData) (ridden : List Pla
 
 -- The arrivals are those by at most so many rides: each label is one, and none is later than such
 -- rides arrive.
-pub record AreArrivals (T : TimetableData) (Q : QueryData) (most : ℕ) (a : Arrivals) : Type 0 where
+pub record AreArrivals (T : TimetableData) (Q : QueryData) (most : ℕ) (a : StopArrivals) : Type 0 where
   pub long : length a.labels.items ≡ length T.stops
   pub sound : (p : ℕ) (l : StopLabel) → label_at a.labels.items p ≡ Some l →
       IsArrivalLabel T Q a.ridden.items most p l

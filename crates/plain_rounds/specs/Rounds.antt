@@ -3,8 +3,8 @@ use Rattle.std.specs.Prelude.{◌≡◌, ℕ, ◌+◌, ◌-◌, ◌<◌, ◌≤�
 use Rattle.tb_base.specs.declared.table.Event.{Event}
 use Rattle.tb_base.specs.TimetableData.{TripData, TimetableData, no_event, events_of, event_at, stop_at, arrival_at, MayAlight}
 use Rattle.tb_base.specs.Journeys.{Ride, alighting_stop, alighting_time}
-use Rattle.plain_rounds.specs.declared.arrivals.Arrivals.{Arrivals}
-use Rattle.plain_rounds.specs.declared.arrivals.Boarding.{Boarding}
+use Rattle.plain_rounds.specs.declared.arrivals.StopArrivals.{StopArrivals}
+use Rattle.plain_rounds.specs.declared.arrivals.FirstBoarding.{FirstBoarding}
 use Rattle.plain_rounds.specs.declared.arrivals.PlainRide.{PlainRide}
 use Rattle.plain_rounds.specs.declared.labels.StopLabel.{StopLabel}
 use Rattle.plain_rounds.specs.declared.rounds.Rounds.{Rounds}
@@ -40,7 +40,7 @@ pub record IsLabelOf (T : TimetableData) (ridden : List PlainRide) (from : ℕ)
 
 -- The arrivals take what the offered rides give: no label gets later, each new one is that of an
 -- offered ride, and none is later than such a ride arrives.
-pub record TakesRides (T : TimetableData) (old new : Arrivals) (IsOffered : PlainRide → Type 0)
+pub record TakesRides (T : TimetableData) (old new : StopArrivals) (IsOffered : PlainRide → Type 0)
     : Type 0 where
   pub long : length new.labels.items ≡ length old.labels.items
   pub grown : length old.ridden.items ≤ length new.ridden.items
@@ -76,7 +76,7 @@ pub record AreKept (T : TimetableData) (r : Rounds) : Type 0 where
       (slice_index_or r.boarded_at.items t 0)
 
 -- the ride alights from the trip at an event behind the boarding, up to an index
-abbrev pub IsAlong : TimetableData → ℕ → Boarding → ℕ → PlainRide → Type 0
+abbrev pub IsAlong : TimetableData → ℕ → FirstBoarding → ℕ → PlainRide → Type 0
 IsAlong T trip boarding until s =
     (i : ℕ) × (boarding.at < i) × (i < until + 1)
     × ((s ≡ record { trip = trip; board = boarding.at; alight = i; before = boarding.before })

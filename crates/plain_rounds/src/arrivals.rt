@@ -18,19 +18,19 @@ pub(crate) struct PlainRide {
 
 /// Where a trip is boarded, and the place of the ride before it.
 #[derive(Clone, Copy)]
-pub(crate) struct Boarding {
+pub(crate) struct FirstBoarding {
     pub at: u32,
     pub before: Option<usize>,
 }
 
 /// By stop, the least arrival by alighting there, and the list of the rides that the labels name.
 #[derive(Drop)]
-pub(crate) struct Arrivals {
+pub(crate) struct StopArrivals {
     pub labels: Vec<Option<StopLabel>>,
     pub ridden: Vec<PlainRide>,
 }
 
-impl Arrivals {
+impl StopArrivals {
     // Alights, where that is allowed and sooner than before.
     fn alight(&mut self, table: &Timetable, step: PlainRide) -> Result<(), Memory>
         requires trip { step.trip < length table.now.trips }
@@ -63,7 +63,7 @@ impl Arrivals {
         &mut self,
         table: &Timetable,
         trip: TripNo,
-        boarding: Boarding,
+        boarding: FirstBoarding,
         until: u32,
     ) -> Result<(), Memory>
         requires trip { trip < length table.now.trips }

@@ -6,11 +6,11 @@ ghost use Rattle.plain_rounds.specs.Labels.{AreEarly};
 ghost use Rattle.plain_rounds.specs.Rides.{AreArrivals};
 ghost use Rattle.plain_rounds.specs.Hits.{IsArrivalHit};
 ghost use Rattle.plain_rounds.specs.Shown.{IsInside, SpellShortest};
-ghost use Rattle.plain_rounds.specs.Answer.{IsAnswer, IsRound, IsShownWithin};
+ghost use Rattle.plain_rounds.specs.PlainAnswer.{IsPlainAnswer, IsRound, IsShownWithin};
 ghost use Rattle.plain_rounds.specs.declared.arrivals.PlainRide.{PlainRide as StepData};
 ghost use Rattle.tb_base.specs.TimetableData.{stop_at};
 
-use super::arrivals::{Arrivals, PlainRide};
+use super::arrivals::{PlainRide, StopArrivals};
 use super::hits::{TargetArrival, best_hit, best_walk};
 use super::labels::StopLabel;
 use super::legs::{Walks, nearest, rides_to, spell};
@@ -20,7 +20,7 @@ use tb_base::{Choice, Leg, Memory, Query, Sec, StopNo, Timetable, Value};
 
 /// The best values so far, and the last arrival.
 #[derive(Drop)]
-struct Answer {
+struct PlainAnswer {
     choices: Vec<Choice>,
     best: Option<Sec>,
 }
@@ -73,13 +73,13 @@ fn legs_to(
     }
 }
 
-impl Answer {
+impl PlainAnswer {
     // The earliest walk, where there is one.
-    fn walk(alloc: Global, table: &Timetable, query: &Query) -> Result<Answer, Memory>
+    fn walk(alloc: Global, table: &Timetable, query: &Query) -> Result<PlainAnswer, Memory>
         requires origins { All (λ p. p < length table.now.stops) query.now.from }
         requires targets { All (λ p. p < length table.now.stops) query.now.to }
         requires time { query.now.leave ≤ℤ pos 359999 }
-        ensures { IfOk result (λ answer. IsAnswer table.now query.now 0 answer.choices.items
+        ensures { IfOk result (λ answer. IsPlainAnswer table.now query.now 0 answer.choices.items
             answer.best) }
     {
         let mut choices = Vec::new(alloc);
@@ -89,7 +89,7 @@ impl Answer {
         };
         let walk = best_walk(table, query.from.as_slice(), query.to.as_slice(), start);
         let Some(hit) = walk else {
-            return Ok(Answer {
+            return Ok(PlainAnswer {
                 choices,
                 best: None,
             });
@@ -100,7 +100,7 @@ impl Answer {
             rides: 0,
         };
         choices.push(Choice { value, legs })?;
-        Ok(Answer {
+        Ok(PlainAnswer {
             choices,
             best: Some(hit.arrive),
         })
@@ -112,7 +112,7 @@ impl Answer {
         alloc: Global,
         table: &Timetable,
         query: &Query,
-        arrivals: &Arrivals,
+        arrivals: &StopArrivals,
         rides: u32,
     ) -> Result<(), Memory>
         requires targets { All (λ p. p < length table.now.stops) query.now.to }
@@ -120,8 +120,8 @@ impl Answer {
         requires early { AreEarly arrivals.now.labels.items }
         requires arrivals { AreArrivals table.now query.now rides arrivals.now }
         requires answer { (most : ℕ) × (rides ≡ most + 1)
-            × IsAnswer table.now query.now most self.old.choices.items self.old.best }
-        ensures { OnOk result (IsAnswer table.now query.now rides self.new.choices.items
+            × IsPlainAnswer table.now query.now most self.old.choices.items self.old.best }
+        ensures { OnOk result (IsPlainAnswer table.now query.now rides self.new.choices.items
             self.new.best) }
     {
         let best = best_hit(table, query.to.as_slice(), arrivals.labels.as_slice());
@@ -170,7 +170,7 @@ pub fn plain_ask(alloc: Global, table: &Timetable, query: &Query) -> Result<Vec<
         (ChoiceData.legs c) (ChoiceData.value c)) cs.items) }
 {
     table.soundness();
-    let mut answer = Answer::walk(alloc, table, query)?;
+    let mut answer = PlainAnswer::walk(alloc, table, query)?;
     let mut rounds = begin(alloc, table, query)?;
     let mut rides = 0;
     while rounds.ride(table)? {

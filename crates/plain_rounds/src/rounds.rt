@@ -4,7 +4,7 @@ ghost use Rattle.tb_base.specs.TimetableData.{no_event};
 ghost use Rattle.plain_rounds.specs.Labels.{Takes, AreEarly, IsOfferedByChange, IsOfferedByOrigin};
 ghost use Rattle.plain_rounds.specs.Rounds.{AreKept, last_index, IsBoardable, LetsBoard, NoneBoards, TakesRides};
 
-use super::arrivals::{Arrivals, Boarding};
+use super::arrivals::{FirstBoarding, StopArrivals};
 use super::labels::{StopLabel, offer_all_changes, offer_origins};
 use std::alloc::Global;
 use tb_base::{Event, Memory, Sec, StopNo, Timetable, TripNo};
@@ -15,7 +15,7 @@ pub(crate) struct Rounds {
     /// By stop, the least time from which a trip can be boarded there.
     pub ready: Vec<Option<StopLabel>>,
     /// The least arrivals.
-    pub arrivals: Arrivals,
+    pub arrivals: StopArrivals,
     /// By trip, the first index where it was boarded, and its last index where it was not.
     pub boarded_at: Vec<u32>,
 }
@@ -42,7 +42,11 @@ fn boarding_label(ready: &[Option<StopLabel>], event: &Event) -> Option<StopLabe
 }
 
 // Where one can board a trip first, before an index.
-fn first_boarding(ready: &[Option<StopLabel>], events: &[Event], until: u32) -> Option<Boarding>
+fn first_boarding(
+    ready: &[Option<StopLabel>],
+    events: &[Event],
+    until: u32,
+) -> Option<FirstBoarding>
     requires until { until < length events.now }
     requires stops { All (λ e. e.stop < length ready.now) events.now }
     ensures { MatchOption result (NoneBoards ready.now events.now until) (λ f. (f.at < until)
@@ -51,7 +55,7 @@ fn first_boarding(ready: &[Option<StopLabel>], events: &[Event], until: u32) -> 
 {
     for at in 0..until {
         if let Some(label) = boarding_label(ready, &events[at as usize]) {
-            return Some(Boarding {
+            return Some(FirstBoarding {
                 at,
                 before: label.ride,
             });
@@ -102,7 +106,7 @@ impl Rounds {
         table.soundness();
         let mut ready = no_labels(alloc, table.stop_count() as usize)?;
         offer_origins(table, ready.as_mut_slice(), origins, start);
-        let arrivals = Arrivals {
+        let arrivals = StopArrivals {
             labels: no_labels(alloc, table.stop_count() as usize)?,
             ridden: Vec::new(alloc),
         };

@@ -10,7 +10,7 @@ use Rattle.gtfs_rows.specs.Steps.{and_then}
 use Rattle.gtfs_rows.specs.declared.fault.FeedFault.{FeedFault}
 use Rattle.tb_io.specs.Files.{FileList, file_at}
 use Rattle.late_edit.specs.Amended.{amended}
-use Rattle.late_edit.specs.Lates.{updates_of}
+use Rattle.late_edit.specs.Updates.{updates_of}
 use Rattle.late_edit.specs.declared.update.Update.{Update}
 use Rattle.late_edit.specs.declared.late.LateFault.{LateFault}
 use Rattle.late_edit.specs.declared.late.LateFault.TheVariants as fault

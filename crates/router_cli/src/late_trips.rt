@@ -5,7 +5,7 @@ ghost use Rattle.tb_base.specs.Refusals.{IsRefused};
 ghost use Rattle.edition_store.specs.Editions.{EditionData};
 ghost use Rattle.late_edit.specs.Amended.{amended};
 ghost use Rattle.late_edit.specs.Touched.{touched_count};
-ghost use Rattle.late_edit.specs.Amending.{network_of};
+ghost use Rattle.late_edit.specs.Amending.{edition_lines};
 ghost use Rattle.query_gate.specs.Callers.{CallerData};
 ghost use Rattle.tb_base.specs.Workers.{AreWorkers};
 ghost use Rattle.router_cli.specs.Answers.{ShowsReply};
@@ -193,7 +193,7 @@ fn editions_text<R: Wait>(
     amended: Amended,
     inquiry: &Inquiry,
 ) -> Result<Vec<u8>, Memory>
-    requires { amended.redone ≡ touched_count (network_of old) (network_of amended.edition) }
+    requires { amended.redone ≡ touched_count (edition_lines old) (edition_lines amended.edition) }
     ensures { IfOk result (λ text. IsAmendedText (EditionData.table old)
         (EditionData.table amended.edition) inquiry.now text.items) }
 {

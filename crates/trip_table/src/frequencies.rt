@@ -8,7 +8,7 @@ ghost use Rattle.trip_table.specs.References.{numbered_frequency, check_named, f
 
 use crate::DayFault;
 use crate::feed::{file_rows, spot};
-use crate::trips::TripTable;
+use crate::trips::TripRowTable;
 use gtfs_rows::columns::frequencies;
 use gtfs_rows::{FeedFault, FeedFile, FrequencyReader, FrequencyRow, RowsFault};
 use service_trips::{FrequencyTable, TripFrequency};
@@ -38,7 +38,7 @@ fn frequency_rows_of<F: Folder>(
 }
 
 // A row by the number of its trip.
-fn numbered(trips: &TripTable, row: &FrequencyRow) -> TripFrequency
+fn numbered(trips: &TripRowTable, row: &FrequencyRow) -> TripFrequency
     ensures numbered { result ≡ numbered_frequency trips.now row.now }
     ensures good { IsGoodFrequency result }
 {
@@ -54,7 +54,7 @@ fn numbered(trips: &TripTable, row: &FrequencyRow) -> TripFrequency
 // The rows by the numbers of their trips.
 fn numbered_rows(
     alloc: Global,
-    trips: &TripTable,
+    trips: &TripRowTable,
     rows: &[FrequencyRow],
 ) -> Result<Vec<TripFrequency>, Memory>
     ensures numbered { IfOk result (λ v. v.items ≡ map (numbered_frequency trips.now) rows.now) }
@@ -68,7 +68,7 @@ fn numbered_rows(
 }
 
 // The first row that names no row of trips.txt.
-fn name_fault(trips: &TripTable, rows: &[TripFrequency]) -> Option<FeedFault>
+fn name_fault(trips: &TripRowTable, rows: &[TripFrequency]) -> Option<FeedFault>
     ensures { MatchOption result (check_named trips.now rows.now ≡ Ok rows.now)
         (λ f. check_named trips.now rows.now ≡ Err f) }
 {
@@ -88,7 +88,7 @@ fn name_fault(trips: &TripTable, rows: &[TripFrequency]) -> Option<FeedFault>
 // The rows with a look-up by trip, or the first row that names no row of trips.txt.
 fn table_of(
     alloc: Global,
-    trips: &TripTable,
+    trips: &TripRowTable,
     rows: Vec<FrequencyRow>,
 ) -> Result<FrequencyTable, RowsFault>
     requires { length rows.items ≤ 200000 }
@@ -109,7 +109,7 @@ pub fn read_frequencies<F: Folder>(
     alloc: Global,
     folder: &mut F,
     dir: &str,
-    trips: &TripTable,
+    trips: &TripRowTable,
 ) -> Result<FrequencyTable, DayFault>
     requires { F.faults folder.old < 2 ^ 64 - 1 }
     ensures told { IsSome (F.files folder.old) →

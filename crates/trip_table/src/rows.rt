@@ -10,7 +10,7 @@ use crate::DayFault;
 use crate::services::{ServiceRows, read_services};
 use crate::stops::read_stops;
 use crate::times::read_times;
-use crate::trips::{TripTable, read_trips};
+use crate::trips::{TripRowTable, read_trips};
 use footpaths::StopTable;
 use service_trips::StopTime;
 use std::alloc::Global;
@@ -23,7 +23,7 @@ use tb_io::Folder;
 pub struct FeedRows {
     stops: StopTable,
     services: ServiceRows,
-    trips: TripTable,
+    trips: TripRowTable,
     times: Vec<StopTime>,
 }
 
@@ -59,7 +59,7 @@ impl FeedRows {
     }
 
     /// The rows of trips.txt.
-    pub fn trips(&self) -> &TripTable
+    pub fn trips(&self) -> &TripRowTable
         ensures { result.now ≡ self.now.trips }
     {
         &self.trips
@@ -83,7 +83,7 @@ fn rows_after_trips<F: Folder>(
     dir: &str,
     stops: StopTable,
     services: ServiceRows,
-    trips: TripTable,
+    trips: TripRowTable,
 ) -> Result<FeedRows, DayFault>
     requires faults { F.faults folder.old < 2 ^ 64 - 1 }
     requires named { All (λ s. StopData.id s ≢ []) stops }

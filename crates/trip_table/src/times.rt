@@ -12,7 +12,7 @@ ghost use Rattle.trip_table.specs.References.{times_of, numbered, numbered_row, 
 use crate::DayFault;
 use crate::feed::{file_rows, spot};
 use crate::seen::{SeenKeys, SequenceKey};
-use crate::trips::TripTable;
+use crate::trips::TripRowTable;
 use footpaths::{Found, StopTable};
 use gtfs_rows::columns::stop_times;
 use gtfs_rows::{FeedFault, FeedFile, RowCursor, RowReader, RowsFault, TimeFields, time_fields};
@@ -66,13 +66,13 @@ impl Guesses {
 
 // Reads the rows of stop_times.txt, and numbers what their ids name.
 #[derive(Drop)]
-struct TimeReader<'a> {
+struct StopTimeReader<'a> {
     stops: &'a StopTable,
-    trips: &'a TripTable,
+    trips: &'a TripRowTable,
     guesses: Guesses,
 }
 
-impl TimeReader<'_> {
+impl StopTimeReader<'_> {
     // A stop time by the numbers of its trip and its platform.
     fn numbered(&self, fields: &TimeFields) -> StopTime
         ensures { result ≡ numbered self.now.stops.now self.now.trips.now (time_data fields.now) }
@@ -98,7 +98,7 @@ impl TimeReader<'_> {
     }
 }
 
-impl RowReader for TimeReader<'_> {
+impl RowReader for StopTimeReader<'_> {
     type Row = StopTime;
 
     ghost file = { file.StopTimes };
@@ -137,7 +137,7 @@ fn platform_number(count: u32, found: &Option<Found>) -> u32
 fn check_times(
     alloc: Global,
     stops: &StopTable,
-    trips: &TripTable,
+    trips: &TripRowTable,
     rows: &[StopTime],
 ) -> Result<(), RowsFault>
     ensures { Yields IsRefused result (λ _. rows.now)
@@ -170,7 +170,7 @@ fn zeros(alloc: Global, trips: usize) -> Result<Vec<u64>, Memory>
 fn check_keys(
     alloc: Global,
     stops: &StopTable,
-    trips: &TripTable,
+    trips: &TripRowTable,
     rows: &[StopTime],
 ) -> Result<(), RowsFault>
     ensures { Yields IsRefused result (λ _. rows.now)
@@ -195,7 +195,7 @@ fn check_keys(
 }
 
 // What is wrong with what a row names.
-fn name_fault(stops: &StopTable, trips: &TripTable, row: &StopTime) -> Option<FeedFault>
+fn name_fault(stops: &StopTable, trips: &TripRowTable, row: &StopTime) -> Option<FeedFault>
     ensures { result ≡ wrong_names stops.now trips.now row.now }
 {
     if row.trip_row as usize >= trips.rows().len() {
@@ -238,7 +238,7 @@ pub fn read_times<F: Folder>(
     folder: &mut F,
     dir: &str,
     stops: &StopTable,
-    trips: &TripTable,
+    trips: &TripRowTable,
 ) -> Result<Vec<StopTime>, DayFault>
     requires { F.faults folder.old < 2 ^ 64 - 1 }
     ensures told { IsSome (F.files folder.old) →
@@ -251,7 +251,7 @@ pub fn read_times<F: Folder>(
     let Ok(guesses) = Guesses::new(alloc, stops.platforms()) else {
         return Err(DayFault::Memory);
     };
-    let reader = TimeReader {
+    let reader = StopTimeReader {
         stops,
         trips,
         guesses,

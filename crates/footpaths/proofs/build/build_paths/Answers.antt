@@ -13,7 +13,7 @@ pub new-requires : goal.new-requires
 new-requires c = rw c.in-Ok.ensures.links.1 (links_have_ends c.args.stops.now c.args.options.now.change c.args.rows.now)
 
 pub returns-clause-told : goal.returns-clause-told
-returns-clause-told c = rw c.in-Ok.ensures.links.0 (rw (c.in_ok-network.ensures, c.in-Ok.ensures.links.1, c.platforms.ensures) at c.fill.ensures)
+returns-clause-told c = rw c.in-Ok.ensures.links.0 (rw (c.in_ok-linked.ensures, c.in-Ok.ensures.links.1, c.platforms.ensures) at c.fill.ensures)
 
 pub returns-clause-sound : goal.returns-clause-sound
 returns-clause-sound c =
@@ -21,7 +21,7 @@ returns-clause-sound c =
     let options = c.args.options.now in
     let rows = c.args.rows.now in
     let few : length (platforms stops) ≤ 100000 = omega (arith, length-filter_le (λ s. is_platform s.kind) stops, c.soundness.ensures.few) in
-    let filled = rw (c.in_ok-network.ensures, c.in-Ok.ensures.links.1, c.platforms.ensures) at c.fill.ensures in
+    let filled = rw (c.in_ok-linked.ensures, c.in-Ok.ensures.links.1, c.platforms.ensures) at c.fill.ensures in
     MatchResult-weaker c.fill.result filled
     (λ paths e. sound_paths (secs_between stops options (links_of stops options.change rows)) (length (platforms stops)) paths few (λ p q. secs_day stops options rows p q c.requires.change c.requires.station c.in-Ok.ensures.days) e)
     (λ f k. tt)

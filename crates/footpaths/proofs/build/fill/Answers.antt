@@ -8,7 +8,7 @@ use Rattle.footpaths.proofs.build.fill.Goals as goal
 
 pub returns-then-total-gt2000000 : goal.returns-then-total-gt2000000
 returns-then-total-gt2000000 c =
-    let given = secs_between c.args.network.now.stops c.args.options.now c.args.network.now.links in
+    let given = secs_between c.args.linked.now.stops c.args.options.now c.args.linked.now.links in
     let i = c.loop-stop.invariant in
     let stop = c.loop-stop.stop in
     let many : length c.fill_stop.new.rows ≡ c.args.count = c.in_ok-own.ensures.many ∙ i.many in
@@ -19,7 +19,7 @@ returns-then-total-gt2000000 c =
 
 pub loop-stop-preserved : goal.loop-stop-preserved
 loop-stop-preserved c =
-    let given = secs_between c.args.network.now.stops c.args.options.now c.args.network.now.links in
+    let given = secs_between c.args.linked.now.stops c.args.options.now c.args.linked.now.links in
     let i = c.loop-stop.invariant in
     let stop = c.loop-stop.stop in
     let own = λ (p : ℕ). given p p in
@@ -36,7 +36,7 @@ loop-stop-preserved c =
 
 pub returns : goal.returns
 returns c =
-    let given = secs_between c.args.network.now.stops c.args.options.now c.args.network.now.links in
+    let given = secs_between c.args.linked.now.stops c.args.options.now c.args.linked.now.links in
     let i = c.loop-stop.invariant in
     let all : c.loop-stop.stop ≡ c.args.count = omega (arith, c.loop-stop-test.false, c.loop-stop.auto.stop-end) in
     rw c.into_rows-paths.ensures (all_rows given c.loop-stop.change.items c.loop-stop.rows c.args.count i.many (rw all at i.change) (λ p h. rw all at (i.rows p h)) i.few)

@@ -10,7 +10,7 @@ invariant-loop-stop l = record {
   marks : length l.marks ≡ l.count;
   many : length l.rows ≡ l.count;
   clear : (p : ℕ) → slot l.marks p ≡ None;
-  change : l.change.items ≡ map (λ p. secs_between l.network.stops l.options l.network.links p p) (numbers l.stop);
-  rows : (p : ℕ) → p < l.count → get_or l.rows p [] ≡ filter_map (λ q. path_to p q (secs_between l.network.stops l.options l.network.links p q)) (numbers l.stop);
+  change : l.change.items ≡ map (λ p. secs_between l.linked.stops l.options l.linked.links p p) (numbers l.stop);
+  rows : (p : ℕ) → p < l.count → get_or l.rows p [] ≡ filter_map (λ q. path_to p q (secs_between l.linked.stops l.options l.linked.links p q)) (numbers l.stop);
   few : sum_by (λ row. length {A = Path} row) l.rows ≤ 2000000;
 }

@@ -1,7 +1,7 @@
 use Rattle.std.proofs.Common.{◌≤◌, sym, ap, subst, length}
 use Rattle.std.specs.Prelude.{All}
 use Rattle.lane_serve.specs.Lanes.{IsLaneRun}
-use Rattle.lane_serve.specs.Script.{HasTimes, LaneData}
+use Rattle.lane_serve.specs.Script.{IsAskable, LaneData}
 use Rattle.lane_serve.proofs.Reports.{few_requests, good_times, read_lines}
 use Rattle.lane_serve.proofs.run.run_seated.Goals as goal
 
@@ -17,7 +17,7 @@ run_lane-requires-clause-times g c κs within =
     let l = c.index-lanes-i.result in
     let same = read_lines _ c.lane.inside.lines.items l c.args.lanes.now c.args.i l c.as_slice-requests.ensures.value
     (ap (λ (k : LaneData). k.lines) c.lane.view_is) c.requires.lane c.index-lanes-i.is in
-    subst (λ q. All HasTimes q) (sym same) (good_times c.args.lanes.now c.args.i l c.requires.lanes c.requires.lane)
+    subst (λ q. All IsAskable q) (sym same) (good_times c.args.lanes.now c.args.i l c.requires.lanes c.requires.lane)
 
 pub returns-in-Ok : goal.returns-in-Ok
 returns-in-Ok g c d =

@@ -1,8 +1,8 @@
 use Rattle.std.proofs.Common.{◌∙◌, sym, ap}
 use Rattle.edition_store.specs.Editions.{EditionData}
 use Rattle.late_edit.specs.Touched.{touched_count}
-use Rattle.late_edit.specs.Amending.{network_of}
-use Rattle.late_edit.proofs.KeptRows.{network_is}
+use Rattle.late_edit.specs.Amending.{edition_lines}
+use Rattle.late_edit.proofs.KeptRows.{edition_lines_are}
 use Rattle.late_edit.proofs.amending.amended_over.Goals as goal
 
 pub returns-in_ok-shared-in-Ok-clause-redone : goal.returns-in_ok-shared-in-Ok-clause-redone
@@ -11,4 +11,4 @@ returns-in_ok-shared-in-Ok-clause-redone c =
     let e = c.in_ok-shared-in-Ok.shared in
     let is = c.in_ok-shared-in-Ok.ensures ∙ c.in_ok-edition-in-Ok.ensures in
     c.in-Ok.ensures.redone
-    ∙ ap (touched_count (network_of c.args.old.now)) (network_is e L (c.requires.lines ∙ sym (ap (λ (x : EditionData). x.table) is)) (sym (ap (λ (x : EditionData). x.lines) is)))
+    ∙ ap (touched_count (edition_lines c.args.old.now)) (edition_lines_are e L (c.requires.lines ∙ sym (ap (λ (x : EditionData). x.table) is)) (sym (ap (λ (x : EditionData). x.lines) is)))

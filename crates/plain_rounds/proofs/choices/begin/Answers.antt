@@ -4,7 +4,7 @@ use Rattle.std.proofs.lemmas.Int.{to_z-of_z}
 use Rattle.tb_base.specs.BestValues.{QueryData}
 use Rattle.plain_rounds.specs.declared.labels.StopLabel.{StopLabel}
 use Rattle.plain_rounds.specs.Labels.{Takes, IsOfferedByOrigin}
-use Rattle.plain_rounds.proofs.AnswerLemmas.{round-first}
+use Rattle.plain_rounds.proofs.PlainAnswerLemmas.{round-first}
 use Rattle.plain_rounds.proofs.MarkLemmas.{no_label}
 use Rattle.plain_rounds.proofs.choices.begin.Goals as goal
 

@@ -8,14 +8,14 @@ use Rattle.tb_base.specs.BestValues.{QueryData}
 use Rattle.tb_base.specs.JourneyRules.{legs_of}
 use Rattle.plain_rounds.specs.declared.arrivals.PlainRide.{PlainRide}
 use Rattle.plain_rounds.specs.declared.hits.TargetArrival.{TargetArrival}
-use Rattle.plain_rounds.specs.Answer.{IsShownWithin}
+use Rattle.plain_rounds.specs.PlainAnswer.{IsShownWithin}
 use Rattle.plain_rounds.specs.Hits.{IsArrivalHit}
 use Rattle.plain_rounds.specs.Rides.{IsTrace}
 use Rattle.plain_rounds.specs.Rounds.{ride_of}
 use Rattle.plain_rounds.specs.Shown.{IsInside, IsNearest}
 use Rattle.tb_base.specs.Journeys.{Ride}
 use Rattle.plain_rounds.proofs.NearLemmas.{nearest-shown}
-use Rattle.plain_rounds.proofs.AnswerLemmas.{hit_back, hit-trace, hit-inside, hit-some, hit-walk, hit-shown}
+use Rattle.plain_rounds.proofs.PlainAnswerLemmas.{hit_back, hit-trace, hit-inside, hit-some, hit-walk, hit-shown}
 use Rattle.plain_rounds.proofs.choices.legs_to.Goals as goal
 
 if_ok : {A E : Type 0} (P Q : A → Type 0) (r : Result A E) → ((x : A) → P x → Q x) → IfOk r P → IfOk r Q

@@ -1,8 +1,8 @@
 use Rattle.std.proofs.Common.{◌≡◌, suc, ◌<◌, ◌≤◌, ◌+◌, length, refl, subst, arith}
 use Rattle.std.specs.Prelude.{MatchBool, sum}
-use Rattle.plain_rounds.specs.Answer.{IsRound}
+use Rattle.plain_rounds.specs.PlainAnswer.{IsRound}
 use Rattle.plain_rounds.specs.Rides.{AreArrivals}
-use Rattle.plain_rounds.proofs.AnswerLemmas.{arrivals-early, round-arrivals, round-more, best-values, shown-spell}
+use Rattle.plain_rounds.proofs.PlainAnswerLemmas.{arrivals-early, round-arrivals, round-more, best-values, shown-spell}
 use Rattle.plain_rounds.proofs.choices.plain_ask.Goals as goal
 
 pub add-requires-clause-early : goal.add-requires-clause-early

@@ -5,8 +5,8 @@ use Rattle.reduce_workers.specs.Reductions.{count_from}
 use Rattle.reduce_workers.proofs.Counts.{kept_most}
 use Rattle.reduce_workers.proofs.MoreTrips.{one_more_count}
 use Rattle.late_edit.specs.Touched.{is_touched}
-use Rattle.late_edit.specs.Amending.{network_of}
-use Rattle.late_edit.proofs.KeptRows.{network_is, redone_le, trip_added}
+use Rattle.late_edit.specs.Amending.{edition_lines}
+use Rattle.late_edit.proofs.KeptRows.{edition_lines_are, redone_le, trip_added}
 use Rattle.late_edit.proofs.rows.Rows.of.Goals as goal
 
 pub add-requires-clause-kept : goal.add-requires-clause-kept
@@ -24,16 +24,16 @@ add-requires-clause-kept c =
 
 pub add-requires-clause-redone : goal.add-requires-clause-redone
 add-requires-clause-redone c =
-    let few = redone_le (network_of c.args.old.now) c.args.lines.now c.loop-t.t in
+    let few = redone_le (edition_lines c.args.old.now) c.args.lines.now c.loop-t.t in
     omega (arith, few, c.loop-t.invariant.rows.redone, c.loop-t-test.true, c.trip_count-t-end.ensures, c.soundness.ensures.trips)
 
 pub loop-t-preserved : goal.loop-t-preserved
 loop-t-preserved c =
-    let L = network_of c.args.old.now in
+    let L = edition_lines c.args.old.now in
     let M = c.args.lines.now in
     let t = c.loop-t.t in
     let row = c.in_ok-row.row.items in
-    let before = c.in_ok-amendment.ensures.before ∙ (c.new-before.ensures ∙ network_is c.args.old.now c.lines.result.now (c.lines.ensures.table) c.lines.ensures.lines) in
+    let before = c.in_ok-amendment.ensures.before ∙ (c.new-before.ensures ∙ edition_lines_are c.args.old.now c.lines.result.now (c.lines.ensures.table) c.lines.ensures.lines) in
     let after = c.in_ok-amendment.ensures.after ∙ c.new.ensures in
     record {
       labels = c.row_of.ensures.labels;

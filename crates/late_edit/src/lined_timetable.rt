@@ -1,0 +1,72 @@
+//! A timetable with its lines.
+ghost use Rattle.std.specs.Prelude.{◌≡◌, ◌<◌, All, IfOk, length};
+ghost use Rattle.tb_base.specs.Lines.{AreLines};
+ghost use Rattle.tb_base.specs.Soundness.{IsSoundEvent};
+ghost use Rattle.tb_base.specs.TimetableData.{events_of};
+ghost use Rattle.late_edit.specs.Touched.{candidates_of};
+
+use line_split::Lines;
+use std::alloc::Global;
+use std::marker::Model;
+use tb_base::{Event, Memory, Timetable, Transfer, TripNo};
+use transfer_make::make;
+
+/// A timetable, and its lines.
+#[derive(Drop)]
+pub struct LinedTimetable<'a> {
+    table: &'a Timetable,
+    lines: &'a Lines,
+}
+
+impl<'a> Model for LinedTimetable<'a> {
+    ghost use Rattle.std.specs.Prelude.{◌≡◌};
+    ghost use Rattle.line_split.specs.LinesData.{LinesData};
+
+    ghost Value = { LinesData };
+
+    ghost view = { λ n. n.lines.now };
+
+    ghost invariant = { λ n. n.lines.now.table ≡ n.table.now };
+}
+
+impl<'a> LinedTimetable<'a> {
+    /// A timetable, and its lines.
+    pub fn new(table: &'a Timetable, lines: &'a Lines) -> LinedTimetable<'a>
+        requires { lines.now.table ≡ table.now }
+        ensures { result ≡ lines.now }
+    {
+        LinedTimetable { table, lines }
+    }
+
+    // Its lines are those of its timetable. Does nothing.
+    pub(crate) fn soundness(&self)
+        ensures { AreLines self.now.table self.now.lines }
+    {
+        self.lines.soundness();
+    }
+
+    // Its timetable.
+    pub(crate) fn table(&self) -> &'a Timetable
+        ensures { result.now ≡ self.now.table }
+    {
+        self.table
+    }
+
+    // The events of a trip, in order.
+    pub(crate) fn events(&self, trip: TripNo) -> &'a [Event]
+        requires { trip < length self.now.table.trips }
+        ensures events { result.now ≡ events_of self.now.table trip }
+        ensures sound { All (IsSoundEvent (length self.now.table.stops)) result.now }
+    {
+        let table = self.table;
+        table.trip(trip).events.as_slice()
+    }
+
+    // The candidates of a trip, from its last event down.
+    pub(crate) fn candidates(&self, alloc: Global, trip: TripNo) -> Result<Vec<Transfer>, Memory>
+        requires { trip < length self.now.table.trips }
+        ensures { IfOk result (λ rows. rows.items ≡ candidates_of self.now trip) }
+    {
+        make(alloc, self.table, self.lines, trip)
+    }
+}
