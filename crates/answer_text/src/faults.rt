@@ -8,7 +8,8 @@ use gtfs_rows::{FeedFault, FeedFile, Many, Name, Spot};
 use std::alloc::Global;
 use tb_base::Memory;
 
-fn column_name(spot: Spot) -> &'static [u8]
+/// The name of the column of a place.
+pub fn column_name(spot: Spot) -> &'static [u8]
     ensures { result.now ≡ column_name spot }
 {
     let names = spot.file.column_names();
@@ -18,7 +19,8 @@ fn column_name(spot: Spot) -> &'static [u8]
     }
 }
 
-fn many_text(many: Many) -> &'static str
+/// The name of a quantity that has a limit.
+pub fn many_text(many: Many) -> &'static str
     ensures { result.now ≡ many_text many }
 {
     match many {

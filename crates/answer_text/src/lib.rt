@@ -15,7 +15,7 @@ mod question;
 mod text;
 
 pub use builds::{BuildCounts, build_list_text, build_text};
-pub use faults::fault_text;
+pub use faults::{column_name, fault_text, many_text};
 pub use journeys::{NO_JOURNEY, arrival_text, choices_text, offers_text, unknown_text};
 pub use question::{Question, QuestionFault, question_of};
 pub use tb_base::time_text;

@@ -1,6 +1,6 @@
 //! A text that grows.
 ghost use Rattle.std.specs.Prelude.{◌≡◌, ◌++◌, [], OnErr, OnOk};
-ghost use Rattle.std.specs.Fmt.{decimal};
+ghost use Rattle.std.specs.Fmt.{decimal, signed_decimal};
 ghost use Rattle.tb_base.specs.Clock.{time_text};
 
 use std::alloc::Global;
@@ -69,6 +69,16 @@ impl Text {
         ensures refused { OnErr result (self.new ≡ self.old) }
     {
         self.count(u64::from(n))
+    }
+
+    /// Adds seconds in decimal digits, after `-` where they are below 0.
+    pub fn seconds(&mut self, time: Sec) -> Result<(), Memory>
+        ensures { OnOk result (self.new ≡ self.old ++ signed_decimal time) }
+    {
+        match format!(in self.alloc; "{time}") {
+            Ok(digits) => self.add(digits.as_bytes()),
+            Err(_) => Err(Memory),
+        }
     }
 
     /// Adds a time, in seconds from noon minus twelve hours, as `time_text` shows it.
