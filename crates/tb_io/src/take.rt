@@ -69,7 +69,8 @@ pub fn take_file<F: Folder>(
 ///
 /// Where the source tells what is unread, `TooLarge` comes only where there are more. `ReadFault`
 /// comes only where the source failed: its count of faults rose. After a refusal some bytes have
-/// been read. The source is read in pieces of 64 KiB; each turn takes a byte or ends.
+/// been read, at most one more than `most`. The source is read in pieces of at most 64 KiB; each
+/// turn takes a byte or ends.
 pub fn take_source<S: Source>(alloc: Global, source: &mut S, most: u64) -> Result<Vec<u8>, Taken>
     requires most { most ≤ 1_073_741_824 }
     requires count { S.faults source.old < 2 ^ 64 - 1 }
@@ -81,6 +82,8 @@ pub fn take_source<S: Source>(alloc: Global, source: &mut S, most: u64) -> Resul
     ensures fault { result ≡ Err Taken.ReadFault → S.faults source.old < S.faults source.new }
     ensures kept { (result ≡ Err Taken.ReadFault) ⊎ (S.faults source.new ≡ S.faults source.old) }
     ensures read { (bs : List ℕ) × Consumes (S.left source.old) (S.left source.new) bs }
+    ensures few { IfSome (S.left source.old) (λ all. IfSome (S.left source.new)
+        (λ rest. length all ≤ length rest + most + 1)) }
 {
     let Ok(mut room) = zeros(alloc, PIECE) else {
         return Err(Taken::Memory);
@@ -88,10 +91,12 @@ pub fn take_source<S: Source>(alloc: Global, source: &mut S, most: u64) -> Resul
     let piece = room.as_mut_slice();
     let mut bytes: Vec<u8> = Vec::new(alloc);
     for _turn in 0..most + 2 {
-        match source.read(piece) {
+        let wanted = (most + 1 - bytes.len() as u64).min(PIECE as u64) as usize;
+        let part = &mut piece[..wanted];
+        match source.read(part) {
             Err(_) => return Err(Taken::ReadFault),
             Ok(0) => return Ok(bytes),
-            Ok(count) => add_piece(&mut bytes, &piece[..count], most)?,
+            Ok(count) => add_piece(&mut bytes, &part[..count], most)?,
         }
     }
     unreachable!()
