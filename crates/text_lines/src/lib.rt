@@ -10,8 +10,10 @@ ghost use Rattle.text_lines.specs.Lines.{lines_of, without_cr};
 
 use memchr::memchr;
 
+mod laws;
 mod words;
 
+pub use laws::quoted_words_are_read;
 pub use words::line_words;
 
 /// A line of a text, and what stands behind it.
