@@ -11,7 +11,7 @@ import sys
 import tempfile
 
 TOP = os.path.dirname(os.path.dirname(os.path.realpath(__file__)))
-FEEDS = os.path.join(TOP, "crates", "case_check", "data", "feeds")
+FEEDS = os.path.join(TOP, "crates", "trials", "data", "feeds")
 DAY = "20260302"
 # What the example answers.
 BEST = """arrive 08:50:00 rides 1

@@ -351,7 +351,7 @@ BOXES = {
 }
 BELOW = ("definitions and laws, which all of these cite", ["tb_base", "tb_laws"])
 ABOVE = ("the program", ["lane_serve", "router_cli", "router"])
-TESTS = ("tests and measurements", ["made_feeds", "cross_tests", "case_check", "trials"])
+TESTS = ("tests and measurements", ["made_feeds", "cross_tests", "trials"])
 WHAT_FLOWS = ["rows", "timetable", "kept transfers", "network", "hits", "journeys"]
 
 

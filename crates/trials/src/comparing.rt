@@ -1,5 +1,6 @@
 //! Ways to a result, each held against another, over small feeds, most of which look random.
 mod answers;
+mod broken;
 mod feed;
 mod late;
 mod refused;
@@ -10,6 +11,7 @@ use made_feeds::Seeds;
 use refused::{Ended, Refused};
 use segment_queue::Desk;
 use std::alloc::Global;
+use std::sync::Wait;
 use std::thread::Threads;
 
 /// What is compared, and over which feeds that look random.
@@ -17,12 +19,14 @@ use std::thread::Threads;
 pub enum Comparison {
     /// Ways to an answer.
     Answers(Seeds),
+    /// Answers over feeds of which one file is broken.
+    Broken(Seeds),
     /// Editions that late trips amend, and editions that are built anew.
     Late(Seeds),
 }
 
 // Compares, and writes what was compared.
-fn compared<R: Threads + Sync + Print>(
+fn compared<R: Threads + Wait + Sync + Print>(
     rt: &R,
     alloc: Global,
     comparison: Comparison,
@@ -30,13 +34,14 @@ fn compared<R: Threads + Sync + Print>(
 ) -> Result<(), Ended> {
     match comparison {
         Comparison::Answers(seeds) => answers::compare(rt, alloc, seeds, desk),
+        Comparison::Broken(seeds) => broken::compare(rt, alloc, seeds),
         Comparison::Late(seeds) => late::compare(rt, alloc, seeds, desk),
     }
 }
 
 /// Compares over all feeds with one desk, and writes what was compared, or where the first
 /// difference is.
-pub fn compare<R: Threads + Sync + Print>(
+pub fn compare<R: Threads + Wait + Sync + Print>(
     rt: &R,
     alloc: Global,
     comparison: Comparison,

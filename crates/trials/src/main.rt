@@ -1,8 +1,10 @@
-//! The program `trials`: ways to a result held against one another, and questions measured, part by
-//! part.
+//! The program `trials`: the program's answers tried, ways to a result held against one another,
+//! and questions measured, part by part.
 //!
 //! `trials PART..` goes through its parts, each a word:
 //!
+//! - `FILE` tries the cases of a file, each of which says what `router` answers over a feed;
+//! - `broken:COUNT` breaks small feeds that look random, and asks over them;
 //! - `answers:COUNT` holds ways to an answer against one another over small feeds that look random,
 //!   and over two that are made by hand;
 //! - `late:COUNT` holds editions that late trips amend against editions that are built anew;
@@ -10,10 +12,12 @@
 //!
 //! A COUNT of feeds is one of seeds, from 1 on, or from the one that stands behind, as in
 //! `late:40:7`. One desk serves all parts. What was tried is written, and where something is wrong
-//! that too, with status 1. Nothing is promised of the program but that it is safe and ends.
+//! that too, with status 1; the number of cases comes last. Nothing is promised of the program but
+//! that it is safe and ends.
 #![tactic(auto)]
 
 mod building;
+mod cases;
 mod comparing;
 mod measuring;
 mod part;
@@ -21,6 +25,8 @@ mod questions;
 mod stopped;
 mod ways;
 
+use cases::trial::CaseTally;
+use cases::try_cases;
 use comparing::compare;
 use made_feeds::words_of;
 use measuring::measure;
@@ -39,26 +45,30 @@ fn try_part<R: Threads + Wait + Sync + Files + CpuClock + Print + Eprint>(
     alloc: Global,
     part: &Part<'_>,
     desk: &mut Desk,
+    tally: &mut CaseTally,
 ) -> Result<(), Stopped> {
     match part {
+        Part::Cases(path) => try_cases(rt, alloc, path, tally),
         Part::Compared(comparison) => compare(rt, alloc, *comparison, desk),
         Part::Measured(measurement) => measure(rt, alloc, measurement, desk),
     }
 }
 
-// Tries one part after the other with one desk.
+// Tries one part after the other with one desk. It gives the cases that were tried.
 fn try_parts<R: Threads + Wait + Sync + Files + CpuClock + Print + Eprint>(
     rt: &R,
     alloc: Global,
     parts: &[Part<'_>],
     desk: &mut Desk,
-) -> Result<(), Stopped> {
+) -> Result<CaseTally, Stopped> {
+    let mut tally = CaseTally::NOTHING;
     for part in parts {
-        try_part(rt, alloc, part, desk)?;
+        try_part(rt, alloc, part, desk, &mut tally)?;
     }
-    Ok(())
+    Ok(tally)
 }
 
+// Tries all parts, and says at the end how many cases there were.
 fn try_all<R: Threads + Wait + Sync + Files + CpuClock + Print + Eprint>(
     rt: &R,
     alloc: Global,
@@ -67,7 +77,7 @@ fn try_all<R: Threads + Wait + Sync + Files + CpuClock + Print + Eprint>(
     let mut desk = Desk::new(alloc);
     let tried = try_parts(rt, alloc, parts, &mut desk);
     drop(desk);
-    tried
+    tried?.write(rt)
 }
 
 // Says with which number to end.
@@ -93,8 +103,9 @@ fn code_of<R: Threads + Wait + Sync + Files + CpuClock + Print + Eprint>(
 // Writes how the program is used, and says with which number to end then.
 fn write_usage(rt: &impl Eprint) -> u8 {
     let _ = eprintln!(rt;
-        "usage: trials PART.. (answers:COUNT[:SEED], late:COUNT[:SEED], METHOD:COUNT:DIR@DATE)"
+        "usage: trials PART.. (FILE, COMPARISON:COUNT[:SEED], METHOD:COUNT:DIR@DATE)"
     );
+    let _ = eprintln!(rt; "COMPARISON: answers|broken|late");
     let _ = eprintln!(rt; "METHOD: search|plain|profile|reach|latest|pin|publish");
     2
 }

@@ -7,6 +7,8 @@ use std::alloc::Global;
 /// A part of what the program does.
 #[derive(Drop)]
 pub enum Part<'a> {
+    /// The cases of the file at a path are tried.
+    Cases(&'a str),
     /// Ways to a result are compared.
     Compared(Comparison),
     /// Questions are measured.
@@ -15,9 +17,12 @@ pub enum Part<'a> {
 
 // The part of a word; none where it has no meaning.
 fn part_of(word: &str) -> Option<Part<'_>> {
-    let (name, rest) = word.split_once(':')?;
+    let Some((name, rest)) = word.split_once(':') else {
+        return Some(Part::Cases(word));
+    };
     match name {
         "answers" => Some(Part::Compared(Comparison::Answers(Seeds::of_text(rest)?))),
+        "broken" => Some(Part::Compared(Comparison::Broken(Seeds::of_text(rest)?))),
         "late" => Some(Part::Compared(Comparison::Late(Seeds::of_text(rest)?))),
         _ => Some(Part::Measured(Measurement::of_text(method_named(name)?, rest)?)),
     }

@@ -6,6 +6,8 @@
 pub enum Stopped {
     /// Something is wrong.
     Wrong,
+    /// A file of cases can't be tried.
+    Untried,
     /// A feed has no timetable of its day.
     NoTimetable,
     Memory,
@@ -16,6 +18,7 @@ impl Stopped {
     pub fn code(self) -> u8 {
         match self {
             Stopped::Wrong => 1,
+            Stopped::Untried => 2,
             Stopped::NoTimetable => 3,
             Stopped::Memory => 6,
         }

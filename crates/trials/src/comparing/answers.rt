@@ -27,12 +27,16 @@ use made_feeds::Seeds;
 use segment_queue::Desk;
 use std::alloc::Global;
 use std::thread::Threads;
-use tally::Tally;
+use tally::AnswersTally;
 use trial::try_seed;
 use twins::try_twins;
 
 // Adds what was compared over a feed, or says over which feed it ended early.
-fn add(tally: &mut Tally, feed: FeedName, compared: Result<Tally, Refused>) -> Result<(), Ended> {
+fn add(
+    tally: &mut AnswersTally,
+    feed: FeedName,
+    compared: Result<AnswersTally, Refused>,
+) -> Result<(), Ended> {
     match compared {
         Ok(other) => {
             tally.add(other);
@@ -48,8 +52,8 @@ fn try_feeds<R: Threads + Sync>(
     alloc: Global,
     seeds: Seeds,
     desk: &mut Desk,
-) -> Result<Tally, Ended> {
-    let mut tally = Tally::NOTHING;
+) -> Result<AnswersTally, Ended> {
+    let mut tally = AnswersTally::NOTHING;
     for feed in [MadeFeed::Town, MadeFeed::Ring] {
         let compared = try_made(rt, alloc, feed, desk);
         add(&mut tally, FeedName::Made(feed), compared)?;

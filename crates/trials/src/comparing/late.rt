@@ -19,7 +19,7 @@ use made_feeds::Seeds;
 use segment_queue::Desk;
 use std::alloc::Global;
 use std::thread::Threads;
-use tally::Tally;
+use tally::AmendedTally;
 use trial::try_seed;
 
 // Compares over the feed of a seed.
@@ -28,7 +28,7 @@ fn try_feed<R: Threads + Sync>(
     alloc: Global,
     desk: &mut Desk,
     seed: u32,
-    tally: &mut Tally,
+    tally: &mut AmendedTally,
 ) -> Result<(), Ended> {
     match try_seed(rt, alloc, desk, seed, tally) {
         Ok(()) => Ok(()),
@@ -45,7 +45,7 @@ fn try_feeds<R: Threads + Sync>(
     alloc: Global,
     seeds: Seeds,
     desk: &mut Desk,
-    tally: &mut Tally,
+    tally: &mut AmendedTally,
 ) -> Result<(), Ended> {
     for turn in 0..seeds.count {
         try_feed(rt, alloc, desk, seeds.seed(turn), tally)?;
@@ -60,7 +60,7 @@ pub fn compare<R: Threads + Sync + Print>(
     seeds: Seeds,
     desk: &mut Desk,
 ) -> Result<(), Ended> {
-    let mut tally = Tally::NOTHING;
+    let mut tally = AmendedTally::NOTHING;
     try_feeds(rt, alloc, seeds, desk, &mut tally)?;
     tally.write(rt);
     Ok(())

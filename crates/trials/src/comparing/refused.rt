@@ -1,4 +1,6 @@
 //! Why a comparison ends early, and over which feed.
+use super::broken::breaks::Broken;
+use super::broken::trial::Wrong;
 use made_feeds::Unread;
 use std::alloc::AllocError;
 use tb_base::Memory;
@@ -32,10 +34,12 @@ pub enum Difference {
     Touched,
 }
 
-/// Why a comparison ends early: something differs, a feed has no timetable, or memory was wanting.
+/// Why a comparison ends early: something differs, something is wrong over a feed as it was made or
+/// as it was broken, a feed has no timetable, or memory was wanting.
 #[derive(Clone, Copy, Debug)]
 pub enum Refused {
     Differs(Difference),
+    Found(Wrong, Option<Broken>),
     NoTimetable,
     Memory,
 }
@@ -79,12 +83,13 @@ pub enum MadeFeed {
 }
 
 /// A feed: one that is made by hand, the one of a seed, the twins of a seed, or the one of a seed
-/// whose trips are late.
+/// that is broken or whose trips are late.
 #[derive(Clone, Copy, Debug)]
 pub enum FeedName {
     Made(MadeFeed),
     Seed(u32),
     Twins(u32),
+    Broken(u32),
     Late(u32),
 }
 

@@ -5,7 +5,7 @@ ghost use Rattle.tb_base.specs.BestValues.{QueryData};
 ghost use Rattle.tb_base.specs.Profiles.{WindowData};
 
 use super::claims::{claim, verdict_on};
-use super::tally::Tally;
+use super::tally::AnswersTally;
 use crate::comparing::refused::{Difference, Refused, held};
 use crate::ways::{asked_by_rounds, departures_by, offers_of};
 use arrive_by::{Arrival, Departure};
@@ -268,16 +268,16 @@ fn compare_found(
     by: &Arrival,
     departures: &[Departure],
     due: &[Leaving],
-) -> Result<Tally, Refused>
+) -> Result<AnswersTally, Refused>
     requires origins { All (λ p. p < length table.now.stops) by.now.from }
 {
     held(are_same(departures, due), Difference::Departures)?;
     let right = are_right(alloc, table, by, departures)?;
     held(right, Difference::Departures)?;
-    Ok(Tally {
+    Ok(AnswersTally {
         arrivals: 1,
         departures: departures.len() as u64,
-        ..Tally::NOTHING
+        ..AnswersTally::NOTHING
     })
 }
 
@@ -288,7 +288,7 @@ pub fn compare_departures(
     mirrored: &Edition,
     desk: &mut Desk,
     by: &Arrival,
-) -> Result<Tally, Refused>
+) -> Result<AnswersTally, Refused>
     requires mirror { IsMirror edition.now.table mirrored.now.table }
     requires origins { All (λ p. p < length edition.now.table.stops) by.now.from }
     requires targets { All (λ p. p < length edition.now.table.stops) by.now.to }

@@ -7,7 +7,7 @@ use super::hops::compare_hops;
 use super::profiles::{SECONDS, compare_slots};
 use super::queries::compare_values;
 use super::reaching::compare_reach;
-use super::tally::Tally;
+use super::tally::AnswersTally;
 use crate::building::{built, mirror_built};
 use crate::comparing::refused::{MadeFeed, Refused};
 use crate::questions::{arrival, one_stop, query, window};
@@ -32,7 +32,7 @@ fn try_query(
     from: u32,
     to: u32,
     leave: Sec,
-) -> Result<Tally, Refused>
+) -> Result<AnswersTally, Refused>
     requires from { from < length edition.now.table.stops }
     requires to { to < length edition.now.table.stops }
 {
@@ -47,11 +47,11 @@ fn try_queries(
     desk: &mut Desk,
     from: u32,
     to: u32,
-) -> Result<Tally, Refused>
+) -> Result<AnswersTally, Refused>
     requires from { from < length edition.now.table.stops }
     requires to { to < length edition.now.table.stops }
 {
-    let mut tally = Tally::NOTHING;
+    let mut tally = AnswersTally::NOTHING;
     for leave in LEAVING {
         tally.add(try_query(alloc, edition, desk, from, to, leave)?);
     }
@@ -67,7 +67,7 @@ fn try_arrival(
     from: u32,
     to: u32,
     by: Sec,
-) -> Result<Tally, Refused>
+) -> Result<AnswersTally, Refused>
     requires mirror { IsMirror edition.now.table mirrored.now.table }
     requires from { from < length edition.now.table.stops }
     requires to { to < length edition.now.table.stops }
@@ -84,12 +84,12 @@ fn try_arrivals(
     desk: &mut Desk,
     from: u32,
     to: u32,
-) -> Result<Tally, Refused>
+) -> Result<AnswersTally, Refused>
     requires mirror { IsMirror edition.now.table mirrored.now.table }
     requires from { from < length edition.now.table.stops }
     requires to { to < length edition.now.table.stops }
 {
-    let mut tally = Tally::NOTHING;
+    let mut tally = AnswersTally::NOTHING;
     for by in ARRIVING {
         tally.add(try_arrival(alloc, edition, mirrored, desk, from, to, by)?);
     }
@@ -104,7 +104,7 @@ fn try_window(
     from: u32,
     to: u32,
     first: Sec,
-) -> Result<Tally, Refused>
+) -> Result<AnswersTally, Refused>
     requires from { from < length edition.now.table.stops }
     requires to { to < length edition.now.table.stops }
 {
@@ -120,11 +120,11 @@ fn try_from(
     desk: &mut Desk,
     from: u32,
     first: Sec,
-) -> Result<Tally, Refused>
+) -> Result<AnswersTally, Refused>
     requires mirror { IsMirror edition.now.table mirrored.now.table }
     requires from { from < length edition.now.table.stops }
 {
-    let mut tally = Tally::NOTHING;
+    let mut tally = AnswersTally::NOTHING;
     for to in 0..edition.table().stop_count() {
         tally.add(try_queries(alloc, edition, desk, from, to)?);
         tally.add(try_arrivals(alloc, edition, mirrored, desk, from, to)?);
@@ -139,11 +139,11 @@ fn try_origin(
     edition: &Edition,
     desk: &mut Desk,
     from: u32,
-) -> Result<Tally, Refused>
+) -> Result<AnswersTally, Refused>
     requires { from < length edition.now.table.stops }
 {
     let origins = one_stop(alloc, edition.table(), from)?;
-    let mut tally = Tally::NOTHING;
+    let mut tally = AnswersTally::NOTHING;
     for leave in LEAVING {
         let leave = leave.min(359_999);
         let reached = compare_reach(alloc, edition, desk, origins.as_slice(), leave)?;
@@ -159,10 +159,10 @@ fn try_editions(
     mirrored: &Edition,
     desk: &mut Desk,
     first: Sec,
-) -> Result<Tally, Refused>
+) -> Result<AnswersTally, Refused>
     requires { IsMirror edition.now.table mirrored.now.table }
 {
-    let mut tally = Tally::FEED;
+    let mut tally = AnswersTally::FEED;
     for from in 0..edition.table().stop_count() {
         tally.add(try_from(alloc, edition, mirrored, desk, from, first)?);
         tally.add(try_origin(alloc, edition, desk, from)?);
@@ -178,7 +178,7 @@ fn try_edition<R: Threads + Sync>(
     edition: &Edition,
     first: Sec,
     desk: &mut Desk,
-) -> Result<Tally, Refused> {
+) -> Result<AnswersTally, Refused> {
     compare_hops(rt, alloc, edition)?;
     match mirror_built(rt, alloc, edition.table()) {
         Ok(mirrored) => {
@@ -197,7 +197,7 @@ fn try_between_all<R: Threads + Sync>(
     table: Timetable,
     first: Sec,
     desk: &mut Desk,
-) -> Result<Tally, Refused> {
+) -> Result<AnswersTally, Refused> {
     match built(rt, alloc, table) {
         Ok(edition) => {
             let compared = try_edition(rt, alloc, &edition, first, desk);
@@ -231,7 +231,7 @@ pub fn try_made<R: Threads + Sync>(
     alloc: Global,
     feed: MadeFeed,
     desk: &mut Desk,
-) -> Result<Tally, Refused> {
+) -> Result<AnswersTally, Refused> {
     match feed.timetable(alloc) {
         Ok(table) => try_between_all(rt, alloc, table, feed.first_time(), desk),
         Err(unread) => Err(Refused::from(unread)),

@@ -1,7 +1,7 @@
 //! The profile of a window, and the best values asked at each of its seconds.
 ghost use Rattle.std.specs.Prelude.{◌<◌, ◌≤◌, ◌≤ℤ◌, pos, All, length};
 
-use super::tally::Tally;
+use super::tally::AnswersTally;
 use crate::comparing::refused::{Difference, Refused, held};
 use crate::ways::{asked_by_rounds, offers_of};
 use edition_store::Edition;
@@ -110,7 +110,7 @@ pub fn compare_slots(
     desk: &mut Desk,
     window: &Window,
     seconds: u32,
-) -> Result<Tally, Refused>
+) -> Result<AnswersTally, Refused>
     requires origins { All (λ p. p < length edition.now.table.stops) window.now.from }
     requires targets { All (λ p. p < length edition.now.table.stops) window.now.to }
     requires last { window.now.last ≤ℤ pos 359998 }
@@ -121,9 +121,9 @@ pub fn compare_slots(
     let same = have_slots(offers.as_slice(), asked.as_slice());
     drop(offers);
     held(same, Difference::Slots)?;
-    Ok(Tally {
+    Ok(AnswersTally {
         windows: 1,
         slots: asked.len() as u64,
-        ..Tally::NOTHING
+        ..AnswersTally::NOTHING
     })
 }

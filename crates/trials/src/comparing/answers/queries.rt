@@ -2,7 +2,7 @@
 ghost use Rattle.std.specs.Prelude.{◌<◌, ◌≤◌, ◌≤ℤ◌, pos, All, length};
 
 use super::claims::{claim, judged_claims, verdict_on};
-use super::tally::Tally;
+use super::tally::AnswersTally;
 use crate::comparing::refused::{Difference, Refused, held};
 use crate::ways::{asked_by_rounds, searched};
 use edition_store::Edition;
@@ -92,7 +92,7 @@ fn compare_plain(
     desk: &mut Desk,
     query: &Query,
     best: &[Choice],
-) -> Result<Tally, Refused>
+) -> Result<AnswersTally, Refused>
     requires origins { All (λ p. p < length edition.now.table.stops) query.now.from }
     requires targets { All (λ p. p < length edition.now.table.stops) query.now.to }
     requires time { query.now.leave ≤ℤ pos 359999 }
@@ -100,11 +100,11 @@ fn compare_plain(
     compare_search(alloc, edition, desk, query, best)?;
     match judged_claims(alloc, edition.table(), query, best)? {
         None => Err(Refused::Differs(Difference::Claims)),
-        Some(claims) => Ok(Tally {
+        Some(claims) => Ok(AnswersTally {
             queries: 1,
             values: best.len() as u64,
             claims: claims as u64,
-            ..Tally::NOTHING
+            ..AnswersTally::NOTHING
         }),
     }
 }
@@ -116,7 +116,7 @@ pub fn compare_values(
     edition: &Edition,
     desk: &mut Desk,
     query: &Query,
-) -> Result<Tally, Refused>
+) -> Result<AnswersTally, Refused>
     requires origins { All (λ p. p < length edition.now.table.stops) query.now.from }
     requires targets { All (λ p. p < length edition.now.table.stops) query.now.to }
     requires time { query.now.leave ≤ℤ pos 359999 }

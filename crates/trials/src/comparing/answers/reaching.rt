@@ -1,7 +1,7 @@
 //! The best values to every stop, asked at once and one by one.
 ghost use Rattle.std.specs.Prelude.{◌<◌, ◌≤ℤ◌, All, length, pos};
 
-use super::tally::Tally;
+use super::tally::AnswersTally;
 use crate::comparing::refused::{Difference, Refused, held};
 use crate::ways::{asked_by_rounds, reached};
 use edition_store::Edition;
@@ -72,7 +72,7 @@ pub fn compare_reach(
     desk: &mut Desk,
     from: &[StopNo],
     leave: Sec,
-) -> Result<Tally, Refused>
+) -> Result<AnswersTally, Refused>
     requires origins { All (λ p. p < length edition.now.table.stops) from.now }
     requires leave { leave ≤ℤ pos 359999 }
 {
@@ -81,8 +81,8 @@ pub fn compare_reach(
     let best = are_best(alloc, edition.table(), from, leave, lists.as_slice());
     drop(lists);
     held(best?, Difference::Reach)?;
-    Ok(Tally {
+    Ok(AnswersTally {
         reached: count,
-        ..Tally::NOTHING
+        ..AnswersTally::NOTHING
     })
 }

@@ -42,7 +42,7 @@ impl TwinTally {
 
 /// What was compared, by numbers.
 #[derive(Clone, Copy)]
-pub struct Tally {
+pub struct AnswersTally {
     pub feeds: u64,
     /// Queries, and the best values of all of them.
     pub queries: u64,
@@ -61,9 +61,9 @@ pub struct Tally {
     pub twins: TwinTally,
 }
 
-impl Tally {
+impl AnswersTally {
     /// Nothing yet.
-    pub const NOTHING: Tally = Tally {
+    pub const NOTHING: AnswersTally = AnswersTally {
         feeds: 0,
         queries: 0,
         values: 0,
@@ -77,13 +77,13 @@ impl Tally {
     };
 
     /// One feed.
-    pub const FEED: Tally = Tally {
+    pub const FEED: AnswersTally = AnswersTally {
         feeds: 1,
-        ..Tally::NOTHING
+        ..AnswersTally::NOTHING
     };
 
     /// Adds what else was compared.
-    pub fn add(&mut self, other: Tally) {
+    pub fn add(&mut self, other: AnswersTally) {
         self.feeds = self.feeds.wrapping_add(other.feeds);
         self.queries = self.queries.wrapping_add(other.queries);
         self.values = self.values.wrapping_add(other.values);
@@ -117,10 +117,10 @@ impl TwinTally {
     }
 }
 
-impl Tally {
+impl AnswersTally {
     /// Writes it.
     pub fn write(self, rt: &impl Print) {
-        let Tally {
+        let AnswersTally {
             feeds,
             queries,
             values,

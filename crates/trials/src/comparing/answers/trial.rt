@@ -8,7 +8,7 @@ use super::hops::compare_hops;
 use super::profiles::compare_slots;
 use super::queries::compare_values;
 use super::reaching::compare_reach;
-use super::tally::Tally;
+use super::tally::AnswersTally;
 use crate::building::mirror_built;
 use crate::comparing::feed::edition_of;
 use crate::comparing::refused::Refused;
@@ -37,7 +37,7 @@ fn try_query(
     edition: &Edition,
     desk: &mut Desk,
     draw: &mut Draw,
-) -> Result<Tally, Refused>
+) -> Result<AnswersTally, Refused>
     requires { 0 < length edition.now.table.stops }
 {
     let query = some_query(alloc, draw, edition.table())?;
@@ -50,10 +50,10 @@ fn try_queries(
     edition: &Edition,
     desk: &mut Desk,
     draw: &mut Draw,
-) -> Result<Tally, Refused>
+) -> Result<AnswersTally, Refused>
     requires { 0 < length edition.now.table.stops }
 {
-    let mut tally = Tally::NOTHING;
+    let mut tally = AnswersTally::NOTHING;
     for _turn in 0..QUERIES {
         tally.add(try_query(alloc, edition, desk, draw)?);
     }
@@ -66,7 +66,7 @@ fn try_window(
     edition: &Edition,
     desk: &mut Desk,
     draw: &mut Draw,
-) -> Result<Tally, Refused>
+) -> Result<AnswersTally, Refused>
     requires { 0 < length edition.now.table.stops }
 {
     let seconds = draw.below(WINDOW) + 1;
@@ -80,10 +80,10 @@ fn try_windows(
     edition: &Edition,
     desk: &mut Desk,
     draw: &mut Draw,
-) -> Result<Tally, Refused>
+) -> Result<AnswersTally, Refused>
     requires { 0 < length edition.now.table.stops }
 {
-    let mut tally = Tally::NOTHING;
+    let mut tally = AnswersTally::NOTHING;
     for _turn in 0..WINDOWS {
         tally.add(try_window(alloc, edition, desk, draw)?);
     }
@@ -97,7 +97,7 @@ fn try_arrival(
     mirrored: &Edition,
     desk: &mut Desk,
     draw: &mut Draw,
-) -> Result<Tally, Refused>
+) -> Result<AnswersTally, Refused>
     requires stops { 0 < length edition.now.table.stops }
     requires mirror { IsMirror edition.now.table mirrored.now.table }
 {
@@ -112,11 +112,11 @@ fn try_arrivals(
     mirrored: &Edition,
     desk: &mut Desk,
     draw: &mut Draw,
-) -> Result<Tally, Refused>
+) -> Result<AnswersTally, Refused>
     requires stops { 0 < length edition.now.table.stops }
     requires mirror { IsMirror edition.now.table mirrored.now.table }
 {
-    let mut tally = Tally::NOTHING;
+    let mut tally = AnswersTally::NOTHING;
     for _turn in 0..ARRIVALS {
         tally.add(try_arrival(alloc, edition, mirrored, desk, draw)?);
     }
@@ -129,7 +129,7 @@ fn try_origin(
     edition: &Edition,
     desk: &mut Desk,
     draw: &mut Draw,
-) -> Result<Tally, Refused>
+) -> Result<AnswersTally, Refused>
     requires { 0 < length edition.now.table.stops }
 {
     let table = edition.table();
@@ -144,10 +144,10 @@ fn try_origins(
     edition: &Edition,
     desk: &mut Desk,
     draw: &mut Draw,
-) -> Result<Tally, Refused>
+) -> Result<AnswersTally, Refused>
     requires { 0 < length edition.now.table.stops }
 {
-    let mut tally = Tally::NOTHING;
+    let mut tally = AnswersTally::NOTHING;
     for _turn in 0..ORIGINS {
         tally.add(try_origin(alloc, edition, desk, draw)?);
     }
@@ -160,7 +160,7 @@ fn try_edition(
     edition: &Edition,
     desk: &mut Desk,
     draw: &mut Draw,
-) -> Result<Tally, Refused>
+) -> Result<AnswersTally, Refused>
     requires { 0 < length edition.now.table.stops }
 {
     let mut tally = try_queries(alloc, edition, desk, draw)?;
@@ -176,7 +176,7 @@ fn try_mirror<R: Threads + Sync>(
     edition: &Edition,
     desk: &mut Desk,
     draw: &mut Draw,
-) -> Result<Tally, Refused>
+) -> Result<AnswersTally, Refused>
     requires { 0 < length edition.now.table.stops }
 {
     match mirror_built(rt, alloc, edition.table()) {
@@ -196,14 +196,14 @@ pub fn try_all<R: Threads + Sync>(
     edition: &Edition,
     desk: &mut Desk,
     draw: &mut Draw,
-) -> Result<Tally, Refused> {
+) -> Result<AnswersTally, Refused> {
     compare_hops(rt, alloc, edition)?;
     if edition.table().stop_count() == 0 {
-        return Ok(Tally::NOTHING);
+        return Ok(AnswersTally::NOTHING);
     }
     let mut tally = try_edition(alloc, edition, desk, draw)?;
     tally.add(try_mirror(rt, alloc, edition, desk, draw)?);
-    tally.add(Tally::FEED);
+    tally.add(AnswersTally::FEED);
     Ok(tally)
 }
 
@@ -213,7 +213,7 @@ pub fn try_seed<R: Threads + Sync>(
     alloc: Global,
     desk: &mut Desk,
     seed: u32,
-) -> Result<Tally, Refused> {
+) -> Result<AnswersTally, Refused> {
     let mut draw = Draw::new(seed as u64);
     let files = small_feed(alloc, &mut draw)?;
     let reading = Reading::drawn(&mut draw);

@@ -3,7 +3,7 @@
 ghost use Rattle.std.specs.Prelude.{◌<◌, ◌≤◌, length};
 
 use super::profiles::SECONDS;
-use super::tally::{Tally, TwinTally};
+use super::tally::{AnswersTally, TwinTally};
 use super::trial::try_all;
 use crate::comparing::feed::edition_of;
 use crate::comparing::refused::{Difference, Refused, held};
@@ -291,7 +291,7 @@ fn compare_twins<R: Threads + Sync>(
     editions: &Editions<'_>,
     desk: &mut Desk,
     draw: &mut Draw,
-) -> Result<Tally, Refused> {
+) -> Result<AnswersTally, Refused> {
     let mut tally = try_all(rt, alloc, editions.given, desk, draw)?;
     let mut twins = counted_trips(editions.given.table());
     twins.add(compare_editions(alloc, editions, desk, draw)?);
@@ -308,7 +308,7 @@ fn try_given<R: Threads + Sync>(
     desk: &mut Desk,
     draw: &mut Draw,
     seed: u64,
-) -> Result<Tally, Refused> {
+) -> Result<AnswersTally, Refused> {
     let files = written_out_feed(alloc, &mut Draw::new(seed))?;
     match edition_of(rt, alloc, files, reading) {
         Ok(edition) => {
@@ -330,7 +330,7 @@ pub fn try_twins<R: Threads + Sync>(
     alloc: Global,
     desk: &mut Desk,
     seed: u32,
-) -> Result<Tally, Refused> {
+) -> Result<AnswersTally, Refused> {
     let seed = seed as u64 + OTHER;
     let mut draw = Draw::new(seed);
     let files = twin_feed(alloc, &mut draw)?;

@@ -9,7 +9,7 @@ const NOBODY: &[u8] = b"nobody";
 
 /// From where to where, and not before when, in seconds from noon minus twelve hours.
 #[derive(Clone, Copy)]
-pub struct Question {
+pub struct DrawnQuestion {
     pub from: StopNo,
     pub to: StopNo,
     pub leave: Sec,
@@ -158,11 +158,11 @@ fn some_time(draw: &mut Draw, table: &Timetable) -> Sec {
 }
 
 /// A question between two stops of a timetable, none where it has no stop.
-pub fn some_question(draw: &mut Draw, table: &Timetable) -> Option<Question> {
+pub fn some_question(draw: &mut Draw, table: &Timetable) -> Option<DrawnQuestion> {
     if table.stop_count() == 0 {
         return None;
     }
-    Some(Question {
+    Some(DrawnQuestion {
         from: StopNo(draw.below(table.stop_count())),
         to: StopNo(draw.below(table.stop_count())),
         leave: some_time(draw, table),

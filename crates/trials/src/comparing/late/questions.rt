@@ -1,8 +1,8 @@
 //! The answers over two editions.
 ghost use Rattle.std.specs.Prelude.{◌<◌, ◌≤ℤ◌, pos, All, IsTrue, length};
 
-use super::drawn::{Question, some_question};
-use super::tally::Tally;
+use super::drawn::{DrawnQuestion, some_question};
+use super::tally::AmendedTally;
 use crate::comparing::answers::queries::{are_right, have_same_values};
 use crate::comparing::refused::{Difference, Refused, held};
 use crate::questions::query;
@@ -17,7 +17,7 @@ use tb_base::{Choice, Memory, Query, Timetable};
 const QUESTIONS: u32 = 12;
 
 // Whether a timetable has the stops of a question.
-fn has_stops(table: &Timetable, question: &Question) -> bool
+fn has_stops(table: &Timetable, question: &DrawnQuestion) -> bool
     ensures from { IsTrue result → question.now.from < length table.now.stops }
     ensures to { IsTrue result → question.now.to < length table.now.stops }
 {
@@ -50,7 +50,7 @@ fn choices_of(
     alloc: Global,
     edition: &Edition,
     desk: &mut Desk,
-    question: &Question,
+    question: &DrawnQuestion,
 ) -> Result<Vec<Choice>, Refused> {
     let table = edition.table();
     if !has_stops(table, question) {
@@ -67,7 +67,7 @@ fn has_values(
     alloc: Global,
     edition: &Edition,
     desk: &mut Desk,
-    question: &Question,
+    question: &DrawnQuestion,
     choices: &[Choice],
 ) -> Result<bool, Refused> {
     let others = choices_of(alloc, edition, desk, question)?;
@@ -82,8 +82,8 @@ fn compare_values(
     one: &Edition,
     other: &Edition,
     desk: &mut Desk,
-    question: &Question,
-    tally: &mut Tally,
+    question: &DrawnQuestion,
+    tally: &mut AmendedTally,
 ) -> Result<(), Refused> {
     let choices = choices_of(alloc, one, desk, question)?;
     let values = choices.len();
@@ -101,7 +101,7 @@ pub fn compare_answers(
     other: &Edition,
     desk: &mut Desk,
     draw: &mut Draw,
-    tally: &mut Tally,
+    tally: &mut AmendedTally,
 ) -> Result<(), Refused> {
     for _turn in 0..QUESTIONS {
         if let Some(question) = some_question(draw, one.table()) {

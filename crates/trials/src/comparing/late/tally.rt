@@ -13,7 +13,7 @@ pub struct Faults {
 
 /// What was compared, by numbers.
 #[derive(Clone, Copy)]
-pub struct Tally {
+pub struct AmendedTally {
     pub feeds: u64,
     /// Lists of updates.
     pub lists: u64,
@@ -29,9 +29,9 @@ pub struct Tally {
     pub values: u64,
 }
 
-impl Tally {
+impl AmendedTally {
     /// Nothing yet.
-    pub const NOTHING: Tally = Tally {
+    pub const NOTHING: AmendedTally = AmendedTally {
         feeds: 0,
         lists: 0,
         refused: Faults {
@@ -90,10 +90,10 @@ impl Faults {
     }
 }
 
-impl Tally {
+impl AmendedTally {
     /// Writes it.
     pub fn write(&self, rt: &impl Print) {
-        let Tally {
+        let AmendedTally {
             feeds,
             lists,
             amended,

@@ -2,7 +2,7 @@
 use super::drawn::some_updates;
 use super::parts::compare_editions;
 use super::questions::compare_answers;
-use super::tally::Tally;
+use super::tally::AmendedTally;
 use super::touched::compare_touched;
 use crate::building::built;
 use crate::comparing::feed::edition_of;
@@ -58,7 +58,7 @@ fn compare_faults(
     old: &Edition,
     updates: &[Update],
     fault: LateFault,
-    tally: &mut Tally,
+    tally: &mut AmendedTally,
 ) -> Result<(), Refused> {
     match amended(alloc, old.table(), updates) {
         Ok(table) => {
@@ -79,7 +79,7 @@ fn compare_parts(
     old: &Edition,
     found: &Amended,
     anew: &Edition,
-    tally: &mut Tally,
+    tally: &mut AmendedTally,
 ) -> Result<(), Refused> {
     let new = found.edition.edition();
     compare_editions(new, anew)?;
@@ -99,7 +99,7 @@ fn compare_amended(
     anew: &Edition,
     desk: &mut Desk,
     draw: &mut Draw,
-    tally: &mut Tally,
+    tally: &mut AmendedTally,
 ) -> Result<(), Refused> {
     compare_parts(alloc, old, found, anew, tally)?;
     compare_answers(alloc, found.edition.edition(), anew, desk, draw, tally)
@@ -114,7 +114,7 @@ fn try_amended<R: Threads + Sync>(
     found: &Amended,
     desk: &mut Desk,
     draw: &mut Draw,
-    tally: &mut Tally,
+    tally: &mut AmendedTally,
 ) -> Result<(), Refused> {
     match built_anew(rt, alloc, old, updates) {
         Ok(anew) => {
@@ -134,7 +134,7 @@ fn try_updates<R: Threads + Sync>(
     updates: &[Update],
     desk: &mut Desk,
     draw: &mut Draw,
-    tally: &mut Tally,
+    tally: &mut AmendedTally,
 ) -> Result<(), Refused> {
     match amend(alloc, old, updates) {
         Ok(found) => {
@@ -154,7 +154,7 @@ fn try_list<R: Threads + Sync>(
     old: &Edition,
     desk: &mut Desk,
     draw: &mut Draw,
-    tally: &mut Tally,
+    tally: &mut AmendedTally,
 ) -> Result<(), Refused> {
     let updates = some_updates(alloc, draw, old.table())?;
     tally.lists = tally.lists.wrapping_add(1);
@@ -170,7 +170,7 @@ fn try_lists<R: Threads + Sync>(
     old: &Edition,
     desk: &mut Desk,
     draw: &mut Draw,
-    tally: &mut Tally,
+    tally: &mut AmendedTally,
 ) -> Result<(), Refused> {
     for _turn in 0..LISTS {
         try_list(rt, alloc, old, desk, draw, tally)?;
@@ -186,7 +186,7 @@ fn try_edition<R: Threads + Sync>(
     aside: &Edition,
     desk: &mut Desk,
     draw: &mut Draw,
-    tally: &mut Tally,
+    tally: &mut AmendedTally,
 ) -> Result<(), Refused> {
     try_lists(rt, alloc, old, desk, draw, tally)?;
     compare_editions(old, aside)?;
@@ -202,7 +202,7 @@ fn try_beside<R: Threads + Sync>(
     old: &Edition,
     desk: &mut Desk,
     draw: &mut Draw,
-    tally: &mut Tally,
+    tally: &mut AmendedTally,
 ) -> Result<(), Refused> {
     match built_anew(rt, alloc, old, &[]) {
         Ok(aside) => {
@@ -227,7 +227,7 @@ pub fn try_seed<R: Threads + Sync>(
     alloc: Global,
     desk: &mut Desk,
     seed: u32,
-    tally: &mut Tally,
+    tally: &mut AmendedTally,
 ) -> Result<(), Refused> {
     let mut draw = Draw::new(seed as u64);
     match edition(rt, alloc, &mut draw) {

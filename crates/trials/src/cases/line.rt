@@ -2,7 +2,7 @@
 
 /// What a line says.
 #[derive(Clone, Copy)]
-pub enum Line<'a> {
+pub enum CaseLine<'a> {
     /// Nothing: it is empty, or a remark.
     Nothing,
     /// A case with this title begins.
@@ -61,28 +61,28 @@ pub enum Line<'a> {
     Err(&'a str),
 }
 
-impl Line<'_> {
+impl CaseLine<'_> {
     /// Whether it says over which files is asked.
     pub fn is_setting(&self) -> bool {
         matches!(
             self,
-            Line::Feed(_)
-                | Line::Without(_)
-                | Line::File(_)
-                | Line::Beside(_)
-                | Line::Row(_)
-                | Line::Rows(_)
-                | Line::Cut(_)
-                | Line::Byte(_)
-                | Line::Endless(_)
+            CaseLine::Feed(_)
+                | CaseLine::Without(_)
+                | CaseLine::File(_)
+                | CaseLine::Beside(_)
+                | CaseLine::Row(_)
+                | CaseLine::Rows(_)
+                | CaseLine::Cut(_)
+                | CaseLine::Byte(_)
+                | CaseLine::Endless(_)
         )
     }
 }
 
 /// What a line says, where it says anything.
-pub fn line_of(text: &str) -> Option<Line<'_>> {
+pub fn line_of(text: &str) -> Option<CaseLine<'_>> {
     if text.is_empty() || text.starts_with('#') {
-        return Some(Line::Nothing);
+        return Some(CaseLine::Nothing);
     }
     let (word, rest) = match text.split_once(' ') {
         Some(parts) => parts,
@@ -95,56 +95,56 @@ pub fn line_of(text: &str) -> Option<Line<'_>> {
 }
 
 // A line that says over which files is asked.
-fn setting_of<'a>(word: &str, rest: &'a str) -> Option<Line<'a>> {
+fn setting_of<'a>(word: &str, rest: &'a str) -> Option<CaseLine<'a>> {
     match word {
-        "case" => Some(Line::Case(rest)),
-        "feed" => Some(Line::Feed(rest)),
-        "without" => Some(Line::Without(rest)),
-        "file" => Some(Line::File(rest)),
-        "beside" => Some(Line::Beside(rest)),
-        "row" => Some(Line::Row(rest)),
-        "rows" => Some(Line::Rows(rest)),
-        "cut" => Some(Line::Cut(rest)),
-        "byte" => Some(Line::Byte(rest)),
-        "endless" => Some(Line::Endless(rest)),
+        "case" => Some(CaseLine::Case(rest)),
+        "feed" => Some(CaseLine::Feed(rest)),
+        "without" => Some(CaseLine::Without(rest)),
+        "file" => Some(CaseLine::File(rest)),
+        "beside" => Some(CaseLine::Beside(rest)),
+        "row" => Some(CaseLine::Row(rest)),
+        "rows" => Some(CaseLine::Rows(rest)),
+        "cut" => Some(CaseLine::Cut(rest)),
+        "byte" => Some(CaseLine::Byte(rest)),
+        "endless" => Some(CaseLine::Endless(rest)),
         _ => None,
     }
 }
 
 // A line that says what stands in the script.
-fn script_of<'a>(word: &str, rest: &'a str) -> Option<Line<'a>> {
+fn script_of<'a>(word: &str, rest: &'a str) -> Option<CaseLine<'a>> {
     match word {
-        "script" => Some(Line::Script(rest)),
-        "scripts" => Some(Line::Scripts(rest)),
-        "piece" => Some(Line::Piece(rest)),
-        "octet" => Some(Line::Octet(rest)),
+        "script" => Some(CaseLine::Script(rest)),
+        "scripts" => Some(CaseLine::Scripts(rest)),
+        "piece" => Some(CaseLine::Piece(rest)),
+        "octet" => Some(CaseLine::Octet(rest)),
         _ => None,
     }
 }
 
 // A line that says what goes wrong outside.
-fn trouble_of<'a>(word: &str, rest: &'a str) -> Option<Line<'a>> {
+fn trouble_of<'a>(word: &str, rest: &'a str) -> Option<CaseLine<'a>> {
     match word {
-        "folder" => Some(Line::Folder(rest)),
-        "input" => Some(Line::Input(rest)),
-        "output" => Some(Line::Output(rest)),
-        "room" => Some(Line::Room(rest)),
-        "moves" => Some(Line::Moves(rest)),
-        "each" => Some(Line::Each(rest)),
+        "folder" => Some(CaseLine::Folder(rest)),
+        "input" => Some(CaseLine::Input(rest)),
+        "output" => Some(CaseLine::Output(rest)),
+        "room" => Some(CaseLine::Room(rest)),
+        "moves" => Some(CaseLine::Moves(rest)),
+        "each" => Some(CaseLine::Each(rest)),
         _ => None,
     }
 }
 
 // A line that says what is asked, and what comes.
-fn answer_of<'a>(word: &str, rest: &'a str) -> Option<Line<'a>> {
+fn answer_of<'a>(word: &str, rest: &'a str) -> Option<CaseLine<'a>> {
     match word {
-        "words" => Some(Line::Words(rest)),
-        "paths" => Some(Line::Paths(rest)),
-        "status" => Some(Line::Status(rest)),
-        "out" => Some(Line::Out(rest)),
-        "part" => Some(Line::Part(rest)),
-        "any" => Some(Line::Any),
-        "err" => Some(Line::Err(rest)),
+        "words" => Some(CaseLine::Words(rest)),
+        "paths" => Some(CaseLine::Paths(rest)),
+        "status" => Some(CaseLine::Status(rest)),
+        "out" => Some(CaseLine::Out(rest)),
+        "part" => Some(CaseLine::Part(rest)),
+        "any" => Some(CaseLine::Any),
+        "err" => Some(CaseLine::Err(rest)),
         _ => None,
     }
 }

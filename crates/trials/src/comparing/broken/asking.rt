@@ -1,7 +1,7 @@
 //! What the program answers over files of which one is broken.
-use crate::ending::{Ending, ending_over_files};
-use crate::feeds::add_copies;
-use crate::question::{Trouble, words_of};
+use crate::cases::ending::{Ending, ending_over_files};
+use crate::cases::feeds::add_copies;
+use crate::cases::question::{Trouble, words_of};
 use std::alloc::Global;
 use std::str;
 use std::sync::Wait;

@@ -1,7 +1,7 @@
 //! Cases from a text.
 use super::case::Case;
-use super::line::{Line, line_of};
-use super::question::{Asked, Question};
+use super::line::{CaseLine, line_of};
+use super::question::{AskedOf, CaseQuestion};
 use super::untried::Untried;
 use std::alloc::Global;
 use std::rt::Files;
@@ -11,27 +11,27 @@ fn add_setting<R: Files>(
     rt: &R,
     alloc: Global,
     case: &mut Case,
-    line: Line<'_>,
+    line: CaseLine<'_>,
 ) -> Result<bool, Untried> {
     match line {
-        Line::Feed(name) => case.add_feed(rt, alloc, name),
-        Line::Without(name) => case.take_away(alloc, name),
-        Line::File(name) => case.begin_file(alloc, name),
-        Line::Beside(path) => case.begin_beside(alloc, path),
-        Line::Row(text) => case.add_text(text, "\n"),
-        Line::Rows(text) => case.add_rows(alloc, text),
-        Line::Cut(text) => case.add_text(text, ""),
-        Line::Byte(number) => case.add_byte(number),
-        Line::Endless(name) => case.set_endless(alloc, name),
+        CaseLine::Feed(name) => case.add_feed(rt, alloc, name),
+        CaseLine::Without(name) => case.take_away(alloc, name),
+        CaseLine::File(name) => case.begin_file(alloc, name),
+        CaseLine::Beside(path) => case.begin_beside(alloc, path),
+        CaseLine::Row(text) => case.add_text(text, "\n"),
+        CaseLine::Rows(text) => case.add_rows(alloc, text),
+        CaseLine::Cut(text) => case.add_text(text, ""),
+        CaseLine::Byte(number) => case.add_byte(number),
+        CaseLine::Endless(name) => case.set_endless(alloc, name),
         _ => add_question(alloc, case, line),
     }
 }
 
-fn add_question(alloc: Global, case: &mut Case, line: Line<'_>) -> Result<bool, Untried> {
+fn add_question(alloc: Global, case: &mut Case, line: CaseLine<'_>) -> Result<bool, Untried> {
     match line {
-        Line::Nothing => Ok(true),
-        Line::Words(words) => case.ask(alloc, Asked::Program, words),
-        Line::Paths(words) => case.ask(alloc, Asked::Paths, words),
+        CaseLine::Nothing => Ok(true),
+        CaseLine::Words(words) => case.ask(alloc, AskedOf::Program, words),
+        CaseLine::Paths(words) => case.ask(alloc, AskedOf::Paths, words),
         _ => match case.questions.last_mut() {
             Some(question) => add_answer(alloc, question, line),
             None => Ok(false),
@@ -40,21 +40,29 @@ fn add_question(alloc: Global, case: &mut Case, line: Line<'_>) -> Result<bool, 
 }
 
 // What a line says of a question.
-fn add_answer(alloc: Global, question: &mut Question, line: Line<'_>) -> Result<bool, Untried> {
+fn add_answer(
+    alloc: Global,
+    question: &mut CaseQuestion,
+    line: CaseLine<'_>,
+) -> Result<bool, Untried> {
     match line {
-        Line::Script(_) | Line::Scripts(_) | Line::Piece(_) | Line::Octet(_) => {
+        CaseLine::Script(_) | CaseLine::Scripts(_) | CaseLine::Piece(_) | CaseLine::Octet(_) => {
             add_script(alloc, question, line)
         }
-        Line::Folder(_) | Line::Input(_) | Line::Output(_) => Ok(add_failure(question, line)),
-        Line::Room(_) | Line::Moves(_) | Line::Each(_) => Ok(add_trouble(question, line)),
-        Line::Status(number) => Ok(question.want_status(number)),
-        Line::Out(text) => add_out(alloc, question, text, "\n"),
-        Line::Part(text) => add_out(alloc, question, text, ""),
-        Line::Any => {
+        CaseLine::Folder(_) | CaseLine::Input(_) | CaseLine::Output(_) => Ok(add_failure(
+            question, line,
+        )),
+        CaseLine::Room(_) | CaseLine::Moves(_) | CaseLine::Each(_) => Ok(add_trouble(
+            question, line,
+        )),
+        CaseLine::Status(number) => Ok(question.want_status(number)),
+        CaseLine::Out(text) => add_out(alloc, question, text, "\n"),
+        CaseLine::Part(text) => add_out(alloc, question, text, ""),
+        CaseLine::Any => {
             question.want_any(alloc)?;
             Ok(true)
         }
-        Line::Err(text) => {
+        CaseLine::Err(text) => {
             question.want_err(text)?;
             Ok(true)
         }
@@ -63,37 +71,46 @@ fn add_answer(alloc: Global, question: &mut Question, line: Line<'_>) -> Result<
 }
 
 // What a line says of the script of a question.
-fn add_script(alloc: Global, question: &mut Question, line: Line<'_>) -> Result<bool, Untried> {
+fn add_script(
+    alloc: Global,
+    question: &mut CaseQuestion,
+    line: CaseLine<'_>,
+) -> Result<bool, Untried> {
     match line {
-        Line::Script(text) => Ok(question.add_script(text, "\n")?),
-        Line::Scripts(lines) => Ok(question.add_scripts(alloc, lines)?),
-        Line::Piece(text) => Ok(question.add_script(text, "")?),
-        Line::Octet(number) => Ok(question.add_octet(number)?),
+        CaseLine::Script(text) => Ok(question.add_script(text, "\n")?),
+        CaseLine::Scripts(lines) => Ok(question.add_scripts(alloc, lines)?),
+        CaseLine::Piece(text) => Ok(question.add_script(text, "")?),
+        CaseLine::Octet(number) => Ok(question.add_octet(number)?),
         _ => Ok(false),
     }
 }
 
 // Which call a line says to fail.
-fn add_failure(question: &mut Question, line: Line<'_>) -> bool {
+fn add_failure(question: &mut CaseQuestion, line: CaseLine<'_>) -> bool {
     match line {
-        Line::Folder(number) => question.fail_folder(number),
-        Line::Input(number) => question.fail_input(number),
-        Line::Output(number) => question.fail_output(number),
+        CaseLine::Folder(number) => question.fail_folder(number),
+        CaseLine::Input(number) => question.fail_input(number),
+        CaseLine::Output(number) => question.fail_output(number),
         _ => false,
     }
 }
 
 // What else a line says of the outside.
-fn add_trouble(question: &mut Question, line: Line<'_>) -> bool {
+fn add_trouble(question: &mut CaseQuestion, line: CaseLine<'_>) -> bool {
     match line {
-        Line::Room(number) => question.set_room(number),
-        Line::Moves(number) => question.set_most(number),
-        Line::Each(calls) => question.fail_each(calls),
+        CaseLine::Room(number) => question.set_room(number),
+        CaseLine::Moves(number) => question.set_most(number),
+        CaseLine::Each(calls) => question.fail_each(calls),
         _ => false,
     }
 }
 
-fn add_out(alloc: Global, question: &mut Question, text: &str, end: &str) -> Result<bool, Untried> {
+fn add_out(
+    alloc: Global,
+    question: &mut CaseQuestion,
+    text: &str,
+    end: &str,
+) -> Result<bool, Untried> {
     question.want_out(alloc, text, end)?;
     Ok(true)
 }
@@ -116,7 +133,7 @@ fn add_line<R: Files>(
     let Some(line) = line_of(text) else {
         return Ok(false);
     };
-    if let Line::Case(title) = line {
+    if let CaseLine::Case(title) = line {
         if !cases.is_empty() && !ends_asked(cases.as_slice()) {
             return Ok(false);
         }
@@ -126,7 +143,7 @@ fn add_line<R: Files>(
     match cases.last_mut() {
         Some(case) if line.is_setting() && case.is_asked() => Ok(false),
         Some(case) => add_setting(rt, alloc, case, line),
-        None => Ok(matches!(line, Line::Nothing)),
+        None => Ok(matches!(line, CaseLine::Nothing)),
     }
 }
 

@@ -3,7 +3,8 @@ ghost use Rattle.std.specs.Prelude.{◌<◌};
 
 use super::asking::asked;
 use super::breaks::{Break, Broken, broken_files, some_broken};
-use crate::ending::Ending;
+use crate::cases::ending::Ending;
+use crate::comparing::refused::Refused;
 use made_feeds::{Draw, small_feed};
 use std::alloc::{AllocError, Global};
 use std::sync::Wait;
@@ -15,7 +16,7 @@ const BREAKS: u32 = 16;
 
 /// What is asked over each feed.
 #[derive(Clone, Copy, Debug, PartialEq, Eq)]
-pub enum Command {
+pub enum AskedCommand {
     Ask,
     PlainAsk,
     Latest,
@@ -24,31 +25,31 @@ pub enum Command {
 }
 
 // What is asked after `Ask`, and held against how that ended.
-const FURTHER: [Command; 4] = [
-    Command::PlainAsk,
-    Command::Latest,
-    Command::Reach,
-    Command::Build,
+const FURTHER: [AskedCommand; 4] = [
+    AskedCommand::PlainAsk,
+    AskedCommand::Latest,
+    AskedCommand::Reach,
+    AskedCommand::Build,
 ];
 
 /// What was tried.
 #[derive(Clone, Copy)]
-pub struct Tally {
+pub struct BrokenTally {
     /// Feeds of which one file is broken.
     pub broken: u64,
     /// Those of them that have an answer all the same.
     pub answered: u64,
 }
 
-impl Tally {
+impl BrokenTally {
     /// Nothing yet.
-    pub const NOTHING: Tally = Tally {
+    pub const NOTHING: BrokenTally = BrokenTally {
         broken: 0,
         answered: 0,
     };
 
     /// Adds what else was tried.
-    pub fn add(&mut self, other: Tally) {
+    pub fn add(&mut self, other: BrokenTally) {
         self.broken = self.broken.wrapping_add(other.broken);
         self.answered = self.answered.wrapping_add(other.answered);
     }
@@ -60,48 +61,27 @@ pub enum Wrong {
     /// The feed as it was made has no answer.
     NoAnswer,
     /// A command ended with neither an answer nor a fault of the feed.
-    Unsound(Command),
+    Unsound(AskedCommand),
     /// A command ended with another status than `Ask`.
-    OtherStatus(Command),
+    OtherStatus(AskedCommand),
     /// Both ways to the best values show different ones.
     OtherValues,
     /// The order of a file's rows changed the best values.
     OrderMatters,
 }
 
-/// Why a trial ends early.
-#[derive(Clone, Copy, Debug)]
-pub enum Refused {
-    /// There was no memory.
-    Memory,
-    /// Something is wrong, over the feed as it was made or as it was broken.
-    Found(Wrong, Option<Broken>),
-}
-
-impl From<Memory> for Refused {
-    fn from(_memory: Memory) -> Refused {
-        Refused::Memory
-    }
-}
-
-impl From<AllocError> for Refused {
-    fn from(_refused: AllocError) -> Refused {
-        Refused::Memory
-    }
-}
-
 // Between which platforms, and when, it is asked.
 #[derive(Clone, Copy)]
-struct Question {
+struct PlatformQuestion {
     from: u32,
     to: u32,
     hour: u32,
     minute: u32,
 }
 
-impl Question {
-    fn some(draw: &mut Draw) -> Question {
-        Question {
+impl PlatformQuestion {
+    fn some(draw: &mut Draw) -> PlatformQuestion {
+        PlatformQuestion {
             from: draw.below(7),
             to: draw.below(7),
             hour: if draw.one_in(4) { 24 } else { 8 },
@@ -110,27 +90,27 @@ impl Question {
     }
 
     // The words of a command.
-    fn line(self, alloc: Global, command: Command) -> Result<String, AllocError> {
-        let Question {
+    fn line(self, alloc: Global, command: AskedCommand) -> Result<String, AllocError> {
+        let PlatformQuestion {
             from,
             to,
             hour,
             minute,
         } = self;
         match command {
-            Command::Ask => format!(in alloc;
+            AskedCommand::Ask => format!(in alloc;
                 "--close --workers 1 ask made 20260302 P{from} P{to} {hour}:{minute:02}:00"
             ),
-            Command::PlainAsk => format!(in alloc;
+            AskedCommand::PlainAsk => format!(in alloc;
                 "--close --plain ask made 20260302 P{from} P{to} {hour}:{minute:02}:00"
             ),
-            Command::Latest => format!(in alloc;
+            AskedCommand::Latest => format!(in alloc;
                 "--close --workers 1 latest made 20260302 P{from} P{to} {hour}:{minute:02}:00"
             ),
-            Command::Reach => format!(in alloc;
+            AskedCommand::Reach => format!(in alloc;
                 "--close --workers 1 reach made 20260302 P{from} {hour}:{minute:02}:00"
             ),
-            Command::Build => {
+            AskedCommand::Build => {
                 String::from_str(alloc, "--close --workers 2 build made 20260302 list")
             }
         }
@@ -142,22 +122,22 @@ fn command_ending<R: Threads + Wait + Sync>(
     rt: &R,
     alloc: Global,
     files: &[(String, Vec<u8>)],
-    question: Question,
-    command: Command,
+    question: PlatformQuestion,
+    command: AskedCommand,
 ) -> Result<Ending, Memory> {
     let line = question.line(alloc, command)?;
     asked(rt, alloc, files, line.as_str())
 }
 
 // What is wrong with how a further command ends, beside the first.
-fn wrong_with(came: &Ending, first: &Ending, command: Command) -> Option<Wrong> {
+fn wrong_with(came: &Ending, first: &Ending, command: AskedCommand) -> Option<Wrong> {
     if !came.is_sound() {
         return Some(Wrong::Unsound(command));
     }
     if !came.has_status_of(first) {
         return Some(Wrong::OtherStatus(command));
     }
-    if command == Command::PlainAsk && !came.has_values_of(first) {
+    if command == AskedCommand::PlainAsk && !came.has_values_of(first) {
         return Some(Wrong::OtherValues);
     }
     None
@@ -168,11 +148,11 @@ fn wrong_among<R: Threads + Wait + Sync>(
     rt: &R,
     alloc: Global,
     files: &[(String, Vec<u8>)],
-    question: Question,
+    question: PlatformQuestion,
     first: &Ending,
 ) -> Result<Option<Wrong>, Memory> {
     if !first.is_sound() {
-        return Ok(Some(Wrong::Unsound(Command::Ask)));
+        return Ok(Some(Wrong::Unsound(AskedCommand::Ask)));
     }
     for command in FURTHER.iter() {
         let came = command_ending(rt, alloc, files, question, *command)?;
@@ -190,10 +170,10 @@ fn sound_ending<R: Threads + Wait + Sync>(
     rt: &R,
     alloc: Global,
     files: &[(String, Vec<u8>)],
-    question: Question,
+    question: PlatformQuestion,
     broken: Option<Broken>,
 ) -> Result<Ending, Refused> {
-    let first = command_ending(rt, alloc, files, question, Command::Ask)?;
+    let first = command_ending(rt, alloc, files, question, AskedCommand::Ask)?;
     let refused = match wrong_among(rt, alloc, files, question, &first) {
         Ok(None) => return Ok(first),
         Ok(Some(wrong)) => Refused::Found(wrong, broken),
@@ -204,12 +184,12 @@ fn sound_ending<R: Threads + Wait + Sync>(
 }
 
 // Holds how the first command ends over files of which one is broken against how it ended before.
-fn compared(came: &Ending, whole: &Ending, broken: Broken) -> Result<Tally, Refused> {
+fn compared(came: &Ending, whole: &Ending, broken: Broken) -> Result<BrokenTally, Refused> {
     let same = came.has_status_of(whole) && came.has_values_of(whole);
     if broken.how == Break::Turned && !same {
         return Err(Refused::Found(Wrong::OrderMatters, Some(broken)));
     }
-    Ok(Tally {
+    Ok(BrokenTally {
         broken: 1,
         answered: u64::from(came.is_answer()),
     })
@@ -220,10 +200,10 @@ fn try_broken<R: Threads + Wait + Sync>(
     rt: &R,
     alloc: Global,
     files: &[(String, Vec<u8>)],
-    question: Question,
+    question: PlatformQuestion,
     broken: Broken,
     whole: &Ending,
-) -> Result<Tally, Refused> {
+) -> Result<BrokenTally, Refused> {
     let came = sound_ending(rt, alloc, files, question, Some(broken))?;
     let compared = compared(&came, whole, broken);
     drop(came);
@@ -235,10 +215,10 @@ fn try_break<R: Threads + Wait + Sync>(
     rt: &R,
     alloc: Global,
     files: &[(String, Vec<u8>)],
-    question: Question,
+    question: PlatformQuestion,
     broken: Broken,
     whole: &Ending,
-) -> Result<Tally, Refused> {
+) -> Result<BrokenTally, Refused> {
     let files = broken_files(alloc, files, broken)?;
     let tried = try_broken(rt, alloc, files.as_slice(), question, broken, whole);
     drop(files);
@@ -250,14 +230,14 @@ fn try_breaks<R: Threads + Wait + Sync>(
     rt: &R,
     alloc: Global,
     files: &[(String, Vec<u8>)],
-    question: Question,
+    question: PlatformQuestion,
     whole: &Ending,
     draw: &mut Draw,
-) -> Result<Tally, Refused> {
+) -> Result<BrokenTally, Refused> {
     if !whole.is_answer() {
         return Err(Refused::Found(Wrong::NoAnswer, None));
     }
-    let mut tally = Tally::NOTHING;
+    let mut tally = BrokenTally::NOTHING;
     for _turn in 0..BREAKS {
         let broken = some_broken(draw, files);
         tally.add(try_break(rt, alloc, files, question, broken, whole)?);
@@ -271,8 +251,8 @@ fn try_files<R: Threads + Wait + Sync>(
     alloc: Global,
     files: &[(String, Vec<u8>)],
     draw: &mut Draw,
-) -> Result<Tally, Refused> {
-    let question = Question::some(draw);
+) -> Result<BrokenTally, Refused> {
+    let question = PlatformQuestion::some(draw);
     let whole = sound_ending(rt, alloc, files, question, None)?;
     let tried = try_breaks(rt, alloc, files, question, &whole, draw);
     drop(whole);
@@ -284,7 +264,7 @@ pub fn try_seed<R: Threads + Wait + Sync>(
     rt: &R,
     alloc: Global,
     seed: u32,
-) -> Result<Tally, Refused> {
+) -> Result<BrokenTally, Refused> {
     let mut draw = Draw::new(seed as u64);
     let files = small_feed(alloc, &mut draw)?;
     let tried = try_files(rt, alloc, files.as_slice(), &mut draw);

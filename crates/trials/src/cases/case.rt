@@ -1,7 +1,7 @@
 //! What a case says.
 use super::feeds;
 use super::feeds::Files;
-use super::question::{Asked, Question, byte_of};
+use super::question::{AskedOf, CaseQuestion, byte_of};
 use super::untried::Untried;
 use gtfs_rows::number_of;
 use std::alloc::{AllocError, Global};
@@ -19,7 +19,7 @@ pub struct Case {
     given: Files,
     // The path of the one file that is there, and has no end.
     endless: Option<String>,
-    pub questions: Vec<Question>,
+    pub questions: Vec<CaseQuestion>,
 }
 
 impl Case {
@@ -148,8 +148,9 @@ impl Case {
     }
 
     /// A question.
-    pub fn ask(&mut self, alloc: Global, asked: Asked, words: &str) -> Result<bool, Untried> {
-        self.questions.push(Question::new(alloc, asked, words)?)?;
+    pub fn ask(&mut self, alloc: Global, asked: AskedOf, words: &str) -> Result<bool, Untried> {
+        self.questions
+            .push(CaseQuestion::new(alloc, asked, words)?)?;
         Ok(true)
     }
 }

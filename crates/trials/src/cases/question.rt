@@ -15,7 +15,7 @@ pub struct Wanted {
 
 /// Of what a question is asked.
 #[derive(Clone, Copy, PartialEq, Eq, Debug)]
-pub enum Asked {
+pub enum AskedOf {
     /// The program.
     Program,
     /// The change times and footpaths of a day.
@@ -86,8 +86,8 @@ impl Trouble {
 
 /// What is asked, and how it has to end.
 #[derive(Drop)]
-pub struct Question {
-    pub asked: Asked,
+pub struct CaseQuestion {
+    pub asked: AskedOf,
     pub words: Vec<String>,
     /// The bytes of standard input.
     pub script: Vec<u8>,
@@ -132,17 +132,17 @@ fn turns_of(line: &str) -> Option<Turns> {
     })
 }
 
-impl Question {
+impl CaseQuestion {
     /// The question of a line. As long as nothing else is said, nothing goes wrong, it has to end
     /// well, and to write nothing.
-    pub fn new(alloc: Global, asked: Asked, line: &str) -> Result<Question, AllocError> {
+    pub fn new(alloc: Global, asked: AskedOf, line: &str) -> Result<CaseQuestion, AllocError> {
         let words = words_of(alloc, line)?;
         let want = Wanted {
             code: 0,
             pieces: Vec::new(alloc),
             err: Vec::new(alloc),
         };
-        Ok(Question {
+        Ok(CaseQuestion {
             asked,
             words,
             script: Vec::new(alloc),
@@ -156,7 +156,7 @@ impl Question {
     pub fn add_script(&mut self, text: &str, end: &str) -> Result<bool, AllocError> {
         self.script.extend_from_slice(text.as_bytes())?;
         self.script.extend_from_slice(end.as_bytes())?;
-        Ok(self.asked == Asked::Program)
+        Ok(self.asked == AskedOf::Program)
     }
 
     /// So many lines of it, by a number and the text of a line.
@@ -172,7 +172,7 @@ impl Question {
             let line = text.replace(alloc, "#", number.as_str())?;
             self.add_script(line.as_str(), "\n")?;
         }
-        Ok(self.asked == Asked::Program)
+        Ok(self.asked == AskedOf::Program)
     }
 
     /// One byte of it, by its number.
@@ -181,31 +181,31 @@ impl Question {
             return Ok(false);
         };
         self.script.push(byte)?;
-        Ok(self.asked == Asked::Program)
+        Ok(self.asked == AskedOf::Program)
     }
 
     /// The read of the script that fails. It is said of the program alone.
     pub fn fail_input(&mut self, number: &str) -> bool {
         self.trouble.input = number_of(number.as_bytes());
-        self.asked == Asked::Program && self.trouble.input.is_some()
+        self.asked == AskedOf::Program && self.trouble.input.is_some()
     }
 
     /// The call of the folder that fails. It is said of the program alone.
     pub fn fail_folder(&mut self, number: &str) -> bool {
         self.trouble.folder = number_of(number.as_bytes());
-        self.asked == Asked::Program && self.trouble.folder.is_some()
+        self.asked == AskedOf::Program && self.trouble.folder.is_some()
     }
 
     /// The write to standard output that fails. It is said of the program alone.
     pub fn fail_output(&mut self, number: &str) -> bool {
         self.trouble.output = number_of(number.as_bytes());
-        self.asked == Asked::Program && self.trouble.output.is_some()
+        self.asked == AskedOf::Program && self.trouble.output.is_some()
     }
 
     /// How many bytes standard output takes. It is said of the program alone.
     pub fn set_room(&mut self, number: &str) -> bool {
         match number_of(number.as_bytes()) {
-            Some(room) if self.asked == Asked::Program => {
+            Some(room) if self.asked == AskedOf::Program => {
                 self.trouble.room = room;
                 true
             }
@@ -216,7 +216,7 @@ impl Question {
     /// How many bytes one read or write moves at most. It is said of the program alone.
     pub fn set_most(&mut self, number: &str) -> bool {
         match number_of(number.as_bytes()) {
-            Some(most) if most > 0 && self.asked == Asked::Program => {
+            Some(most) if most > 0 && self.asked == AskedOf::Program => {
                 self.trouble.most = most;
                 true
             }
@@ -228,7 +228,7 @@ impl Question {
     /// alone.
     pub fn fail_each(&mut self, calls: &str) -> bool {
         self.turns = turns_of(calls);
-        self.asked == Asked::Program && self.turns.is_some()
+        self.asked == AskedOf::Program && self.turns.is_some()
     }
 
     /// The number with which it ends. It is said once, and isn't that of a good end, which needs no

@@ -2,36 +2,32 @@
 use super::case::Case;
 use super::ending::{Ending, ending_over, ending_over_files};
 use super::endless::Endless;
-use super::question::{Asked, Outside, Question, Trouble, Turns, Wanted};
+use super::question::{AskedOf, CaseQuestion, Outside, Trouble, Turns, Wanted};
 use super::shown::shown_paths;
 use super::untried::Untried;
+use crate::stopped::Stopped;
 use std::alloc::Global;
+use std::str;
 use std::sync::Wait;
 use std::thread::Threads;
-use std::{fmt, str};
 use tb_base::Memory;
 use tb_io::MemFolder;
 
 /// What was tried.
 #[derive(Clone, Copy)]
-pub struct Tally {
+pub struct CaseTally {
     cases: u64,
     questions: u64,
     differing: u64,
 }
 
-impl Tally {
+impl CaseTally {
     /// Nothing yet.
-    pub const NOTHING: Tally = Tally {
+    pub const NOTHING: CaseTally = CaseTally {
         cases: 0,
         questions: 0,
         differing: 0,
     };
-
-    /// Whether every case came out as it says.
-    pub fn is_clean(&self) -> bool {
-        self.differing == 0
-    }
 
     // One more case, with so many questions.
     fn add(&mut self, questions: usize, differs: bool) {
@@ -41,17 +37,21 @@ impl Tally {
     }
 }
 
-impl fmt::Display for Tally {
-    fn fmt<W: fmt::Write>(&self, f: &mut fmt::Formatter<W>) -> fmt::Result {
-        let Tally {
+impl CaseTally {
+    /// Writes it where a case was tried. All came out as they say, or something is wrong.
+    pub fn write(self, rt: &impl Print) -> Result<(), Stopped> {
+        let CaseTally {
             cases,
             questions,
             differing,
         } = self;
-        write!(
-            f,
-            "cases {cases} questions {questions} differing {differing}"
-        )
+        if cases > 0 {
+            let _ = println!(rt; "cases {cases} questions {questions} differing {differing}");
+        }
+        if differing > 0 {
+            return Err(Stopped::Wrong);
+        }
+        Ok(())
     }
 }
 
@@ -60,7 +60,7 @@ fn program_ending<R: Threads + Wait + Sync>(
     rt: &R,
     alloc: Global,
     case: &Case,
-    question: &Question,
+    question: &CaseQuestion,
     trouble: Trouble,
 ) -> Result<Ending, Memory> {
     let words = question.words.as_slice();
@@ -84,11 +84,11 @@ fn question_ending<R: Threads + Wait + Sync>(
     rt: &R,
     alloc: Global,
     case: &Case,
-    question: &Question,
+    question: &CaseQuestion,
 ) -> Result<Ending, Memory> {
     match question.asked {
-        Asked::Program => program_ending(rt, alloc, case, question, question.trouble),
-        Asked::Paths => paths_ending(alloc, case, question.words.as_slice()),
+        AskedOf::Program => program_ending(rt, alloc, case, question, question.trouble),
+        AskedOf::Paths => paths_ending(alloc, case, question.words.as_slice()),
     }
 }
 
@@ -166,7 +166,7 @@ fn bad_turn<R: Threads + Wait + Sync>(
     rt: &R,
     alloc: Global,
     case: &Case,
-    question: &Question,
+    question: &CaseQuestion,
     turns: Turns,
     number: u32,
 ) -> Result<Option<Ending>, Memory> {
@@ -185,7 +185,7 @@ fn bad_ending<R: Threads + Wait + Sync>(
     rt: &R,
     alloc: Global,
     case: &Case,
-    question: &Question,
+    question: &CaseQuestion,
 ) -> Result<Option<Ending>, Memory> {
     let Some(turns) = question.turns else {
         let came = question_ending(rt, alloc, case, question)?;
@@ -202,10 +202,10 @@ fn bad_ending<R: Threads + Wait + Sync>(
 }
 
 // Writes what a question came to.
-fn write_ending(rt: &impl Print, question: &Question, came: &Ending) {
+fn write_ending(rt: &impl Print, question: &CaseQuestion, came: &Ending) {
     let asked = match question.asked {
-        Asked::Program => "words",
-        Asked::Paths => "paths",
+        AskedOf::Program => "words",
+        AskedOf::Paths => "paths",
     };
     let _ = print!(rt; "{asked}");
     for word in &question.words {
@@ -226,7 +226,7 @@ pub fn try_case<R: Threads + Wait + Sync + Print>(
     rt: &R,
     alloc: Global,
     case: &Case,
-    tally: &mut Tally,
+    tally: &mut CaseTally,
 ) -> Result<(), Untried> {
     let title = case.title.as_str();
     let mut differs = false;

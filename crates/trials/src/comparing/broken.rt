@@ -1,0 +1,49 @@
+//! Small feeds that look random, of which one file is broken, and what the program says of each.
+//!
+//! Each feed is broken many times: a byte of a file changed, dropped or doubled, the file cut,
+//! another file's bytes in its place, or its rows turned round. Over each the program is asked for
+//! the best values by both ways, the latest departures, the best values to every stop, and the kept
+//! transfers. Each ends with an answer, or with a status that names a fault of the feed and nothing
+//! written; all with the same one; both ways show the same best values, and the order of rows
+//! changes none.
+mod asking;
+pub mod breaks;
+pub mod trial;
+
+use crate::comparing::refused::{Ended, FeedName};
+use made_feeds::Seeds;
+use std::alloc::Global;
+use std::sync::Wait;
+use std::thread::Threads;
+use trial::{BrokenTally, try_seed};
+
+fn try_feeds<R: Threads + Wait + Sync>(
+    rt: &R,
+    alloc: Global,
+    seeds: Seeds,
+) -> Result<BrokenTally, Ended> {
+    let mut tally = BrokenTally::NOTHING;
+    for turn in 0..seeds.count {
+        let seed = seeds.seed(turn);
+        match try_seed(rt, alloc, seed) {
+            Ok(other) => tally.add(other),
+            Err(refused) => {
+                let feed = FeedName::Broken(seed);
+                return Err(Ended { feed, refused });
+            }
+        }
+    }
+    Ok(tally)
+}
+
+/// Breaks feeds, and writes what was tried.
+pub fn compare<R: Threads + Wait + Sync + Print>(
+    rt: &R,
+    alloc: Global,
+    seeds: Seeds,
+) -> Result<(), Ended> {
+    let BrokenTally { broken, answered } = try_feeds(rt, alloc, seeds)?;
+    let refused = broken.wrapping_sub(answered);
+    let _ = println!(rt; "broken feeds {broken} answered {answered} refused {refused}");
+    Ok(())
+}
