@@ -7,6 +7,7 @@ mod case;
 pub mod ending;
 mod endless;
 pub mod feeds;
+mod holding;
 mod line;
 pub mod question;
 mod reader;

@@ -8,7 +8,7 @@ use router_cli::{Status, route, status_text};
 use std::alloc::Global;
 use std::sync::Wait;
 use std::thread::Threads;
-use tb_base::{IdleGate, Memory};
+use tb_base::{Gate, Memory};
 use tb_io::{Folder, MemFolder, MemSink, MemSource, Sink, Source};
 
 /// How a run of the program ended: its number, and the bytes on standard output and on standard
@@ -18,6 +18,8 @@ pub struct Ending {
     pub code: u8,
     pub out: Vec<u8>,
     pub err: Vec<u8>,
+    /// Of each piece of work that was held, whether another one was done meanwhile.
+    pub met: Vec<bool>,
 }
 
 /// How a run ended with a status, and what it wrote.
@@ -26,6 +28,7 @@ pub fn ending_of(alloc: Global, status: &Status, out: &[u8]) -> Result<Ending, M
         code: status.code(),
         out: out.to_vec(alloc)?,
         err: status_text(alloc, status)?,
+        met: Vec::new(alloc),
     })
 }
 
@@ -63,86 +66,93 @@ fn folder_of(alloc: Global, files: Files, trouble: Trouble) -> Result<MemFolder,
 }
 
 // The status of the program over a folder.
-fn status_over<R: Threads + Wait + Sync, F: Folder + Send, S: Source, K: Sink>(
+fn status_over<R: Threads + Wait + Sync, F: Folder + Send, S: Source, K: Sink, G: Gate>(
     rt: &R,
     alloc: Global,
     words: &[String],
     folder: &mut F,
     script: &mut S,
     sink: &mut K,
+    gate: &G,
 ) -> Status
     requires folder { F.faults folder.old < 2 ^ 64 - 1 }
     requires script { S.faults script.old < 2 ^ 64 - 1 }
     requires sink { K.faults sink.old < 2 ^ 64 - 1 }
 {
-    route(rt, alloc, words, folder, script, sink, &IdleGate)
+    route(rt, alloc, words, folder, script, sink, gate)
 }
 
 // How the program ends over a folder and a script, with a sink in which nothing is.
-fn ending_into<R: Threads + Wait + Sync, F: Folder + Send>(
+fn ending_into<R: Threads + Wait + Sync, F: Folder + Send, G: Gate>(
     rt: &R,
     alloc: Global,
     words: &[String],
     folder: &mut F,
     script: &mut MemSource,
     sink: &mut MemSink,
+    gate: &G,
 ) -> Result<Ending, Memory>
     requires folder { F.faults folder.old < 2 ^ 64 - 1 }
     requires script { script.old.calls.faults < 2 ^ 64 - 1 }
     requires sink { sink.old.calls.faults < 2 ^ 64 - 1 }
 {
-    let status = status_over(rt, alloc, words, folder, script, sink);
+    let status = status_over(rt, alloc, words, folder, script, sink, gate);
     let ending = ending_of(alloc, &status, sink.bytes());
     drop(status);
     ending
 }
 
 // The same with a sink of its own.
-fn ending_with<R: Threads + Wait + Sync, F: Folder + Send>(
+fn ending_with<R: Threads + Wait + Sync, F: Folder + Send, G: Gate>(
     rt: &R,
     alloc: Global,
     words: &[String],
     folder: &mut F,
     script: &mut MemSource,
     trouble: Trouble,
+    gate: &G,
 ) -> Result<Ending, Memory>
     requires folder { F.faults folder.old < 2 ^ 64 - 1 }
     requires script { script.old.calls.faults < 2 ^ 64 - 1 }
 {
     let mut sink = sink_of(alloc, trouble)?;
-    let ending = ending_into(rt, alloc, words, folder, script, &mut sink);
+    let ending = ending_into(rt, alloc, words, folder, script, &mut sink, gate);
     drop(sink);
     ending
 }
 
-/// How the program ends over a folder and a script, with such trouble outside.
-pub fn ending_over<R: Threads + Wait + Sync, F: Folder + Send>(
+/// How the program ends over a folder and a script, with such trouble outside
+/// and such a gate.
+pub fn ending_over<R: Threads + Wait + Sync, F: Folder + Send, G: Gate>(
     rt: &R,
     alloc: Global,
     words: &[String],
     folder: &mut F,
     script: &[u8],
     trouble: Trouble,
+    gate: &G,
 ) -> Result<Ending, Memory>
     requires { F.faults folder.old < 2 ^ 64 - 1 }
 {
     let mut script = script_of(alloc, script, trouble)?;
-    let ending = ending_with(rt, alloc, words, folder, &mut script, trouble);
+    let ending = ending_with(rt, alloc, words, folder, &mut script, trouble, gate);
     drop(script);
     ending
 }
 
-/// How the program ends over files and a script, with such trouble outside.
-pub fn ending_over_files<R: Threads + Wait + Sync>(
+/// How the program ends over files and a script, with such trouble outside
+/// and such a gate.
+pub fn ending_over_files<R: Threads + Wait + Sync, G: Gate>(
     rt: &R,
     alloc: Global,
     words: &[String],
     files: Files,
     script: &[u8],
     trouble: Trouble,
+    gate: &G,
 ) -> Result<Ending, Memory> {
     let mut folder = folder_of(alloc, files, trouble)?;
-    let ending = ending_over(rt, alloc, words, &mut folder, script, trouble);
+    let ending = ending_over(rt, alloc, words, &mut folder, script, trouble, gate);
     drop(folder);
     ending
 }

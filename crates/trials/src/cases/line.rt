@@ -49,6 +49,10 @@ pub enum CaseLine<'a> {
     Moves(&'a str),
     /// The calls that fail in turn, as `folder 15`.
     Each(&'a str),
+    /// A piece of work that is held until another one is done, which is so.
+    Meets(&'a str),
+    /// A piece of work that is held until another one is done, which isn't so as long as it is held.
+    Misses(&'a str),
     /// The number with which it ends.
     Status(&'a str),
     /// A line of standard output.
@@ -122,7 +126,7 @@ fn script_of<'a>(word: &str, rest: &'a str) -> Option<CaseLine<'a>> {
     }
 }
 
-// A line that says what goes wrong outside.
+// A line that says what goes wrong outside, or what threads meet.
 fn trouble_of<'a>(word: &str, rest: &'a str) -> Option<CaseLine<'a>> {
     match word {
         "folder" => Some(CaseLine::Folder(rest)),
@@ -131,6 +135,8 @@ fn trouble_of<'a>(word: &str, rest: &'a str) -> Option<CaseLine<'a>> {
         "room" => Some(CaseLine::Room(rest)),
         "moves" => Some(CaseLine::Moves(rest)),
         "each" => Some(CaseLine::Each(rest)),
+        "meets" => Some(CaseLine::Meets(rest)),
+        "misses" => Some(CaseLine::Misses(rest)),
         _ => None,
     }
 }

@@ -1,6 +1,7 @@
 //! What is asked in a case, and how it has to end.
 ghost use Rattle.std.specs.Prelude.{◌<◌};
 
+use super::holding::Hold;
 use gtfs_rows::number_of;
 use std::alloc::{AllocError, Global};
 
@@ -94,6 +95,8 @@ pub struct CaseQuestion {
     pub trouble: Trouble,
     /// Which calls fail in turn, where some do.
     pub turns: Option<Turns>,
+    /// Which pieces of work are held.
+    pub holds: Vec<Hold>,
     pub want: Wanted,
 }
 
@@ -148,6 +151,7 @@ impl CaseQuestion {
             script: Vec::new(alloc),
             trouble: Trouble::NONE,
             turns: None,
+            holds: Vec::new(alloc),
             want,
         })
     }
@@ -229,6 +233,16 @@ impl CaseQuestion {
     pub fn fail_each(&mut self, calls: &str) -> bool {
         self.turns = turns_of(calls);
         self.asked == AskedOf::Program && self.turns.is_some()
+    }
+
+    /// A piece of work that is held until another one is done, and whether that is so. It is said of
+    /// the program alone.
+    pub fn hold(&mut self, alloc: Global, text: &str, is_met: bool) -> Result<bool, AllocError> {
+        let Some(hold) = Hold::of_text(alloc, text, is_met)? else {
+            return Ok(false);
+        };
+        self.holds.push(hold)?;
+        Ok(self.asked == AskedOf::Program)
     }
 
     /// The number with which it ends. It is said once, and isn't that of a good end, which needs no

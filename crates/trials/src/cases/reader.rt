@@ -55,6 +55,8 @@ fn add_answer(
         CaseLine::Room(_) | CaseLine::Moves(_) | CaseLine::Each(_) => Ok(add_trouble(
             question, line,
         )),
+        CaseLine::Meets(text) => Ok(question.hold(alloc, text, true)?),
+        CaseLine::Misses(text) => Ok(question.hold(alloc, text, false)?),
         CaseLine::Status(number) => Ok(question.want_status(number)),
         CaseLine::Out(text) => add_out(alloc, question, text, "\n"),
         CaseLine::Part(text) => add_out(alloc, question, text, ""),

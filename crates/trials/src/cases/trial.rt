@@ -2,6 +2,7 @@
 use super::case::Case;
 use super::ending::{Ending, ending_over, ending_over_files};
 use super::endless::Endless;
+use super::holding::{Hold, Holding};
 use super::question::{AskedOf, CaseQuestion, Outside, Trouble, Turns, Wanted};
 use super::shown::shown_paths;
 use super::untried::Untried;
@@ -55,6 +56,31 @@ impl CaseTally {
     }
 }
 
+// How the program ends over the files of a case, with such trouble outside and such a gate.
+fn ending_by<R: Threads + Wait + Sync>(
+    rt: &R,
+    alloc: Global,
+    case: &Case,
+    question: &CaseQuestion,
+    trouble: Trouble,
+    gate: &Holding,
+) -> Result<Ending, Memory> {
+    let words = question.words.as_slice();
+    let script = question.script.as_slice();
+    match case.endless() {
+        Some(path) => ending_over(
+            rt,
+            alloc,
+            words,
+            &mut Endless { path },
+            script,
+            trouble,
+            gate,
+        ),
+        None => ending_over_files(rt, alloc, words, case.files(alloc)?, script, trouble, gate),
+    }
+}
+
 // How the program ends over the files of a case, with such trouble outside.
 fn program_ending<R: Threads + Wait + Sync>(
     rt: &R,
@@ -63,12 +89,10 @@ fn program_ending<R: Threads + Wait + Sync>(
     question: &CaseQuestion,
     trouble: Trouble,
 ) -> Result<Ending, Memory> {
-    let words = question.words.as_slice();
-    let script = question.script.as_slice();
-    match case.endless() {
-        Some(path) => ending_over(rt, alloc, words, &mut Endless { path }, script, trouble),
-        None => ending_over_files(rt, alloc, words, case.files(alloc)?, script, trouble),
-    }
+    let gate = Holding::new(alloc, question.holds.as_slice())?;
+    let mut ending = ending_by(rt, alloc, case, question, trouble, &gate)?;
+    ending.met = gate.met(alloc)?;
+    Ok(ending)
 }
 
 // How the change times and footpaths of a day are shown.
@@ -118,9 +142,16 @@ fn has_pieces(text: &str, pieces: &[String]) -> bool {
     }
 }
 
+// Whether each piece of work was let on that has to be, and no other one.
+fn are_met(met: &[bool], holds: &[Hold]) -> bool {
+    met.iter().copied().eq(holds.iter().map(|hold| hold.is_met))
+}
+
 // Whether the program ended as it has to.
-fn is_same(came: &Ending, want: &Wanted) -> bool {
-    came.code == want.code
+fn is_same(came: &Ending, question: &CaseQuestion) -> bool {
+    let want = &question.want;
+    are_met(came.met.as_slice(), question.holds.as_slice())
+        && came.code == want.code
         && has_pieces(text_of(came.out.as_slice()), want.pieces.as_slice())
         && came.err.as_slice() == want.err.as_slice()
 }
@@ -175,7 +206,7 @@ fn bad_turn<R: Threads + Wait + Sync>(
     let is_right = if number < turns.count {
         is_refused(&came, turns.calls, &question.want)
     } else {
-        is_same(&came, &question.want)
+        is_same(&came, question)
     };
     Ok(if is_right { None } else { Some(came) })
 }
@@ -189,7 +220,7 @@ fn bad_ending<R: Threads + Wait + Sync>(
 ) -> Result<Option<Ending>, Memory> {
     let Some(turns) = question.turns else {
         let came = question_ending(rt, alloc, case, question)?;
-        let is_right = is_same(&came, &question.want);
+        let is_right = is_same(&came, question);
         return Ok(if is_right { None } else { Some(came) });
     };
     for number in 0..turns.count {
@@ -210,6 +241,10 @@ fn write_ending(rt: &impl Print, question: &CaseQuestion, came: &Ending) {
     let _ = print!(rt; "{asked}");
     for word in &question.words {
         let _ = print!(rt; " {word}");
+    }
+    for (hold, is_met) in question.holds.iter().zip(came.met.iter()) {
+        let word = if *is_met { "meets" } else { "misses" };
+        let _ = print!(rt; "\n{word} {}", hold.text);
     }
     let _ = println!(rt; "\nstatus {}", came.code);
     for line in text_of(came.out.as_slice()).lines() {

@@ -6,7 +6,7 @@ use std::alloc::Global;
 use std::str;
 use std::sync::Wait;
 use std::thread::Threads;
-use tb_base::Memory;
+use tb_base::{IdleGate, Memory};
 
 // There is room for each answer.
 const ROOMY: Trouble = Trouble {
@@ -59,7 +59,7 @@ fn ending_over_copies<R: Threads + Wait + Sync>(
 ) -> Result<Ending, Memory> {
     let mut copies = Vec::new(alloc);
     add_copies(alloc, files, &mut copies)?;
-    ending_over_files(rt, alloc, words, copies, b"".as_slice(), ROOMY)
+    ending_over_files(rt, alloc, words, copies, b"".as_slice(), ROOMY, &IdleGate)
 }
 
 /// How the program ends over files, with the words of a line and no script.
