@@ -6,11 +6,13 @@ mod late;
 mod refused;
 mod same_hops;
 
+use crate::feed_day::FeedDay;
 use crate::stopped::Stopped;
 use made_feeds::Seeds;
 use refused::{Ended, Refused};
 use segment_queue::Desk;
 use std::alloc::Global;
+use std::rt::Files;
 use std::sync::Wait;
 use std::thread::Threads;
 
@@ -39,6 +41,15 @@ fn compared<R: Threads + Wait + Sync + Print>(
     }
 }
 
+// Writes where a comparison ended early.
+fn stopped(rt: &impl Print, ended: Ended) -> Stopped {
+    if let Refused::Memory = ended.refused {
+        return Stopped::Memory;
+    }
+    let _ = println!(rt; "{ended:?}");
+    Stopped::Wrong
+}
+
 /// Compares over all feeds with one desk, and writes what was compared, or where the first
 /// difference is.
 pub fn compare<R: Threads + Wait + Sync + Print>(
@@ -49,15 +60,21 @@ pub fn compare<R: Threads + Wait + Sync + Print>(
 ) -> Result<(), Stopped> {
     match compared(rt, alloc, comparison, desk) {
         Ok(()) => Ok(()),
-        Err(
-            Ended {
-                refused: Refused::Memory,
-                ..
-            },
-        ) => Err(Stopped::Memory),
-        Err(ended) => {
-            let _ = println!(rt; "{ended:?}");
-            Err(Stopped::Wrong)
-        }
+        Err(ended) => Err(stopped(rt, ended)),
+    }
+}
+
+/// Compares ways to an answer over a day of a feed, between all of its stops, and writes what was
+/// compared, or what differs.
+pub fn compare_between<R: Threads + Sync + Files + Print + Eprint>(
+    rt: &R,
+    alloc: Global,
+    feed: &FeedDay<'_>,
+    desk: &mut Desk,
+) -> Result<(), Stopped> {
+    let table = feed.timetable(rt, alloc)?;
+    match answers::compare_between(rt, alloc, table, desk) {
+        Ok(()) => Ok(()),
+        Err(ended) => Err(stopped(rt, ended)),
     }
 }

@@ -7,6 +7,8 @@
 //! - `broken:COUNT` breaks small feeds that look random, and asks over them;
 //! - `answers:COUNT` holds ways to an answer against one another over small feeds that look random,
 //!   and over two that are made by hand;
+//! - `between:DIR@DATE` holds them against one another over one day of a feed, between all of its
+//!   stops;
 //! - `late:COUNT` holds editions that late trips amend against editions that are built anew;
 //! - `METHOD:COUNT:DIR@DATE` measures so many random questions over one day of a feed.
 //!
@@ -19,6 +21,7 @@
 mod building;
 mod cases;
 mod comparing;
+mod feed_day;
 mod measuring;
 mod part;
 mod questions;
@@ -27,7 +30,7 @@ mod ways;
 
 use cases::trial::CaseTally;
 use cases::try_cases;
-use comparing::compare;
+use comparing::{compare, compare_between};
 use made_feeds::words_of;
 use measuring::measure;
 use part::{Part, parts_of};
@@ -50,6 +53,7 @@ fn try_part<R: Threads + Wait + Sync + Files + CpuClock + Print + Eprint>(
     match part {
         Part::Cases(path) => try_cases(rt, alloc, path, tally),
         Part::Compared(comparison) => compare(rt, alloc, *comparison, desk),
+        Part::Between(feed) => compare_between(rt, alloc, feed, desk),
         Part::Measured(measurement) => measure(rt, alloc, measurement, desk),
     }
 }
@@ -103,7 +107,7 @@ fn code_of<R: Threads + Wait + Sync + Files + CpuClock + Print + Eprint>(
 // Writes how the program is used, and says with which number to end then.
 fn write_usage(rt: &impl Eprint) -> u8 {
     let _ = eprintln!(rt;
-        "usage: trials PART.. (FILE, COMPARISON:COUNT[:SEED], METHOD:COUNT:DIR@DATE)"
+        "usage: trials PART.. (FILE, COMPARISON:COUNT[:SEED], between:DIR@DATE, METHOD:COUNT:DIR@DATE)"
     );
     let _ = eprintln!(rt; "COMPARISON: answers|broken|late");
     let _ = eprintln!(rt; "METHOD: search|plain|profile|reach|latest|pin|publish");

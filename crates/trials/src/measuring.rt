@@ -36,29 +36,7 @@ use std::thread::Threads;
 use std::time::CpuClock;
 use stores::{by_pins, by_publications};
 use tb_base::{Memory, Timetable};
-use tb_io::HostFolder;
-use trip_table::{Options, read_day};
 use watch::Watch;
-
-// The change time of a stop where transfers.txt doesn't say, in seconds.
-const CHANGE: u32 = 60;
-
-fn timetable(rt: &impl Files, alloc: Global, measurement: &Measurement<'_>) -> Option<Timetable> {
-    let options = Options {
-        change: CHANGE,
-        station: None,
-        close: false,
-    };
-    let mut folder = HostFolder::new(rt);
-    read_day(
-        alloc,
-        &mut folder,
-        measurement.dir,
-        &measurement.day,
-        &options,
-    )
-    .ok()
-}
 
 // What is found, and the microseconds of processor time that finding it took.
 #[derive(Clone, Copy)]
@@ -199,22 +177,23 @@ fn write(rt: &(impl Print + Eprint), measured: Result<Measured, Memory>) -> Resu
     }
 }
 
-/// Measures, and writes what was found, or that the feed has no timetable of that day.
+/// Measures, and writes what was found.
 pub fn measure<R: Threads + Wait + Sync + Files + CpuClock + Print + Eprint>(
     rt: &R,
     alloc: Global,
     measurement: &Measurement<'_>,
     desk: &mut Desk,
 ) -> Result<(), Stopped> {
-    match timetable(rt, alloc, measurement) {
-        Some(table) => {
-            let Measurement { method, count, .. } = measurement;
+    let Measurement {
+        method,
+        count,
+        feed,
+    } = measurement;
+    match feed.timetable(rt, alloc) {
+        Ok(table) => {
             let measured = measured_over(rt, alloc, table, *method, desk, *count);
             write(rt, measured)
         }
-        None => {
-            let _ = eprintln!(rt; "trials: the feed has no timetable of that day");
-            Err(Stopped::NoTimetable)
-        }
+        Err(stopped) => Err(stopped),
     }
 }

@@ -1,5 +1,6 @@
 //! The parts that the words of the command line name.
 use crate::comparing::Comparison;
+use crate::feed_day::FeedDay;
 use crate::measuring::method::{Measurement, method_named};
 use made_feeds::Seeds;
 use std::alloc::Global;
@@ -11,6 +12,8 @@ pub enum Part<'a> {
     Cases(&'a str),
     /// Ways to a result are compared.
     Compared(Comparison),
+    /// Ways to an answer are compared over a day of a feed, between all of its stops.
+    Between(FeedDay<'a>),
     /// Questions are measured.
     Measured(Measurement<'a>),
 }
@@ -22,6 +25,7 @@ fn part_of(word: &str) -> Option<Part<'_>> {
     };
     match name {
         "answers" => Some(Part::Compared(Comparison::Answers(Seeds::of_text(rest)?))),
+        "between" => Some(Part::Between(FeedDay::of_text(rest)?)),
         "broken" => Some(Part::Compared(Comparison::Broken(Seeds::of_text(rest)?))),
         "late" => Some(Part::Compared(Comparison::Late(Seeds::of_text(rest)?))),
         _ => Some(Part::Measured(Measurement::of_text(method_named(name)?, rest)?)),

@@ -22,12 +22,13 @@ mod trial;
 mod twins;
 
 use crate::comparing::refused::{Ended, FeedName, MadeFeed, Refused};
-use between_all::try_made;
+use between_all::{try_between, try_made};
 use made_feeds::Seeds;
 use segment_queue::Desk;
 use std::alloc::Global;
 use std::thread::Threads;
 use tally::AnswersTally;
+use tb_base::Timetable;
 use trial::try_seed;
 use twins::try_twins;
 
@@ -66,6 +67,20 @@ fn try_feeds<R: Threads + Sync>(
         add(&mut tally, FeedName::Twins(seed), compared)?;
     }
     Ok(tally)
+}
+
+/// Compares over a timetable, between all of its stops, and writes what was compared.
+pub fn compare_between<R: Threads + Sync + Print>(
+    rt: &R,
+    alloc: Global,
+    table: Timetable,
+    desk: &mut Desk,
+) -> Result<(), Ended> {
+    let mut tally = AnswersTally::NOTHING;
+    let compared = try_between(rt, alloc, table, desk);
+    add(&mut tally, FeedName::OfDay, compared)?;
+    tally.write(rt);
+    Ok(())
 }
 
 /// Compares over all feeds with one desk, and writes what was compared.

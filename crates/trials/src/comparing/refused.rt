@@ -82,11 +82,12 @@ pub enum MadeFeed {
     Ring,
 }
 
-/// A feed: one that is made by hand, the one of a seed, the twins of a seed, or the one of a seed
-/// that is broken or whose trips are late.
+/// A feed: one that is made by hand, one of the machine's folder, the one of a seed, the twins of a
+/// seed, or the one of a seed that is broken or whose trips are late.
 #[derive(Clone, Copy, Debug)]
 pub enum FeedName {
     Made(MadeFeed),
+    OfDay,
     Seed(u32),
     Twins(u32),
     Broken(u32),

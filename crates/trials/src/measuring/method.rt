@@ -1,6 +1,6 @@
 //! What is measured, and how a word says it.
+use crate::feed_day::FeedDay;
 use gtfs_rows::number_of;
-use service_day::{Day, day_of};
 
 /// What is asked of an edition.
 #[derive(Clone, Copy, PartialEq, Eq, Debug)]
@@ -32,9 +32,7 @@ pub enum Method {
 pub struct Measurement<'a> {
     pub method: Method,
     pub count: u32,
-    /// The folder of the feed.
-    pub dir: &'a str,
-    pub day: Day,
+    pub feed: FeedDay<'a>,
 }
 
 /// The method of a name.
@@ -55,15 +53,10 @@ impl Measurement<'_> {
     /// What is measured by a method, as a text `COUNT:DIR@DATE` says; none where it has no meaning.
     pub fn of_text(method: Method, text: &str) -> Option<Measurement<'_>> {
         let (count, feed) = text.split_once(':')?;
-        let (dir, date) = feed.rsplit_once('@')?;
-        let Ok(day) = day_of(date.as_bytes()) else {
-            return None;
-        };
         Some(Measurement {
             method,
             count: number_of(count.as_bytes())?,
-            dir,
-            day,
+            feed: FeedDay::of_text(feed)?,
         })
     }
 }

@@ -1,4 +1,4 @@
-//! The feeds made by hand, asked between all of their stops.
+//! Feeds asked between all of their stops.
 ghost use Rattle.std.specs.Prelude.{◌<◌, length};
 ghost use Rattle.mirror_table.specs.Mirror.{IsMirror};
 
@@ -16,13 +16,33 @@ use made_feeds::{Unread, ring, town};
 use segment_queue::Desk;
 use std::alloc::Global;
 use std::thread::Threads;
-use tb_base::{Memory, Sec, Timetable};
+use tb_base::{Memory, Sec, Timetable, TripNo};
 
-// Times at which one leaves.
-const LEAVING: [Sec; 5] = [28_800, 28_801, 29_400, 30_060, 31_200];
+// Times at which one leaves, in seconds after the first departure.
+const LEAVING: [Sec; 5] = [0, 1, 600, 1_260, 2_400];
 
-// Times by which one arrives.
-const ARRIVING: [Sec; 5] = [29_399, 30_599, 30_600, 31_500, 33_300];
+// Times by which one arrives, likewise.
+const ARRIVING: [Sec; 5] = [599, 1_799, 1_800, 2_700, 4_500];
+
+// When what is asked begins.
+#[derive(Clone, Copy)]
+struct Times {
+    // The first departure.
+    start: Sec,
+    // The windows.
+    window: Sec,
+}
+
+// When the first trip leaves its first stop.
+fn first_departure(table: &Timetable) -> Sec {
+    let mut first: Sec = 359_999;
+    for trip in 0..table.trip_count() {
+        if let Some(event) = table.events(TripNo(trip)).first() {
+            first = first.min(event.dep);
+        }
+    }
+    first
+}
 
 // Compares for a query between two stops.
 fn try_query(
@@ -47,12 +67,14 @@ fn try_queries(
     desk: &mut Desk,
     from: u32,
     to: u32,
+    start: Sec,
 ) -> Result<AnswersTally, Refused>
     requires from { from < length edition.now.table.stops }
     requires to { to < length edition.now.table.stops }
 {
     let mut tally = AnswersTally::NOTHING;
-    for leave in LEAVING {
+    for after in LEAVING {
+        let leave = start.saturating_add(after);
         tally.add(try_query(alloc, edition, desk, from, to, leave)?);
     }
     Ok(tally)
@@ -84,13 +106,15 @@ fn try_arrivals(
     desk: &mut Desk,
     from: u32,
     to: u32,
+    start: Sec,
 ) -> Result<AnswersTally, Refused>
     requires mirror { IsMirror edition.now.table mirrored.now.table }
     requires from { from < length edition.now.table.stops }
     requires to { to < length edition.now.table.stops }
 {
     let mut tally = AnswersTally::NOTHING;
-    for by in ARRIVING {
+    for after in ARRIVING {
+        let by = start.saturating_add(after);
         tally.add(try_arrival(alloc, edition, mirrored, desk, from, to, by)?);
     }
     Ok(tally)
@@ -119,16 +143,16 @@ fn try_from(
     mirrored: &Edition,
     desk: &mut Desk,
     from: u32,
-    first: Sec,
+    times: Times,
 ) -> Result<AnswersTally, Refused>
     requires mirror { IsMirror edition.now.table mirrored.now.table }
     requires from { from < length edition.now.table.stops }
 {
     let mut tally = AnswersTally::NOTHING;
     for to in 0..edition.table().stop_count() {
-        tally.add(try_queries(alloc, edition, desk, from, to)?);
-        tally.add(try_arrivals(alloc, edition, mirrored, desk, from, to)?);
-        tally.add(try_window(alloc, edition, desk, from, to, first)?);
+        tally.add(try_queries(alloc, edition, desk, from, to, times.start)?);
+        tally.add(try_arrivals(alloc, edition, mirrored, desk, from, to, times.start)?);
+        tally.add(try_window(alloc, edition, desk, from, to, times.window)?);
     }
     Ok(tally)
 }
@@ -139,13 +163,14 @@ fn try_origin(
     edition: &Edition,
     desk: &mut Desk,
     from: u32,
+    start: Sec,
 ) -> Result<AnswersTally, Refused>
     requires { from < length edition.now.table.stops }
 {
     let origins = one_stop(alloc, edition.table(), from)?;
     let mut tally = AnswersTally::NOTHING;
-    for leave in LEAVING {
-        let leave = leave.min(359_999);
+    for after in LEAVING {
+        let leave = start.saturating_add(after).min(359_999);
         let reached = compare_reach(alloc, edition, desk, origins.as_slice(), leave)?;
         tally.add(reached);
     }
@@ -158,14 +183,14 @@ fn try_editions(
     edition: &Edition,
     mirrored: &Edition,
     desk: &mut Desk,
-    first: Sec,
+    times: Times,
 ) -> Result<AnswersTally, Refused>
     requires { IsMirror edition.now.table mirrored.now.table }
 {
     let mut tally = AnswersTally::FEED;
     for from in 0..edition.table().stop_count() {
-        tally.add(try_from(alloc, edition, mirrored, desk, from, first)?);
-        tally.add(try_origin(alloc, edition, desk, from)?);
+        tally.add(try_from(alloc, edition, mirrored, desk, from, times)?);
+        tally.add(try_origin(alloc, edition, desk, from, times.start)?);
     }
     Ok(tally)
 }
@@ -176,13 +201,13 @@ fn try_edition<R: Threads + Sync>(
     rt: &R,
     alloc: Global,
     edition: &Edition,
-    first: Sec,
+    times: Times,
     desk: &mut Desk,
 ) -> Result<AnswersTally, Refused> {
     compare_hops(rt, alloc, edition)?;
     match mirror_built(rt, alloc, edition.table()) {
         Ok(mirrored) => {
-            let compared = try_editions(alloc, edition, &mirrored, desk, first);
+            let compared = try_editions(alloc, edition, &mirrored, desk, times);
             drop(mirrored);
             compared
         }
@@ -190,22 +215,35 @@ fn try_edition<R: Threads + Sync>(
     }
 }
 
-// Compares all over a timetable, between all of its stops, in windows that begin at a time.
+// Compares all over a timetable, between all of its stops.
 fn try_between_all<R: Threads + Sync>(
     rt: &R,
     alloc: Global,
     table: Timetable,
-    first: Sec,
+    times: Times,
     desk: &mut Desk,
 ) -> Result<AnswersTally, Refused> {
     match built(rt, alloc, table) {
         Ok(edition) => {
-            let compared = try_edition(rt, alloc, &edition, first, desk);
+            let compared = try_edition(rt, alloc, &edition, times, desk);
             drop(edition);
             compared
         }
         Err(Memory) => Err(Refused::Memory),
     }
+}
+
+/// Compares all over a timetable, between all of its stops, in windows that begin before the first
+/// departure.
+pub fn try_between<R: Threads + Sync>(
+    rt: &R,
+    alloc: Global,
+    table: Timetable,
+    desk: &mut Desk,
+) -> Result<AnswersTally, Refused> {
+    let start = first_departure(&table);
+    let window = start.saturating_sub(100);
+    try_between_all(rt, alloc, table, Times { start, window }, desk)
 }
 
 impl MadeFeed {
@@ -233,7 +271,11 @@ pub fn try_made<R: Threads + Sync>(
     desk: &mut Desk,
 ) -> Result<AnswersTally, Refused> {
     match feed.timetable(alloc) {
-        Ok(table) => try_between_all(rt, alloc, table, feed.first_time(), desk),
+        Ok(table) => {
+            let start = first_departure(&table);
+            let window = feed.first_time();
+            try_between_all(rt, alloc, table, Times { start, window }, desk)
+        }
         Err(unread) => Err(Refused::from(unread)),
     }
 }
