@@ -137,7 +137,9 @@ impl AnswersTally {
         let _ = println!(rt; "windows {windows} slots {slots}");
         let _ = println!(rt; "times to arrive by {arrivals} latest departures {departures}");
         let _ = println!(rt; "stops reached {reached}");
-        twins.write(rt);
+        if twins.feeds > 0 {
+            twins.write(rt);
+        }
         let _ = println!(rt; "no difference");
     }
 }
