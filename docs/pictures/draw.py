@@ -350,7 +350,7 @@ BOXES = {
     "text": ["answer_text"],
 }
 BELOW = ("definitions and laws, which all of these cite", ["tb_base", "tb_laws"])
-ABOVE = ("the program", ["lane_serve", "router_cli", "router"])
+ABOVE = ("the program", ["live_turns", "lane_serve", "router_cli", "router"])
 TESTS = ("tests and measurements", ["made_feeds", "cross_tests", "trials"])
 WHAT_FLOWS = ["rows", "timetable", "kept transfers", "network", "hits", "journeys"]
 
