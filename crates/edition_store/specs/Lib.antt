@@ -3,3 +3,4 @@ pub mod Lists
 pub mod Steps
 pub mod Rules
 pub mod Tied
+pub mod AfterRun
