@@ -347,7 +347,7 @@ BOXES = {
     "edition": ["edition_build", "edition_store", "history", "late_edit"],
     "search": ["segment_queue", "earliest_query", "reach_all", "arrive_by", "query_gate", "plain_rounds"],
     "journeys": ["journey_unfold", "journey_read"],
-    "text": ["answer_text"],
+    "text": ["answer_text", "answer_json"],
 }
 BELOW = ("definitions and laws, which all of these cite", ["tb_base", "tb_laws"])
 ABOVE = ("the program", ["live_turns", "lane_serve", "router_cli", "router"])

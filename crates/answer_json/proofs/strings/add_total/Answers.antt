@@ -1,0 +1,14 @@
+use Rattle.std.proofs.Common.{◌++◌, ◌∷◌, []}
+use Rattle.std.specs.Fmt.{decimal}
+use Rattle.answer_text.proofs.Joined.{joined, last_joined}
+use Rattle.answer_json.specs.Frames.{count_json}
+use Rattle.answer_json.proofs.strings.add_total.Goals as goal
+
+pub returns : goal.returns
+unfolding count_json
+returns c =
+    let s = c.args.text.now in
+    let name = c.args.name.now in
+    let two = joined s c.add.new.self c.add-2.new.self (44 ∷ 34 ∷ []) name c.in_ok-add.ensures.added c.in_ok-add-2.ensures.added in
+    let three = joined s c.add-2.new.self c.add-3.new.self ((44 ∷ 34 ∷ []) ++ name) (34 ∷ 58 ∷ []) two c.in_ok-add-3.ensures.added in
+    last_joined c.count.result s c.add-3.new.self c.count.new.self (((44 ∷ 34 ∷ []) ++ name) ++ 34 ∷ 58 ∷ []) (decimal c.args.n) three c.count.ensures.added

@@ -1,0 +1,6 @@
+pub mod Frames
+pub mod Journeys
+pub mod Reached
+pub mod Builds
+pub mod Faults
+pub mod Shown

@@ -1,0 +1,24 @@
+-- The best values to every stop as JSON.
+use Rattle.std.specs.Prelude.{ℕ, List, [], ◌++◌, codes, length, slice_index_or}
+use Rattle.tb_base.specs.declared.query.Value.{Value}
+use Rattle.tb_base.specs.TimetableData.{TimetableData}
+use Rattle.tb_base.specs.Transfers.{numbers_below}
+use Rattle.answer_text.specs.Journeys.{stop_name}
+use Rattle.answer_json.specs.Frames.{count_json, framed, moment, string_json}
+use Rattle.answer_json.specs.declared.frame.Frame.{Frame}
+use Rattle.answer_json.specs.declared.frame.Frame.TheVariants as frame
+
+-- `{"arrive":TIME,..,"rides":N}`
+abbrev pub value_json : Value → List ℕ
+value_json v =
+    codes "{" ++ moment (codes "arrive") v.arrive ++ count_json (codes "rides") v.rides ++ codes "}"
+
+-- `{"stop":STOP,"values":[..]}`, with what a list by stops has for the stop
+abbrev pub stop_json : TimetableData → List (List Value) → ℕ → List ℕ
+stop_json T lists stop =
+    codes "{\"stop\":" ++ string_json (stop_name T stop) ++ codes ",\"values\":"
+    ++ framed frame.Array value_json (slice_index_or lists stop []) ++ codes "}"
+
+-- one value a stop, by its number
+abbrev pub reach_json : Frame → TimetableData → List (List Value) → List ℕ
+reach_json frame T lists = framed frame (stop_json T lists) (numbers_below (length T.stops))

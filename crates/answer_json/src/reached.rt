@@ -1,0 +1,118 @@
+//! The best values to every stop as JSON.
+ghost use Rattle.std.specs.Prelude.{◌≡◌, ◌++◌, ◌<◌, ◌≤◌, ◌∷◌, [], OnOk, drop, length, map, slice_index_or};
+ghost use Rattle.tb_base.specs.Transfers.{numbers_below};
+ghost use Rattle.answer_json.specs.Frames.{followers, framed};
+ghost use Rattle.answer_json.specs.Reached.{reach_json, stop_json, value_json};
+ghost use Rattle.answer_json.specs.declared.frame.Frame.TheVariants as frame;
+
+use crate::frame::{Frame, add_moment};
+use crate::journeys::add_stop;
+use crate::strings::add_count;
+use answer_text::Text;
+use tb_base::{Memory, StopNo, Timetable, Value};
+
+/// Adds a value as `{"arrive":TIME,"arrive_seconds":N,"rides":N}`.
+pub fn add_value(text: &mut Text, value: &Value) -> Result<(), Memory>
+    ensures { OnOk result (text.new ≡ text.old ++ value_json value.now) }
+{
+    text.add(b"{")?;
+    add_moment(text, b"arrive", value.arrive)?;
+    add_count(text, b"rides", value.rides)?;
+    text.add(b"}")
+}
+
+// Adds values that follow others.
+fn add_later_values(text: &mut Text, values: &[Value]) -> Result<(), Memory>
+    ensures { OnOk result (text.new ≡ text.old ++ followers frame.Array value_json values.now) }
+{
+    for value in values {
+        text.add(b",")?;
+        add_value(text, value)?;
+    }
+    Ok(())
+}
+
+// Adds the array of some values.
+fn add_values(text: &mut Text, values: &[Value]) -> Result<(), Memory>
+    ensures { OnOk result (text.new ≡ text.old ++ framed frame.Array value_json values.now) }
+{
+    match values {
+        [] => text.add(b"[]"),
+        [value, rest @ ..] => {
+            text.add(b"[")?;
+            add_value(text, value)?;
+            add_later_values(text, rest)?;
+            text.add(b"]")
+        }
+    }
+}
+
+// The values of a stop.
+fn values_of(lists: &[Vec<Value>], stop: StopNo) -> &[Value]
+    requires { stop < length lists.now }
+    ensures { result.now ≡ slice_index_or (map (λ list. list.items) lists.now) stop [] }
+{
+    lists[stop.index()].as_slice()
+}
+
+// Adds a stop with its values.
+fn add_reached(
+    text: &mut Text,
+    table: &Timetable,
+    lists: &[Vec<Value>],
+    stop: StopNo,
+) -> Result<(), Memory>
+    requires stop { stop < length table.now.stops }
+    requires each_stop { length lists.now ≡ length table.now.stops }
+    ensures { OnOk result (text.new
+        ≡ text.old ++ stop_json table.now (map (λ list. list.items) lists.now) stop) }
+{
+    text.add(b"{\"stop\":")?;
+    add_stop(text, table, stop)?;
+    text.add(b",\"values\":")?;
+    add_values(text, values_of(lists, stop))?;
+    text.add(b"}")
+}
+
+// Adds the stops behind the first with their values.
+#[tactic(auto, using(crate::proofs::Numbers::followers_more))]
+fn add_later_stops(
+    text: &mut Text,
+    frame: Frame,
+    table: &Timetable,
+    lists: &[Vec<Value>],
+) -> Result<(), Memory>
+    requires some { 0 < length table.now.stops }
+    requires each_stop { length lists.now ≡ length table.now.stops }
+    ensures { OnOk result (text.new ≡ text.old
+        ++ followers frame (stop_json table.now (map (λ list. list.items) lists.now))
+        (drop 1 (numbers_below (length table.now.stops)))) }
+{
+    for stop in 1..table.stop_count() {
+        text.add(frame.between())?;
+        add_reached(text, table, lists, StopNo(stop))?;
+    }
+    Ok(())
+}
+
+/// Adds each stop, by its number, as `{"stop":STOP,"values":[..]}`, each of its values as
+/// `{"arrive":TIME,"arrive_seconds":N,"rides":N}`. There is one list of values a stop.
+#[tactic(auto, using(crate::proofs::Numbers::framed_none))]
+pub fn add_reach(
+    text: &mut Text,
+    frame: Frame,
+    table: &Timetable,
+    lists: &[Vec<Value>],
+) -> Result<(), Memory>
+    requires { length lists.now ≡ length table.now.stops }
+    ensures { OnOk result (text.new
+        ≡ text.old ++ reach_json frame table.now (map (λ list. list.items) lists.now)) }
+{
+    if table.stop_count() == 0 {
+        return text.add(frame.nothing());
+    }
+    text.add(frame.opening())?;
+    add_reached(text, table, lists, StopNo(0))?;
+    add_later_stops(text, frame, table, lists)?;
+    text.add(frame.closing())
+}
