@@ -1,5 +1,5 @@
 ghost use Rattle.std.specs.Prelude.{◌≡◌, ◌≢◌, ◌⊎◌, ◌-◌, ◌<◌, length, slice_get};
-ghost use Rattle.std.specs.Prelude.{IfNone, IfOk, IfSome, MatchBool, MatchOption, Some};
+ghost use Rattle.std.specs.Prelude.{IfErr, IfNone, IfOk, IfSome, MatchBool, MatchOption, Some};
 
 use crate::edition::Edition;
 use crate::pinned::Pinned;
@@ -49,8 +49,9 @@ impl<J: Naming> Shelf<J> {
     /// Adds the last edition of a list that has one more, and says whether it has. Refused only for
     /// want of memory: the shelf stays as it was.
     pub fn add(&mut self, pinned: &Pinned<J>) -> Result<bool, Memory>
-        ensures { IfOk result (λ added. MatchBool added (self.new ≡ pinned.now.list)
+        ensures added { IfOk result (λ added. MatchBool added (self.new ≡ pinned.now.list)
             (self.new ≡ self.old)) }
+        ensures refused { IfErr result (λ _. self.new ≡ self.old) }
     {
         if pinned.number() as usize != self.editions.len() + 1 {
             return Ok(false);

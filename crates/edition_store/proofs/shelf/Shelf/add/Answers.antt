@@ -21,8 +21,8 @@ invariant_of-self-2 g c =
     let items : c.push.new.self.items ≡ front.list = c.in_ok-push.ensures.items ∙ ap (λ l. l ++ x ∷ []) (sym c.self.invariant) ∙ all in
     ap (λ (s : Shown EditionData). s.list) c.again.ensures ∙ sym items
 
-pub returns : goal.returns
-returns g c =
+pub returns-clause-added : goal.returns-clause-added
+returns-clause-added g c =
     let front = c.pinned-inside.inside.0.0.front in
     let known = c.self.inside.front in
     let same = ap (λ p. p.content) c.pinned-inside.view_is ∙ c.pinned.view_is in
