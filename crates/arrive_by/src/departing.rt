@@ -9,7 +9,7 @@ ghost use Rattle.arrive_by.specs.Latest.{AreLatestDepartures, DepartureData};
 use crate::departures::{Arrival, Departure};
 use crate::turned::departures;
 use earliest_query::earliest;
-use edition_store::Edition;
+use edition_store::Network;
 use journey_unfold::choices;
 use mirror_table::mirrored_time;
 use segment_queue::{Desk, Steps};
@@ -31,11 +31,11 @@ fn mirrored_query(alloc: Global, by: &Arrival) -> Result<Query, Memory>
     })
 }
 
-// The best values of a query over an edition, each with legs, on a ledger that nobody else counts
+// The best values of a query over a network, each with legs, on a ledger that nobody else counts
 // in.
 fn choices_on<L: Ledger>(
     alloc: Global,
-    edition: &Edition,
+    network: &Network,
     query: &Query,
     desk: &mut Desk,
     blank: Blank,
@@ -43,29 +43,29 @@ fn choices_on<L: Ledger>(
     requires name { blank.name ≡ L.name }
     requires parts { blank.parts ≡ L.parts }
     requires some { 0 < L.parts }
-    requires origins { All (λ p. p < length edition.now.table.stops) query.now.from }
-    requires targets { All (λ p. p < length edition.now.table.stops) query.now.to }
+    requires origins { All (λ p. p < length network.now.table.stops) query.now.from }
+    requires targets { All (λ p. p < length network.now.table.stops) query.now.to }
     requires leave { query.now.leave ≤ℤ pos 359999 }
     ensures values { IfOk result (λ cs.
-        AreBestValues edition.now.table query.now (map ChoiceData.value cs.items)) }
+        AreBestValues network.now.table query.now (map ChoiceData.value cs.items)) }
     ensures journeys { IfOk result (λ cs. All (λ c.
-        SpellValue edition.now.table query.now (ChoiceData.legs c) (ChoiceData.value c)) cs.items) }
+        SpellValue network.now.table query.now (ChoiceData.legs c) (ChoiceData.value c)) cs.items) }
 {
-    edition.soundness();
-    desk.make_room(edition)?;
+    network.soundness();
+    desk.make_room(network)?;
     let mut steps = Steps::<L>::new(blank);
-    earliest(edition, query, desk, &mut steps);
-    choices(alloc, desk, edition.table(), query)
+    earliest(network, query, desk, &mut steps);
+    choices(alloc, desk, network.table(), query)
 }
 
 /// The latest departures of a timetable that arrive by a time, each with the legs of a journey, by
-/// an edition of its mirror: the pairs of departure and number of rides to which no different one
+/// the network of its mirror: the pairs of departure and number of rides to which no different one
 /// leaves no earlier with no more rides. A walk counts as one that arrives at the time. The desk may
 /// have served any network before; it is made to fit. The time is at most 75:59:59. Refused only
 /// for want of memory: the desk may be used again.
 pub fn latest(
     alloc: Global,
-    mirrored: &Edition,
+    mirrored: &Network,
     table: &Timetable,
     by: &Arrival,
     desk: &mut Desk,

@@ -4,7 +4,7 @@
 //! one for the earliest arrivals, which a search over trip segments answers (Witt, Trip-Based
 //! Public Transit Routing, ESA 2015). To the layer above the crate promises that `latest` gives
 //! exactly the best pairs of departure and number of rides, each with the legs of a journey that
-//! has them, and `departures_text` exactly their lines. `mirror` makes the timetable whose edition
+//! has them, and `departures_text` exactly their lines. `mirror` makes the timetable whose network
 //! is asked.
 #![tactic(auto)]
 

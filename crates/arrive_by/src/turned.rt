@@ -6,14 +6,14 @@ ghost use Rattle.mirror_table.specs.TurnedJourneys.{turn_leg, turn_legs};
 ghost use Rattle.arrive_by.specs.Latest.{departure_from};
 
 use crate::departures::Departure;
-use edition_store::Edition;
+use edition_store::Network;
 use mirror_table::mirrored_time;
 use segment_queue::Scan;
 use std::alloc::Global;
 use tb_base::{Choice, Leg, Memory};
 
 // A leg turned round.
-fn turned_leg(mirrored: &Edition, leg: Leg) -> Leg
+fn turned_leg(mirrored: &Network, leg: Leg) -> Leg
     requires { HasNumbers mirrored.now.table leg }
     ensures { result ≡ turn_leg mirrored.now.table leg }
 {
@@ -39,7 +39,7 @@ fn turned_leg(mirrored: &Edition, leg: Leg) -> Leg
 }
 
 // Legs turned round, the last one first.
-fn turned_legs(alloc: Global, mirrored: &Edition, legs: &[Leg]) -> Result<Vec<Leg>, Memory>
+fn turned_legs(alloc: Global, mirrored: &Network, legs: &[Leg]) -> Result<Vec<Leg>, Memory>
     requires { All (HasNumbers mirrored.now.table) legs.now }
     ensures { IfOk result (λ v. v.items ≡ turn_legs mirrored.now.table legs.now) }
 {
@@ -52,7 +52,7 @@ fn turned_legs(alloc: Global, mirrored: &Edition, legs: &[Leg]) -> Result<Vec<Le
 }
 
 // A choice turned round.
-fn departure(alloc: Global, mirrored: &Edition, choice: &Choice) -> Result<Departure, Memory>
+fn departure(alloc: Global, mirrored: &Network, choice: &Choice) -> Result<Departure, Memory>
     requires numbers { All (HasNumbers mirrored.now.table) choice.now.legs }
     requires time { negsuc 86399 ≤ℤ choice.now.value.arrive }
     ensures { IfOk result (λ d. d ≡ departure_from mirrored.now.table choice.now) }
@@ -67,7 +67,7 @@ fn departure(alloc: Global, mirrored: &Edition, choice: &Choice) -> Result<Depar
 /// Choices in the mirror, turned round. Refused only for want of memory.
 pub(crate) fn departures(
     alloc: Global,
-    mirrored: &Edition,
+    mirrored: &Network,
     choices: &[Choice],
 ) -> Result<Vec<Departure>, Memory>
     requires numbers { All (λ c. All (HasNumbers mirrored.now.table) (ChoiceData.legs c))

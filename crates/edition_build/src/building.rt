@@ -1,4 +1,4 @@
-ghost use Rattle.std.specs.Prelude.{◌≡◌, ◌<◌, ◌≤◌, IfOk};
+ghost use Rattle.std.specs.Prelude.{◌≡◌, ◌<◌, ◌≤◌, IfOk, IsSome};
 ghost use Rattle.edition_store.specs.Editions.{EditionData};
 ghost use Rattle.mirror_table.specs.Mirror.{IsMirror};
 ghost use Rattle.reduce_workers.specs.Reductions.{reduced};
@@ -118,4 +118,33 @@ pub fn build_mirror<G: Gate, R: Threads + Sync>(
 {
     let mirrored = mirror(alloc, table)?;
     build(rt, alloc, mirrored, workers, gate)
+}
+
+/// The edition of a timetable with the network of its mirror, so that it can be asked for latest
+/// departures as well; see `build`.
+pub fn build_mirrored<G: Gate, R: Threads + Sync>(
+    rt: &R,
+    alloc: Global,
+    table: Timetable,
+    workers: u32,
+    gate: &G,
+) -> Result<Edition, Memory>
+    requires some { 0 < workers }
+    requires most { workers ≤ 64 }
+    ensures table { IfOk result (λ e. EditionData.table e ≡ table) }
+    ensures mirror { IfOk result (λ e. IsSome (EditionData.mirror e)) }
+{
+    match build_mirror(rt, alloc, &table, workers, gate) {
+        Ok(mirror) => match build(rt, alloc, table, workers, gate) {
+            Ok(edition) => Ok(edition.with_mirror(mirror.into_network())),
+            Err(Memory) => {
+                drop(mirror);
+                Err(Memory)
+            }
+        },
+        Err(Memory) => {
+            drop(table);
+            Err(Memory)
+        }
+    }
 }

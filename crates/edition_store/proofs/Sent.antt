@@ -9,6 +9,8 @@ use Rattle.history.specs.declared.law.Naming.{Ghosts}
 use Rattle.history.proofs.Sent.{front_send, front_sync, history_send}
 use Rattle.edition_store.specs.declared.publisher.Shows as shows
 use Rattle.edition_store.specs.contracts.content.Content as content
+use Rattle.edition_store.specs.contracts.edition.Edition as edition
+use Rattle.edition_store.specs.contracts.network.Network as network
 use Rattle.edition_store.specs.contracts.pinned.Last as last
 use Rattle.edition_store.specs.contracts.pinned.Pinned as pinned
 use Rattle.edition_store.specs.contracts.pinned.Receipt as receipt
@@ -16,11 +18,23 @@ use Rattle.edition_store.specs.contracts.publisher.Publishing as publishing
 use Rattle.edition_store.specs.contracts.seat.Seat as seat
 use Rattle.edition_store.specs.contracts.shared.Shared as shared
 
+network_send : IsSend network.the_row
+network_send = search (sendable, crosses) depth 40 fits 100000
+
+network_sync : IsSync network.the_row
+network_sync = search (sendable, crosses) depth 40 fits 100000
+
+edition_send : IsSend edition.the_row
+edition_send = search (network_send, sendable, crosses) depth 40 fits 100000
+
+edition_sync : IsSync edition.the_row
+edition_sync = search (network_sync, sendable, crosses) depth 40 fits 100000
+
 pub shared_send : IsSend shared.the_row
-shared_send = search (sendable, crosses) depth 40 fits 100000
+shared_send = search (edition_send, edition_sync, sendable, crosses) depth 40 fits 100000
 
 pub shared_sync : IsSync shared.the_row
-shared_sync = search (sendable, crosses) depth 40 fits 100000
+shared_sync = search (edition_send, edition_sync, sendable, crosses) depth 40 fits 100000
 
 module _ (J : RattleType) (g : Ghosts J.Denot) where
   pub content_send : IsSend (content.the_row J g)

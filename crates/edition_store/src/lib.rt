@@ -1,11 +1,12 @@
 //! The network of a day as one value, ready for questions, and editions of it that are published
 //! while readers read.
 //!
-//! An `Edition` owns the timetable of a day, its lines, and the set of its kept transfers, as
-//! Trip-Based Public Transit Routing (Witt, ESA 2015) prepares them. To the layer above it promises
-//! that the lines are those of the timetable, that the hops from each event are exactly its kept
-//! transfers, and that these suffice: a search over them finds all best values. It is a `Scan`, so
-//! a search looks at it as it stands.
+//! A `Network` owns a timetable, its lines, and the set of its kept transfers, as Trip-Based Public
+//! Transit Routing (Witt, ESA 2015) prepares them. To the layer above it promises that the lines are
+//! those of the timetable, that the hops from each event are exactly its kept transfers, and that
+//! these suffice: a search over them finds all best values. It is a `Scan`, so a search looks at it
+//! as it stands. An `Edition` is the network of a day and the number of its kept transfers; where
+//! latest departures are asked for, it has the network of its mirror too.
 //!
 //! A `Store` gives one `Publisher`, which appends editions to one list and closes it in the end,
 //! and its seats, which pin the list in other threads and never wait for it: two copies of the list
@@ -22,6 +23,7 @@
 mod content;
 mod edition;
 pub mod laws;
+mod network;
 mod pinned;
 mod publisher;
 mod rule;
@@ -32,6 +34,7 @@ mod store;
 
 pub use edition::Edition;
 pub use history::{Naming, Opened};
+pub use network::Network;
 pub use pinned::{Last, Pinned, Receipt};
 pub use publisher::Publisher;
 pub use seat::Seat;

@@ -10,7 +10,7 @@ use Rattle.plain_rounds.specs.Shown.{SpellShortest}
 use Rattle.segment_queue.specs.Queue.{DeskData}
 use Rattle.segment_queue.specs.Traced.{IsAnswered, LegsFollow}
 use Rattle.segment_queue.specs.declared.desk.Hit.{Hit}
-use Rattle.edition_store.specs.Editions.{EditionData}
+use Rattle.edition_store.specs.Editions.{NetworkData}
 use Rattle.answer_text.specs.declared.question.Question.{Question}
 use Rattle.answer_text.specs.declared.question.Question.TheVariants as question
 use Rattle.arrive_by.specs.Latest.{AreLatestDepartures, DepartureData}
@@ -89,7 +89,8 @@ HaveNumbers T (reply.Departures ds) = All (λ d. All (HasNumbers T) (DepartureDa
 HaveNumbers T (reply.Reached lists) = length lists.items ≡ length T.stops
 HaveNumbers T (reply.UnknownStop name) = ⊤
 HaveNumbers T (reply.Deferred number) = ⊤
+HaveNumbers T reply.NoMirror = ⊤
 
--- a timetable with the lines and the hops of an edition
-abbrev pub network : TimetableData → EditionData → NetData
-network T e = record { table = T; lines = e.lines; hops = packed e.set }
+-- a timetable with the lines and the hops of a network
+abbrev pub over : TimetableData → NetworkData → NetData
+over T N = record { table = T; lines = N.lines; hops = packed N.set }

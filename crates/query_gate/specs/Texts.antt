@@ -20,3 +20,4 @@ reply_text T (reply.Departures ds) = departures_text T ds.items
 reply_text T (reply.Reached lists) = reach_text T (map (λ list. list.items) lists.items)
 reply_text T (reply.UnknownStop name) = unknown_text name
 reply_text T (reply.Deferred number) = deferred_text number
+reply_text T reply.NoMirror = codes "no mirror\n"

@@ -1,10 +1,10 @@
 //! One who asks, of the editions that are published.
-ghost use Rattle.std.specs.Prelude.{◌≡◌, ◌≤◌, ◌≤ℤ◌, [], ◌∷◌, false, true, IfErr, IfOk, length, pos};
-ghost use Rattle.answer_text.specs.Questions.{HasTimes, needs_mirror};
+ghost use Rattle.std.specs.Prelude.{◌≡◌, ◌≤◌, ◌≤ℤ◌, [], ◌∷◌, true, IfErr, IfOk, MatchOption, length, pos};
+ghost use Rattle.answer_text.specs.Questions.{HasTimes};
 ghost use Rattle.history.specs.Lists.{Shown, Extends};
-ghost use Rattle.edition_store.specs.Editions.{net_of};
+ghost use Rattle.edition_store.specs.Editions.{net_of, network_of};
 ghost use Rattle.edition_store.specs.Lists.{longer};
-ghost use Rattle.query_gate.specs.Callers.{Answers, CallerData, HasLegNumbersIn, IsAnsweredBy, LeavesAnsweredBy};
+ghost use Rattle.query_gate.specs.Callers.{Answers, CallerData, HasLegNumbersIn, IsAnsweredBy, IsServing, LacksMirror, LeavesAnsweredBy};
 ghost use Rattle.query_gate.specs.Questions.{ask_question, profile_question};
 ghost use Rattle.query_gate.specs.Replies.{HaveNumbers, LeavesAnswered};
 
@@ -12,7 +12,7 @@ use crate::answering::answer;
 use crate::asking::{AskText, ProfileText};
 use crate::reply::Reply;
 use answer_text::Question;
-use edition_store::{Edition, Last, Naming, Opened, Pinned, Receipt, Seat, Shared, Store};
+use edition_store::{Edition, Last, Naming, Network, Opened, Pinned, Receipt, Seat, Shared, Store};
 use segment_queue::Desk;
 use std::alloc::Global;
 use std::marker::Model;
@@ -40,9 +40,24 @@ impl<J: Naming> Model for Caller<J> {
     ghost view = { λ c. record { kept = c.seat; desk = c.desk } };
 }
 
-// The reply of an edition with a number to a question that edition `since` or a later one may
-// answer.
-fn reply_by(
+// The network of an edition that serves a question: its own, or for the latest departures that of
+// its mirror, where it has one.
+fn network_for<'e>(edition: &'e Edition, question: &Question) -> Option<&'e Network>
+    ensures { MatchOption result (LacksMirror edition.now question.now)
+        (λ N. IsServing edition.now question.now N.now) }
+{
+    edition.soundness();
+    if question.needs_mirror() {
+        edition.mirror()
+    } else {
+        Some(edition.network())
+    }
+}
+
+/// The reply of an edition with a number to a question that edition `since` or a later one may
+/// answer: `Deferred` exactly where that is a later one, `NoMirror` where it is asked for latest
+/// departures and has no mirror, else as `answer` does. Refused only for want of memory.
+pub fn reply_by(
     alloc: Global,
     number: u32,
     edition: &Edition,
@@ -50,17 +65,19 @@ fn reply_by(
     since: u32,
     question: &Question,
 ) -> Result<Reply, Memory>
-    requires times { HasTimes question.now }
-    requires forwards { needs_mirror question.now ≡ false }
+    requires { HasTimes question.now }
     ensures reply { IfOk result (Answers number edition.now since question.now) }
     ensures numbers { IfOk result (HaveNumbers edition.now.table) }
     ensures desk { IfOk result
-        (λ reply. LeavesAnswered (net_of edition.now) question.now reply desk.new) }
+        (λ reply. LeavesAnswered (net_of (network_of edition.now)) question.now reply desk.new) }
 {
     if number < since {
         return Ok(Reply::Deferred(since));
     }
-    answer(alloc, edition.table(), edition, desk, question)
+    match network_for(edition, question) {
+        Some(network) => answer(alloc, edition.table(), network, desk, question),
+        None => Ok(Reply::NoMirror),
+    }
 }
 
 impl<J: Naming> Caller<J> {
@@ -94,18 +111,17 @@ impl<J: Naming> Caller<J> {
     }
 
     /// Pins the published list once, and answers a question of its last edition: `Deferred` exactly
-    /// where edition `since` is a later one, else as `answer` does. A question that needs a mirror
-    /// can't be asked. The list extends that of each earlier answer. Waits for nobody. Refused only
-    /// for want of memory: then the caller's seat may have pinned a later list, and nothing is said
-    /// of its desk.
+    /// where edition `since` is a later one, `NoMirror` where it is asked for latest departures and
+    /// has no mirror, else as `answer` does. The list extends that of each earlier answer. Waits for
+    /// nobody. Refused only for want of memory: then the caller's seat may have pinned a later list,
+    /// and nothing is said of its desk.
     pub fn answer(
         &mut self,
         alloc: Global,
         since: u32,
         question: &Question,
     ) -> Result<Answer<J>, Memory>
-        requires times { HasTimes question.now }
-        requires forwards { needs_mirror question.now ≡ false }
+        requires { HasTimes question.now }
         ensures reply { IfOk result
             (λ a. IsAnsweredBy a.pinned.list (length a.pinned.list) since question.now a.reply) }
         ensures numbers { IfOk result

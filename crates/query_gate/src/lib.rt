@@ -9,10 +9,10 @@
 //! first, over the times at which one can leave an origin for a first ride, and keeps from each of
 //! them to the one before what it has reached, by the number of rides, as in the profile searches
 //! of Delling, Pajor and Werneck, Round-Based Public Transit Routing (ALENEX 2012). Each counts its
-//! looks on a counter that is lent; those of `best_choices` are bounded. `uncounted` has both for
-//! callers without a counter. A `Caller` asks of the last edition that is published, and defers
-//! what a later one is asked for. To the layer above the crate promises that each reply is exactly
-//! the one of the definitions, and that a caller's editions never go back.
+//! looks on a counter that is lent; those of `best_choices` are bounded. A `Caller` asks of the last
+//! edition that is published, by its own network or by that of its mirror, and defers what a later
+//! one is asked for. To the layer above the crate promises that each reply is exactly the one of
+//! the definitions, and that a caller's editions never go back.
 #![tactic(auto)]
 
 mod answering;
@@ -25,12 +25,11 @@ mod offers;
 mod reply;
 mod searching;
 mod slots;
-pub mod uncounted;
 
 pub use answering::answer;
 pub use asking::{AskText, ProfileText};
 pub use between::{Between, stops_between};
-pub use caller::{Answer, Caller};
+pub use caller::{Answer, Caller, reply_by};
 pub use choices::best_choices;
 pub use offers::best_offers;
 pub use reply::{Reply, reply_text};

@@ -5,6 +5,7 @@ ghost use Rattle.tb_base.specs.Profiles.{IsProfile, OfferData};
 ghost use Rattle.tb_base.specs.Sufficiency.{AreSufficient};
 ghost use Rattle.segment_queue.specs.Queue.{Fits};
 ghost use Rattle.segment_queue.specs.Traced.{LegsFollow};
+ghost use Rattle.query_gate.specs.Replies.{AreBestOffers};
 
 use super::leaving::leaving_times;
 use super::searching::{ask_at, begin, copy_values, query_after, search};
@@ -91,13 +92,7 @@ pub fn best_offers<L: Ledger, S: Look<L>>(
     requires targets { All (λ p. p < length table.now.stops) window.now.to }
     requires last { window.now.last ≤ℤ pos 359999 }
     requires sufficient { AreSufficient table.now (S.net scan.now).hops }
-    ensures slots { IfOk result (λ offers.
-        IsProfile table.now window.now (map OfferData.slot offers.items)) }
-    ensures journeys { IfOk result
-        (λ offers. All (λ o. SpellSlot table.now window.now (OfferData.legs o) (OfferData.slot o))
-        offers.items) }
-    ensures hops { IfOk result
-        (λ offers. All (λ o. LegsFollow (S.net scan.now).hops (OfferData.legs o)) offers.items) }
+    ensures best { IfOk result (λ os. AreBestOffers (S.net scan.now) window.now os.items) }
     ensures fits { Fits table.now desk.new }
     ensures emptied { OnErr result (desk.new.segments ≡ []) }
 {

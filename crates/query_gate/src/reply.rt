@@ -1,5 +1,5 @@
 //! What is answered, and its text.
-ghost use Rattle.std.specs.Prelude.{◌≡◌, IfOk};
+ghost use Rattle.std.specs.Prelude.{◌≡◌, IfOk, codes};
 ghost use Rattle.query_gate.specs.Replies.{HaveNumbers};
 ghost use Rattle.query_gate.specs.Texts.{deferred_text, reply_text};
 
@@ -24,6 +24,15 @@ pub enum Reply {
     UnknownStop(Name),
     /// The edition with this number or a later one was asked for, and isn't there yet.
     Deferred(u32),
+    /// Latest departures were asked of an edition that has no mirror.
+    NoMirror,
+}
+
+// `no mirror`.
+fn no_mirror_text(alloc: Global) -> Result<Vec<u8>, Memory>
+    ensures { IfOk result (λ v. v.items ≡ codes "no mirror\n") }
+{
+    Ok(Vec::from_slice(alloc, b"no mirror\n")?)
 }
 
 // `deferred N`.
@@ -49,5 +58,6 @@ pub fn reply_text(alloc: Global, table: &Timetable, reply: &Reply) -> Result<Vec
         Reply::Reached(lists) => reach_text(alloc, table, lists.as_slice()),
         Reply::UnknownStop(name) => unknown_text(alloc, name.bytes()),
         Reply::Deferred(number) => deferred_text(alloc, *number),
+        Reply::NoMirror => no_mirror_text(alloc),
     }
 }

@@ -12,7 +12,6 @@ mod arrivals;
 mod offers;
 mod query;
 mod text;
-pub mod uncounted;
 mod walking;
 
 pub use query::reach_all;

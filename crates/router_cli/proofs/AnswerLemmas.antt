@@ -14,10 +14,10 @@ use Rattle.answer_text.specs.Journeys.{unknown_text}
 use Rattle.answer_text.specs.Questions.{needs_mirror}
 use Rattle.answer_text.specs.declared.question.Question.{Question}
 use Rattle.answer_text.specs.declared.question.Question.TheVariants as question
-use Rattle.edition_store.specs.Editions.{EditionData, IsEdition, net_of}
+use Rattle.edition_store.specs.Editions.{IsNetwork, NetworkData, net_of}
 use Rattle.mirror_table.specs.Mirror.{IsMirror}
 use Rattle.query_gate.specs.Questions.{Ends, IsOrMirrors, Serves, ends_between}
-use Rattle.query_gate.specs.Replies.{AreBestChoices, AreBestOffers, IsReply, network}
+use Rattle.query_gate.specs.Replies.{AreBestChoices, AreBestOffers, IsReply, over}
 use Rattle.query_gate.specs.Texts.{reply_text}
 use Rattle.query_gate.specs.declared.reply.Reply.{Reply}
 use Rattle.query_gate.specs.declared.reply.Reply.TheVariants as reply
@@ -45,68 +45,73 @@ rides_follow hops others same (r ∷ []) follow = tt
 rides_follow hops others same (r ∷ s ∷ rest) follow =
     (subst (λ hs. Contains hs (record { trip = s.trip; at = s.board })) (same r.trip r.alight) follow.0, rides_follow hops others same (s ∷ rest) follow.1)
 
--- legs that follow the hops of an edition change by kept transfers
-kept_changes : (e : EditionData) → IsEdition e → {A : Type 0} (legs_of : A → List Leg) (xs : List A) →
-    All (λ x. LegsFollow (net_of e).hops (legs_of x)) xs → All (λ x. LegsFollow (kept_hops e.table e.lines) (legs_of x)) xs
-kept_changes e sound legs_of xs follow =
-    All-weaker (λ x. LegsFollow (net_of e).hops (legs_of x)) (λ x. LegsFollow (kept_hops e.table e.lines) (legs_of x))
-    (λ x h. rides_follow (net_of e).hops (kept_hops e.table e.lines) sound.hops (filter_map ride_of (legs_of x)) h) xs follow
+-- legs that follow the hops of a network change by kept transfers
+kept_changes : (N : NetworkData) → IsNetwork N → {A : Type 0} (legs_of : A → List Leg) (xs : List A) →
+    All (λ x. LegsFollow (net_of N).hops (legs_of x)) xs → All (λ x. LegsFollow (kept_hops N.table N.lines) (legs_of x)) xs
+kept_changes N sound legs_of xs follow =
+    All-weaker (λ x. LegsFollow (net_of N).hops (legs_of x)) (λ x. LegsFollow (kept_hops N.table N.lines) (legs_of x))
+    (λ x h. rides_follow (net_of N).hops (kept_hops N.table N.lines) sound.hops (filter_map ride_of (legs_of x)) h) xs follow
 
--- so what is best over an edition is best over the kept transfers of its timetable
-pub kept_choices : (e : EditionData) → IsEdition e → (Q : QueryData) (choices : List ChoiceData) → AreBestChoices (net_of e) Q choices → AreBestChoices (kept_network e.table e.lines) Q choices
-kept_choices e sound Q choices best =
-    record { values = best.values; journeys = best.journeys; hops = kept_changes e sound ChoiceData.legs choices best.hops }
+-- so what is best over a network is best over the kept transfers of its timetable
+pub kept_choices : (N : NetworkData) → IsNetwork N → (Q : QueryData) (choices : List ChoiceData) → AreBestChoices (net_of N) Q choices → AreBestChoices (kept_network N.table N.lines) Q choices
+kept_choices N sound Q choices best =
+    record { values = best.values; journeys = best.journeys; hops = kept_changes N sound ChoiceData.legs choices best.hops }
 
-kept_offers : (e : EditionData) → IsEdition e → (W : WindowData) (offers : List OfferData) → AreBestOffers (net_of e) W offers → AreBestOffers (kept_network e.table e.lines) W offers
-kept_offers e sound W offers best =
-    record { slots = best.slots; journeys = best.journeys; hops = kept_changes e sound OfferData.legs offers best.hops }
+kept_offers : (N : NetworkData) → IsNetwork N → (W : WindowData) (offers : List OfferData) → AreBestOffers (net_of N) W offers → AreBestOffers (kept_network N.table N.lines) W offers
+kept_offers N sound W offers best =
+    record { slots = best.slots; journeys = best.journeys; hops = kept_changes N sound OfferData.legs offers best.hops }
 
--- a right reply over an edition is one over the kept transfers of its timetable
-by_kept : (e : EditionData) → IsEdition e → (q : Question) (r : Reply) → IsReply (net_of e) q r → IsReply (kept_network e.table e.lines) q r
-by_kept e sound q (reply.UnknownStop name) h = h
-by_kept e sound (question.Ask from to leave) (reply.Values choices) (ends, is, best) = (ends, is, kept_choices e sound _ choices.items best)
-by_kept e sound (question.Ask from to leave) (reply.Slots offers) h = h
-by_kept e sound (question.Ask from to leave) (reply.Departures ds) h = h
-by_kept e sound (question.Ask from to leave) (reply.Reached lists) h = h
-by_kept e sound (question.Ask from to leave) (reply.Deferred number) h = h
-by_kept e sound (question.Profile from to first last) (reply.Values choices) h = h
-by_kept e sound (question.Profile from to first last) (reply.Slots offers) (ends, is, best) = (ends, is, kept_offers e sound _ offers.items best)
-by_kept e sound (question.Profile from to first last) (reply.Departures ds) h = h
-by_kept e sound (question.Profile from to first last) (reply.Reached lists) h = h
-by_kept e sound (question.Profile from to first last) (reply.Deferred number) h = h
-by_kept e sound (question.Latest from to arrive) (reply.Values choices) h = h
-by_kept e sound (question.Latest from to arrive) (reply.Slots offers) h = h
-by_kept e sound (question.Latest from to arrive) (reply.Departures ds) h = h
-by_kept e sound (question.Latest from to arrive) (reply.Reached lists) h = h
-by_kept e sound (question.Latest from to arrive) (reply.Deferred number) h = h
-by_kept e sound (question.Reach from leave) (reply.Values choices) h = h
-by_kept e sound (question.Reach from leave) (reply.Slots offers) h = h
-by_kept e sound (question.Reach from leave) (reply.Departures ds) h = h
-by_kept e sound (question.Reach from leave) (reply.Reached lists) h = h
-by_kept e sound (question.Reach from leave) (reply.Deferred number) h = h
+-- a right reply over a network is one over the kept transfers of its timetable
+by_kept : (N : NetworkData) → IsNetwork N → (q : Question) (r : Reply) → IsReply (net_of N) q r → IsReply (kept_network N.table N.lines) q r
+by_kept N sound q (reply.UnknownStop name) h = h
+by_kept N sound (question.Ask from to leave) (reply.Values choices) (ends, is, best) = (ends, is, kept_choices N sound _ choices.items best)
+by_kept N sound (question.Ask from to leave) (reply.Slots offers) h = h
+by_kept N sound (question.Ask from to leave) (reply.Departures ds) h = h
+by_kept N sound (question.Ask from to leave) (reply.Reached lists) h = h
+by_kept N sound (question.Ask from to leave) (reply.Deferred number) h = h
+by_kept N sound (question.Ask from to leave) reply.NoMirror h = h
+by_kept N sound (question.Profile from to first last) (reply.Values choices) h = h
+by_kept N sound (question.Profile from to first last) (reply.Slots offers) (ends, is, best) = (ends, is, kept_offers N sound _ offers.items best)
+by_kept N sound (question.Profile from to first last) (reply.Departures ds) h = h
+by_kept N sound (question.Profile from to first last) (reply.Reached lists) h = h
+by_kept N sound (question.Profile from to first last) (reply.Deferred number) h = h
+by_kept N sound (question.Profile from to first last) reply.NoMirror h = h
+by_kept N sound (question.Latest from to arrive) (reply.Values choices) h = h
+by_kept N sound (question.Latest from to arrive) (reply.Slots offers) h = h
+by_kept N sound (question.Latest from to arrive) (reply.Departures ds) h = h
+by_kept N sound (question.Latest from to arrive) (reply.Reached lists) h = h
+by_kept N sound (question.Latest from to arrive) (reply.Deferred number) h = h
+by_kept N sound (question.Latest from to arrive) reply.NoMirror h = h
+by_kept N sound (question.Reach from leave) (reply.Values choices) h = h
+by_kept N sound (question.Reach from leave) (reply.Slots offers) h = h
+by_kept N sound (question.Reach from leave) (reply.Departures ds) h = h
+by_kept N sound (question.Reach from leave) (reply.Reached lists) h = h
+by_kept N sound (question.Reach from leave) (reply.Deferred number) h = h
+by_kept N sound (question.Reach from leave) reply.NoMirror h = h
 
 -- one to a question that needs the mirror says nothing of lines and hops
-by_mirror : (T : TimetableData) (e : EditionData) (from to : List ℕ) (arrive : ℤ) (r : Reply) → IsReply (network T e) (question.Latest from to arrive) r → IsReply (kept_network T []) (question.Latest from to arrive) r
-by_mirror T e from to arrive (reply.UnknownStop name) h = h
-by_mirror T e from to arrive (reply.Values choices) h = h
-by_mirror T e from to arrive (reply.Slots offers) h = h
-by_mirror T e from to arrive (reply.Departures ds) h = h
-by_mirror T e from to arrive (reply.Reached lists) h = h
-by_mirror T e from to arrive (reply.Deferred number) h = h
+by_mirror : (T : TimetableData) (N : NetworkData) (from to : List ℕ) (arrive : ℤ) (r : Reply) → IsReply (over T N) (question.Latest from to arrive) r → IsReply (kept_network T []) (question.Latest from to arrive) r
+by_mirror T N from to arrive (reply.UnknownStop name) h = h
+by_mirror T N from to arrive (reply.Values choices) h = h
+by_mirror T N from to arrive (reply.Slots offers) h = h
+by_mirror T N from to arrive (reply.Departures ds) h = h
+by_mirror T N from to arrive (reply.Reached lists) h = h
+by_mirror T N from to arrive (reply.Deferred number) h = h
+by_mirror T N from to arrive reply.NoMirror h = h
 
--- the right reply to a question by an edition of the timetable itself
-by_itself : (T : TimetableData) (e : EditionData) → IsEdition e → (q : Question) (r : Reply) → e.table ≡ T → IsReply (network T e) q r → IsKeptReply T q r
-by_itself T e sound q r same h =
+-- the right reply to a question by the network of the timetable itself
+by_itself : (T : TimetableData) (N : NetworkData) → IsNetwork N → (q : Question) (r : Reply) → N.table ≡ T → IsReply (over T N) q r → IsKeptReply T q r
+by_itself T N sound q r same h =
     subst (λ (U : TimetableData). IsKeptReply U q r) same
-    (record { lines = e.lines; are_lines = λ own. sound.lines; right = by_kept e sound q r (subst (λ U. IsReply (network U e) q r) (sym same) h) })
+    (record { lines = N.lines; are_lines = λ own. sound.lines; right = by_kept N sound q r (subst (λ U. IsReply (over U N) q r) (sym same) h) })
 
 -- and by one that serves it
-pub kept_reply : (T : TimetableData) (e : EditionData) → IsEdition e → (q : Question) (r : Reply) → Serves T e.table q → IsReply (network T e) q r → IsKeptReply T q r
-kept_reply T e sound (question.Ask from to leave) r same h = by_itself T e sound (question.Ask from to leave) r same h
-kept_reply T e sound (question.Profile from to first last) r same h = by_itself T e sound (question.Profile from to first last) r same h
-kept_reply T e sound (question.Latest from to arrive) r mirror h =
-    record { lines = []; are_lines = λ own. absurd (let no : true ≡ false = own in cc); right = by_mirror T e from to arrive r h }
-kept_reply T e sound (question.Reach from leave) r same h = by_itself T e sound (question.Reach from leave) r same h
+pub kept_reply : (T : TimetableData) (N : NetworkData) → IsNetwork N → (q : Question) (r : Reply) → Serves T N.table q → IsReply (over T N) q r → IsKeptReply T q r
+kept_reply T N sound (question.Ask from to leave) r same h = by_itself T N sound (question.Ask from to leave) r same h
+kept_reply T N sound (question.Profile from to first last) r same h = by_itself T N sound (question.Profile from to first last) r same h
+kept_reply T N sound (question.Latest from to arrive) r mirror h =
+    record { lines = []; are_lines = λ own. absurd (let no : true ≡ false = own in cc); right = by_mirror T N from to arrive r h }
+kept_reply T N sound (question.Reach from leave) r same h = by_itself T N sound (question.Reach from leave) r same h
 
 -- it is right where no other way was asked for
 pub right_reply : (T : TimetableData) (q : Question) (r : Reply) → IsKeptReply T q r → IsRightReply T false q r
@@ -124,6 +129,7 @@ any_reply T from to leave (reply.Slots offers) h = absurd h.right
 any_reply T from to leave (reply.Departures ds) h = absurd h.right
 any_reply T from to leave (reply.Reached lists) h = absurd h.right
 any_reply T from to leave (reply.Deferred number) h = absurd h.right
+any_reply T from to leave reply.NoMirror h = absurd h.right
 
 either_reply : (T : TimetableData) (plain : Bool) (q : Question) (r : Reply) → IsRightReply T false q r → IsRightReply T plain q r
 either_reply T false q r h = h
@@ -132,20 +138,17 @@ either_reply T true (question.Profile from to first last) r h = h
 either_reply T true (question.Latest from to arrive) r h = h
 either_reply T true (question.Reach from leave) r h = h
 
--- the text of a right reply by an edition that serves a timetable
-pub reply_shown : (T : TimetableData) (e : EditionData) → IsEdition e → (q : Question) (r : Reply) → Serves T e.table q → IsReply (network T e) q r → (bytes : List ℕ) → bytes ≡ reply_text T r →
+-- the text of a right reply by a network that serves a timetable
+pub reply_shown : (T : TimetableData) (N : NetworkData) → IsNetwork N → (q : Question) (r : Reply) → Serves T N.table q → IsReply (over T N) q r → (bytes : List ℕ) → bytes ≡ reply_text T r →
     ShowsReply T false q bytes
-reply_shown T e sound q r serves h bytes text =
-    record { reply = r; right = right_reply T q r (kept_reply T e sound q r serves h); text = text }
+reply_shown T N sound q r serves h bytes text =
+    record { reply = r; right = right_reply T q r (kept_reply T N sound q r serves h); text = text }
 
 -- it may be shown either way
 pub either_way : (T : TimetableData) (plain : Bool) (q : Question) (bytes : List ℕ) → ShowsReply T false q bytes → ShowsReply T plain q bytes
 either_way T plain q bytes h = record { reply = h.reply; right = either_reply T plain q h.reply h.right; text = h.text }
 
--- an edition of a timetable, and one of its mirror, serve what they are built for
-pub serves_itself : (T M : TimetableData) (q : Question) → needs_mirror q ≡ false → M ≡ T → Serves T M q
-serves_itself T M q is same = subst (λ mirrored. IsOrMirrors mirrored T M) (sym is) same
-
+-- the network of the mirror of a timetable serves what it is built for
 pub mirror_serves : (T M : TimetableData) (q : Question) → needs_mirror q ≡ true → IsMirror T M → Serves T M q
 mirror_serves T M q is mirror = subst (λ mirrored. IsOrMirrors mirrored T M) (sym is) mirror
 

@@ -5,7 +5,7 @@ use Rattle.std.proofs.lemmas.List.Elements.{All-cons, All-nil}
 use Rattle.tb_base.specs.BestValues.{ChoiceData, QueryData}
 use Rattle.tb_base.specs.TimetableData.{TimetableData}
 use Rattle.answer_text.specs.Journeys.{choices_text}
-use Rattle.edition_store.specs.Editions.{EditionData, IsEdition, net_of}
+use Rattle.edition_store.specs.Editions.{IsNetwork, NetworkData, net_of}
 use Rattle.query_gate.specs.Replies.{AreBestChoices}
 use Rattle.feed_maker.specs.City.{city, city_stop, stop_number}
 use Rattle.feed_maker.proofs.Numbered.{length-made}
@@ -41,11 +41,11 @@ pub to_inside : (T : TimetableData) (n : ℕ) → T ≡ city n → IsSide n → 
 to_inside T n same side =
     All-cons (λ p. p < length T.stops) (stop_number n (n - 1) (n - 1)) [] (is_stop T n (stop_number n (n - 1) (n - 1)) same (last_inside n side.some)) (All-nil (λ p. p < length T.stops))
 
--- the text of the best choices over an edition
-pub choices_shown : (e : EditionData) → IsEdition e → (Q : QueryData) (choices : List ChoiceData) → AreBestChoices (net_of e) Q choices →
-    (bytes : List ℕ) → bytes ≡ choices_text e.table choices → ShowsKept e.table Q bytes
-choices_shown e sound Q choices best bytes text =
-    record { lines = e.lines; are_lines = sound.lines; choices = choices; best = kept_choices e sound Q choices best; text = text }
+-- the text of the best choices over a network
+pub choices_shown : (N : NetworkData) → IsNetwork N → (Q : QueryData) (choices : List ChoiceData) → AreBestChoices (net_of N) Q choices →
+    (bytes : List ℕ) → bytes ≡ choices_text N.table choices → ShowsKept N.table Q bytes
+choices_shown N sound Q choices best bytes text =
+    record { lines = N.lines; are_lines = sound.lines; choices = choices; best = kept_choices N sound Q choices best; text = text }
 
 -- a city's text from its two parts
 pub city_shown : (n : ℕ) (T : TimetableData) (report choices shown bytes : List ℕ) → T ≡ city n → IsReport T false report →

@@ -9,27 +9,27 @@ use crate::over_table::{direct_text, rounds_text};
 use answer_text::Question;
 use command_line::{Command, DayRequest};
 use edition_build::{build, build_mirror, report};
-use edition_store::Edition;
+use edition_store::Network;
 use query_gate::reply_text;
 use segment_queue::Desk;
 use std::alloc::Global;
 use std::thread::Threads;
 use tb_base::{Gate, Memory, Timetable};
 
-// The reply to a question about a timetable, by an edition that serves it.
+// The reply to a question about a timetable, by a network that serves it.
 fn text_by(
     alloc: Global,
     table: &Timetable,
-    edition: &Edition,
+    network: &Network,
     question: &Question,
 ) -> Result<Vec<u8>, Memory>
     requires times { HasTimes question.now }
-    requires serves { Serves table.now edition.now.table question.now }
+    requires serves { Serves table.now network.now.table question.now }
     ensures { IfOk result (λ text. ShowsReply table.now false question.now text.items) }
 {
-    edition.soundness();
+    network.soundness();
     let mut desk = Desk::new(alloc);
-    let answered = query_gate::answer(alloc, table, edition, &mut desk, question);
+    let answered = query_gate::answer(alloc, table, network, &mut desk, question);
     drop(desk);
     let reply = answered?;
     let text = reply_text(alloc, table, &reply);
@@ -52,7 +52,7 @@ fn mirror_text<G: Gate, R: Threads + Sync>(
     ensures { IfOk result (λ text. ShowsReply table.now false question.now text.items) }
 {
     let mirrored = build_mirror(rt, alloc, table, workers, gate)?;
-    let text = text_by(alloc, table, &mirrored, question);
+    let text = text_by(alloc, table, mirrored.network(), question);
     drop(mirrored);
     text
 }
@@ -88,7 +88,7 @@ pub(crate) fn answer<G: Gate, R: Threads + Sync>(
             }
             _ => {
                 let edition = build(rt, alloc, table, workers, gate)?;
-                let text = text_by(alloc, edition.table(), &edition, question);
+                let text = text_by(alloc, edition.table(), edition.network(), question);
                 drop(edition);
                 text
             }

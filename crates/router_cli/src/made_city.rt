@@ -13,13 +13,15 @@ ghost use Rattle.router_cli.specs.Cities.{IsCityText, corner_query};
 
 use answer_text::{build_text, choices_text};
 use edition_build::{assemble, counts_of};
-use edition_store::Edition;
+use edition_store::{Edition, Network};
 use feed_maker::city;
 use line_split::{Lines, split};
-use query_gate::uncounted::best_choices;
+use query_gate::best_choices;
 use reduce_workers::{Reduced, reduce_all};
-use segment_queue::Desk;
+use segment_queue::{Desk, Steps};
 use std::alloc::Global;
+use std::marker::Brand;
+use std::sync::ledger::{Blank, Ledger};
 use std::thread::Threads;
 use tb_base::{Choice, Gate, Memory, Query, StopNo, Timetable};
 
@@ -115,20 +117,27 @@ fn corner_query(alloc: Global, side: u32) -> Result<Query, Memory>
     })
 }
 
-// The best values of a query, each with a journey, in a desk that needn't have room.
-fn choices_in(
+// The best values of a query, each with a journey, in a desk that needn't have room and on a ledger
+// that nobody else counts in.
+fn choices_in<L: Ledger>(
     alloc: Global,
-    edition: &Edition,
+    network: &Network,
     query: &Query,
     desk: &mut Desk,
+    blank: Blank,
 ) -> Result<Vec<Choice>, Memory>
-    requires origins { All (λ p. p < length edition.now.table.stops) query.now.from }
-    requires targets { All (λ p. p < length edition.now.table.stops) query.now.to }
+    requires name { blank.name ≡ L.name }
+    requires parts { blank.parts ≡ L.parts }
+    requires some { 0 < L.parts }
+    requires origins { All (λ p. p < length network.now.table.stops) query.now.from }
+    requires targets { All (λ p. p < length network.now.table.stops) query.now.to }
     requires leave { query.now.leave ≤ℤ pos 359999 }
-    ensures { IfOk result (λ cs. AreBestChoices (net_of edition.now) query.now cs.items) }
+    ensures { IfOk result (λ cs. AreBestChoices (net_of network.now) query.now cs.items) }
 {
-    desk.make_room(edition)?;
-    best_choices(alloc, edition, query, desk)
+    network.soundness();
+    desk.make_room(network)?;
+    let mut steps = Steps::<L>::new(blank);
+    best_choices(alloc, network, network.table(), query, desk, &mut steps)
 }
 
 // The best values from the first corner to the last.
@@ -140,7 +149,8 @@ fn corner_text(alloc: Global, edition: &Edition, side: u32) -> Result<Vec<u8>, M
     edition.soundness();
     let query = corner_query(alloc, side)?;
     let mut desk = Desk::new(alloc);
-    let found = choices_in(alloc, edition, &query, &mut desk);
+    let network = edition.network();
+    let found = choices_in::<Brand>(alloc, network, &query, &mut desk, Blank::new(1));
     drop(desk);
     let choices = found?;
     choices_text(alloc, edition.table(), choices.as_slice())

@@ -1,16 +1,39 @@
 //! Ways to an answer. Each is called in one function alone, since whatever calls it is proved over
 //! all that its contract names.
-ghost use Rattle.std.specs.Prelude.{◌<◌, ◌≤ℤ◌, All, length, pos};
+ghost use Rattle.std.specs.Prelude.{◌≡◌, ◌<◌, ◌≤ℤ◌, All, length, pos};
 ghost use Rattle.mirror_table.specs.Mirror.{IsMirror};
 
 use arrive_by::{Arrival, Departure, latest};
-use edition_store::Edition;
+use edition_store::{Edition, Network};
 use plain_rounds::plain_ask;
-use query_gate::uncounted::{best_choices, best_offers};
-use reach_all::uncounted::reach_all;
-use segment_queue::Desk;
+use query_gate::{best_choices, best_offers};
+use reach_all::reach_all;
+use segment_queue::{Desk, Steps};
 use std::alloc::Global;
+use std::marker::Brand;
+use std::sync::ledger::{Blank, Ledger};
 use tb_base::{Choice, Memory, Offer, Query, Sec, StopNo, Timetable, Value, Window};
+
+// The best choices of a query, on a ledger that nobody else counts in.
+fn searched_on<L: Ledger>(
+    alloc: Global,
+    network: &Network,
+    desk: &mut Desk,
+    query: &Query,
+    blank: Blank,
+) -> Result<Vec<Choice>, Memory>
+    requires name { blank.name ≡ L.name }
+    requires parts { blank.parts ≡ L.parts }
+    requires some { 0 < L.parts }
+    requires origins { All (λ p. p < length network.now.table.stops) query.now.from }
+    requires targets { All (λ p. p < length network.now.table.stops) query.now.to }
+    requires time { query.now.leave ≤ℤ pos 359999 }
+{
+    network.soundness();
+    desk.make_room(network)?;
+    let mut steps = Steps::<L>::new(blank);
+    best_choices(alloc, network, network.table(), query, desk, &mut steps)
+}
 
 /// The best choices of a query, by the search over kept transfers.
 pub fn searched(
@@ -23,8 +46,7 @@ pub fn searched(
     requires targets { All (λ p. p < length edition.now.table.stops) query.now.to }
     requires time { query.now.leave ≤ℤ pos 359999 }
 {
-    desk.make_room(edition)?;
-    best_choices(alloc, edition, query, desk)
+    searched_on::<Brand>(alloc, edition.network(), desk, query, Blank::new(1))
 }
 
 /// The best choices of a query, round by round.
@@ -40,6 +62,27 @@ pub fn asked_by_rounds(
     plain_ask(alloc, table, query)
 }
 
+// The profile of a window, on a ledger that nobody else counts in.
+fn offers_on<L: Ledger>(
+    alloc: Global,
+    network: &Network,
+    desk: &mut Desk,
+    window: &Window,
+    blank: Blank,
+) -> Result<Vec<Offer>, Memory>
+    requires name { blank.name ≡ L.name }
+    requires parts { blank.parts ≡ L.parts }
+    requires some { 0 < L.parts }
+    requires origins { All (λ p. p < length network.now.table.stops) window.now.from }
+    requires targets { All (λ p. p < length network.now.table.stops) window.now.to }
+    requires last { window.now.last ≤ℤ pos 359998 }
+{
+    network.soundness();
+    desk.make_room(network)?;
+    let mut steps = Steps::<L>::new(blank);
+    best_offers(alloc, network, network.table(), window, desk, &mut steps)
+}
+
 /// The profile of a window.
 pub fn offers_of(
     alloc: Global,
@@ -51,8 +94,7 @@ pub fn offers_of(
     requires targets { All (λ p. p < length edition.now.table.stops) window.now.to }
     requires last { window.now.last ≤ℤ pos 359998 }
 {
-    desk.make_room(edition)?;
-    best_offers(alloc, edition, window, desk)
+    offers_on::<Brand>(alloc, edition.network(), desk, window, Blank::new(1))
 }
 
 /// The latest departures by a time, over the edition of the mirror.
@@ -69,7 +111,28 @@ pub fn departures_by(
     requires earliest { pos 0 ≤ℤ by.now.by }
     requires latest { by.now.by ≤ℤ pos 273599 }
 {
-    latest(alloc, mirrored, table, by, desk)
+    latest(alloc, mirrored.network(), table, by, desk)
+}
+
+// The best values to every stop, on a ledger that nobody else counts in.
+fn reached_on<L: Ledger>(
+    alloc: Global,
+    network: &Network,
+    desk: &mut Desk,
+    from: &[StopNo],
+    leave: Sec,
+    blank: Blank,
+) -> Result<Vec<Vec<Value>>, Memory>
+    requires name { blank.name ≡ L.name }
+    requires parts { blank.parts ≡ L.parts }
+    requires some { 0 < L.parts }
+    requires origins { All (λ p. p < length network.now.table.stops) from.now }
+    requires leave { leave ≤ℤ pos 359999 }
+{
+    network.soundness();
+    desk.make_room(network)?;
+    let mut steps = Steps::<L>::new(blank);
+    reach_all(alloc, network, from, leave, desk, &mut steps)
 }
 
 /// The best values to every stop.
@@ -83,5 +146,5 @@ pub fn reached(
     requires origins { All (λ p. p < length edition.now.table.stops) from.now }
     requires leave { leave ≤ℤ pos 359999 }
 {
-    reach_all(alloc, edition, from, leave, desk)
+    reached_on::<Brand>(alloc, edition.network(), desk, from, leave, Blank::new(1))
 }

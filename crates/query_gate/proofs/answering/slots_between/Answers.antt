@@ -10,11 +10,11 @@ use Rattle.query_gate.proofs.Numbers.{numbers_of_offers}
 use Rattle.query_gate.proofs.answering.slots_between.Goals as goal
 
 pub returns-in_ok-offers-in-Stops-clause-reply : goal.returns-in_ok-offers-in-Stops-clause-reply
-returns-in_ok-offers-in-Stops-clause-reply c =
+returns-in_ok-offers-in-Stops-clause-reply g c =
     let ends : Ends = record { from = c.in-Stops.from.items; to = c.in-Stops.to.items } in
-    let N = net_of c.args.edition.now in
+    let N = net_of c.args.network.now in
     let offers = c.in_ok-offers-in-Stops.offers.items in
-    let known = known_ends c.table-table.result.now c.args.edition.now.table c.bytes.result.now c.args.from.now c.bytes-2.result.now c.args.to.now
+    let known = known_ends c.table-table.result.now c.args.network.now.table c.bytes.result.now c.args.from.now c.bytes-2.result.now c.args.to.now
     c.table-table.ensures c.bytes.ensures c.bytes-2.ensures c.in_ok-name.field-0 c.in-Stops.from c.in-Stops.to c.in-Stops.is c.in_ok-name.ensures.between in (
       ends,
       known,
@@ -24,7 +24,7 @@ returns-in_ok-offers-in-Stops-clause-reply c =
     )
 
 pub returns-in_ok-offers-in-Stops-clause-numbers : goal.returns-in_ok-offers-in-Stops-clause-numbers
-returns-in_ok-offers-in-Stops-clause-numbers c =
+returns-in_ok-offers-in-Stops-clause-numbers g c =
     let there = subst (AreWithin (length c.table-table.result.now.stops)) c.in-Stops.is c.in_ok-name.ensures.within in
     let origins = subst (λ (T : TimetableData). All (λ p. p < length T.stops) c.in-Stops.from.items) c.table-table.ensures there.0 in
-    numbers_of_offers c.args.edition.now.table _ c.soundness.ensures.sound origins c.in_ok-offers-in-Stops.offers.items c.in_ok-offers-in-Stops.ensures.best.journeys
+    numbers_of_offers c.args.network.now.table _ c.soundness.ensures.sound origins c.in_ok-offers-in-Stops.offers.items c.in_ok-offers-in-Stops.ensures.best.journeys

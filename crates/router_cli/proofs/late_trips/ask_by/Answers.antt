@@ -3,7 +3,7 @@ use Rattle.std.specs.Prelude.{IfOk}
 use Rattle.std.proofs.lemmas.Result.{IfOk-weaker}
 use Rattle.tb_base.specs.TimetableData.{TimetableData}
 use Rattle.answer_text.specs.Questions.{needs_mirror}
-use Rattle.edition_store.specs.Editions.{EditionData, net_of}
+use Rattle.edition_store.specs.Editions.{EditionData, net_of, network_of}
 use Rattle.query_gate.specs.Replies.{HaveNumbers, IsReply}
 use Rattle.query_gate.specs.Texts.{reply_text}
 use Rattle.router_cli.specs.Answers.{ShowsReply}
@@ -11,10 +11,6 @@ use Rattle.router_cli.specs.LateTrips.{ask_of}
 use Rattle.router_cli.proofs.AnswerLemmas.{reply_shown}
 use Rattle.router_cli.proofs.LastEdition.{answered_last, last_looked_at, pinned_whole}
 use Rattle.router_cli.proofs.late_trips.ask_by.Goals as goal
-
-pub answer-requires-clause-forwards : goal.answer-requires-clause-forwards
-answer-requires-clause-forwards g c =
-    subst (λ q. needs_mirror q ≡ false) (sym c.in_ok-question.ensures.question) refl
 
 pub reply_text-text-requires : goal.reply_text-text-requires
 reply_text-text-requires g c =
@@ -30,11 +26,12 @@ returns g c e is =
     let reply = c.in_ok-answer.answer.reply in
     let answer = c.in_ok-answer.ensures in
     let same = pinned_whole c.args.caller.now.kept _ p c.requires answer.last answer.kept in
-    let right = answered_last p.list x c.in_ok-question.question reply c.edition-edition.ensures answer.reply in
+    let forwards = subst (λ q. needs_mirror q ≡ false) (sym c.in_ok-question.ensures.question) refl in
+    let right = answered_last p.list x c.in_ok-question.question reply forwards c.edition-edition.ensures answer.reply in
     subst (λ (y : EditionData). IfOk c.reply_text-text.result (λ text. ShowsReply y.table false (ask_of i) text.items))
     (last_looked_at c.args.caller.now.kept p e x same is c.edition-edition.ensures)
     (IfOk-weaker c.reply_text-text.result _ _
-    (λ text shown. reply_shown x.table x c.soundness.ensures (ask_of i) reply refl
-    (subst (λ q. IsReply (net_of x) q reply) c.in_ok-question.ensures.question right) text.items
+    (λ text shown. reply_shown x.table (network_of x) c.soundness.ensures.network (ask_of i) reply refl
+    (subst (λ q. IsReply (net_of (network_of x)) q reply) c.in_ok-question.ensures.question right) text.items
     (subst (λ T. text.items ≡ reply_text T reply) c.table.ensures shown))
     c.reply_text-text.ensures)

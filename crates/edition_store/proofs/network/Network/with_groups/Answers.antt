@@ -3,7 +3,7 @@ use Rattle.tb_base.specs.Lines.{AreDividedInto, AreLines}
 use Rattle.tb_base.specs.Sufficiency.{AreSufficient}
 use Rattle.tb_base.specs.TimetableData.{TimetableData}
 use Rattle.tb_laws.proofs.KeptLaws.{kept_hops_sufficient}
-use Rattle.edition_store.proofs.edition.Edition.new.Goals as goal
+use Rattle.edition_store.proofs.network.Network.with_groups.Goals as goal
 
 pub invariant_of-result : goal.invariant_of-result
 invariant_of-result c =
@@ -17,7 +17,6 @@ invariant_of-result c =
         sound = c.soundness.ensures;
         lines = subst (λ (t : TimetableData). AreLines t lines) c.requires.lines c.soundness-2.ensures.lines;
         hops = c.requires.hops;
-        kept = c.requires.kept;
         sufficient = subst (AreSufficient T) (λ k t i. sym (c.requires.hops t i) k) (kept_hops_sufficient T lines c.soundness.ensures divided);
       },
     )
