@@ -216,12 +216,13 @@ class Draw:
                 (
                     f"ask {ends} {first}",
                     f"profile {ends} {first} {last}",
+                    f"latest {ends} {last}",
                     f"reach {ends.split()[0]} {first}",
                     "lane b",
                     "# remark",
                 )
             )
-            lines.append(since + line if line[0] in "apr" else line)
+            lines.append(since + line if not line.startswith(("lane", "#")) else line)
         return "\n".join(lines).encode() + b"\n"
 
     def lates(self):

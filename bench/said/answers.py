@@ -23,14 +23,16 @@ RULES = (
 )
 COUNTS = r"trips \d+ lines \d+ kept \d+\n"
 REACHED = rf"(?:.+(?: -|(?: {TIME}/\d+)+)\n)*"
-REPLY = rf"\d+ edition \d+\n(?:deferred \d+\n|{CHOICES}|{OFFERS}|unknown stop .*\n|{REACHED})"
+DEPARTURES = rf"(?:{NO_JOURNEY}|(?:leave {TIME} rides \d+\n(?:{LEG})*)+)"
+ANSWER = rf"{CHOICES}|{OFFERS}|{DEPARTURES}|unknown stop .*\n|{REACHED}"
+REPLY = rf"\d+ edition \d+\n(?:deferred \d+\n|{ANSWER})"
 LANES = rf"(?:lane .*\n(?:{REPLY})*)*"
 # What each command may write.
 FORMS = {
     "direct": rf"arrive {TIME}\n|{NO_JOURNEY}",
     "ask": CHOICES,
     "profile": OFFERS,
-    "latest": rf"{NO_JOURNEY}|(?:leave {TIME} rides \d+\n(?:{LEG})*)+",
+    "latest": DEPARTURES,
     "reach": REACHED,
     "verify": rf"yes\n|no (?:{RULES}) leg \d+\n|no value arrive {TIME} rides \d+\n",
     "late": rf"edition 2 redone \d+ kept \d+\n{CHOICES}",

@@ -4,7 +4,7 @@ that takes no timetable.
 import re
 import typing
 
-from said.words import number_of, time_of
+from said.words import is_latest_time, is_time, number_of
 
 LONGEST_LINE = 1024
 MOST_BYTES = 33_554_432
@@ -74,10 +74,11 @@ def line_fault(words, lanes):
             return "1 BadLine"
         words = words[2:]
     form = (words[0] if words else "", len(words))
-    times = {("ask", 4): 1, ("profile", 5): 2, ("reach", 3): 1}.get(form)
+    times = {("ask", 4): 1, ("profile", 5): 2, ("latest", 4): 1, ("reach", 3): 1}.get(form)
     if times is None or not lanes:
         return "1 BadLine"
-    if any(time_of(word) is None for word in words[-times:]):
+    may_be_asked = is_latest_time if words[0] == "latest" else is_time
+    if not all(may_be_asked(word) for word in words[-times:]):
         return "4 BadTime"
     return None
 

@@ -1,5 +1,5 @@
 -- A run has one outcome for each item of its plan. A plan whose first item is refused has no answer but its fault, where nothing fails outside.
-use Rattle.std.proofs.Common.{◌≡◌, ℕ, length, List, [], ◌∷◌, Option, Result, Ok, Err, arith, refl}
+use Rattle.std.proofs.Common.{◌≡◌, ℕ, Bool, length, List, [], ◌∷◌, Option, Result, Ok, Err, arith, refl}
 use Rattle.std.specs.Prelude.{IfErr, IfOk, IsSome}
 use Rattle.tb_base.specs.TimetableData.{TimetableData}
 use Rattle.tb_io.specs.Files.{FileList}
@@ -14,14 +14,14 @@ use Rattle.lane_serve.specs.declared.plan.Outcome.TheVariants.{Published, Refuse
 use Rattle.lane_serve.specs.declared.run.ServeFault.{ServeFault}
 use Rattle.lane_serve.specs.declared.run.ServeFault.TheVariants as fault
 use Rattle.lane_serve.specs.Plans.{AreOutcomes, BeginsPublished, ItemData}
-use Rattle.lane_serve.specs.Script.{LaneData}
+use Rattle.lane_serve.specs.Script.{LaneData, needs_mirrors}
 use Rattle.lane_serve.proofs.Plans.{outcome_count}
 use Rattle.lane_serve.specs.Served.{FirstGives, IsServeFault, IsServed, ServedData, TellsFault}
 
 -- there is one outcome for each item
 pub outcome_each : (files : Option FileList) (options : Options) (plan : List ItemData) (script : List LaneData) (result : Result ServedData ServeFault)
     → IfOk result (IsServed files options plan script) → IfOk result (λ (s : ServedData). length s.outcomes ≡ length plan)
-outcome_each files options plan script (Ok s) run = outcome_count files options 0 plan s.outcomes run.editions run.outcomes
+outcome_each files options plan script (Ok s) run = outcome_count files options (needs_mirrors script) 0 plan s.outcomes run.editions run.outcomes
 outcome_each files options plan script (Err f) none = tt
 
 -- a day has one timetable or first fault
@@ -35,13 +35,13 @@ same_fault : (f g : FeedFault) (a b : Result TimetableData FeedFault) → a ≡ 
 same_fault f g a b h k e = cc
 
 -- a first item that was published has no fault
-not_refused : IsDetermined → (files : Option FileList) (options : Options) (n : ℕ) (plan : List ItemData) (os : List Outcome) (es : List EditionData) (f : FeedFault) → IsSome files
-    → AreOutcomes files options n plan os es → BeginsPublished os → FirstGives files options plan (Err f) → ⊥
-not_refused one files options n [] os es f there h b k = k
-not_refused one files options n (x ∷ xs) [] es f there h b k = b
-not_refused one files options n (x ∷ xs) (Refused g ∷ os) es f there h b k = b
-not_refused one files options n (x ∷ xs) (Published number trips lines kept ∷ os) [] f there h b k = h
-not_refused one files options n (x ∷ xs) (Published number trips lines kept ∷ os) (e ∷ es) f there h b k =
+not_refused : IsDetermined → (files : Option FileList) (options : Options) (mirrored : Bool) (n : ℕ) (plan : List ItemData) (os : List Outcome) (es : List EditionData) (f : FeedFault) → IsSome files
+    → AreOutcomes files options mirrored n plan os es → BeginsPublished os → FirstGives files options plan (Err f) → ⊥
+not_refused one files options mirrored n [] os es f there h b k = k
+not_refused one files options mirrored n (x ∷ xs) [] es f there h b k = b
+not_refused one files options mirrored n (x ∷ xs) (Refused g ∷ os) es f there h b k = b
+not_refused one files options mirrored n (x ∷ xs) (Published number trips lines kept ∷ os) [] f there h b k = h
+not_refused one files options mirrored n (x ∷ xs) (Published number trips lines kept ∷ os) (e ∷ es) f there h b k =
     not_both e.table f (one (feed_of files x.dir) x.day options (Ok e.table) (Err f) (h.0.0 there) (k there))
 
 same_first : IsDetermined → (files : Option FileList) (options : Options) (plan : List ItemData) (f g : FeedFault) → IsSome files → FirstGives files options plan (Err f) → FirstGives files options plan (Err g) → f ≡ g
@@ -51,7 +51,7 @@ same_first one files options (x ∷ xs) f g there h k = same_fault f g (Err f) (
 pub told_fault : IsDetermined → (files : Option FileList) (options : Options) (plan : List ItemData) (script : List LaneData) (before now : ℕ) (result : Result ServedData ServeFault)
     → IfOk result (IsServed files options plan script) → IfErr result (IsServeFault files options plan before now)
     → IsSome files → now ≡ before → (f : FeedFault) → FirstGives files options plan (Err f) → TellsFault f result
-told_fault one files options plan script before now (Ok s) ok err there stands f k = not_refused one files options 0 plan s.outcomes ok.editions f there ok.outcomes ok.first k
+told_fault one files options plan script before now (Ok s) ok err there stands f k = not_refused one files options (needs_mirrors script) 0 plan s.outcomes ok.editions f there ok.outcomes ok.first k
 told_fault one files options plan script before now (Err (fault.Feed g)) ok err there stands f k = same_first one files options plan g f there err.0 k
 told_fault one files options plan script before now (Err fault.ReadFault) ok err there stands f k = absurd (omega (arith, err, stands))
 told_fault one files options plan script before now (Err fault.Memory) ok err there stands f k = tt

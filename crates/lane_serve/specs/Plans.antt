@@ -1,5 +1,5 @@
 -- A plan of days of feeds, and what becomes of each item.
-use Rattle.std.specs.Prelude.{◌≡◌, ℕ, ◌+◌, ◌<◌, List, [], ◌∷◌, ◌++◌, length, Option, IsSome, Result, Ok, Err, ⊤}
+use Rattle.std.specs.Prelude.{◌≡◌, ℕ, ◌+◌, ◌<◌, List, [], ◌∷◌, ◌++◌, length, Bool, true, Option, IsSome, Result, Ok, Err, ⊤}
 use Rattle.tb_base.specs.TimetableData.{TimetableData}
 use Rattle.tb_io.specs.Files.{FileList}
 use Rattle.gtfs_rows.specs.declared.fault.FeedFault.{FeedFault}
@@ -29,9 +29,15 @@ abbrev pub ItemGives :
 ItemGives files options item result =
     IsSome files → IsTimetableOf (feed_of files item.dir) item.day options result
 
--- the edition of a lawful item: that of its timetable, with its lines and its kept transfers
-abbrev pub IsEditionOfItem : Option FileList → Options → ItemData → EditionData → Type 0
-IsEditionOfItem files options item e = ItemGives files options item (Ok e.table) × IsEdition e
+-- where mirrors are wanted, an edition has one
+abbrev pub HasMirror : Bool → EditionData → Type 0
+HasMirror mirrored e = mirrored ≡ true → IsSome e.mirror
+
+-- the edition of a lawful item: that of its timetable, with its lines and its kept transfers, and
+-- the same of its mirror where mirrors are wanted
+abbrev pub IsEditionOfItem : Option FileList → Options → Bool → ItemData → EditionData → Type 0
+IsEditionOfItem files options mirrored item e =
+    ItemGives files options item (Ok e.table) × IsEdition e × HasMirror mirrored e
 
 -- the outcome of an item that was published as edition number: that, and the edition's counts
 abbrev pub outcome_of : ℕ → EditionData → Outcome
@@ -39,26 +45,27 @@ outcome_of number e = Published number (length e.table.trips) (length e.lines) e
 
 -- One outcome for each item in order, where n editions were published before. A lawful item is
 -- published as the next edition; of another one its first fault is told, and it takes no number.
-abbrev pub AreOutcomes : Option FileList → Options → ℕ → List ItemData → List Outcome →
+abbrev pub AreOutcomes : Option FileList → Options → Bool → ℕ → List ItemData → List Outcome →
     List EditionData → Type 0
-AreOutcomes files options n [] [] [] = ⊤
-AreOutcomes files options n [] [] (e ∷ es) = ⊥
-AreOutcomes files options n [] (o ∷ os) es = ⊥
-AreOutcomes files options n (item ∷ items) [] es = ⊥
-AreOutcomes files options n (item ∷ items) (Refused f ∷ os) es =
-    ItemGives files options item (Err f) × AreOutcomes files options n items os es
-AreOutcomes files options n (item ∷ items) (Published number trips lines kept ∷ os) [] = ⊥
-AreOutcomes files options n (item ∷ items) (Published number trips lines kept ∷ os) (e ∷ es) =
-    IsEditionOfItem files options item e
+AreOutcomes files options mirrored n [] [] [] = ⊤
+AreOutcomes files options mirrored n [] [] (e ∷ es) = ⊥
+AreOutcomes files options mirrored n [] (o ∷ os) es = ⊥
+AreOutcomes files options mirrored n (item ∷ items) [] es = ⊥
+AreOutcomes files options mirrored n (item ∷ items) (Refused f ∷ os) es =
+    ItemGives files options item (Err f) × AreOutcomes files options mirrored n items os es
+AreOutcomes files options mirrored n (item ∷ items) (Published number trips lines kept ∷ os) [] = ⊥
+AreOutcomes files options mirrored n (item ∷ items) (Published number trips lines kept ∷ os)
+    (e ∷ es) =
+    IsEditionOfItem files options mirrored item e
     × (Published number trips lines kept ≡ outcome_of (n + 1) e)
-    × AreOutcomes files options (n + 1) items os es
+    × AreOutcomes files options mirrored (n + 1) items os es
 
 -- one more item: its outcome behind the others, and its edition, if it is lawful, behind the others
-abbrev pub Takes : Option FileList → Options → ItemData → List EditionData → List EditionData →
-    List Outcome → List Outcome → Type 0
-Takes files options item es now os told =
+abbrev pub Takes : Option FileList → Options → Bool → ItemData → List EditionData →
+    List EditionData → List Outcome → List Outcome → Type 0
+Takes files options mirrored item es now os told =
     (new : List EditionData) × (o : Outcome) × (now ≡ es ++ new) × (told ≡ os ++ o ∷ [])
-    × AreOutcomes files options (length es) (item ∷ []) (o ∷ []) new
+    × AreOutcomes files options mirrored (length es) (item ∷ []) (o ∷ []) new
 
 -- the first item was published
 abbrev pub BeginsPublished : List Outcome → Type 0
@@ -67,9 +74,10 @@ BeginsPublished (Refused f ∷ os) = ⊥
 BeginsPublished (Published number trips lines kept ∷ os) = ⊤
 
 -- what an item was found to be
-abbrev pub IsBuilt : Option FileList → Options → ItemData → Built → Type 0
-IsBuilt files options item (built.Edition e) = IsEditionOfItem files options item e
-IsBuilt files options item (built.Refused f) = ItemGives files options item (Err f)
+abbrev pub IsBuilt : Option FileList → Options → Bool → ItemData → Built → Type 0
+IsBuilt files options mirrored item (built.Edition e) =
+    IsEditionOfItem files options mirrored item e
+IsBuilt files options mirrored item (built.Refused f) = ItemGives files options item (Err f)
 
 -- A plan ends for a failed read only where the folder's count of faults rose; for want of memory
 -- only where that count stands.

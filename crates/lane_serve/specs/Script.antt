@@ -1,5 +1,6 @@
 -- What a script says: lanes of requests, or the first bad line.
 use Rattle.std.specs.Prelude.{◌≡◌, ℕ, ◌+◌, ◌<◌, ◌≤◌, ◌==◌, List, [], ◌∷◌, ◌++◌, Bool, false, length, codes, bytes_eq, nat_lt, sum_by, ◌≤ℤ◌, pos, Option, Some, None, Result, Ok, Err, All, ⊤, if◌then◌else◌}
+use Rattle.std.specs.List.{list_any}
 use Rattle.std.specs.Option.{option_and_then}
 use Rattle.answer_text.specs.Questions.{needs_mirror, question_of}
 use Rattle.answer_text.specs.Questions as question
@@ -21,15 +22,9 @@ pub record LaneData : Type 0 where
   pub name : List ℕ
   pub lines : List Line
 
--- a question as a request, which is none where it needs a mirror
-abbrev pub said_by : ℕ → Question → Option Said
-said_by since q =
-    if needs_mirror q then None
-    else Some (said.Request (Some (record { since = since; question = q })))
-
 -- a request that edition `since` or a later one may answer, or why there is none
 abbrev pub requested : ℕ → Result Question QuestionFault → Option Said
-requested since (Ok q) = said_by since q
+requested since (Ok q) = Some (said.Request (Some (record { since = since; question = q })))
 requested since (Err why.BadForm) = None
 requested since (Err why.BadTime) = Some (said.Request None)
 
@@ -127,9 +122,9 @@ script_of bytes =
     if nat_lt 33554432 (length bytes) then Err fault.TooLong
     else script_from (record { lines = 0; requests = 0; lanes = [] }) (lines_of bytes)
 
--- an edition without a mirror can be asked, and the times are those that can be asked for
+-- the times of a request are those that can be asked for
 abbrev pub IsAskable : Line → Type 0
-IsAskable l = (needs_mirror l.question ≡ false) × question.HasTimes l.question
+IsAskable l = question.HasTimes l.question
 
 -- a line that is a request is such a one
 abbrev pub SaysTimes : Option Said → Type 0
@@ -138,6 +133,13 @@ SaysTimes (Some said.Nothing) = ⊤
 SaysTimes (Some (said.Lane name)) = ⊤
 SaysTimes (Some (said.Request None)) = ⊤
 SaysTimes (Some (said.Request (Some request))) = IsAskable request
+
+-- one of the requests is answered by the mirror of an edition
+abbrev pub any_needs_mirror : List Line → Bool
+any_needs_mirror lines = list_any (λ l. needs_mirror (Line.question l)) lines
+
+abbrev pub needs_mirrors : List LaneData → Bool
+needs_mirrors lanes = list_any (λ l. any_needs_mirror (LaneData.lines l)) lanes
 
 -- how many requests the lanes have
 abbrev pub request_count : List LaneData → ℕ

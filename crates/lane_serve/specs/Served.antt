@@ -16,7 +16,7 @@ use Rattle.lane_serve.specs.declared.run.ServeFault.{ServeFault}
 use Rattle.lane_serve.specs.declared.run.ServeFault.TheVariants as fault
 use Rattle.lane_serve.specs.Lanes.{IsClosing, IsLaneRun, ReportData, to_close}
 use Rattle.lane_serve.specs.Plans.{AreOutcomes, BeginsPublished, ItemData, ItemGives}
-use Rattle.lane_serve.specs.Script.{LaneData}
+use Rattle.lane_serve.specs.Script.{LaneData, needs_mirrors}
 
 -- the outcomes of a plan's items, what each lane was answered, how many editions there were in the
 -- end, and what each lane was answered by the last one
@@ -45,11 +45,12 @@ AreServed es (l ∷ ls) (r ∷ rs) [] = ⊥
 AreServed es (l ∷ ls) (r ∷ rs) (c ∷ cs) = IsServedLane es l r c × AreServed es ls rs cs
 
 -- One outcome for each item of the plan, the first of which is lawful; and over the editions of the
--- lawful items, in order, each lane's run and its closing replies.
+-- lawful items, in order, which have their mirrors where a request needs one, each lane's run and
+-- its closing replies.
 pub record IsServed (files : Option FileList) (options : Options) (plan : List ItemData)
     (script : List LaneData) (s : ServedData) : Type 0 where
   pub editions : List EditionData
-  pub outcomes : AreOutcomes files options 0 plan s.outcomes editions
+  pub outcomes : AreOutcomes files options (needs_mirrors script) 0 plan s.outcomes editions
   pub first : BeginsPublished s.outcomes
   pub last : s.last ≡ length editions
   pub lanes : AreServed editions script s.lanes s.closing

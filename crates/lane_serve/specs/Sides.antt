@@ -1,7 +1,6 @@
 -- The publisher's side of a run.
 use Rattle.std.specs.Prelude.{List, Option}
 use Rattle.tb_io.specs.Files.{FileList}
-use Rattle.footpaths.specs.declared.paths.Options.{Options}
 use Rattle.edition_store.specs.Editions.{EditionData}
 use Rattle.lane_serve.specs.declared.plan.Building.{Building}
 use Rattle.lane_serve.specs.declared.plan.Outcome.{Outcome}
@@ -16,6 +15,7 @@ pub record PublisherSideData : Type 0 where
 -- these items were taken, and what became of each is told: the list has the editions of the lawful
 -- ones, of which the first item is one
 abbrev pub HasTaken :
-    Option FileList → Options → List ItemData → List Outcome → List EditionData → Type 0
-HasTaken files options items outcomes es =
-    AreOutcomes files options 0 items outcomes es × BeginsPublished outcomes
+    Option FileList → Building → List ItemData → List Outcome → List EditionData → Type 0
+HasTaken files building items outcomes es =
+    AreOutcomes files building.options building.mirrored 0 items outcomes es
+    × BeginsPublished outcomes

@@ -1,11 +1,12 @@
 //! A plan of days of feeds, which are read, built and published one after another.
 ghost use Rattle.std.specs.Prelude.{◌≡◌, ◌<◌, ◌≤◌, ◌∷◌, [], ◌++◌, ◌+◌, ◌-◌, ◌^◌, IfErr, IfOk, length, take};
-ghost use Rattle.lane_serve.specs.Plans.{AreOutcomes, BeginsPublished, HasStopped, IsBuilt, IsGoodBuilding, Takes, outcome_of};
+ghost use Rattle.edition_store.specs.Editions.{EditionData};
+ghost use Rattle.lane_serve.specs.Plans.{AreOutcomes, BeginsPublished, HasMirror, HasStopped, IsBuilt, IsGoodBuilding, Takes, outcome_of};
 ghost use Rattle.lane_serve.specs.declared.plan.Outcome.TheVariants.{Refused};
 ghost use Rattle.lane_serve.specs.declared.plan.PlanEnd.TheVariants as ended;
 
 use crate::publishing::Publishes;
-use edition_build::build_edition;
+use edition_build::{build_edition, build_mirrored};
 use edition_store::{Edition, Shared};
 use footpaths::Options;
 use gtfs_rows::FeedFault;
@@ -14,7 +15,7 @@ use std::alloc::Global;
 use std::marker::Model;
 use std::sync::Wait;
 use std::thread::Threads;
-use tb_base::{Gate, Memory, Work};
+use tb_base::{Gate, Memory, Timetable, Work};
 use tb_io::Folder;
 use trip_table::{DayFault, read_day};
 
@@ -69,12 +70,34 @@ pub(crate) enum PlanEnd {
     Memory,
 }
 
-/// How the feeds of a plan are read and built: what is said of their footpaths, and how many
-/// workers share the reduction of transfers, 1 to 64.
+/// How the feeds of a plan are read and built: what is said of their footpaths, how many workers
+/// share the reduction of transfers, 1 to 64, and whether editions have their mirrors.
 #[derive(Clone, Copy)]
 pub(crate) struct Building {
     pub options: Options,
     pub workers: u32,
+    pub mirrored: bool,
+}
+
+// The edition of a timetable, with its mirror where it is wanted.
+fn edition_of<G: Gate, R: Threads + Sync>(
+    rt: &R,
+    alloc: Global,
+    gate: &G,
+    building: Building,
+    table: Timetable,
+) -> Result<Shared, Memory>
+    requires { IsGoodBuilding building }
+    ensures table { IfOk result (λ e. EditionData.table e ≡ table) }
+    ensures mirror { IfOk result (HasMirror building.mirrored) }
+{
+    if !building.mirrored {
+        return build_edition(rt, alloc, table, building.workers, gate);
+    }
+    match build_mirrored(rt, alloc, table, building.workers, gate) {
+        Ok(edition) => Shared::new(alloc, edition),
+        Err(Memory) => Err(Memory),
+    }
 }
 
 // An item's edition, or the first thing that is wrong with its feed.
@@ -91,7 +114,8 @@ pub(crate) fn build_item<F: Folder, G: Gate, R: Threads + Sync>(
     ensures files { F.files folder.new ≡ F.files folder.old }
     ensures faults { IfOk result (λ _. F.faults folder.new ≡ F.faults folder.old) }
     ensures ended { IfErr result (HasStopped (F.faults folder.old) (F.faults folder.new)) }
-    ensures built { IfOk result (IsBuilt (F.files folder.old) building.options item.now) }
+    ensures built { IfOk result
+        (IsBuilt (F.files folder.old) building.options building.mirrored item.now) }
 {
     match read_day(
         alloc,
@@ -100,7 +124,7 @@ pub(crate) fn build_item<F: Folder, G: Gate, R: Threads + Sync>(
         &item.day,
         &building.options,
     ) {
-        Ok(table) => match build_edition(rt, alloc, table, building.workers, gate) {
+        Ok(table) => match edition_of(rt, alloc, gate, building, table) {
             Ok(edition) => {
                 edition.edition().soundness();
                 Ok(Built::Edition(edition))
@@ -215,8 +239,9 @@ fn take_item<P: Publishes, F: Folder, G: Gate, R: Threads + Wait + Sync>(
     ensures files { F.files folder.new ≡ F.files folder.old }
     ensures faults { IfOk result (λ _. F.faults folder.new ≡ F.faults folder.old) }
     ensures ended { IfErr result (HasStopped (F.faults folder.old) (F.faults folder.new)) }
-    ensures taken { IfOk result (λ p. Takes (F.files folder.old) building.options item.now
-        (P.list publisher) (P.list p) outcomes.old.items outcomes.new.items) }
+    ensures taken { IfOk result (λ p. Takes (F.files folder.old) building.options
+        building.mirrored item.now (P.list publisher) (P.list p) outcomes.old.items
+        outcomes.new.items) }
 {
     match build_item(rt, alloc, gate, building, folder, item) {
         Ok(Built::Edition(edition)) => take_edition(rt, gate, i, edition, outcomes, publisher),
@@ -243,14 +268,14 @@ pub(crate) fn publish_rest<P: Publishes, F: Folder, G: Gate, R: Threads + Wait +
     requires building { IsGoodBuilding building }
     requires count { F.faults folder.old < 2 ^ 64 - 1 }
     requires plan { length plan.now ≤ 100 }
-    requires first { AreOutcomes (F.files folder.old) building.options 0 (take 1 plan.now)
-        outcomes.old.items (P.list publisher) }
+    requires first { AreOutcomes (F.files folder.old) building.options building.mirrored 0
+        (take 1 plan.now) outcomes.old.items (P.list publisher) }
     requires begins { BeginsPublished outcomes.old.items }
     ensures files { F.files folder.new ≡ F.files folder.old }
     ensures faults { IfOk result (λ _. F.faults folder.new ≡ F.faults folder.old) }
     ensures ended { IfErr result (HasStopped (F.faults folder.old) (F.faults folder.new)) }
-    ensures outcomes { IfOk result (λ p. AreOutcomes (F.files folder.old) building.options 0
-        plan.now outcomes.new.items (P.list p)) }
+    ensures outcomes { IfOk result (λ p. AreOutcomes (F.files folder.old) building.options
+        building.mirrored 0 plan.now outcomes.new.items (P.list p)) }
     ensures begins { IfOk result (λ _. BeginsPublished outcomes.new.items) }
 {
     let mut publisher = publisher;

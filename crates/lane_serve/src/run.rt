@@ -5,7 +5,7 @@ ghost use Rattle.gtfs_rows.specs.declared.fault.FeedFault.{FeedFault};
 ghost use Rattle.footpaths.specs.Limits.{AreWithinADay};
 ghost use Rattle.tb_base.specs.Workers.{AreWorkers};
 ghost use Rattle.lane_serve.specs.Plans.{AreOutcomes, HasStopped, IsGoodBuilding, outcome_of};
-ghost use Rattle.lane_serve.specs.Script.{IsAskable, IsScript, LaneData};
+ghost use Rattle.lane_serve.specs.Script.{IsAskable, IsScript, LaneData, needs_mirrors};
 ghost use Rattle.lane_serve.specs.Seats.{HaveRun};
 ghost use Rattle.lane_serve.specs.Sides.{HasTaken, PublisherSideData};
 ghost use Rattle.lane_serve.specs.Lanes.{IsLaneRun};
@@ -153,11 +153,11 @@ fn publish_side<P: Publishes, F: Folder, G: Gate, R: Threads + Wait + Sync>(
     requires count { F.faults folder.old < 2 ^ 64 - 1 }
     requires slot { IsSome slot.old }
     requires first { IfSome slot.old (λ p. HasTaken (F.files folder.old)
-        side.old.building.options (take 1 side.old.plan) side.old.outcomes (P.list p)) }
+        side.old.building (take 1 side.old.plan) side.old.outcomes (P.list p)) }
     ensures files { F.files folder.new ≡ F.files folder.old }
     ensures faults { IfOk result (λ _. F.faults folder.new ≡ F.faults folder.old) }
     ensures ended { IfErr result (HasStopped (F.faults folder.old) (F.faults folder.new)) }
-    ensures all { IfOk result (λ p. HasTaken (F.files folder.old) side.old.building.options
+    ensures all { IfOk result (λ p. HasTaken (F.files folder.old) side.old.building
         side.old.plan side.new.outcomes (P.list p)) }
     ensures taken { IsNone slot.new }
 {
@@ -222,14 +222,14 @@ fn sides<P: Publishes, J: Naming + Send + Sync, F: Folder, G: Gate, R: Threads +
     seats: &mut [Seated<J>],
 ) -> Result<P, PlanEnd>
     requires count { F.faults folder.old < 2 ^ 64 - 1 }
-    requires first { HasTaken (F.files folder.old) side.old.building.options
+    requires first { HasTaken (F.files folder.old) side.old.building
         (take 1 side.old.plan) side.old.outcomes (P.list publisher) }
     requires lanes { IsScript lanes.now }
     requires seats { length seats.old ≡ length lanes.now }
     ensures files { F.files folder.new ≡ F.files folder.old }
     ensures faults { IfOk result (λ _. F.faults folder.new ≡ F.faults folder.old) }
     ensures ended { IfErr result (HasStopped (F.faults folder.old) (F.faults folder.new)) }
-    ensures all { IfOk result (λ p. HasTaken (F.files folder.old) side.old.building.options
+    ensures all { IfOk result (λ p. HasTaken (F.files folder.old) side.old.building
         side.old.plan side.new.outcomes (P.list p)) }
     ensures run { HaveRun lanes.now seats.new }
 {
@@ -243,13 +243,13 @@ fn sides<P: Publishes, J: Naming + Send + Sync, F: Folder, G: Gate, R: Threads +
         seats,
         &mut || -> Result<P, PlanEnd>
             requires { (F.faults folder.now < 2 ^ 64 - 1) × IsSome slot
-                × IfSome slot (λ p. HasTaken (F.files folder.now) side.now.building.options
+                × IfSome slot (λ p. HasTaken (F.files folder.now) side.now.building
                 (take 1 side.now.plan) side.now.outcomes (P.list p)) }
             ensures { (F.files folder.exit.now ≡ F.files folder.entry.now)
                 × IfOk result (λ _. F.faults folder.exit.now ≡ F.faults folder.entry.now)
                 × IfErr result (HasStopped (F.faults folder.entry.now) (F.faults folder.exit.now))
                 × IfOk result (λ p. HasTaken (F.files folder.entry.now)
-                side.entry.now.building.options side.entry.now.plan side.exit.now.outcomes
+                side.entry.now.building side.entry.now.plan side.exit.now.outcomes
                 (P.list p)) × IsNone slot.exit }
         { publish_side(rt, gate, folder, side, &mut slot) },
     );
@@ -482,15 +482,16 @@ fn serve_open<J: Naming + Send + Sync, F: Folder, G: Gate, R: Threads + Wait + S
     seats: Vec<Seated<J>>,
 ) -> Result<Served, PlanEnd>
     requires count { F.faults folder.old < 2 ^ 64 - 1 }
-    requires first { HasTaken (F.files folder.old) side.building.options (take 1 side.plan)
+    requires first { HasTaken (F.files folder.old) side.building (take 1 side.plan)
         side.outcomes publisher }
     requires lanes { IsScript lanes.now }
     requires seats { vec_len seats ≡ length lanes.now }
+    requires mirrored { side.building.mirrored ≡ needs_mirrors lanes.now }
     ensures files { F.files folder.new ≡ F.files folder.old }
     ensures faults { IfOk result (λ _. F.faults folder.new ≡ F.faults folder.old) }
     ensures ended { IfErr result (HasStopped (F.faults folder.old) (F.faults folder.new)) }
-    ensures served { IfOk result (IsServed (F.files folder.old) side.entry.building.options side.entry.plan
-        lanes.now) }
+    ensures served { IfOk result (IsServed (F.files folder.old) side.entry.building.options
+        side.entry.plan lanes.now) }
 {
     let mut side = side;
     let mut seats = seats;
@@ -538,9 +539,10 @@ fn serve_from<J: Naming + Send + Sync, F: Folder, G: Gate, R: Threads + Wait + S
     requires count { F.faults folder.old < 2 ^ 64 - 1 }
     requires plan { 0 < length plan.now }
     requires days { length plan.now ≤ 100 }
-    requires first { AreOutcomes (F.files folder.old) building.options 0 (take 1 plan.now)
-        (outcome_of 1 first ∷ []) (first ∷ []) }
+    requires first { AreOutcomes (F.files folder.old) building.options building.mirrored 0
+        (take 1 plan.now) (outcome_of 1 first ∷ []) (first ∷ []) }
     requires script { IsScript script.now }
+    requires mirrored { building.mirrored ≡ needs_mirrors script.now }
     ensures files { F.files folder.new ≡ F.files folder.old }
     ensures faults { IfOk result (λ _. F.faults folder.new ≡ F.faults folder.old) }
     ensures ended { IfErr result (HasStopped (F.faults folder.old) (F.faults folder.new)) }
@@ -594,6 +596,7 @@ fn serve_plan<F: Folder, G: Gate, R: Threads + Wait + Sync>(
     requires days { length plan.now ≤ 100 }
     requires building { IsGoodBuilding building }
     requires script { IsScript script.now }
+    requires mirrored { building.mirrored ≡ needs_mirrors script.now }
     requires count { F.faults folder.old < 2 ^ 64 - 1 }
     ensures served { IfOk result (IsServed (F.files folder.old) building.options plan.now
         script.now) }
@@ -663,6 +666,7 @@ pub fn serve<F: Folder + Send, G: Gate, R: Threads + Wait + Sync>(
     let building = Building {
         options: *options,
         workers,
+        mirrored: script.needs_mirrors(),
     };
     serve_plan(rt, alloc, gate, building, folder, plan, script)
 }

@@ -1,10 +1,9 @@
 //! What the words of a line of a script say.
 ghost use Rattle.std.specs.Prelude.{◌≡◌, IfOk};
-ghost use Rattle.answer_text.specs.Questions.{HasTimes};
-ghost use Rattle.lane_serve.specs.Script.{SaysTimes, lane_of, request_of, said_by, said_of, since_of};
+ghost use Rattle.lane_serve.specs.Script.{SaysTimes, lane_of, request_of, said_of, since_of};
 
 use crate::script::Line;
-use answer_text::{Question, QuestionFault, question_of};
+use answer_text::{QuestionFault, question_of};
 use gtfs_rows::number_of;
 use std::alloc::Global;
 use tb_base::{Memory, Name, Refused};
@@ -18,18 +17,6 @@ pub(crate) enum Said {
     Request(Option<Line>),
 }
 
-// A question as a request, unless it needs a mirror: no edition of a plan has one.
-fn said_by(since: u32, question: Question) -> Option<Said>
-    requires { HasTimes question }
-    ensures said { result ≡ said_by since question }
-    ensures times { SaysTimes result }
-{
-    if question.needs_mirror() {
-        return None;
-    }
-    Some(Said::Request(Some(Line { since, question })))
-}
-
 // A question, which edition `since` or a later one may answer.
 fn request_of(alloc: Global, since: u32, words: &[Name]) -> Result<Option<Said>, Memory>
     ensures said { IfOk result (λ said. said ≡ request_of since words.now) }
@@ -38,7 +25,7 @@ fn request_of(alloc: Global, since: u32, words: &[Name]) -> Result<Option<Said>,
     match words {
         [] => Ok(None),
         [kind, rest @ ..] => match question_of(alloc, kind.bytes(), rest) {
-            Ok(question) => Ok(said_by(since, question)),
+            Ok(question) => Ok(Some(Said::Request(Some(Line { since, question })))),
             Err(Refused::Fault(QuestionFault::BadForm)) => Ok(None),
             Err(Refused::Fault(QuestionFault::BadTime)) => Ok(Some(Said::Request(None))),
             Err(Refused::Memory) => Err(Memory),

@@ -3,7 +3,7 @@ ghost use Rattle.std.specs.Prelude.{◌≡◌, ◌<◌, ◌^◌, ◌+◌, ◌-�
 ghost use Rattle.std.specs.Option.{option_and_then};
 ghost use Rattle.text_lines.specs.LineWords.{line_words};
 ghost use Rattle.tb_base.specs.Refusals.{Yields};
-ghost use Rattle.lane_serve.specs.Script.{IsAskable, IsScript, SaysTimes, after_lane, after_line, after_request, after_said, at_end, said_of, script_of, with_request};
+ghost use Rattle.lane_serve.specs.Script.{IsAskable, IsScript, SaysTimes, after_lane, after_line, after_request, after_said, any_needs_mirror, at_end, needs_mirrors, said_of, script_of, with_request};
 
 use crate::said::{Said, said_of};
 use answer_text::Question;
@@ -41,6 +41,15 @@ impl Model for Lane {
     ghost view = { λ l. record { name = l.name; lines = l.lines.items } };
 }
 
+impl Lane {
+    // Whether one of its requests is answered by the mirror of an edition.
+    fn needs_mirror(&self) -> bool
+        ensures { result ≡ any_needs_mirror self.now.lines }
+    {
+        self.lines.iter().any(|line| line.question.needs_mirror())
+    }
+}
+
 /// A script: its lanes in order.
 #[derive(Drop)]
 pub struct Script {
@@ -54,6 +63,15 @@ impl Model for Script {
     ghost Value = { List LaneData };
 
     ghost view = { λ s. s.lanes.items };
+}
+
+impl Script {
+    // Whether one of its requests is answered by the mirror of an edition.
+    pub(crate) fn needs_mirrors(&self) -> bool
+        ensures { result ≡ needs_mirrors self.now }
+    {
+        self.lanes.iter().any(|lane| lane.needs_mirror())
+    }
 }
 
 /// What is wrong with a script, with the number of the line, from 1. In the order in which they are
@@ -213,9 +231,9 @@ fn line_said(alloc: Global, text: &[u8]) -> Result<Option<Said>, Memory>
 /// text's end, without a carriage return at its end; what stands behind the last line feed is a
 /// line, unless it is empty. The words of a line are those of `line_words`; a line without words,
 /// and one whose first byte is `#`, is passed over. `lane NAME` begins a lane; `ask FROM TO TIME`,
-/// `profile FROM TO FIRST LAST` and `reach FROM TIME` are requests of it, questions as
-/// `question_of` reads them; `since N` before one, with N of 1 to 9 digits, wants edition N or a
-/// later one.
+/// `profile FROM TO FIRST LAST`, `latest FROM TO TIME` and `reach FROM TIME` are requests of it,
+/// questions as `question_of` reads them; `since N` before one, with N of 1 to 9 digits, wants
+/// edition N or a later one.
 pub fn read_script(alloc: Global, bytes: &[u8]) -> Result<Script, Refused<ScriptFault>>
     ensures script { Yields result (λ s. s) (script_of bytes.now) }
     ensures good { IfOk result (λ s. IsScript s) }

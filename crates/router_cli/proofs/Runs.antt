@@ -1,5 +1,5 @@
 -- How the program ends about a run of several days.
-use Rattle.std.proofs.Common.{◌≡◌, ℕ, inl, inr, List, [], ◌∷◌, map, Option, Some, Result, Ok, Err, refl, sym, subst}
+use Rattle.std.proofs.Common.{◌≡◌, ℕ, Bool, inl, inr, List, [], ◌∷◌, map, Option, Some, Result, Ok, Err, refl, sym, subst}
 use Rattle.std.specs.Prelude.{IsSome}
 use Rattle.tb_base.specs.TimetableData.{TimetableData}
 use Rattle.footpaths.specs.declared.paths.Options.{Options}
@@ -9,7 +9,7 @@ use Rattle.trip_table.specs.Answers.{feed_of}
 use Rattle.edition_store.specs.Editions.{EditionData}
 use Rattle.command_line.specs.Plans.{ServeRequestData}
 use Rattle.lane_serve.specs.Plans.{AreOutcomes, BeginsPublished, ItemData}
-use Rattle.lane_serve.specs.Script.{LaneData, script_of}
+use Rattle.lane_serve.specs.Script.{LaneData, needs_mirrors, script_of}
 use Rattle.lane_serve.specs.Served.{FirstGives}
 use Rattle.lane_serve.specs.declared.plan.Outcome.{Outcome}
 use Rattle.lane_serve.specs.declared.plan.Outcome.TheVariants.{Published, Refused}
@@ -26,14 +26,14 @@ first_day same files told options [] a b is other = absurd is
 first_day same files told options (item ∷ items) a b is other =
     same (feed_of files item.dir) item.day options a b (is told) (other told)
 
-first_published : (files : Option FileList) (options : Options) (n : ℕ) (plan : List ItemData) (os : List Outcome) (es : List EditionData) →
-    AreOutcomes files options n plan os es → BeginsPublished os → (T : TimetableData) × FirstGives files options plan (Ok T)
-first_published files options n [] [] es h begins = absurd begins
-first_published files options n [] (o ∷ os) es h begins = absurd h
-first_published files options n (item ∷ items) [] es h begins = absurd begins
-first_published files options n (item ∷ items) (Refused f ∷ os) es h begins = absurd begins
-first_published files options n (item ∷ items) (Published number trips lines kept ∷ os) [] h begins = absurd h
-first_published files options n (item ∷ items) (Published number trips lines kept ∷ os) (e ∷ es) h begins = (e.table, h.0.0)
+first_published : (files : Option FileList) (options : Options) (mirrored : Bool) (n : ℕ) (plan : List ItemData) (os : List Outcome) (es : List EditionData) →
+    AreOutcomes files options mirrored n plan os es → BeginsPublished os → (T : TimetableData) × FirstGives files options plan (Ok T)
+first_published files options mirrored n [] [] es h begins = absurd begins
+first_published files options mirrored n [] (o ∷ os) es h begins = absurd h
+first_published files options mirrored n (item ∷ items) [] es h begins = absurd begins
+first_published files options mirrored n (item ∷ items) (Refused f ∷ os) es h begins = absurd begins
+first_published files options mirrored n (item ∷ items) (Published number trips lines kept ∷ os) [] h begins = absurd h
+first_published files options mirrored n (item ∷ items) (Published number trips lines kept ∷ os) (e ∷ es) h begins = (e.table, h.0.0)
 
 for_memory : (m : Result (List LaneData) ScriptFault) (day : Result TimetableData FeedFault) → IsRunEnding m day status.Memory
 for_memory (Ok lanes) day = out_of_memory day
@@ -51,7 +51,7 @@ pub run_completed : IsDetermined → (files : Option FileList) → IsSome files 
 run_completed same files told bytes r status.Done before now (text, ran, added) read write day is =
     let plan = map item_of r.plan in
     let run = ran.text in
-    let first = first_published files r.options 0 plan run.served.outcomes run.run.editions run.run.outcomes run.run.first in
+    let first = first_published files r.options (needs_mirrors ran.lanes) 0 plan run.served.outcomes run.run.editions run.run.outcomes run.run.first in
     by_script (script_of bytes) ran.lanes day status.Done ran.script
     (by_day day (Ok first.0) status.Done (first_day same files told r.options plan (Ok first.0) day first.1 is) (inl refl))
 run_completed same files told bytes r status.Usage before now h read write day is = absurd h
