@@ -3,3 +3,4 @@ mod asking;
 mod beside;
 mod days;
 mod profiling;
+mod seats;
