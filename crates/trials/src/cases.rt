@@ -14,6 +14,7 @@ mod reader;
 mod shown;
 pub mod trial;
 mod untried;
+mod watched;
 
 use crate::stopped::Stopped;
 use case::Case;

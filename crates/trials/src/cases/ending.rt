@@ -4,6 +4,7 @@ ghost use Rattle.std.specs.Prelude.{◌≡◌, ◌<◌, ◌-◌, ◌^◌, IfOk};
 
 use super::feeds::Files;
 use super::question::Trouble;
+use super::watched::Watched;
 use router_cli::{Status, route, status_text};
 use std::alloc::Global;
 use std::sync::Wait;
@@ -20,6 +21,8 @@ pub struct Ending {
     pub err: Vec<u8>,
     /// Of each piece of work that was held, whether another one was done meanwhile.
     pub met: Vec<bool>,
+    /// Whether folder, script or output was called after a call of it that failed.
+    pub is_called_again: bool,
 }
 
 /// How a run ended with a status, and what it wrote.
@@ -29,6 +32,7 @@ pub fn ending_of(alloc: Global, status: &Status, out: &[u8]) -> Result<Ending, M
         out: out.to_vec(alloc)?,
         err: status_text(alloc, status)?,
         met: Vec::new(alloc),
+        is_called_again: false,
     })
 }
 
@@ -82,24 +86,33 @@ fn status_over<R: Threads + Wait + Sync, F: Folder + Send, S: Source, K: Sink, G
     route(rt, alloc, words, folder, script, sink, gate)
 }
 
+// How a run ended, in which an object was called after it failed, or none.
+fn noting(ending: Result<Ending, Memory>, is_called_again: bool) -> Result<Ending, Memory> {
+    let mut ending = ending?;
+    if is_called_again {
+        ending.is_called_again = true;
+    }
+    Ok(ending)
+}
+
 // How the program ends over a folder and a script, with a sink in which nothing is.
 fn ending_into<R: Threads + Wait + Sync, F: Folder + Send, G: Gate>(
     rt: &R,
     alloc: Global,
     words: &[String],
     folder: &mut F,
-    script: &mut MemSource,
-    sink: &mut MemSink,
+    script: &mut Watched<MemSource>,
+    sink: &mut Watched<MemSink>,
     gate: &G,
 ) -> Result<Ending, Memory>
     requires folder { F.faults folder.old < 2 ^ 64 - 1 }
-    requires script { script.old.calls.faults < 2 ^ 64 - 1 }
-    requires sink { sink.old.calls.faults < 2 ^ 64 - 1 }
+    requires script { script.old.inner.calls.faults < 2 ^ 64 - 1 }
+    requires sink { sink.old.inner.calls.faults < 2 ^ 64 - 1 }
 {
     let status = status_over(rt, alloc, words, folder, script, sink, gate);
-    let ending = ending_of(alloc, &status, sink.bytes());
+    let ending = ending_of(alloc, &status, sink.inner.bytes());
     drop(status);
-    ending
+    noting(ending, script.is_called_again() || sink.is_called_again())
 }
 
 // The same with a sink of its own.
@@ -108,14 +121,14 @@ fn ending_with<R: Threads + Wait + Sync, F: Folder + Send, G: Gate>(
     alloc: Global,
     words: &[String],
     folder: &mut F,
-    script: &mut MemSource,
+    script: &mut Watched<MemSource>,
     trouble: Trouble,
     gate: &G,
 ) -> Result<Ending, Memory>
     requires folder { F.faults folder.old < 2 ^ 64 - 1 }
-    requires script { script.old.calls.faults < 2 ^ 64 - 1 }
+    requires script { script.old.inner.calls.faults < 2 ^ 64 - 1 }
 {
-    let mut sink = sink_of(alloc, trouble)?;
+    let mut sink = Watched::new(sink_of(alloc, trouble)?);
     let ending = ending_into(rt, alloc, words, folder, script, &mut sink, gate);
     drop(sink);
     ending
@@ -134,7 +147,7 @@ pub fn ending_over<R: Threads + Wait + Sync, F: Folder + Send, G: Gate>(
 ) -> Result<Ending, Memory>
     requires { F.faults folder.old < 2 ^ 64 - 1 }
 {
-    let mut script = script_of(alloc, script, trouble)?;
+    let mut script = Watched::new(script_of(alloc, script, trouble)?);
     let ending = ending_with(rt, alloc, words, folder, &mut script, trouble, gate);
     drop(script);
     ending
@@ -151,8 +164,9 @@ pub fn ending_over_files<R: Threads + Wait + Sync, G: Gate>(
     trouble: Trouble,
     gate: &G,
 ) -> Result<Ending, Memory> {
-    let mut folder = folder_of(alloc, files, trouble)?;
+    let mut folder = Watched::new(folder_of(alloc, files, trouble)?);
     let ending = ending_over(rt, alloc, words, &mut folder, script, trouble, gate);
+    let is_called_again = folder.is_called_again();
     drop(folder);
-    ending
+    noting(ending, is_called_again)
 }

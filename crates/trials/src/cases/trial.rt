@@ -151,6 +151,7 @@ fn are_met(met: &[bool], holds: &[Hold]) -> bool {
 fn is_same(came: &Ending, question: &CaseQuestion) -> bool {
     let want = &question.want;
     are_met(came.met.as_slice(), question.holds.as_slice())
+        && !came.is_called_again
         && came.code == want.code
         && has_pieces(text_of(came.out.as_slice()), want.pieces.as_slice())
         && came.err.as_slice() == want.err.as_slice()
@@ -179,6 +180,9 @@ fn may_begin(text: &str, pieces: &[String]) -> bool {
 fn is_refused(came: &Ending, calls: Outside, want: &Wanted) -> bool {
     let out = text_of(came.out.as_slice());
     let err = text_of(came.err.as_slice());
+    if came.is_called_again {
+        return false;
+    }
     match calls {
         Outside::Folder | Outside::Input => {
             came.code == 4 && out.is_empty() && err == "router: read fault\n"
@@ -247,6 +251,9 @@ fn write_ending(rt: &impl Print, question: &CaseQuestion, came: &Ending) {
         let _ = print!(rt; "\n{word} {}", hold.text);
     }
     let _ = println!(rt; "\nstatus {}", came.code);
+    if came.is_called_again {
+        let _ = println!(rt; "# something was called after it failed");
+    }
     for line in text_of(came.out.as_slice()).lines() {
         let _ = println!(rt; "out {line}");
     }
