@@ -19,6 +19,7 @@ COMMANDS = (
     "statuses",
     "gate-cost",
     "documents",
+    "schema",
     "make",
     "delays",
 )

@@ -32,10 +32,13 @@ with_options =
     with_rule (with_rule (with_rule no_arguments
     (option_rule (codes "change"))) (option_rule (codes "station"))) (option_rule (codes "workers"))
 
-abbrev pub router_arguments : App
-router_arguments =
+abbrev pub with_flags : App
+with_flags =
     with_rule (with_rule (with_rule with_options
-    (flag_rule (codes "close"))) (flag_rule (codes "plain"))) words_rule
+    (flag_rule (codes "close"))) (flag_rule (codes "plain"))) (flag_rule (codes "json"))
+
+abbrev pub router_arguments : App
+router_arguments = with_rule with_flags words_rule
 
 -- what is given for each argument, unless something is wrong with the words
 abbrev pub unless_wrong : Kinds → List Row → Option (List Row)

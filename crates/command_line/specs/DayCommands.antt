@@ -14,11 +14,12 @@ use Rattle.command_line.specs.declared.request.Command.TheVariants as command
 use Rattle.command_line.specs.declared.settings.Settings.{Settings}
 
 -- a request about one day of a feed: what is said of footpaths, how many workers reduce the
--- transfers, whether round by round, the folder, the date, and what is asked for
+-- transfers, whether round by round, whether as JSON, the folder, the date, and what is asked for
 pub record DayRequestData : Type 0 where
   pub options : Options
   pub workers : ℕ
   pub plain : Bool
+  pub json : Bool
   pub dir : Text
   pub date : ℕ
   pub command : Command
@@ -67,6 +68,7 @@ day_request s name dir date words =
       options = s.options;
       workers = s.workers;
       plain = s.plain;
+      json = s.json;
       dir = dir;
       date = day;
       command = c;

@@ -1,5 +1,5 @@
 -- What is planned by the words of a run of several days.
-use Rattle.std.specs.Prelude.{ℕ, ◌<◌, ◌≤◌, ◌==◌, ◌&&◌, nat_lt, nat_le, List, [], ◌∷◌, length, Option, Some, None, if◌then◌else◌}
+use Rattle.std.specs.Prelude.{ℕ, ◌<◌, ◌≤◌, ◌==◌, ◌&&◌, nat_lt, nat_le, List, [], ◌∷◌, length, Bool, Option, Some, None, if◌then◌else◌}
 use Rattle.std.specs.Option.{option_and_then, option_map}
 use Rattle.std.specs.Path.{rsplit_once}
 use Rattle.clap.specs.Words.{Text}
@@ -15,10 +15,11 @@ pub record PlannedDayData : Type 0 where
   pub date : ℕ
 
 -- a request about several days: what is said of footpaths, how many workers reduce the transfers of
--- a day, and the days in order
+-- a day, whether as JSON, and the days in order
 pub record ServeRequestData : Type 0 where
   pub options : Options
   pub workers : ℕ
+  pub json : Bool
   pub plan : List PlannedDayData
 
 -- from 1 to 100 days
@@ -52,5 +53,9 @@ plan_of words =
 
 abbrev pub serve_request : Settings → List Text → Option ServeRequestData
 serve_request s words =
-    option_map (λ days. record { options = s.options; workers = s.workers; plan = days })
-    (plan_of words)
+    option_map (λ days. record {
+      options = s.options;
+      workers = s.workers;
+      json = s.json;
+      plan = days;
+    }) (plan_of words)

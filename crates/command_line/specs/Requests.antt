@@ -1,5 +1,5 @@
 -- What the words of a command line mean.
-use Rattle.std.specs.Prelude.{List, [], ◌∷◌, codes, bytes_eq, Option, None, if◌then◌else◌}
+use Rattle.std.specs.Prelude.{List, [], ◌∷◌, codes, bytes_eq, Bool, false, true, Option, None, Some, if◌then◌else◌}
 use Rattle.std.specs.Option.{option_and_then, option_map, unwrap_or}
 use Rattle.clap.specs.Words.{Row, Text, all_of}
 use Rattle.command_line.specs.Arguments.{given}
@@ -38,3 +38,16 @@ request_by rows =
 -- the words of a command line, but for the program's name
 abbrev pub request_of : List Text → Option Request
 request_of words = option_and_then request_by (given words)
+
+-- whether a word tells that JSON is asked for, or that it isn't: `--json`, and `--`, which ends the
+-- options
+abbrev pub json_word : Text → Option Bool
+json_word word =
+    if bytes_eq word (codes "--json") then Some true
+    else if bytes_eq word (codes "--") then Some false
+    else None
+
+-- the words ask for JSON: `--json` is among them, before `--`
+abbrev pub asks_json : List Text → Bool
+asks_json [] = false
+asks_json (word ∷ words) = unwrap_or (json_word word) (asks_json words)

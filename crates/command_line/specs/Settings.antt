@@ -60,5 +60,6 @@ settings_given rows =
       options = options;
       workers = workers;
       plain = is_given (codes "plain") rows;
+      json = is_given (codes "json") rows;
     }) (workers_given (first_of (codes "workers") rows)))
     (options_given rows)

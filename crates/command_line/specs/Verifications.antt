@@ -1,5 +1,5 @@
 -- What is asked about a claimed journey.
-use Rattle.std.specs.Prelude.{ℕ, List, ◌∷◌, Option, None}
+use Rattle.std.specs.Prelude.{ℕ, List, ◌∷◌, Bool, Option, None}
 use Rattle.std.specs.Option.{option_and_then, option_map}
 use Rattle.clap.specs.Words.{Text}
 use Rattle.footpaths.specs.declared.paths.Options.{Options}
@@ -8,10 +8,11 @@ use Rattle.command_line.specs.DayCommands.{inquiry_from}
 use Rattle.command_line.specs.Inquiries.{InquiryData}
 use Rattle.command_line.specs.declared.settings.Settings.{Settings}
 
--- a request to judge a claimed journey over one day of a feed: what is said of footpaths, the
--- folder, the date, and from where to where the journey is to lead, and from when on
+-- a request to judge a claimed journey over one day of a feed: what is said of footpaths, whether
+-- as JSON, the folder, the date, and from where to where the journey is to lead, and from when on
 pub record VerifyRequestData : Type 0 where
   pub options : Options
+  pub json : Bool
   pub dir : Text
   pub date : ℕ
   pub inquiry : InquiryData
@@ -21,6 +22,7 @@ abbrev pub verify_request : Settings → Text → Text → List Text → Option 
 verify_request s dir date words =
     option_and_then (λ i. option_map (λ day. record {
       options = s.options;
+      json = s.json;
       dir = dir;
       date = day;
       inquiry = i;

@@ -44,5 +44,6 @@ pub(crate) fn router_arguments<'a>(alloc: Global) -> Result<clap::Command<'a>, A
         .arg(option(alloc, "workers"))?
         .arg(flag(alloc, "close"))?
         .arg(flag(alloc, "plain"))?
+        .arg(flag(alloc, "json"))?
         .arg(words(alloc))
 }

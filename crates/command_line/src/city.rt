@@ -33,6 +33,7 @@ pub(crate) fn city_request(settings: Settings, words: &[&str]) -> Option<CityReq
         [word] => Some(CityRequest {
             side: side_of(word)?,
             workers: settings.workers,
+            json: settings.json,
         }),
         _ => None,
     }

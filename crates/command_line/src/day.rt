@@ -128,6 +128,7 @@ fn day_request<'a>(
             options: settings.options,
             workers: settings.workers,
             plain: settings.plain,
+            json: settings.json,
             dir,
             day,
             command,

@@ -27,6 +27,7 @@ fn late_request<'a>(
     Some(LateRequest {
         options: settings.options,
         workers: settings.workers,
+        json: settings.json,
         dir,
         day,
         file,

@@ -21,4 +21,4 @@ pub use request::{
     CityRequest, Command, DayRequest, Inquiry, LateRequest, PlannedDay, Request, ServeRequest,
     VerifyRequest,
 };
-pub use words::request_of;
+pub use words::{asks_json, request_of};

@@ -59,6 +59,7 @@ pub(crate) fn serve_request<'a>(
         Some(plan) => Ok(Some(ServeRequest {
             options: settings.options,
             workers: settings.workers,
+            json: settings.json,
             plan,
         })),
         None => Ok(None),

@@ -48,6 +48,8 @@ pub struct DayRequest<'a> {
     pub workers: u32,
     /// Round by round, in place of the search over the kept transfers.
     pub plain: bool,
+    /// As JSON, in place of a text.
+    pub json: bool,
     pub dir: &'a str,
     pub day: Day,
     pub command: Command<'a>,
@@ -64,6 +66,7 @@ impl<'a> Model for DayRequest<'a> {
       options = r.options;
       workers = r.workers;
       plain = r.plain;
+      json = r.json;
       dir = r.dir.now;
       date = r.day;
       command = r.command;
@@ -77,6 +80,8 @@ impl<'a> Model for DayRequest<'a> {
 #[derive(Drop)]
 pub struct VerifyRequest<'a> {
     pub options: Options,
+    /// As JSON, in place of a text.
+    pub json: bool,
     pub dir: &'a str,
     pub day: Day,
     /// From where to where the journey is to lead, and from when on.
@@ -91,6 +96,7 @@ impl<'a> Model for VerifyRequest<'a> {
 
     ghost view = { λ r. record {
       options = r.options;
+      json = r.json;
       dir = r.dir.now;
       date = r.day;
       inquiry = r.inquiry;
@@ -105,6 +111,8 @@ pub struct LateRequest<'a> {
     pub options: Options,
     /// How many workers reduce the transfers: 1 to 64.
     pub workers: u32,
+    /// As JSON, in place of a text.
+    pub json: bool,
     pub dir: &'a str,
     pub day: Day,
     /// The path of the file that names the late trips.
@@ -123,6 +131,7 @@ impl<'a> Model for LateRequest<'a> {
     ghost view = { λ r. record {
       options = r.options;
       workers = r.workers;
+      json = r.json;
       dir = r.dir.now;
       date = r.day;
       file = r.file.now;
@@ -154,6 +163,8 @@ pub struct ServeRequest<'a> {
     pub options: Options,
     /// How many workers reduce the transfers of a day: 1 to 64.
     pub workers: u32,
+    /// As JSON, in place of a text.
+    pub json: bool,
     /// 1 to 100 days, in the order of their publication.
     pub plan: Vec<PlannedDay<'a>>,
 }
@@ -168,6 +179,7 @@ impl<'a> Model for ServeRequest<'a> {
     ghost view = { λ r. record {
       options = r.options;
       workers = r.workers;
+      json = r.json;
       plan = r.plan.items;
     } };
 
@@ -182,6 +194,8 @@ pub struct CityRequest {
     pub side: u32,
     /// How many workers reduce its transfers: 1 to 64.
     pub workers: u32,
+    /// As JSON, in place of a text.
+    pub json: bool,
 }
 
 impl Model for CityRequest {
@@ -190,7 +204,7 @@ impl Model for CityRequest {
 
     ghost Value = { CityRequestData };
 
-    ghost view = { λ r. record { side = r.side; workers = r.workers } };
+    ghost view = { λ r. record { side = r.side; workers = r.workers; json = r.json } };
 
     ghost invariant = { λ r. IsSide r.side × AreWorkers r.workers };
 }

@@ -25,6 +25,8 @@ pub(crate) struct Settings {
     pub workers: u32,
     /// Round by round, in place of the search over the kept transfers.
     pub plain: bool,
+    /// Answers as JSON, in place of texts.
+    pub json: bool,
 }
 
 // Seconds of a walk or a change.
@@ -125,5 +127,6 @@ pub(crate) fn settings_given(matches: &ArgMatches<'_>) -> Option<Settings>
         options,
         workers,
         plain: is_given(matches, "plain"),
+        json: is_given(matches, "json"),
     })
 }

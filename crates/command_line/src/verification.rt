@@ -24,6 +24,7 @@ fn verify_request<'a>(
     };
     Some(VerifyRequest {
         options: settings.options,
+        json: settings.json,
         dir,
         day,
         inquiry,

@@ -1,7 +1,7 @@
 //! What the words of a command line mean.
 ghost use Rattle.std.specs.Prelude.{◌≡◌, IfOk, map, string_bytes};
 ghost use Rattle.clap.specs.Words.{found_of, rows_of};
-ghost use Rattle.command_line.specs.Requests.{request_by, request_from, request_named, request_of};
+ghost use Rattle.command_line.specs.Requests.{asks_json, json_word, request_by, request_from, request_named, request_of};
 ghost use Rattle.command_line.specs.Settings.{AreSettings};
 
 use crate::arguments::router_arguments;
@@ -78,14 +78,38 @@ fn request_by<'a>(alloc: Global, matches: &ArgMatches<'a>) -> Result<Option<Requ
     request_from(alloc, settings, matches.get_strs("words").unwrap_or(&[]))
 }
 
+// Whether a word tells that JSON is asked for, or that it isn't.
+fn json_word(word: &str) -> Option<bool>
+    ensures { result ≡ json_word word.now }
+{
+    match word {
+        "--json" => Some(true),
+        "--" => Some(false),
+        _ => None,
+    }
+}
+
+/// Whether the words ask for JSON: `--json` is among them, before `--`. So it is of words that have
+/// no meaning, too.
+pub fn asks_json(words: &[String]) -> bool
+    ensures { result ≡ asks_json (map string_bytes words.now) }
+{
+    for word in words {
+        if let Some(asked) = json_word(word.as_str()) {
+            return asked;
+        }
+    }
+    false
+}
+
 /// What the words mean, the program's name left out: `COMMAND WORDS` with the options `--change
-/// SECS`, `--station SECS`, `--workers N` and the flags `--close` and `--plain`, each at most once
-/// and anywhere before `--`; behind `--` every word is taken as it is. The commands are `direct DIR
-/// DATE FROM TO TIME`, `ask DIR DATE FROM TO TIME`, `profile DIR DATE FROM TO FIRST LAST`, `latest
-/// DIR DATE FROM TO TIME`, `reach DIR DATE FROM TIME`, `build DIR DATE`, `build DIR DATE list`,
-/// `verify DIR DATE FROM TO TIME`, `late DIR DATE FILE FROM TO TIME`, `serve DIR@DATE ..` of 1 to
-/// 100 days, and `city N` of 2 to 40 rows. `None` comes exactly where the words have no meaning,
-/// `Memory` only for want of it.
+/// SECS`, `--station SECS`, `--workers N` and the flags `--close`, `--plain` and `--json`, each at
+/// most once and anywhere before `--`; behind `--` every word is taken as it is. The commands are
+/// `direct DIR DATE FROM TO TIME`, `ask DIR DATE FROM TO TIME`, `profile DIR DATE FROM TO FIRST
+/// LAST`, `latest DIR DATE FROM TO TIME`, `reach DIR DATE FROM TIME`, `build DIR DATE`, `build DIR
+/// DATE list`, `verify DIR DATE FROM TO TIME`, `late DIR DATE FILE FROM TO TIME`, `serve DIR@DATE
+/// ..` of 1 to 100 days, and `city N` of 2 to 40 rows. `None` comes exactly where the words have no
+/// meaning, `Memory` only for want of it.
 pub fn request_of<'a>(alloc: Global, words: &'a [String]) -> Result<Option<Request<'a>>, Memory>
     ensures { IfOk result (λ request. request ≡ request_of (map string_bytes words.now)) }
 {

@@ -4,7 +4,7 @@ use Rattle.std.specs.Prelude.{◌≡◌, ℕ, List, Bool, length, if◌then◌el
 use Rattle.tb_base.specs.Lines.{AreLines}
 use Rattle.tb_base.specs.TimetableData.{TimetableData}
 use Rattle.reduce_workers.specs.Reductions.{ReducedData, reduced}
-use Rattle.answer_text.specs.Builds.{build_list_text, build_text}
+use Rattle.answer_json.specs.Shown.{shown_build, shown_build_list}
 use Rattle.answer_text.specs.declared.builds.BuildCounts.{BuildCounts}
 
 -- how many lines there are, and the counts of the reduction
@@ -16,14 +16,15 @@ counts_of lines r = record {
   kept = r.kept;
 }
 
--- the sizes and the counts, and if asked for, the kept transfers
-abbrev pub report : TimetableData → List (List ℕ) → Bool → List ℕ
-report T lines list =
+-- the sizes and the counts, and if asked for, the kept transfers, as JSON or as a text
+abbrev pub report : Bool → TimetableData → List (List ℕ) → Bool → List ℕ
+report json T lines list =
     let r = reduced T lines in
-    if list then build_list_text T (counts_of lines r) r.rows else build_text T (counts_of lines r)
+    if list then shown_build_list json T (counts_of lines r) r.rows
+    else shown_build json T (counts_of lines r)
 
 -- this is the report over the timetable's lines, of which there is one list
-pub record IsReport (T : TimetableData) (list : Bool) (bytes : List ℕ) : Type 0 where
+pub record IsReport (json : Bool) (T : TimetableData) (list : Bool) (bytes : List ℕ) : Type 0 where
   pub lines : List (List ℕ)
   pub are_lines : AreLines T lines
-  pub text : bytes ≡ report T lines list
+  pub text : bytes ≡ report json T lines list

@@ -1,7 +1,8 @@
 ghost use Rattle.std.specs.Prelude.{◌≡◌, ◌<◌, ◌≤◌, IfOk};
 ghost use Rattle.edition_build.specs.Reports.{IsReport, counts_of};
 
-use answer_text::{BuildCounts, build_list_text, build_text};
+use answer_json::{shown_build, shown_build_list};
+use answer_text::BuildCounts;
 use line_split::{Lines, split};
 use reduce_workers::{Reduced, reduce_all};
 use std::alloc::Global;
@@ -22,12 +23,13 @@ pub fn counts_of(lines: &Lines, reduced: &Reduced) -> BuildCounts
 
 /// The report on what is built of a timetable: `stops N trips N events N footpaths N`, and
 /// `lines N generated N after_uturn N kept N`; with a list, `TRIP@I TRIP@J` for each kept transfer
-/// besides, trip after trip, each trip's from its last event down. So many workers reduce the
-/// transfers, at least one and at most 64; the gate is told of their pieces. The text is the same
-/// for every number of them. Refused only for want of memory.
+/// besides, trip after trip, each trip's from its last event down; or the same as JSON. So many
+/// workers reduce the transfers, at least one and at most 64; the gate is told of their pieces. The
+/// text is the same for every number of them. Refused only for want of memory.
 pub fn report<G: Gate, R: Threads + Sync>(
     rt: &R,
     alloc: Global,
+    json: bool,
     table: &Timetable,
     list: bool,
     workers: u32,
@@ -35,14 +37,14 @@ pub fn report<G: Gate, R: Threads + Sync>(
 ) -> Result<Vec<u8>, Memory>
     requires some { 0 < workers }
     requires most { workers ≤ 64 }
-    ensures { IfOk result (λ text. IsReport table.now list text.items) }
+    ensures { IfOk result (λ text. IsReport json table.now list text.items) }
 {
     let lines = split(alloc, table)?;
     let reduced = reduce_all(rt, alloc, table, &lines, workers, gate)?;
     let counts = counts_of(&lines, &reduced);
     if list {
-        build_list_text(alloc, table, counts, reduced.rows.as_slice())
+        shown_build_list(alloc, json, table, counts, reduced.rows.as_slice())
     } else {
-        build_text(alloc, table, counts)
+        shown_build(alloc, json, table, counts)
     }
 }

@@ -6,7 +6,8 @@ use Rattle.query_gate.specs.Callers.{IsEditionOf}
 use Rattle.query_gate.specs.declared.reply.Reply.{Reply}
 use Rattle.lane_serve.specs.declared.script.Line.{Line}
 use Rattle.lane_serve.specs.declared.lane.ReplyText.{ReplyText}
-use Rattle.query_gate.specs.Texts.{reply_text}
+use Rattle.query_gate.specs.Json.{shown_reply}
+use Rattle.answer_json.specs.declared.frame.Frame.TheVariants as frame
 use Rattle.lane_serve.specs.Lanes.{IsAnswered, IsReplyOf}
 
 -- at a place of a list stands one edition
@@ -15,7 +16,7 @@ same_edition o n e f h k = let s : Some f ≡ Some e = sym k ∙ h in cc
 
 -- the number, the edition and the text are those of the reply
 pub answered : (es : List EditionData) (q : Line) (e : EditionData) (reply : Reply) (r : ReplyText) → IsReplyOf es (length es) q reply →
-    slice_get es (length es - 1) ≡ Some e → r.edition ≡ length es → r.text ≡ reply_text e.table reply → IsAnswered es q r
+    slice_get es (length es - 1) ≡ Some e → r.edition ≡ length es → r.text ≡ shown_reply q.json frame.Array e.table reply → IsAnswered es q r
 answered es q e reply r h is n t =
     let same = same_edition es (length es - 1) h.0 e h.1.1 is in
     record {
@@ -23,7 +24,7 @@ answered es q e reply r h is n t =
       edition = subst (λ k. IsEditionOf es k h.0) (sym n) h.1;
       reply = reply;
       right = rw n h.2;
-      text = t ∙ ap (λ (f : EditionData). reply_text f.table reply) same;
+      text = t ∙ ap (λ (f : EditionData). shown_reply q.json frame.Array f.table reply) same;
     }
 
 -- the last edition of a list that has answered has a number

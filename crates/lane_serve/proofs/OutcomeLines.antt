@@ -3,26 +3,27 @@ use Rattle.std.proofs.Common.{◌≡◌, ◌∙◌, sym, ap, ℕ, ◌+◌, ◌<�
 use Rattle.std.proofs.lemmas.List.{append-nil, length-take, take_more}
 use Rattle.lane_serve.specs.declared.plan.Outcome.{Outcome}
 use Rattle.lane_serve.specs.Plans.{ItemData}
-use Rattle.lane_serve.specs.Texts.{outcome_text, outcomes_text}
+use Rattle.lane_serve.specs.Texts.{outcome_lines}
 
-outcomes_snoc : (xs : List ItemData) (os : List Outcome) (x : ItemData) (o : Outcome) → length os ≡ length xs
-    → outcomes_text (xs ++ x ∷ []) (os ++ o ∷ []) ≡ outcomes_text xs os ++ outcome_text x o
-outcomes_snoc [] [] x o e = append-nil (outcome_text x o)
-outcomes_snoc [] (p ∷ os) x o e = absurd (omega arith)
-outcomes_snoc (y ∷ xs) [] x o e = absurd (omega arith)
-outcomes_snoc (y ∷ xs) (p ∷ os) x o e =
-    ap (λ t. outcome_text y p ++ t) (outcomes_snoc xs os x o (omega arith)) ∙ sym (append_assoc (outcome_text y p) (outcomes_text xs os) (outcome_text x o))
+module _ (line_of : ItemData → Outcome → List ℕ) where
+  outcomes_snoc : (xs : List ItemData) (os : List Outcome) (x : ItemData) (o : Outcome) → length os ≡ length xs
+      → outcome_lines line_of (xs ++ x ∷ []) (os ++ o ∷ []) ≡ outcome_lines line_of xs os ++ line_of x o
+  outcomes_snoc [] [] x o e = append-nil (line_of x o)
+  outcomes_snoc [] (p ∷ os) x o e = absurd (omega arith)
+  outcomes_snoc (y ∷ xs) [] x o e = absurd (omega arith)
+  outcomes_snoc (y ∷ xs) (p ∷ os) x o e =
+      ap (λ t. line_of y p ++ t) (outcomes_snoc xs os x o (omega arith)) ∙ sym (append_assoc (line_of y p) (outcome_lines line_of xs os) (line_of x o))
 
--- one line more
-pub outcomes_told : (plan : List ItemData) (outcomes : List Outcome) (i : ℕ) (d : ItemData) (e : Outcome) (start mid end line : List ℕ) → length outcomes ≡ length plan → i < length plan
-    → mid ≡ start ++ outcomes_text (take i plan) (take i outcomes) → line ≡ outcome_text (get_or plan i d) (get_or outcomes i e) → end ≡ mid ++ line
-    → end ≡ start ++ outcomes_text (take (i + 1) plan) (take (i + 1) outcomes)
-outcomes_told plan outcomes i d e start mid end line long lt before is added =
-    let short : length (take i outcomes) ≡ length (take i plan) = omega (arith, length-take i outcomes, length-take i plan) in
-    let inside : i < length outcomes = omega arith in
-    let more : outcomes_text (take (i + 1) plan) (take (i + 1) outcomes) ≡ outcomes_text (take i plan) (take i outcomes) ++ line
-    = ap (λ xs. outcomes_text xs (take (i + 1) outcomes)) (take_more plan i d lt)
-    ∙ ap (outcomes_text (take i plan ++ get_or plan i d ∷ [])) (take_more outcomes i e inside)
-    ∙ outcomes_snoc (take i plan) (take i outcomes) (get_or plan i d) (get_or outcomes i e) short
-    ∙ ap (λ t. outcomes_text (take i plan) (take i outcomes) ++ t) (sym is) in
-    added ∙ ap (λ t. t ++ line) before ∙ append_assoc start (outcomes_text (take i plan) (take i outcomes)) line ∙ ap (λ t. start ++ t) (sym more)
+  -- one line more
+  pub outcomes_told : (plan : List ItemData) (outcomes : List Outcome) (i : ℕ) (d : ItemData) (e : Outcome) (start mid end line : List ℕ) → length outcomes ≡ length plan → i < length plan
+      → mid ≡ start ++ outcome_lines line_of (take i plan) (take i outcomes) → line ≡ line_of (get_or plan i d) (get_or outcomes i e) → end ≡ mid ++ line
+      → end ≡ start ++ outcome_lines line_of (take (i + 1) plan) (take (i + 1) outcomes)
+  outcomes_told plan outcomes i d e start mid end line long lt before is added =
+      let short : length (take i outcomes) ≡ length (take i plan) = omega (arith, length-take i outcomes, length-take i plan) in
+      let inside : i < length outcomes = omega arith in
+      let more : outcome_lines line_of (take (i + 1) plan) (take (i + 1) outcomes) ≡ outcome_lines line_of (take i plan) (take i outcomes) ++ line
+      = ap (λ xs. outcome_lines line_of xs (take (i + 1) outcomes)) (take_more plan i d lt)
+      ∙ ap (outcome_lines line_of (take i plan ++ get_or plan i d ∷ [])) (take_more outcomes i e inside)
+      ∙ outcomes_snoc (take i plan) (take i outcomes) (get_or plan i d) (get_or outcomes i e) short
+      ∙ ap (λ t. outcome_lines line_of (take i plan) (take i outcomes) ++ t) (sym is) in
+      added ∙ ap (λ t. t ++ line) before ∙ append_assoc start (outcome_lines line_of (take i plan) (take i outcomes)) line ∙ ap (λ t. start ++ t) (sym more)

@@ -1,5 +1,5 @@
 -- Scripts are read line by line.
-use Rattle.std.proofs.Common.{◌≡◌, refl, sym, ap, subst, ℕ, zero, suc, ◌+◌, ◌-◌, ◌<◌, ◌≤◌, List, [], ◌∷◌, ◌++◌, length, get_or, slice_set, Result, arith}
+use Rattle.std.proofs.Common.{◌≡◌, refl, sym, ap, subst, Bool, ℕ, zero, suc, ◌+◌, ◌-◌, ◌<◌, ◌≤◌, List, [], ◌∷◌, ◌++◌, length, get_or, slice_set, Result, arith}
 use Rattle.std.specs.Prelude.{All}
 use Rattle.std.proofs.lemmas.List.{length-append}
 use Rattle.std.proofs.lemmas.List.Sums.{sum_by-cons}
@@ -86,7 +86,7 @@ refused_on (refused.Fault f) step rest h = rw h refl
 refused_on refused.Memory step rest h = tt
 
 -- what the first lines say, where the text behind them is still to be read
-pub record IsReadTo (bytes text : List ℕ) (s : SoFar) : Type 0 where
+pub record IsReadTo (json : Bool) (bytes text : List ℕ) (s : SoFar) : Type 0 where
   pub count : s.lines + length text ≤ length bytes
-  pub rest : script_from (record { lines = 0; requests = 0; lanes = [] }) (lines_of bytes)
+  pub rest : script_from (record { json = json; lines = 0; requests = 0; lanes = [] }) (lines_of bytes)
       ≡ script_from s (lines_of text)

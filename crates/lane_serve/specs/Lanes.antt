@@ -2,8 +2,9 @@
 use Rattle.std.specs.Prelude.{◌≡◌, ℕ, ◌+◌, ◌≤◌, ◌==◌, ◌||◌, List, [], ◌∷◌, ◌++◌, Bool, length, nat_lt, ⊤, if◌then◌else◌}
 use Rattle.edition_store.specs.Editions.{EditionData}
 use Rattle.query_gate.specs.Callers.{Answers, IsAnsweredBy, IsEditionOf}
-use Rattle.query_gate.specs.Texts.{reply_text}
+use Rattle.query_gate.specs.Json.{shown_reply}
 use Rattle.query_gate.specs.declared.reply.Reply.{Reply}
+use Rattle.answer_json.specs.declared.frame.Frame.TheVariants as frame
 use Rattle.lane_serve.specs.declared.script.Line.{Line}
 use Rattle.lane_serve.specs.declared.lane.ReplyText.{ReplyText}
 
@@ -16,13 +17,14 @@ pub record ReportData : Type 0 where
 abbrev pub IsReplyOf : List EditionData → ℕ → Line → Reply → Type 0
 IsReplyOf es n request reply = IsAnsweredBy es n request.since request.question reply
 
--- a reply's text is that of the right reply of the edition of a list that the reply names
+-- a reply's text is that of the right reply of the edition of a list that the reply names: as lines,
+-- or where that is wanted, as a member of a JSON object
 pub record IsAnswered (es : List EditionData) (request : Line) (r : ReplyText) : Type 0 where
   pub by : EditionData
   pub edition : IsEditionOf es r.edition by
   pub reply : Reply
   pub right : Answers r.edition by request.since request.question reply
-  pub text : r.text ≡ reply_text by.table reply
+  pub text : r.text ≡ shown_reply request.json frame.Array by.table reply
 
 -- One reply for each request in order, numbered from k on; the editions never go back, and the
 -- first is no earlier than `least`.

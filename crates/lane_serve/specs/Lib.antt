@@ -5,3 +5,4 @@ pub mod Served
 pub mod Seats
 pub mod Sides
 pub mod Texts
+pub mod Json

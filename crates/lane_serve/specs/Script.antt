@@ -23,20 +23,22 @@ pub record LaneData : Type 0 where
   pub lines : List Line
 
 -- a request that edition `since` or a later one may answer, or why there is none
-abbrev pub requested : ℕ → Result Question QuestionFault → Option Said
-requested since (Ok q) = Some (said.Request (Some (record { since = since; question = q })))
-requested since (Err why.BadForm) = None
-requested since (Err why.BadTime) = Some (said.Request None)
+abbrev pub requested : Bool → ℕ → Result Question QuestionFault → Option Said
+requested json since (Ok q) =
+    Some (said.Request (Some (record { since = since; question = q; json = json })))
+requested json since (Err why.BadForm) = None
+requested json since (Err why.BadTime) = Some (said.Request None)
 
 -- a question, as `question_of` reads it
-abbrev pub request_of : ℕ → List (List ℕ) → Option Said
-request_of since [] = None
-request_of since (kind ∷ words) = requested since (question_of kind words)
+abbrev pub request_of : Bool → ℕ → List (List ℕ) → Option Said
+request_of json since [] = None
+request_of json since (kind ∷ words) = requested json since (question_of kind words)
 
 -- N and a request, which wants edition N or a later one
-abbrev pub since_of : List (List ℕ) → Option Said
-since_of [] = None
-since_of (number ∷ words) = option_and_then (λ n. request_of n words) (number_of number)
+abbrev pub since_of : Bool → List (List ℕ) → Option Said
+since_of json [] = None
+since_of json (number ∷ words) =
+    option_and_then (λ n. request_of json n words) (number_of number)
 
 -- NAME, which begins a lane
 abbrev pub lane_of : List (List ℕ) → Option Said
@@ -45,15 +47,17 @@ lane_of words = None
 
 -- What the words of a line say: nothing, `lane NAME`, `since N` and a request, or a request of any
 -- edition. None where they have no such form.
-abbrev pub said_of : List (List ℕ) → Option Said
-said_of [] = Some said.Nothing
-said_of (word ∷ words) =
+abbrev pub said_of : Bool → List (List ℕ) → Option Said
+said_of json [] = Some said.Nothing
+said_of json (word ∷ words) =
     if bytes_eq word (codes "lane") then lane_of words
-    else if bytes_eq word (codes "since") then since_of words
-    else request_of 0 (word ∷ words)
+    else if bytes_eq word (codes "since") then since_of json words
+    else request_of json 0 (word ∷ words)
 
--- what a script says up to a line: how many lines that is, how many requests, and the lanes
+-- what a script says up to a line: whether its replies are wanted as JSON, how many lines that is,
+-- how many requests, and the lanes
 pub record SoFar : Type 0 where
+  pub json : Bool
   pub lines : ℕ
   pub requests : ℕ
   pub lanes : List LaneData
@@ -70,6 +74,7 @@ abbrev pub after_lane : SoFar → ℕ → List ℕ → Result SoFar ScriptFault
 after_lane s n name =
     if nat_lt (length s.lanes) 64
     then Ok (record {
+      json = s.json;
       lines = n;
       requests = s.requests;
       lanes = s.lanes ++ record { name = name; lines = [] } ∷ [];
@@ -80,6 +85,7 @@ after_lane s n name =
 abbrev pub after_timed : SoFar → ℕ → Option Line → Result SoFar ScriptFault
 after_timed s n None = Err (fault.BadTime n)
 after_timed s n (Some request) = Ok (record {
+  json = s.json;
   lines = n;
   requests = s.requests + 1;
   lanes = with_request request s.lanes;
@@ -96,7 +102,7 @@ after_request s n request =
 abbrev pub after_said : SoFar → ℕ → Option Said → Result SoFar ScriptFault
 after_said s n None = Err (fault.BadLine n)
 after_said s n (Some said.Nothing) =
-    Ok (record { lines = n; requests = s.requests; lanes = s.lanes })
+    Ok (record { json = s.json; lines = n; requests = s.requests; lanes = s.lanes })
 after_said s n (Some (said.Lane name)) = after_lane s n name
 after_said s n (Some (said.Request request)) = after_request s n request
 
@@ -104,7 +110,7 @@ after_said s n (Some (said.Request request)) = after_request s n request
 -- the 65th lane; it is the 20,001st request; a time of it isn't one.
 abbrev pub after_line : SoFar → List ℕ → Result SoFar ScriptFault
 after_line s text =
-    after_said s (s.lines + 1) (option_and_then (λ words. said_of words) (line_words text))
+    after_said s (s.lines + 1) (option_and_then (λ words. said_of s.json words) (line_words text))
 
 -- a script has a lane
 abbrev pub at_end : SoFar → Result (List LaneData) ScriptFault
@@ -115,12 +121,13 @@ abbrev pub script_from : SoFar → List (List ℕ) → Result (List LaneData) Sc
 script_from s [] = at_end s
 script_from s (text ∷ rest) = and_then (after_line s text) (λ next. script_from next rest)
 
--- The lanes that a script of at most 33,554,432 bytes says, or its first fault. Lines are counted
--- from 1; where every line is good and there is no lane, line 0 is bad.
-abbrev pub script_of : List ℕ → Result (List LaneData) ScriptFault
-script_of bytes =
+-- The lanes that a script of at most 33,554,432 bytes says, or its first fault; whether the replies
+-- are wanted as JSON is said beside it. Lines are counted from 1; where every line is good and there
+-- is no lane, line 0 is bad.
+abbrev pub script_of : Bool → List ℕ → Result (List LaneData) ScriptFault
+script_of json bytes =
     if nat_lt 33554432 (length bytes) then Err fault.TooLong
-    else script_from (record { lines = 0; requests = 0; lanes = [] }) (lines_of bytes)
+    else script_from (record { json = json; lines = 0; requests = 0; lanes = [] }) (lines_of bytes)
 
 -- the times of a request are those that can be asked for
 abbrev pub IsAskable : Line → Type 0

@@ -27,11 +27,14 @@ outcome_text item (Published number trips lines kept) =
 outcome_text item (Refused fault) = refused_text item.word fault
 
 -- one line for each item, in order
+abbrev pub outcome_lines : (ItemData → Outcome → List ℕ) → List ItemData → List Outcome → List ℕ
+outcome_lines line_of [] outcomes = []
+outcome_lines line_of (item ∷ items) [] = []
+outcome_lines line_of (item ∷ items) (outcome ∷ outcomes) =
+    line_of item outcome ++ outcome_lines line_of items outcomes
+
 abbrev pub outcomes_text : List ItemData → List Outcome → List ℕ
-outcomes_text [] outcomes = []
-outcomes_text (item ∷ items) [] = []
-outcomes_text (item ∷ items) (outcome ∷ outcomes) =
-    outcome_text item outcome ++ outcomes_text items outcomes
+outcomes_text items outcomes = outcome_lines outcome_text items outcomes
 
 -- `K edition N`, and the reply's lines
 abbrev pub answered_text : ReplyText → List ℕ

@@ -7,14 +7,15 @@ ghost use Rattle.lane_serve.specs.Script.{IsAskable};
 ghost use Rattle.lane_serve.specs.Lanes.{IsAnswered, IsClosing, IsLaneRun, IsReplyOf, is_due, to_close};
 
 use crate::script::Line;
+use answer_json::Frame;
 use edition_store::{Last, Naming};
-use query_gate::{Answer, Caller, reply_text};
+use query_gate::{Answer, Caller, shown_reply};
 use std::alloc::Global;
 use std::marker::Model;
 use tb_base::{Gate, Memory, Name, Work};
 
 /// The reply to a request: the request's number in its lane, from 1; the number of the edition that
-/// it was answered by, from 1; and the reply's lines.
+/// it was answered by, from 1; and the reply's lines, or as JSON its member.
 #[derive(Drop)]
 pub struct ReplyText {
     pub line: u32,
@@ -53,7 +54,13 @@ fn told<J: Naming>(
     ensures right { IfOk result (IsAnswered answer.now.pinned.list request.now) }
 {
     let edition = answer.pinned.edition();
-    let text = reply_text(alloc, edition.table(), &answer.reply)?;
+    let text = shown_reply(
+        alloc,
+        request.json,
+        Frame::Array,
+        edition.table(),
+        &answer.reply,
+    )?;
     Ok(ReplyText {
         line: k,
         edition: answer.pinned.number(),

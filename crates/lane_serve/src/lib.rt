@@ -8,9 +8,10 @@
 //! and each that was deferred. To the layer above the crate promises one outcome for each item of
 //! the plan, that each reply is exactly that of the edition that it names (best values as in Witt,
 //! Trip-Based Public Transit Routing, ESA 2015), that a lane's editions never go back, and that
-//! each closing reply is the last edition's. `served_text` shows all of it as lines.
+//! each closing reply is the last edition's. `served_shown` shows all of it, as text or as JSON.
 #![tactic(auto)]
 
+mod json;
 mod lane;
 mod plan;
 mod publishing;
@@ -19,6 +20,7 @@ mod said;
 mod script;
 mod texts;
 
+pub use json::served_shown;
 pub use lane::{LaneReport, ReplyText, close_lane, run_lane};
 pub use plan::{Outcome, PlanItem};
 pub use run::{ServeFault, Served, serve};

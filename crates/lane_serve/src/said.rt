@@ -18,14 +18,18 @@ pub(crate) enum Said {
 }
 
 // A question, which edition `since` or a later one may answer.
-fn request_of(alloc: Global, since: u32, words: &[Name]) -> Result<Option<Said>, Memory>
-    ensures said { IfOk result (λ said. said ≡ request_of since words.now) }
+fn request_of(alloc: Global, json: bool, since: u32, words: &[Name]) -> Result<Option<Said>, Memory>
+    ensures said { IfOk result (λ said. said ≡ request_of json since words.now) }
     ensures times { IfOk result SaysTimes }
 {
     match words {
         [] => Ok(None),
         [kind, rest @ ..] => match question_of(alloc, kind.bytes(), rest) {
-            Ok(question) => Ok(Some(Said::Request(Some(Line { since, question })))),
+            Ok(question) => Ok(Some(Said::Request(Some(Line {
+                since,
+                question,
+                json,
+            })))),
             Err(Refused::Fault(QuestionFault::BadForm)) => Ok(None),
             Err(Refused::Fault(QuestionFault::BadTime)) => Ok(Some(Said::Request(None))),
             Err(Refused::Memory) => Err(Memory),
@@ -34,14 +38,14 @@ fn request_of(alloc: Global, since: u32, words: &[Name]) -> Result<Option<Said>,
 }
 
 // N and a request.
-fn since_of(alloc: Global, words: &[Name]) -> Result<Option<Said>, Memory>
-    ensures said { IfOk result (λ said. said ≡ since_of words.now) }
+fn since_of(alloc: Global, json: bool, words: &[Name]) -> Result<Option<Said>, Memory>
+    ensures said { IfOk result (λ said. said ≡ since_of json words.now) }
     ensures times { IfOk result SaysTimes }
 {
     match words {
         [] => Ok(None),
         [number, rest @ ..] => match number_of(number.bytes()) {
-            Some(since) => request_of(alloc, since, rest),
+            Some(since) => request_of(alloc, json, since, rest),
             None => Ok(None),
         },
     }
@@ -59,8 +63,8 @@ fn lane_of(alloc: Global, words: &[Name]) -> Result<Option<Said>, Memory>
 }
 
 // What the words of a line say, or none where they have no form of a script's line.
-pub(crate) fn said_of(alloc: Global, words: &[Name]) -> Result<Option<Said>, Memory>
-    ensures said { IfOk result (λ said. said ≡ said_of words.now) }
+pub(crate) fn said_of(alloc: Global, json: bool, words: &[Name]) -> Result<Option<Said>, Memory>
+    ensures said { IfOk result (λ said. said ≡ said_of json words.now) }
     ensures times { IfOk result SaysTimes }
 {
     match words {
@@ -69,9 +73,9 @@ pub(crate) fn said_of(alloc: Global, words: &[Name]) -> Result<Option<Said>, Mem
             if word.bytes() == b"lane".as_slice() {
                 lane_of(alloc, rest)
             } else if word.bytes() == b"since".as_slice() {
-                since_of(alloc, rest)
+                since_of(alloc, json, rest)
             } else {
-                request_of(alloc, 0, words)
+                request_of(alloc, json, 0, words)
             }
         }
     }

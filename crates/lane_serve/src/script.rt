@@ -24,6 +24,8 @@ pub struct Line {
     /// The number of the first edition that may answer it, from 1; 0 for any.
     pub since: u32,
     pub question: Question,
+    /// Whether the reply is wanted as JSON, in place of lines.
+    pub json: bool,
 }
 
 /// A lane: its name, and its requests in order.
@@ -91,10 +93,12 @@ pub enum ScriptFault {
     TooLong,
 }
 
-// A reader of a script: how many lines and requests it has read, and the lanes so far.
+// A reader of a script: whether its replies are wanted as JSON, how many lines and requests it has
+// read, and the lanes so far.
 #[derive(Drop)]
 struct ScriptReader {
     alloc: Global,
+    json: bool,
     lines: u32,
     requests: u32,
     lanes: Vec<Lane>,
@@ -106,7 +110,12 @@ impl Model for ScriptReader {
 
     ghost Value = { SoFar };
 
-    ghost view = { λ r. record { lines = r.lines; requests = r.requests; lanes = r.lanes.items } };
+    ghost view = { λ r. record {
+      json = r.json;
+      lines = r.lines;
+      requests = r.requests;
+      lanes = r.lanes.items;
+    } };
 
     ghost invariant = { λ r. (r.requests ≡ request_count r.lanes.items)
         × IsWithinLimits r.lanes.items };
@@ -125,11 +134,12 @@ fn add_request(lanes: &mut Vec<Lane>, request: Line) -> Result<(), Memory>
 
 impl ScriptReader {
     // A reader at the start of a script.
-    fn new(alloc: Global) -> ScriptReader
-        ensures { result ≡ record { lines = 0; requests = 0; lanes = [] } }
+    fn new(alloc: Global, json: bool) -> ScriptReader
+        ensures { result ≡ record { json = json; lines = 0; requests = 0; lanes = [] } }
     {
         ScriptReader {
             alloc,
+            json,
             lines: 0,
             requests: 0,
             lanes: Vec::new(alloc),
@@ -196,7 +206,7 @@ impl ScriptReader {
         ensures reads { Yields result (λ _. self.new) (after_line self.old text.now) }
         ensures lines { OnOk result (self.new.lines ≡ self.old.lines + 1) }
     {
-        let said = match line_said(self.alloc, text) {
+        let said = match line_said(self.alloc, self.json, text) {
             Ok(said) => said,
             Err(Memory) => return Err(Refused::Memory),
         };
@@ -216,13 +226,13 @@ impl ScriptReader {
 }
 
 // What a line of a script says, or none.
-fn line_said(alloc: Global, text: &[u8]) -> Result<Option<Said>, Memory>
+fn line_said(alloc: Global, json: bool, text: &[u8]) -> Result<Option<Said>, Memory>
     ensures said { IfOk result
-        (λ said. said ≡ option_and_then (λ words. said_of words) (line_words text.now)) }
+        (λ said. said ≡ option_and_then (λ words. said_of json words) (line_words text.now)) }
     ensures times { IfOk result SaysTimes }
 {
     match line_words(alloc, text)? {
-        Some(words) => said_of(alloc, words.as_slice()),
+        Some(words) => said_of(alloc, json, words.as_slice()),
         None => Ok(None),
     }
 }
@@ -233,15 +243,15 @@ fn line_said(alloc: Global, text: &[u8]) -> Result<Option<Said>, Memory>
 /// and one whose first byte is `#`, is passed over. `lane NAME` begins a lane; `ask FROM TO TIME`,
 /// `profile FROM TO FIRST LAST`, `latest FROM TO TIME` and `reach FROM TIME` are requests of it,
 /// questions as `question_of` reads them; `since N` before one, with N of 1 to 9 digits, wants
-/// edition N or a later one.
-pub fn read_script(alloc: Global, bytes: &[u8]) -> Result<Script, Refused<ScriptFault>>
-    ensures script { Yields result (λ s. s) (script_of bytes.now) }
+/// edition N or a later one. Whether the replies are wanted as JSON is said beside the script.
+pub fn read_script(alloc: Global, json: bool, bytes: &[u8]) -> Result<Script, Refused<ScriptFault>>
+    ensures script { Yields result (λ s. s) (script_of json bytes.now) }
     ensures good { IfOk result (λ s. IsScript s) }
 {
     if bytes.len() > MOST_BYTES {
         return Err(Refused::Fault(ScriptFault::TooLong));
     }
-    let mut reader = ScriptReader::new(alloc);
+    let mut reader = ScriptReader::new(alloc, json);
     let mut text = bytes;
     while let Some(cut) = first_line(text) {
         reader.take(cut.line)?;

@@ -4,3 +4,4 @@ pub mod Callers
 pub mod Leaving
 pub mod Slots
 pub mod Texts
+pub mod Json

@@ -6,7 +6,7 @@
 //! says: a line on standard error, and the number of how it ended.
 #![tactic(auto)]
 
-use router_cli::{Status, end, route};
+use router_cli::{Status, asks_json, end, route};
 use std::env;
 use std::io::ErrorKind;
 use std::process::ExitCode;
@@ -33,7 +33,7 @@ fn words_of(rt: &(impl Env + AllocGlobal)) -> Result<Vec<String>, Status> {
 fn main(rt: HostRuntime) -> ExitCode {
     let words = match words_of(&rt) {
         Ok(words) => words,
-        Err(status) => return end(&rt, status),
+        Err(status) => return end(&rt, false, status),
     };
     let mut folder = HostFolder::new(&rt);
     let mut script = InSource::new(rt.stdin());
@@ -47,5 +47,5 @@ fn main(rt: HostRuntime) -> ExitCode {
         &mut out,
         &IdleGate,
     );
-    end(&rt, status)
+    end(&rt, asks_json(words.as_slice()), status)
 }

@@ -10,7 +10,8 @@ use Rattle.tb_base.specs.Transfers.{kept_hops}
 use Rattle.tb_base.specs.declared.query.Leg.{Leg}
 use Rattle.tb_base.specs.declared.transfer.Hop.{Hop}
 use Rattle.segment_queue.specs.Traced.{LegsFollow, RidesFollow, ride_of}
-use Rattle.answer_text.specs.Journeys.{unknown_text}
+use Rattle.answer_json.specs.Shown.{shown_unknown}
+use Rattle.answer_json.specs.declared.frame.Frame.TheVariants as frame
 use Rattle.answer_text.specs.Questions.{needs_mirror}
 use Rattle.answer_text.specs.declared.question.Question.{Question}
 use Rattle.answer_text.specs.declared.question.Question.TheVariants as question
@@ -18,7 +19,7 @@ use Rattle.edition_store.specs.Editions.{IsNetwork, NetworkData, net_of}
 use Rattle.mirror_table.specs.Mirror.{IsMirror}
 use Rattle.query_gate.specs.Questions.{Ends, IsOrMirrors, Serves, ends_between}
 use Rattle.query_gate.specs.Replies.{AreBestChoices, AreBestOffers, IsReply, over}
-use Rattle.query_gate.specs.Texts.{reply_text}
+use Rattle.query_gate.specs.Json.{shown_reply}
 use Rattle.query_gate.specs.declared.reply.Reply.{Reply}
 use Rattle.query_gate.specs.declared.reply.Reply.TheVariants as reply
 use Rattle.command_line.specs.Inquiries.{InquiryData}
@@ -27,16 +28,16 @@ use Rattle.router_cli.specs.LateTrips.{ask_of}
 use Rattle.router_cli.specs.declared.over_table.Asked.{Asked}
 
 -- the text where both names are those of places
-pub known_text : (T : TimetableData) (from to : List ℕ) (IsTextOf : Ends → List ℕ → Type 0) (ends : Ends) (bytes : List ℕ) →
-    ends_between T from to ≡ Ok ends → IsTextOf ends bytes → IsTextBetween T from to IsTextOf bytes
-known_text T from to IsTextOf ends bytes is text =
-    subst (λ r. MatchResult r (λ e. IsTextOf e bytes) (λ name. bytes ≡ unknown_text name)) (sym is) text
+pub known_text : (json : Bool) (T : TimetableData) (from to : List ℕ) (IsTextOf : Ends → List ℕ → Type 0) (ends : Ends) (bytes : List ℕ) →
+    ends_between T from to ≡ Ok ends → IsTextOf ends bytes → IsTextBetween json T from to IsTextOf bytes
+known_text json T from to IsTextOf ends bytes is text =
+    subst (λ r. MatchResult r (λ e. IsTextOf e bytes) (λ name. bytes ≡ shown_unknown json name)) (sym is) text
 
 -- the text where a name is that of no place
-pub unknown_name : (T : TimetableData) (from to : List ℕ) (IsTextOf : Ends → List ℕ → Type 0) (name bytes : List ℕ) →
-    ends_between T from to ≡ Err name → bytes ≡ unknown_text name → IsTextBetween T from to IsTextOf bytes
-unknown_name T from to IsTextOf name bytes is text =
-    subst (λ r. MatchResult r (λ e. IsTextOf e bytes) (λ name. bytes ≡ unknown_text name)) (sym is) text
+pub unknown_name : (json : Bool) (T : TimetableData) (from to : List ℕ) (IsTextOf : Ends → List ℕ → Type 0) (name bytes : List ℕ) →
+    ends_between T from to ≡ Err name → bytes ≡ shown_unknown json name → IsTextBetween json T from to IsTextOf bytes
+unknown_name json T from to IsTextOf name bytes is text =
+    subst (λ r. MatchResult r (λ e. IsTextOf e bytes) (λ name. bytes ≡ shown_unknown json name)) (sym is) text
 
 -- rides that follow hops follow equal hops
 rides_follow : (hops others : ℕ → ℕ → List Hop) → ((t i : ℕ) → hops t i ≡ others t i) → (rides : List Ride) → RidesFollow hops rides → RidesFollow others rides
@@ -139,14 +140,14 @@ either_reply T true (question.Latest from to arrive) r h = h
 either_reply T true (question.Reach from leave) r h = h
 
 -- the text of a right reply by a network that serves a timetable
-pub reply_shown : (T : TimetableData) (N : NetworkData) → IsNetwork N → (q : Question) (r : Reply) → Serves T N.table q → IsReply (over T N) q r → (bytes : List ℕ) → bytes ≡ reply_text T r →
-    ShowsReply T false q bytes
-reply_shown T N sound q r serves h bytes text =
+pub reply_shown : (json : Bool) (T : TimetableData) (N : NetworkData) → IsNetwork N → (q : Question) (r : Reply) → Serves T N.table q → IsReply (over T N) q r → (bytes : List ℕ) → bytes ≡ shown_reply json frame.Lines T r →
+    ShowsReply json T false q bytes
+reply_shown json T N sound q r serves h bytes text =
     record { reply = r; right = right_reply T q r (kept_reply T N sound q r serves h); text = text }
 
 -- it may be shown either way
-pub either_way : (T : TimetableData) (plain : Bool) (q : Question) (bytes : List ℕ) → ShowsReply T false q bytes → ShowsReply T plain q bytes
-either_way T plain q bytes h = record { reply = h.reply; right = either_reply T plain q h.reply h.right; text = h.text }
+pub either_way : (json : Bool) (T : TimetableData) (plain : Bool) (q : Question) (bytes : List ℕ) → ShowsReply json T false q bytes → ShowsReply json T plain q bytes
+either_way json T plain q bytes h = record { reply = h.reply; right = either_reply T plain q h.reply h.right; text = h.text }
 
 -- the network of the mirror of a timetable serves what it is built for
 pub mirror_serves : (T M : TimetableData) (q : Question) → needs_mirror q ≡ true → IsMirror T M → Serves T M q

@@ -33,7 +33,7 @@ not_risen : (a b : ℕ) → a < b → b ≡ a → ⊥
 not_risen a b rose still = absurd (omega (arith, rose, still))
 
 city_ending : (r : CityRequestData) (s : Status) (before now : Option (List ℕ)) →
-    Writes (IsCityText r.side) IsNoCityText s before now → (s ≡ status.WriteFault → ⊥) → EndsBy status.Done s
+    Writes (IsCityText r.json r.side) IsNoCityText s before now → (s ≡ status.WriteFault → ⊥) → EndsBy status.Done s
 city_ending r status.Done before now out write = inl refl
 city_ending r status.WriteFault before now out write = absurd (write refl)
 city_ending r status.Usage before now out write = absurd out

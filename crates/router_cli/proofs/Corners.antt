@@ -1,10 +1,10 @@
 -- The best values between the corners of a made city.
-use Rattle.std.proofs.Common.{◌≡◌, ◌∙◌, ℕ, ◌+◌, ◌*◌, ◌-◌, ◌<◌, ◌≤◌, zero, suc, List, [], ◌∷◌, ◌++◌, false, ap, length, subst, sym, arith}
+use Rattle.std.proofs.Common.{◌≡◌, ◌∙◌, Bool, ℕ, ◌+◌, ◌*◌, ◌-◌, ◌<◌, ◌≤◌, zero, suc, List, [], ◌∷◌, ◌++◌, false, ap, length, subst, sym, arith}
 use Rattle.std.specs.Prelude.{All}
 use Rattle.std.proofs.lemmas.List.Elements.{All-cons, All-nil}
 use Rattle.tb_base.specs.BestValues.{ChoiceData, QueryData}
 use Rattle.tb_base.specs.TimetableData.{TimetableData}
-use Rattle.answer_text.specs.Journeys.{choices_text}
+use Rattle.answer_json.specs.Shown.{shown_choices}
 use Rattle.edition_store.specs.Editions.{IsNetwork, NetworkData, net_of}
 use Rattle.query_gate.specs.Replies.{AreBestChoices}
 use Rattle.feed_maker.specs.City.{city, city_stop, stop_number}
@@ -42,17 +42,17 @@ to_inside T n same side =
     All-cons (λ p. p < length T.stops) (stop_number n (n - 1) (n - 1)) [] (is_stop T n (stop_number n (n - 1) (n - 1)) same (last_inside n side.some)) (All-nil (λ p. p < length T.stops))
 
 -- the text of the best choices over a network
-pub choices_shown : (N : NetworkData) → IsNetwork N → (Q : QueryData) (choices : List ChoiceData) → AreBestChoices (net_of N) Q choices →
-    (bytes : List ℕ) → bytes ≡ choices_text N.table choices → ShowsKept N.table Q bytes
-choices_shown N sound Q choices best bytes text =
+pub choices_shown : (json : Bool) (N : NetworkData) → IsNetwork N → (Q : QueryData) (choices : List ChoiceData) → AreBestChoices (net_of N) Q choices →
+    (bytes : List ℕ) → bytes ≡ shown_choices json N.table choices → ShowsKept json N.table Q bytes
+choices_shown json N sound Q choices best bytes text =
     record { lines = N.lines; are_lines = sound.lines; choices = choices; best = kept_choices N sound Q choices best; text = text }
 
 -- a city's text from its two parts
-pub city_shown : (n : ℕ) (T : TimetableData) (report choices shown bytes : List ℕ) → T ≡ city n → IsReport T false report →
-    ShowsKept (city n) (corner_query n) choices → shown ≡ choices → bytes ≡ report ++ shown → IsCityText n bytes
-city_shown n T report choices shown bytes same reported kept is text = record {
+pub city_shown : (json : Bool) (n : ℕ) (T : TimetableData) (report choices shown bytes : List ℕ) → T ≡ city n → IsReport json T false report →
+    ShowsKept json (city n) (corner_query n) choices → shown ≡ choices → bytes ≡ report ++ shown → IsCityText json n bytes
+city_shown json n T report choices shown bytes same reported kept is text = record {
   report = report;
-  reported = subst (λ (U : TimetableData). IsReport U false report) same reported;
+  reported = subst (λ (U : TimetableData). IsReport json U false report) same reported;
   choices = choices;
   shown = kept;
   text = text ∙ ap (λ rest. report ++ rest) is;

@@ -47,22 +47,22 @@ by_day day other s same h = subst (λ d. IsDayEnding d s) same h
 
 pub run_completed : IsDetermined → (files : Option FileList) → IsSome files → (bytes : List ℕ) (r : ServeRequestData) (s : Status) (before now : Option (List ℕ)) →
     Writes (IsRunAnswer files (Some bytes) r) (IsNoRunAnswer files (Some bytes) r) s before now → (s ≡ status.ReadFault → ⊥) → (s ≡ status.WriteFault → ⊥) →
-    (day : Result TimetableData FeedFault) → FirstGives files r.options (map item_of r.plan) day → IsRunEnding (script_of bytes) day s
+    (day : Result TimetableData FeedFault) → FirstGives files r.options (map item_of r.plan) day → IsRunEnding (script_of r.json bytes) day s
 run_completed same files told bytes r status.Done before now (text, ran, added) read write day is =
     let plan = map item_of r.plan in
     let run = ran.text in
     let first = first_published files r.options (needs_mirrors ran.lanes) 0 plan run.served.outcomes run.run.editions run.run.outcomes run.run.first in
-    by_script (script_of bytes) ran.lanes day status.Done ran.script
+    by_script (script_of r.json bytes) ran.lanes day status.Done ran.script
     (by_day day (Ok first.0) status.Done (first_day same files told r.options plan (Ok first.0) day first.1 is) (inl refl))
 run_completed same files told bytes r status.Usage before now h read write day is = absurd h
 run_completed same files told bytes r (status.LateRefused f) before now h read write day is = absurd h
 run_completed same files told bytes r (status.JourneyRefused f) before now h read write day is = absurd h
 run_completed same files told bytes r (status.FeedRefused f) before now ((lanes, script), refused) read write day is =
     let plan = map item_of r.plan in
-    by_script (script_of bytes) lanes day (status.FeedRefused f) script
+    by_script (script_of r.json bytes) lanes day (status.FeedRefused f) script
     (by_day day (Err f) (status.FeedRefused f) (first_day same files told r.options plan (Err f) day refused is) (inl refl))
 run_completed same files told bytes r status.ReadFault before now h read write day is = absurd (read refl)
 run_completed same files told bytes r status.WriteFault before now h read write day is = absurd (write refl)
-run_completed same files told bytes r status.Memory before now h read write day is = for_memory (script_of bytes) day
+run_completed same files told bytes r status.Memory before now h read write day is = for_memory (script_of r.json bytes) day
 run_completed same files told bytes r (status.ScriptRefused f) before now h read write day is =
     subst (λ m. IsRunEnding m day (status.ScriptRefused f)) (sym h) (inl refl)

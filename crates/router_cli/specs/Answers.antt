@@ -9,11 +9,12 @@ use Rattle.plain_rounds.specs.Shown.{SpellShortest}
 use Rattle.answer_text.specs.Questions.{needs_mirror}
 use Rattle.answer_text.specs.declared.question.Question.{Question}
 use Rattle.answer_text.specs.declared.question.Question.TheVariants as question
-use Rattle.answer_text.specs.Journeys.{arrival_text, choices_text, unknown_text}
+use Rattle.answer_json.specs.Shown.{shown_arrival, shown_choices, shown_unknown}
+use Rattle.answer_json.specs.declared.frame.Frame.TheVariants as frame
 use Rattle.edition_build.specs.Reports.{IsReport}
 use Rattle.query_gate.specs.Questions.{Ends, ends_between, query_at}
 use Rattle.query_gate.specs.Replies.{AreBestChoices, AtEnds, IsReply}
-use Rattle.query_gate.specs.Texts.{reply_text}
+use Rattle.query_gate.specs.Json.{shown_reply}
 use Rattle.query_gate.specs.declared.reply.Reply.{Reply}
 use Rattle.query_gate.specs.declared.reply.Reply.TheVariants as reply
 use Rattle.command_line.specs.Inquiries.{InquiryData}
@@ -25,9 +26,9 @@ use Rattle.command_line.specs.declared.request.Command.TheVariants as command
 
 -- the least arrival over the journeys of exactly one ride that the query allows, or that there is
 -- none
-abbrev pub IsDirectText : TimetableData → QueryData → List ℕ → Type 0
-IsDirectText T Q bytes =
-    (least : Option ℤ) × IsLeast (IsDirectArrival T Q) least × (bytes ≡ arrival_text least)
+abbrev pub IsDirectText : Bool → TimetableData → QueryData → List ℕ → Type 0
+IsDirectText json T Q bytes =
+    (least : Option ℤ) × IsLeast (IsDirectArrival T Q) least × (bytes ≡ shown_arrival json least)
 
 -- a timetable with these lines, and the transfers that are kept between them
 abbrev pub kept_network : TimetableData → List (List ℕ) → NetData
@@ -64,42 +65,44 @@ abbrev pub IsRightReply : TimetableData → Bool → Question → Reply → Type
 IsRightReply T plain (question.Ask from to leave) = IsAskReply T plain from to leave
 IsRightReply T plain q = IsKeptReply T q
 
--- the text of a right reply to a question
-pub record ShowsReply (T : TimetableData) (plain : Bool) (q : Question) (bytes : List ℕ)
-    : Type 0 where
+-- a right reply to a question, as lines of JSON or as a text
+pub record ShowsReply (json : Bool) (T : TimetableData) (plain : Bool) (q : Question)
+    (bytes : List ℕ) : Type 0 where
   pub reply : Reply
   pub right : IsRightReply T plain q reply
-  pub text : bytes ≡ reply_text T reply
+  pub text : bytes ≡ shown_reply json frame.Lines T reply
 
 -- the best values of a query in order, each followed by the legs of a journey that has it and
 -- changes by kept transfers
-pub record ShowsKept (T : TimetableData) (Q : QueryData) (bytes : List ℕ) : Type 0 where
+pub record ShowsKept (json : Bool) (T : TimetableData) (Q : QueryData) (bytes : List ℕ)
+    : Type 0 where
   pub lines : List (List ℕ)
   pub are_lines : AreLines T lines
   pub choices : List ChoiceData
   pub best : AreBestChoices (kept_network T lines) Q choices
-  pub text : bytes ≡ choices_text T choices
+  pub text : bytes ≡ shown_choices json T choices
 
 -- What is written about two places: where one is no place of the timetable, that the stop is
 -- unknown, the origin first; else a text about the stops of both.
-abbrev pub IsTextBetween : TimetableData → List ℕ → List ℕ → (Ends → List ℕ → Type 0)
+abbrev pub IsTextBetween : Bool → TimetableData → List ℕ → List ℕ → (Ends → List ℕ → Type 0)
     → List ℕ → Type 0
-IsTextBetween T from to IsTextOf bytes =
+IsTextBetween json T from to IsTextOf bytes =
     MatchResult (ends_between T from to) (λ ends. IsTextOf ends bytes)
-    (λ name. bytes ≡ unknown_text name)
+    (λ name. bytes ≡ shown_unknown json name)
 
-abbrev pub IsInquiryText : TimetableData → (TimetableData → QueryData → List ℕ → Type 0)
-    → InquiryData → List ℕ → Type 0
-IsInquiryText T IsTextOf i = IsTextBetween T i.from i.to (λ ends. IsTextOf T (query_at ends i.time))
+abbrev pub IsInquiryText : Bool → TimetableData
+    → (Bool → TimetableData → QueryData → List ℕ → Type 0) → InquiryData → List ℕ → Type 0
+IsInquiryText json T IsTextOf i =
+    IsTextBetween json T i.from i.to (λ ends. IsTextOf json T (query_at ends i.time))
 
--- the answer to a command
-abbrev pub IsCommandText : TimetableData → Bool → Command → List ℕ → Type 0
-IsCommandText T plain (command.Direct i) = IsInquiryText T IsDirectText i
-IsCommandText T plain (command.Question q) = ShowsReply T plain q
-IsCommandText T plain (command.Build list) = IsReport T list
+-- the answer to a command, as JSON or as a text
+abbrev pub IsCommandText : Bool → TimetableData → Bool → Command → List ℕ → Type 0
+IsCommandText json T plain (command.Direct i) = IsInquiryText json T IsDirectText i
+IsCommandText json T plain (command.Question q) = ShowsReply json T plain q
+IsCommandText json T plain (command.Build list) = IsReport json T list
 
 abbrev pub IsAnswer : TimetableData → DayRequestData → List ℕ → Type 0
-IsAnswer T r = IsCommandText T r.plain r.command
+IsAnswer T r = IsCommandText r.json T r.plain r.command
 
 -- the query between two named places, between stops that exist, or the name that is no place
 abbrev pub IsQuery : TimetableData → List ℕ → List ℕ → ℤ → Asked → Type 0

@@ -1,5 +1,5 @@
 -- What the program writes for a made city.
-use Rattle.std.specs.Prelude.{◌≡◌, ℕ, ◌-◌, List, [], ◌∷◌, ◌++◌, pos, false, ⊤}
+use Rattle.std.specs.Prelude.{◌≡◌, Bool, ℕ, ◌-◌, List, [], ◌∷◌, ◌++◌, pos, false, ⊤}
 use Rattle.tb_base.specs.BestValues.{QueryData}
 use Rattle.feed_maker.specs.City.{city, stop_number}
 use Rattle.edition_build.specs.Reports.{IsReport}
@@ -16,11 +16,11 @@ corner_query n = record {
 }
 
 -- the report on the city with n rows, and the best values between these two corners
-pub record IsCityText (n : ℕ) (bytes : List ℕ) : Type 0 where
+pub record IsCityText (json : Bool) (n : ℕ) (bytes : List ℕ) : Type 0 where
   pub report : List ℕ
-  pub reported : IsReport (city n) false report
+  pub reported : IsReport json (city n) false report
   pub choices : List ℕ
-  pub shown : ShowsKept (city n) (corner_query n) choices
+  pub shown : ShowsKept json (city n) (corner_query n) choices
   pub text : bytes ≡ report ++ choices
 
 -- why a city has no text: want of memory alone, of which nothing is said here

@@ -1,9 +1,10 @@
 -- What the program's status says of a day amended by late trips.
-use Rattle.std.specs.Prelude.{◌≡◌, false, ℕ, ◌<◌, ◌⊎◌, List, ◌++◌, codes, length, nat_lt, Option, Some, None, IfSome, Result, Ok, Err, if◌then◌else◌, ⊤}
+use Rattle.std.specs.Prelude.{◌≡◌, Bool, false, ℕ, ◌<◌, ◌⊎◌, List, ◌++◌, codes, length, nat_lt, Option, Some, None, IfSome, Result, Ok, Err, if◌then◌else◌, ⊤}
 use Rattle.std.specs.Fmt.{decimal}
 use Rattle.tb_base.specs.Lines.{AreLines}
 use Rattle.tb_base.specs.Soundness.{IsSound}
 use Rattle.tb_base.specs.TimetableData.{TimetableData}
+use Rattle.answer_json.specs.Frames.{count_json}
 use Rattle.answer_text.specs.declared.question.Question.{Question}
 use Rattle.answer_text.specs.declared.question.Question.TheVariants as question
 use Rattle.gtfs_rows.specs.Steps.{and_then}
@@ -43,9 +44,20 @@ abbrev pub amended_text : ℕ → ℕ → List ℕ
 amended_text redone kept =
     codes "edition 2 redone " ++ decimal redone ++ codes " kept " ++ decimal kept ++ codes "\n"
 
+-- `{"edition":2,"redone":N,"kept":N}`
+unfoldable pub amended_json : ℕ → ℕ → List ℕ
+amended_json redone kept =
+    codes "{\"edition\":2" ++ count_json (codes "redone") redone ++ count_json (codes "kept") kept
+    ++ codes "}\n"
+
+abbrev pub amended_shown : Bool → ℕ → ℕ → List ℕ
+amended_shown json redone kept =
+    if json then amended_json redone kept else amended_text redone kept
+
 -- What is written where timetable T becomes U: the trips that this touches are counted, and the
 -- kept transfers of U; then comes what U answers.
-pub record IsAmendedText (T U : TimetableData) (i : InquiryData) (bytes : List ℕ) : Type 0 where
+pub record IsAmendedText (json : Bool) (T U : TimetableData) (i : InquiryData) (bytes : List ℕ)
+    : Type 0 where
   pub before : List (List ℕ)
   pub lines_before : AreLines T before
   pub after : List (List ℕ)
@@ -54,16 +66,16 @@ pub record IsAmendedText (T U : TimetableData) (i : InquiryData) (bytes : List �
   pub touched : redone ≡ touched_count (record { table = T; lines = before })
       (record { table = U; lines = after })
   pub answer : List ℕ
-  pub shown : ShowsReply U false (ask_of i) answer
-  pub text : bytes ≡ amended_text redone (kept_count U after) ++ answer
+  pub shown : ShowsReply json U false (ask_of i) answer
+  pub text : bytes ≡ amended_shown json redone (kept_count U after) ++ answer
 
 -- the updates make a sound timetable of this one, and the bytes are what is written of the two
-pub record IsLateText (T : TimetableData) (updates : List Update) (i : InquiryData)
+pub record IsLateText (json : Bool) (T : TimetableData) (updates : List Update) (i : InquiryData)
     (bytes : List ℕ) : Type 0 where
   pub table : TimetableData
   pub amended : amended T updates ≡ Ok table
   pub sound : IsSound table
-  pub text : IsAmendedText T table i bytes
+  pub text : IsAmendedText json T table i bytes
 
 -- the bytes are what is written over the day's timetable, amended by what the file says
 pub record IsLateAnswer (files : Option FileList) (r : LateRequestData) (bytes : List ℕ)
@@ -72,7 +84,7 @@ pub record IsLateAnswer (files : Option FileList) (r : LateRequestData) (bytes :
   pub day : GivesDay files r.dir r.date r.options (Ok table)
   pub updates : List Update
   pub file : UpdatesGive files r.file (Ok updates)
-  pub text : IsLateText table updates r.inquiry bytes
+  pub text : IsLateText r.json table updates r.inquiry bytes
 
 -- the fault is the first one of the file, or the file is good and it is the first one of an update
 abbrev pub LateRefused : Option FileList → LateRequestData → LateFault → Type 0

@@ -5,3 +5,4 @@ pub mod Serving
 pub mod Verifying
 pub mod LateTrips
 pub mod Promise
+pub mod Refusals

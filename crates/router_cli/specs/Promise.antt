@@ -21,7 +21,7 @@ use Rattle.router_cli.specs.declared.status.Status.TheVariants as status
 abbrev pub IsRequestAnswer : Option FileList → Option (List ℕ) → Request → List ℕ → Type 0
 IsRequestAnswer files told (request.Day r) = IsDayAnswer files r
 IsRequestAnswer files told (request.Serve r) = IsRunAnswer files told r
-IsRequestAnswer files told (request.City r) = IsCityText r.side
+IsRequestAnswer files told (request.City r) = IsCityText r.json r.side
 IsRequestAnswer files told (request.Verify r) = IsVerifyAnswer files told r
 IsRequestAnswer files told (request.Late r) = IsLateAnswer files r
 
@@ -47,7 +47,7 @@ IsRequestEnding files told (request.Day r) s =
     IsDayEnding day s
 IsRequestEnding files told (request.Serve r) s = IfSome told (λ bytes.
     (day : Result TimetableData FeedFault) → FirstGives files r.options (plan_of r) day →
-    IsRunEnding (script_of bytes) day s)
+    IsRunEnding (script_of r.json bytes) day s)
 IsRequestEnding files told (request.City r) s = EndsBy status.Done s
 IsRequestEnding files told (request.Verify r) s =
     (day : Result TimetableData FeedFault) → IsDayOf files r.dir r.date r.options day →
@@ -58,7 +58,7 @@ IsRequestEnding files told (request.Late r) s =
 
 -- a script's first fault comes before what the feeds give
 abbrev pub TellsFirst : Option (List ℕ) → Request → Status → Type 0
-TellsFirst told (request.Serve r) s = TellsScript told s
+TellsFirst told (request.Serve r) s = TellsScript r.json told s
 TellsFirst told r s = ⊤
 
 -- what holds where a source failed: a claim is read only once the day has a timetable

@@ -1,5 +1,5 @@
 -- What the program's status says of a claimed journey.
-use Rattle.std.specs.Prelude.{◌≡◌, ◌↔◌, ℕ, ◌<◌, List, ◌++◌, codes, Option, IfSome, Result, Ok, Err, ⊤}
+use Rattle.std.specs.Prelude.{◌≡◌, ◌↔◌, Bool, ℕ, ◌<◌, List, ◌++◌, codes, if◌then◌else◌, Option, IfSome, Result, Ok, Err, ⊤}
 use Rattle.std.specs.Fmt.{decimal}
 use Rattle.std.specs.Io.KnownBytes.{Consumes}
 use Rattle.tb_base.specs.BestValues.{ChoiceData, QueryData}
@@ -8,6 +8,8 @@ use Rattle.tb_base.specs.TimetableData.{TimetableData}
 use Rattle.tb_base.specs.declared.rule.Rule.{Rule}
 use Rattle.tb_base.specs.declared.rule.Rule.TheVariants as rule
 use Rattle.tb_base.specs.Clock.{time_text}
+use Rattle.answer_json.specs.Frames.{count_json, member_json}
+use Rattle.answer_json.specs.Reached.{value_json}
 use Rattle.gtfs_rows.specs.declared.fault.FeedFault.{FeedFault}
 use Rattle.tb_io.specs.Files.{FileList}
 use Rattle.journey_read.specs.Claims.{claim_of}
@@ -45,18 +47,30 @@ verdict_text (verdict.OtherValue v) =
     codes "no value arrive " ++ time_text v.arrive ++ codes " rides " ++ decimal v.rides
     ++ codes "\n"
 
+-- `{"valid":true}`, or `{"valid":false` with the rule and the leg, or with the value
+abbrev pub verdict_json : Verdict → List ℕ
+verdict_json verdict.Yes = codes "{\"valid\":true}\n"
+verdict_json (verdict.Broken r) =
+    codes "{\"valid\":false" ++ member_json (codes "rule") (rule_text r.rule)
+    ++ count_json (codes "leg") r.leg ++ codes "}\n"
+verdict_json (verdict.OtherValue v) =
+    codes "{\"valid\":false," ++ codes "\"value\":" ++ value_json v ++ codes "}\n"
+
+abbrev pub verdict_shown : Bool → Verdict → List ℕ
+verdict_shown json said = if json then verdict_json said else verdict_text said
+
 -- the verdict on a claim: yes exactly where the legs spell a journey that has the claimed value
-pub record ShowsVerdict (T : TimetableData) (claimed : ChoiceData) (Q : QueryData)
+pub record ShowsVerdict (json : Bool) (T : TimetableData) (claimed : ChoiceData) (Q : QueryData)
     (bytes : List ℕ) : Type 0 where
   pub said : Verdict
   pub is : IsVerdict T Q claimed said
   pub yes : (said ≡ verdict.Yes) ↔ SpellValue T Q claimed.legs claimed.value
-  pub text : bytes ≡ verdict_text said
+  pub text : bytes ≡ verdict_shown json said
 
 -- what is written of a claim about two places
-abbrev pub IsVerifiedText : TimetableData → InquiryData → ChoiceData → List ℕ → Type 0
-IsVerifiedText T i claimed =
-    IsTextBetween T i.from i.to (λ ends. ShowsVerdict T claimed (query_at ends i.time))
+abbrev pub IsVerifiedText : Bool → TimetableData → InquiryData → ChoiceData → List ℕ → Type 0
+IsVerifiedText json T i claimed =
+    IsTextBetween json T i.from i.to (λ ends. ShowsVerdict json T claimed (query_at ends i.time))
 
 -- where the source tells its bytes, they claim this over the timetable
 abbrev pub ClaimGives : TimetableData → Option (List ℕ) → Result ChoiceData JourneyFault → Type 0
@@ -69,7 +83,7 @@ pub record IsVerifyAnswer (files : Option FileList) (told : Option (List ℕ)) (
   pub day : GivesDay files r.dir r.date r.options (Ok table)
   pub claimed : ChoiceData
   pub claim : ClaimGives table told (Ok claimed)
-  pub text : IsVerifiedText table r.inquiry claimed bytes
+  pub text : IsVerifiedText r.json table r.inquiry claimed bytes
 
 -- the day of a request has a timetable: any sound one, where the folder doesn't tell its files
 abbrev pub HasDay : Option FileList → VerifyRequestData → Type 0

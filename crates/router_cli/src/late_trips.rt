@@ -1,5 +1,5 @@
 //! What the program writes about a day amended by late trips.
-ghost use Rattle.std.specs.Prelude.{◌≡◌, ◌<◌, ◌-◌, ◌^◌, ◌∷◌, [], ◌++◌, Err, false, IfErr, IfOk, MatchResult, Ok, Some, length, slice_get, true, vec_len};
+ghost use Rattle.std.specs.Prelude.{◌≡◌, ◌<◌, ◌-◌, ◌^◌, ◌∷◌, [], ◌++◌, Err, false, IfErr, IfOk, MatchResult, Ok, OnOk, Some, length, slice_get, true, vec_len};
 ghost use Rattle.answer_text.specs.Questions.{HasTimes};
 ghost use Rattle.tb_base.specs.Refusals.{IsRefused};
 ghost use Rattle.edition_store.specs.Editions.{EditionData};
@@ -10,16 +10,17 @@ ghost use Rattle.query_gate.specs.Callers.{CallerData};
 ghost use Rattle.tb_base.specs.Workers.{AreWorkers};
 ghost use Rattle.router_cli.specs.Answers.{ShowsReply};
 ghost use Rattle.router_cli.specs.Outcome.{LeavesFolder};
-ghost use Rattle.router_cli.specs.LateTrips.{IsAmendedText, IsLateAnswer, IsLateText, IsNoLateAnswer, IsNoUpdates, IsNotAmended, UpdatesGive, amended_text, ask_of};
+ghost use Rattle.router_cli.specs.LateTrips.{IsAmendedText, IsLateAnswer, IsLateText, IsNoLateAnswer, IsNoUpdates, IsNotAmended, UpdatesGive, amended_json, amended_shown, amended_text, ask_of};
 
 use crate::day::table_of;
 use crate::status::{Status, at_number};
-use answer_text::Question;
+use answer_json::{Frame, add_count, add_total};
+use answer_text::{Question, Text};
 use command_line::{Inquiry, LateRequest};
 use edition_build::build_edition;
 use edition_store::{Edition, Last, Naming, Opened, Publisher, Seat, Shared, Store};
 use late_edit::{Amended, LateFault, Update, amend, read_late};
-use query_gate::{Caller, reply_text};
+use query_gate::{Caller, shown_reply};
 use std::alloc::Global;
 use std::marker::Brand;
 use std::sync::Wait;
@@ -53,6 +54,25 @@ fn updates_from<F: Folder>(alloc: Global, folder: &mut F, path: &str) -> Result<
     }
 }
 
+// Adds `{"edition":2,"redone":N,"kept":N}`.
+fn add_amended(text: &mut Text, redone: u32, kept: u64) -> Result<(), Memory>
+    ensures { OnOk result (text.new ≡ text.old ++ amended_json redone kept) }
+{
+    text.add(b"{\"edition\":2")?;
+    add_count(text, b"redone", redone)?;
+    add_total(text, b"kept", kept)?;
+    text.add(b"}\n")
+}
+
+// `{"edition":2,"redone":N,"kept":N}`.
+fn amended_json(alloc: Global, redone: u32, kept: u64) -> Result<Vec<u8>, Memory>
+    ensures { IfOk result (λ text. text.items ≡ amended_json redone kept) }
+{
+    let mut text = Text::new(alloc);
+    add_amended(&mut text, redone, kept)?;
+    Ok(text.into_bytes())
+}
+
 // `edition 2 redone N kept N`.
 fn amended_text(alloc: Global, redone: u32, kept: u64) -> Result<Vec<u8>, Memory>
     ensures { IfOk result (λ text. text.items ≡ amended_text redone kept) }
@@ -63,6 +83,17 @@ fn amended_text(alloc: Global, redone: u32, kept: u64) -> Result<Vec<u8>, Memory
     };
     line.extend_from_slice(rest.as_bytes())?;
     Ok(line)
+}
+
+// The one or the other.
+fn amended_shown(alloc: Global, json: bool, redone: u32, kept: u64) -> Result<Vec<u8>, Memory>
+    ensures { IfOk result (λ text. text.items ≡ amended_shown json redone kept) }
+{
+    if json {
+        amended_json(alloc, redone, kept)
+    } else {
+        amended_text(alloc, redone, kept)
+    }
 }
 
 // The whole list, which one more edition ends.
@@ -119,19 +150,20 @@ fn ask_question(alloc: Global, inquiry: &Inquiry) -> Result<Question, Memory>
 // The best values, asked by a caller who keeps a whole list.
 fn ask_by<J: Naming>(
     alloc: Global,
+    json: bool,
     caller: &mut Caller<J>,
     inquiry: &Inquiry,
 ) -> Result<Vec<u8>, Memory>
     requires { caller.old.kept.closed ≡ true }
     ensures { (e : EditionData) →
         slice_get caller.old.kept.list (length caller.old.kept.list - 1) ≡ Some e →
-        IfOk result (λ text. ShowsReply e.table false (ask_of inquiry.now) text.items) }
+        IfOk result (λ text. ShowsReply json e.table false (ask_of inquiry.now) text.items) }
 {
     let question = ask_question(alloc, inquiry)?;
     let answer = caller.answer(alloc, 0, &question)?;
     let edition = answer.pinned.edition();
     edition.soundness();
-    let text = reply_text(alloc, edition.table(), &answer.reply);
+    let text = shown_reply(alloc, json, Frame::Lines, edition.table(), &answer.reply);
     drop(answer);
     text
 }
@@ -139,16 +171,17 @@ fn ask_by<J: Naming>(
 // The best values by the last edition of the whole list.
 fn ask_whole<J: Naming>(
     alloc: Global,
+    json: bool,
     seats: Vec<Seat<J>>,
     whole: &Last<J>,
     inquiry: &Inquiry,
 ) -> Result<Vec<u8>, Memory>
     requires { 0 < vec_len seats }
     ensures { (e : EditionData) → slice_get whole.now (length whole.now - 1) ≡ Some e →
-        IfOk result (λ text. ShowsReply e.table false (ask_of inquiry.now) text.items) }
+        IfOk result (λ text. ShowsReply json e.table false (ask_of inquiry.now) text.items) }
 {
     let mut caller = learned(alloc, seats, whole)?;
-    let text = ask_by(alloc, &mut caller, inquiry);
+    let text = ask_by(alloc, json, &mut caller, inquiry);
     drop(caller);
     text
 }
@@ -157,6 +190,7 @@ fn ask_whole<J: Naming>(
 fn ask_last<J: Naming, R: Wait>(
     rt: &R,
     alloc: Global,
+    json: bool,
     opened: Opened<Edition>,
     first: Shared,
     last: Shared,
@@ -164,12 +198,12 @@ fn ask_last<J: Naming, R: Wait>(
 ) -> Result<Vec<u8>, Memory>
     requires { opened.seen.book ≡ J.book }
     ensures { IfOk result (λ text.
-        ShowsReply (EditionData.table last) false (ask_of inquiry.now) text.items) }
+        ShowsReply json (EditionData.table last) false (ask_of inquiry.now) text.items) }
 {
     match Store::new::<J>(alloc, opened, first, 1) {
         Ok((publisher, seats)) => match whole_with(rt, publisher, last) {
             Ok(whole) => {
-                let text = ask_whole(alloc, seats, &whole, inquiry);
+                let text = ask_whole(alloc, json, seats, &whole, inquiry);
                 drop(whole);
                 text
             }
@@ -189,20 +223,21 @@ fn ask_last<J: Naming, R: Wait>(
 fn editions_text<R: Wait>(
     rt: &R,
     alloc: Global,
+    json: bool,
     old: Shared,
     amended: Amended,
     inquiry: &Inquiry,
 ) -> Result<Vec<u8>, Memory>
     requires { amended.redone ≡ touched_count (edition_lines old) (edition_lines amended.edition) }
-    ensures { IfOk result (λ text. IsAmendedText (EditionData.table old)
+    ensures { IfOk result (λ text. IsAmendedText json (EditionData.table old)
         (EditionData.table amended.edition) inquiry.now text.items) }
 {
     old.edition().soundness();
     let Amended { edition, redone } = amended;
     edition.edition().soundness();
     let kept = edition.edition().kept();
-    let answer = ask_last::<Brand, R>(rt, alloc, Opened::new(), old, edition, inquiry)?;
-    let mut text = amended_text(alloc, redone, kept)?;
+    let answer = ask_last::<Brand, R>(rt, alloc, json, Opened::new(), old, edition, inquiry)?;
+    let mut text = amended_shown(alloc, json, redone, kept)?;
     text.extend_from_slice(answer.as_slice())?;
     Ok(text)
 }
@@ -214,18 +249,19 @@ fn amended_answer<R: Threads + Wait + Sync, G: Gate>(
     table: Timetable,
     updates: &[Update],
     inquiry: &Inquiry,
+    json: bool,
     workers: u32,
     gate: &G,
 ) -> Result<Vec<u8>, Refused<LateFault>>
     requires { AreWorkers workers }
-    ensures { MatchResult result (λ text. IsLateText table updates.now inquiry.now text.items)
+    ensures { MatchResult result (λ text. IsLateText json table updates.now inquiry.now text.items)
         (IsRefused (amended table updates.now)) }
 {
     let old = build_edition(rt, alloc, table, workers, gate)?;
     match amend(alloc, old.edition(), updates) {
         Ok(amended) => {
             amended.edition.edition().soundness();
-            Ok(editions_text(rt, alloc, old, amended, inquiry)?)
+            Ok(editions_text(rt, alloc, json, old, amended, inquiry)?)
         }
         Err(refused) => {
             drop(old);
@@ -244,7 +280,7 @@ fn late_answer<R: Threads + Wait + Sync, G: Gate>(
     gate: &G,
 ) -> Result<Vec<u8>, Status>
     ensures text { IfOk result (λ text.
-        IsLateText table updates.now request.now.inquiry text.items) }
+        IsLateText request.now.json table updates.now request.now.inquiry text.items) }
     ensures refused { IfErr result (IsNotAmended table updates.now) }
 {
     match amended_answer(
@@ -253,6 +289,7 @@ fn late_answer<R: Threads + Wait + Sync, G: Gate>(
         table,
         updates,
         &request.inquiry,
+        request.json,
         request.workers,
         gate,
     ) {

@@ -14,11 +14,14 @@ mod late_trips;
 mod made_city;
 mod over_table;
 mod program;
+mod refusals;
 mod serving;
 mod status;
 mod verdicts;
 mod verifying;
 mod writing;
 
+pub use command_line::asks_json;
 pub use program::route;
-pub use status::{Status, end, status_text};
+pub use refusals::{end, status_shown};
+pub use status::Status;

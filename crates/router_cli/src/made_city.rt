@@ -11,7 +11,7 @@ ghost use Rattle.tb_base.specs.Workers.{AreWorkers};
 ghost use Rattle.router_cli.specs.Answers.{ShowsKept};
 ghost use Rattle.router_cli.specs.Cities.{IsCityText, corner_query};
 
-use answer_text::{build_text, choices_text};
+use answer_json::{shown_build, shown_choices};
 use edition_build::{assemble, counts_of};
 use edition_store::{Edition, Network};
 use feed_maker::city;
@@ -34,6 +34,7 @@ struct Built {
 // What is built of a timetable with its lines and what the reduction made of its transfers.
 fn built_of(
     alloc: Global,
+    json: bool,
     table: Timetable,
     lines: Lines,
     transfers: Reduced,
@@ -41,10 +42,10 @@ fn built_of(
     requires lines { lines.table ≡ table }
     requires are_lines { AreLines table lines.lines }
     requires transfers { transfers ≡ reduced table lines.lines }
-    ensures report { IfOk result (λ b. IsReport table false b.report.items) }
+    ensures report { IfOk result (λ b. IsReport json table false b.report.items) }
     ensures edition { IfOk result (λ b. EditionData.table b.edition ≡ table) }
 {
-    match build_text(alloc, &table, counts_of(&lines, &transfers)) {
+    match shown_build(alloc, json, &table, counts_of(&lines, &transfers)) {
         Ok(report) => match assemble(alloc, table, lines, transfers) {
             Ok(edition) => Ok(Built { report, edition }),
             Err(Memory) => Err(Memory),
@@ -62,6 +63,7 @@ fn built_of(
 fn build_over<G: Gate, R: Threads + Sync>(
     rt: &R,
     alloc: Global,
+    json: bool,
     table: Timetable,
     lines: Lines,
     workers: u32,
@@ -70,11 +72,11 @@ fn build_over<G: Gate, R: Threads + Sync>(
     requires workers { AreWorkers workers }
     requires lines { lines.table ≡ table }
     requires are_lines { AreLines table lines.lines }
-    ensures report { IfOk result (λ b. IsReport table false b.report.items) }
+    ensures report { IfOk result (λ b. IsReport json table false b.report.items) }
     ensures edition { IfOk result (λ b. EditionData.table b.edition ≡ table) }
 {
     match reduce_all(rt, alloc, &table, &lines, workers, gate) {
-        Ok(transfers) => built_of(alloc, table, lines, transfers),
+        Ok(transfers) => built_of(alloc, json, table, lines, transfers),
         Err(Memory) => {
             drop(table);
             drop(lines);
@@ -87,16 +89,17 @@ fn build_over<G: Gate, R: Threads + Sync>(
 fn build<G: Gate, R: Threads + Sync>(
     rt: &R,
     alloc: Global,
+    json: bool,
     table: Timetable,
     workers: u32,
     gate: &G,
 ) -> Result<Built, Memory>
     requires { AreWorkers workers }
-    ensures report { IfOk result (λ b. IsReport table false b.report.items) }
+    ensures report { IfOk result (λ b. IsReport json table false b.report.items) }
     ensures edition { IfOk result (λ b. EditionData.table b.edition ≡ table) }
 {
     match split(alloc, &table) {
-        Ok(lines) => build_over(rt, alloc, table, lines, workers, gate),
+        Ok(lines) => build_over(rt, alloc, json, table, lines, workers, gate),
         Err(Memory) => {
             drop(table);
             Err(Memory)
@@ -141,10 +144,10 @@ fn choices_in<L: Ledger>(
 }
 
 // The best values from the first corner to the last.
-fn corner_text(alloc: Global, edition: &Edition, side: u32) -> Result<Vec<u8>, Memory>
+fn corner_text(alloc: Global, json: bool, edition: &Edition, side: u32) -> Result<Vec<u8>, Memory>
     requires side { IsSide side }
     requires city { edition.now.table ≡ city side }
-    ensures { IfOk result (λ text. ShowsKept (city side) (corner_query side) text.items) }
+    ensures { IfOk result (λ text. ShowsKept json (city side) (corner_query side) text.items) }
 {
     edition.soundness();
     let query = corner_query(alloc, side)?;
@@ -153,7 +156,7 @@ fn corner_text(alloc: Global, edition: &Edition, side: u32) -> Result<Vec<u8>, M
     let found = choices_in::<Brand>(alloc, network, &query, &mut desk, Blank::new(1));
     drop(desk);
     let choices = found?;
-    choices_text(alloc, edition.table(), choices.as_slice())
+    shown_choices(alloc, json, edition.table(), choices.as_slice())
 }
 
 /// The report on a city, and the best values between two of its corners. Its own work ends; it
@@ -161,17 +164,18 @@ fn corner_text(alloc: Global, edition: &Edition, side: u32) -> Result<Vec<u8>, M
 pub(crate) fn city_text<G: Gate, R: Threads + Sync>(
     rt: &R,
     alloc: Global,
+    json: bool,
     side: u32,
     workers: u32,
     gate: &G,
 ) -> Result<Vec<u8>, Memory>
     requires side { IsSide side }
     requires workers { AreWorkers workers }
-    ensures { IfOk result (λ text. IsCityText side text.items) }
+    ensures { IfOk result (λ text. IsCityText json side text.items) }
 {
     let table = city(alloc, side)?;
-    let Built { report, edition } = build(rt, alloc, table, workers, gate)?;
-    let shown = corner_text(alloc, &edition, side);
+    let Built { report, edition } = build(rt, alloc, json, table, workers, gate)?;
+    let shown = corner_text(alloc, json, &edition, side);
     drop(edition);
     let choices = shown?;
     let mut text = report;

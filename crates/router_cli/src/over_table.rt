@@ -4,10 +4,10 @@ ghost use Rattle.answer_text.specs.declared.question.Question.TheVariants as que
 ghost use Rattle.query_gate.specs.Replies.{HaveNumbers};
 ghost use Rattle.router_cli.specs.Answers.{IsDirectText, IsInquiryText, IsQuery, IsRoundsReply, ShowsReply};
 
-use answer_text::{arrival_text, unknown_text};
+use answer_json::{Frame, shown_arrival, shown_unknown};
 use command_line::Inquiry;
 use plain_rounds::{direct, plain_ask};
-use query_gate::{Between, Reply, reply_text, stops_between};
+use query_gate::{Between, Reply, shown_reply, stops_between};
 use std::alloc::Global;
 use tb_base::{Memory, Name, Query, Sec, Timetable};
 
@@ -36,14 +36,16 @@ pub(crate) fn query_of<'a>(
 /// The earliest arrival by one ride.
 pub(crate) fn direct_text(
     alloc: Global,
+    json: bool,
     table: &Timetable,
     inquiry: &Inquiry,
 ) -> Result<Vec<u8>, Memory>
-    ensures { IfOk result (λ text. IsInquiryText table.now IsDirectText inquiry.now text.items) }
+    ensures { IfOk result (λ text.
+        IsInquiryText json table.now IsDirectText inquiry.now text.items) }
 {
     match query_of(alloc, table, inquiry.from, inquiry.to, inquiry.time)? {
-        Asked::Unknown(name) => unknown_text(alloc, name),
-        Asked::Query(query) => arrival_text(alloc, direct(table, &query)),
+        Asked::Unknown(name) => shown_unknown(alloc, json, name),
+        Asked::Query(query) => shown_arrival(alloc, json, direct(table, &query)),
     }
 }
 
@@ -72,17 +74,18 @@ fn rounds_reply(
 /// The reply to a question for the best values, round by round.
 pub(crate) fn rounds_text(
     alloc: Global,
+    json: bool,
     table: &Timetable,
     from: &Name,
     to: &Name,
     leave: Sec,
 ) -> Result<Vec<u8>, Memory>
     requires { leave ≤ℤ pos 359999 }
-    ensures { IfOk result (λ text. ShowsReply table.now true
+    ensures { IfOk result (λ text. ShowsReply json table.now true
         (question.Ask from.now to.now leave) text.items) }
 {
     let reply = rounds_reply(alloc, table, from, to, leave)?;
-    let text = reply_text(alloc, table, &reply);
+    let text = shown_reply(alloc, json, Frame::Lines, table, &reply);
     drop(reply);
     text
 }

@@ -51,7 +51,10 @@ fn request_text<R: Threads + Wait + Sync, F: Folder + Send, S: Source, G: Gate>(
             text
         }
         Request::Serve(request) => run_text(rt, alloc, request, folder, source, gate),
-        Request::City(request) => Ok(city_text(rt, alloc, request.side, request.workers, gate)?),
+        Request::City(request) => {
+            let workers = request.workers;
+            Ok(city_text(rt, alloc, request.json, request.side, workers, gate)?)
+        }
         Request::Verify(request) => {
             let text = verify_text(alloc, &request, folder, source);
             drop(request);
@@ -70,14 +73,15 @@ fn request_text<R: Threads + Wait + Sync, F: Folder + Send, S: Source, G: Gate>(
 ///
 /// `Usage` comes only where the words have no meaning, and there nothing comes but it and `Memory`.
 /// With any status but `Done` and `WriteFault` nothing is written, since the whole text is gathered
-/// before its first byte is written; with `WriteFault` a first part of it. Whatever the folder is,
-/// what is written is the answer over sound timetables; where it tells its contents, over those of
-/// the days. A script is read by a run of several days alone; its first fault comes before what the
-/// feeds give. A claim is read from the same source, and nothing of it where the feed is refused.
-/// Its faults, and those of late trips, come only where the day has a timetable. Where a read fails,
-/// it is of the folder or of the source, and never of both. `Memory` may come at any time, and no
-/// fault in another status tells of it. Where contents are told and no count of faults rises, the
-/// end is the first fault, or `Done` where there is none; or `Memory`.
+/// before its first byte is written; with `WriteFault` a first part of it. It is JSON where the
+/// words ask for that. Whatever the folder is, what is written is the answer over sound timetables;
+/// where it tells its contents, over those of the days. A script is read by a run of several days
+/// alone; its first fault comes before what the feeds give. A claim is read from the same source,
+/// and nothing of it where the feed is refused. Its faults, and those of late trips, come only
+/// where the day has a timetable. Where a read fails, it is of the folder or of the source, and
+/// never of both. `Memory` may come at any time, and no fault in another status tells of it. Where
+/// contents are told and no count of faults rises, the end is the first fault, or `Done` where
+/// there is none; or `Memory`.
 ///
 /// That the gate is told of the pieces that workers reduce, and of the publications and requests of
 /// a run, is tested and in no clause. Its own work ends; it joins the workers that it starts. A

@@ -10,7 +10,7 @@ ghost use Rattle.router_cli.specs.Serving.{IsNoRun, IsNoRunAnswer, IsNoScript, I
 use crate::status::Status;
 use command_line::{PlannedDay, ServeRequest};
 use footpaths::Options;
-use lane_serve::{PlanItem, Script, ScriptFault, ServeFault, read_script, serve, served_text};
+use lane_serve::{PlanItem, Script, ScriptFault, ServeFault, read_script, serve, served_shown};
 use std::alloc::Global;
 use std::sync::Wait;
 use std::thread::Threads;
@@ -21,16 +21,16 @@ use tb_io::{Folder, Source, Taken, take_source};
 const MOST_BYTES: u64 = 33_554_432;
 
 // The script that a source has.
-fn script_from<S: Source>(alloc: Global, source: &mut S) -> Result<Script, Status>
+fn script_from<S: Source>(alloc: Global, json: bool, source: &mut S) -> Result<Script, Status>
     requires { S.faults source.old < 2 ^ 64 - 1 }
-    ensures script { IfOk result (λ s. ScriptGives (S.left source.old) (Ok s) × IsScript s) }
+    ensures script { IfOk result (λ s. ScriptGives json (S.left source.old) (Ok s) × IsScript s) }
     ensures kept { IfOk result (λ _. S.faults source.new ≡ S.faults source.old) }
     ensures refused { IfErr result
-        (IsNoScript (S.left source.old) (S.faults source.old) (S.faults source.new)) }
+        (IsNoScript json (S.left source.old) (S.faults source.old) (S.faults source.new)) }
     ensures read { (bs : List ℕ) × Consumes (S.left source.old) (S.left source.new) bs }
 {
     match take_source(alloc, source, MOST_BYTES) {
-        Ok(bytes) => match read_script(alloc, bytes.as_slice()) {
+        Ok(bytes) => match read_script(alloc, json, bytes.as_slice()) {
             Ok(script) => Ok(script),
             Err(Refused::Fault(fault)) => Err(Status::ScriptRefused(fault)),
             Err(Refused::Memory) => Err(Status::Memory),
@@ -79,6 +79,7 @@ fn status_of(fault: ServeFault) -> Status
 fn served_run<R: Threads + Wait + Sync, F: Folder + Send, G: Gate>(
     rt: &R,
     alloc: Global,
+    json: bool,
     plan: &[PlanItem],
     options: &Options,
     workers: u32,
@@ -93,7 +94,7 @@ fn served_run<R: Threads + Wait + Sync, F: Folder + Send, G: Gate>(
     requires script { IsScript script.now }
     requires folder { F.faults folder.old < 2 ^ 64 - 1 }
     ensures text { IfOk result (λ text.
-        IsRunText (F.files folder.old) options.now plan.now script.now text.items) }
+        IsRunText json (F.files folder.old) options.now plan.now script.now text.items) }
     ensures kept { IfOk result (λ _. F.faults folder.new ≡ F.faults folder.old) }
     ensures stop { IfErr result (IsNoRun (F.files folder.old) options.now plan.now
         (F.faults folder.old) (F.faults folder.new)) }
@@ -101,7 +102,7 @@ fn served_run<R: Threads + Wait + Sync, F: Folder + Send, G: Gate>(
 {
     match serve(rt, alloc, plan, options, workers, script, folder, gate) {
         Ok(served) => {
-            let text = served_text(alloc, plan, &served);
+            let text = served_shown(alloc, json, plan, &served);
             drop(served);
             Ok(text?)
         }
@@ -120,8 +121,8 @@ fn plan_text<R: Threads + Wait + Sync, F: Folder + Send, G: Gate>(
 ) -> Result<Vec<u8>, Status>
     requires script { IsScript script.now }
     requires folder { F.faults folder.old < 2 ^ 64 - 1 }
-    ensures text { IfOk result (λ text. IsRunText (F.files folder.old) request.entry.options
-        (plan_of request.entry) script.now text.items) }
+    ensures text { IfOk result (λ text. IsRunText request.entry.json (F.files folder.old)
+        request.entry.options (plan_of request.entry) script.now text.items) }
     ensures kept { IfOk result (λ _. F.faults folder.new ≡ F.faults folder.old) }
     ensures stop { IfErr result (IsNoRun (F.files folder.old) request.entry.options
         (plan_of request.entry) (F.faults folder.old) (F.faults folder.new)) }
@@ -130,13 +131,23 @@ fn plan_text<R: Threads + Wait + Sync, F: Folder + Send, G: Gate>(
     let ServeRequest {
         options,
         workers,
+        json,
         plan,
     } = request;
     let items = items_of(alloc, plan)?;
     let plan = items.as_slice();
-    let text = served_run(rt, alloc, plan, &options, workers, script, folder, gate);
+    let text = served_run(
+        rt, alloc, json, plan, &options, workers, script, folder, gate,
+    );
     drop(items);
     text
+}
+
+// Whether a request is to be answered as JSON.
+fn asks_json(request: &ServeRequest) -> bool
+    ensures { result ≡ request.now.json }
+{
+    request.json
 }
 
 /// The replies to the script of a source, by a run of the days of a plan. It may wait.
@@ -155,13 +166,14 @@ pub(crate) fn run_text<R: Threads + Wait + Sync, F: Folder + Send, S: Source, G:
     ensures refused { IfErr result
         (IsNoRunAnswer (F.files folder.old) (S.left source.old) request.entry) }
     ensures script { S.faults source.new ≡ S.faults source.old →
-        TellsScript (S.left source.old) (status_of_text result) }
+        TellsScript request.entry.json (S.left source.old) (status_of_text result) }
     ensures leaves { LeavesOutside (result ≡ Err Status.ReadFault) (F.files folder.old)
         (F.files folder.new) (F.faults folder.old) (F.faults folder.new) (S.faults source.old)
         (S.faults source.new) }
     ensures taken { (bs : List ℕ) × Consumes (S.left source.old) (S.left source.new) bs }
 {
-    let script = match script_from(alloc, source) {
+    let json = asks_json(&request);
+    let script = match script_from(alloc, json, source) {
         Ok(script) => script,
         Err(status) => {
             drop(request);

@@ -1,7 +1,6 @@
 //! How the program ends.
 ghost use Rattle.std.specs.Prelude.{◌≡◌, ◌++◌, IfOk, codes};
 ghost use Rattle.std.specs.Fmt.{decimal};
-ghost use Rattle.std.specs.Process.{exit_status};
 ghost use Rattle.router_cli.specs.Outcome.{journey_fault_text, late_fault_text, row_text, script_fault_text, status_code, status_text};
 
 use answer_text::fault_text;
@@ -10,8 +9,6 @@ use journey_read::JourneyFault;
 use lane_serve::ScriptFault;
 use late_edit::LateFault;
 use std::alloc::Global;
-use std::process::ExitCode;
-use std::str;
 use tb_base::Memory;
 
 const USAGE: &[u8] =
@@ -72,7 +69,7 @@ impl Status {
 }
 
 /// The line for standard error, with its end of line. Nothing for `Done`.
-pub fn status_text(alloc: Global, status: &Status) -> Result<Vec<u8>, Memory>
+pub(crate) fn status_text(alloc: Global, status: &Status) -> Result<Vec<u8>, Memory>
     ensures { IfOk result (λ v. v.items ≡ status_text status.now) }
 {
     match status {
@@ -92,20 +89,6 @@ pub fn status_text(alloc: Global, status: &Status) -> Result<Vec<u8>, Memory>
             row_refusal_text(alloc, b"router: journey refused: ", journey_row(*fault))
         }
     }
-}
-
-/// Writes how the program ended to standard error, and gives the number to end with. Where there is
-/// no memory for the line, or standard error fails, nothing is said. The number is in the clause;
-/// what is written is in none.
-pub fn end(rt: &(impl Eprint + AllocGlobal), status: Status) -> ExitCode
-    ensures { exit_status result ≡ status_code status }
-{
-    if let Ok(line) = status_text(rt.alloc(), &status) {
-        if let Ok(text) = str::from_utf8(line.as_slice()) {
-            let _ = eprint!(rt; "{text}");
-        }
-    }
-    ExitCode::from(status.code())
 }
 
 /// These bytes, as a text.

@@ -8,8 +8,8 @@ ghost use Rattle.router_cli.specs.Verifying.{ClaimGives, HasDay, IsNoClaim, IsNo
 use crate::day::table_of;
 use crate::over_table::{Asked, query_of};
 use crate::status::Status;
-use crate::verdicts::verdict_text;
-use answer_text::unknown_text;
+use crate::verdicts::verdict_shown;
+use answer_json::shown_unknown;
 use command_line::{Inquiry, VerifyRequest};
 use journey_read::{Claimed, JourneyFault, judge, read_journey};
 use std::alloc::Global;
@@ -48,23 +48,25 @@ fn claim_from<S: Source>(
 // What is written of a claim between the two places of an inquiry.
 fn verified_text(
     alloc: Global,
+    json: bool,
     table: &Timetable,
     inquiry: &Inquiry,
     claimed: &Claimed,
 ) -> Result<Vec<u8>, Memory>
     requires { length claimed.now.legs < 2 ^ 32 }
     ensures { IfOk result (λ text.
-        IsVerifiedText table.now inquiry.now claimed.now text.items) }
+        IsVerifiedText json table.now inquiry.now claimed.now text.items) }
 {
     match query_of(alloc, table, inquiry.from, inquiry.to, inquiry.time)? {
-        Asked::Unknown(name) => unknown_text(alloc, name),
-        Asked::Query(query) => verdict_text(alloc, judge(table, &query, claimed)),
+        Asked::Unknown(name) => shown_unknown(alloc, json, name),
+        Asked::Query(query) => verdict_shown(alloc, json, judge(table, &query, claimed)),
     }
 }
 
 // What is written of the claim that a source makes over a timetable.
 fn claimed_text<S: Source>(
     alloc: Global,
+    json: bool,
     table: &Timetable,
     source: &mut S,
     inquiry: &Inquiry,
@@ -72,7 +74,7 @@ fn claimed_text<S: Source>(
     requires { S.faults source.old < 2 ^ 64 - 1 }
     ensures text { IfOk result (λ text. (claimed : ChoiceData)
         × ClaimGives table.now (S.left source.old) (Ok claimed)
-        × IsVerifiedText table.now inquiry.now claimed text.items) }
+        × IsVerifiedText json table.now inquiry.now claimed text.items) }
     ensures kept { IfOk result (λ _. S.faults source.new ≡ S.faults source.old) }
     ensures refused { IfErr result (IsNoClaim table.now (S.left source.old)
         (S.faults source.old) (S.faults source.new)) }
@@ -82,7 +84,7 @@ fn claimed_text<S: Source>(
         Ok(claimed) => claimed,
         Err(status) => return Err(status),
     };
-    let text = verified_text(alloc, table, inquiry, &claimed);
+    let text = verified_text(alloc, json, table, inquiry, &claimed);
     drop(claimed);
     Ok(text?)
 }
@@ -113,7 +115,7 @@ pub(crate) fn verify_text<F: Folder, S: Source>(
         Ok(table) => table,
         Err(status) => return Err(status),
     };
-    let text = claimed_text(alloc, &table, source, &request.inquiry);
+    let text = claimed_text(alloc, request.json, &table, source, &request.inquiry);
     drop(table);
     text
 }

@@ -5,7 +5,7 @@ ghost use Rattle.std.specs.Prelude.{◌≡◌, ◌<◌, ◌-◌, ◌^◌, IfOk};
 use super::feeds::Files;
 use super::question::Trouble;
 use super::watched::Watched;
-use router_cli::{Status, route, status_text};
+use router_cli::{Status, asks_json, route, status_shown};
 use std::alloc::Global;
 use std::sync::Wait;
 use std::thread::Threads;
@@ -25,12 +25,12 @@ pub struct Ending {
     pub is_called_again: bool,
 }
 
-/// How a run ended with a status, and what it wrote.
-pub fn ending_of(alloc: Global, status: &Status, out: &[u8]) -> Result<Ending, Memory> {
+/// How a run ended with a status, and what it wrote; whether the status is told as JSON.
+pub fn ending_of(alloc: Global, json: bool, status: &Status, out: &[u8]) -> Result<Ending, Memory> {
     Ok(Ending {
         code: status.code(),
         out: out.to_vec(alloc)?,
-        err: status_text(alloc, status)?,
+        err: status_shown(alloc, json, status)?,
         met: Vec::new(alloc),
         is_called_again: false,
     })
@@ -110,7 +110,7 @@ fn ending_into<R: Threads + Wait + Sync, F: Folder + Send, G: Gate>(
     requires sink { sink.old.inner.calls.faults < 2 ^ 64 - 1 }
 {
     let status = status_over(rt, alloc, words, folder, script, sink, gate);
-    let ending = ending_of(alloc, &status, sink.inner.bytes());
+    let ending = ending_of(alloc, asks_json(words), &status, sink.inner.bytes());
     drop(status);
     noting(ending, script.is_called_again() || sink.is_called_again())
 }

@@ -20,6 +20,8 @@ returns c =
     ∙ ap₂ with_rule options c.flag.ensures.rule in
     let plain = c.in_ok-arg-5.ensures.shape c.flag-2.ensures.here
     ∙ ap₂ with_rule close c.flag-2.ensures.rule in
-    IfOk-weaker c.arg-6.result _ _
-    (λ command added. added.shape c.words.ensures.here ∙ ap₂ with_rule plain c.words.ensures.rule)
-    c.arg-6.ensures
+    let json = c.in_ok-arg-6.ensures.shape c.flag-3.ensures.here
+    ∙ ap₂ with_rule plain c.flag-3.ensures.rule in
+    IfOk-weaker c.arg-7.result _ _
+    (λ command added. added.shape c.words.ensures.here ∙ ap₂ with_rule json c.words.ensures.rule)
+    c.arg-7.ensures

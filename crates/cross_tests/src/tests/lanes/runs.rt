@@ -40,7 +40,7 @@ fn run<G: Gate, R: Threads + Wait + Sync>(
     plan: &[PlanItem],
     script: &[u8],
 ) -> Result<Served, ServeFault> {
-    let Ok(script) = read_script(alloc, script) else {
+    let Ok(script) = read_script(alloc, false, script) else {
         return Err(ServeFault::Memory);
     };
     if plan.is_empty() || plan.len() > 100 {

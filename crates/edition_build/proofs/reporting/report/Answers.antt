@@ -6,18 +6,18 @@ use Rattle.edition_build.proofs.Named.{all_named}
 use Rattle.edition_build.proofs.ReportTexts.{report_listed, report_unlisted}
 use Rattle.edition_build.proofs.reporting.report.Goals as goal
 
-pub build_list_text-requires : goal.build_list_text-requires
-build_list_text-requires g c =
+pub shown_build_list-requires : goal.shown_build_list-requires
+shown_build_list-requires g c =
     let rows = ap (map (λ row. row.items)) c.as_slice.ensures.value ∙ ap (λ (r : ReducedData). r.rows) c.reduced.view_is in
     all_named c.args.table.now (λ row. row.items) c.as_slice.result.now (subst (AreRowsOf c.args.table.now) (sym rows) c.in_ok-reduced.ensures.rows)
 
 pub returns-then-list : goal.returns-then-list
 returns-then-list g c =
     let rows = ap (map (λ row. row.items)) c.as_slice.ensures.value ∙ ap (λ (r : ReducedData). r.rows) c.reduced.view_is in
-    let same = report_listed c.args.table.now c.in_ok-lines.lines.lines c.args.list c.in_ok-reduced.reduced c.in_ok-reduced.ensures.reduced c.counts_of-counts.result c.counts_of-counts.ensures _ rows c.if-list.true in
-    IfOk-weaker c.build_list_text.result _ _ (λ text written. record { lines = c.in_ok-lines.lines.lines; are_lines = c.in_ok-lines.ensures.lines; text = written ∙ same }) c.build_list_text.ensures
+    let same = report_listed c.args.json c.args.table.now c.in_ok-lines.lines.lines c.args.list c.in_ok-reduced.reduced c.in_ok-reduced.ensures.reduced c.counts_of-counts.result c.counts_of-counts.ensures _ rows c.if-list.true in
+    IfOk-weaker c.shown_build_list.result _ _ (λ text written. record { lines = c.in_ok-lines.lines.lines; are_lines = c.in_ok-lines.ensures.lines; text = written ∙ same }) c.shown_build_list.ensures
 
 pub returns : goal.returns
 returns g c =
-    let same = report_unlisted c.args.table.now c.in_ok-lines.lines.lines c.args.list c.in_ok-reduced.reduced c.in_ok-reduced.ensures.reduced c.counts_of-counts.result c.counts_of-counts.ensures c.if-list.false in
-    IfOk-weaker c.build_text.result _ _ (λ text written. record { lines = c.in_ok-lines.lines.lines; are_lines = c.in_ok-lines.ensures.lines; text = written ∙ same }) c.build_text.ensures
+    let same = report_unlisted c.args.json c.args.table.now c.in_ok-lines.lines.lines c.args.list c.in_ok-reduced.reduced c.in_ok-reduced.ensures.reduced c.counts_of-counts.result c.counts_of-counts.ensures c.if-list.false in
+    IfOk-weaker c.shown_build.result _ _ (λ text written. record { lines = c.in_ok-lines.lines.lines; are_lines = c.in_ok-lines.ensures.lines; text = written ∙ same }) c.shown_build.ensures

@@ -8,7 +8,7 @@ pub loop-i-preserved : goal.loop-i-preserved
 loop-i-preserved c =
     let item = c.index-plan-i.result in
     let outcome = c.index-outcomes-i.result in
-    outcomes_told c.args.plan.now c.args.outcomes.now c.loop-i.i item outcome c.args.text.now c.loop-i.text c.add_outcome.new.text _
+    outcomes_told outcome_text c.args.plan.now c.args.outcomes.now c.loop-i.i item outcome c.args.text.now c.loop-i.text c.add_outcome.new.text _
     c.requires c.loop-i-test.true c.loop-i.invariant
     (ap (λ (k : ItemData). outcome_text k outcome) c.index-plan-i.is ∙ ap (outcome_text (get_or c.args.plan.now c.loop-i.i item)) c.index-outcomes-i.is)
     (search rules)

@@ -4,7 +4,7 @@ use Rattle.std.proofs.lemmas.Result.{IfOk-weaker}
 use Rattle.tb_base.specs.BestValues.{ChoiceData, QueryData}
 use Rattle.tb_base.specs.JourneyRules.{HasNumbers}
 use Rattle.tb_base.specs.TimetableData.{TimetableData}
-use Rattle.answer_text.specs.Journeys.{choices_text}
+use Rattle.answer_json.specs.Shown.{shown_choices}
 use Rattle.edition_store.specs.Editions.{NetworkData, net_of, network_of}
 use Rattle.feed_maker.specs.City.{city}
 use Rattle.query_gate.specs.Replies.{AreBestChoices}
@@ -26,8 +26,8 @@ choices_in-found-requires-clause-targets c =
     let made : T ≡ city c.args.side = ap (λ (N : NetworkData). N.table) c.network-network.ensures ∙ c.requires.city in
     subst (λ (Q : QueryData). All (λ p. p < length T.stops) Q.to) (sym c.in_ok-query.ensures) (to_inside T c.args.side made c.requires.side)
 
-pub choices_text-requires : goal.choices_text-requires
-choices_text-requires c =
+pub shown_choices-requires : goal.shown_choices-requires
+shown_choices-requires c =
     let N = network_of c.args.edition.now in
     let T = N.table in
     let origins = subst (λ (Q : QueryData). All (λ p. p < length T.stops) Q.from) (sym c.in_ok-query.ensures) (from_inside T c.args.side c.requires.city c.requires.side) in
@@ -41,8 +41,8 @@ returns c =
     let corners = corner_query c.args.side in
     let found = subst (λ (M : NetworkData). AreBestChoices (net_of M) c.in_ok-query.query c.in_ok-choices.choices.items) c.network-network.ensures c.in_ok-choices.ensures in
     let best = subst (λ Q. AreBestChoices (net_of N) Q c.in_ok-choices.choices.items) c.in_ok-query.ensures found in
-    IfOk-weaker c.choices_text.result _ _
-    (λ text shown. subst (λ T. ShowsKept T corners text.items) c.requires.city
-    (choices_shown N c.soundness.ensures.network corners c.in_ok-choices.choices.items best text.items
-    (shown ∙ ap (λ T. choices_text T c.as_slice.result.now) c.table.ensures ∙ ap (λ cs. choices_text N.table cs) c.as_slice.ensures.value)))
-    c.choices_text.ensures
+    IfOk-weaker c.shown_choices.result _ _
+    (λ text shown. subst (λ T. ShowsKept c.args.json T corners text.items) c.requires.city
+    (choices_shown c.args.json N c.soundness.ensures.network corners c.in_ok-choices.choices.items best text.items
+    (shown ∙ ap (λ T. shown_choices c.args.json T c.as_slice.result.now) c.table.ensures ∙ ap (λ cs. shown_choices c.args.json N.table cs) c.as_slice.ensures.value)))
+    c.shown_choices.ensures

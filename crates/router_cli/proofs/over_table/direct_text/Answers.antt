@@ -16,10 +16,10 @@ returns-in-Query c =
     let time = to_z-of_z w32 c.inquiry.inside.time (file_time-fits c.inquiry.inside.time c.inquiry.invariant) ∙ ap InquiryData.time is in
     let asked = asked_by T _ i.from _ i.to _ i.time _ (ap InquiryData.from is) (ap InquiryData.to is) time c.in_ok-name.ensures in
     let known = subst (IsQuery T i.from i.to i.time) c.in-Query.is asked in
-    IfOk-weaker c.arrival_text.result _ _
-    (λ text shown. known_text T i.from i.to (λ ends. IsDirectText T (query_at ends i.time)) known.0 text.items known.1
-    (subst (λ Q. IsDirectText T Q text.items) known.2 (c.direct.result, c.direct.ensures, shown)))
-    c.arrival_text.ensures
+    IfOk-weaker c.shown_arrival.result _ _
+    (λ text shown. known_text c.args.json T i.from i.to (λ ends. IsDirectText c.args.json T (query_at ends i.time)) known.0 text.items known.1
+    (subst (λ Q. IsDirectText c.args.json T Q text.items) known.2 (c.direct.result, c.direct.ensures, shown)))
+    c.shown_arrival.ensures
 
 pub returns-in-Unknown : goal.returns-in-Unknown
 returns-in-Unknown c =
@@ -29,6 +29,6 @@ returns-in-Unknown c =
     let time = to_z-of_z w32 c.inquiry.inside.time (file_time-fits c.inquiry.inside.time c.inquiry.invariant) ∙ ap InquiryData.time is in
     let asked = asked_by T _ i.from _ i.to _ i.time _ (ap InquiryData.from is) (ap InquiryData.to is) time c.in_ok-name.ensures in
     let unknown = subst (IsQuery T i.from i.to i.time) c.in-Unknown.is asked in
-    IfOk-weaker c.unknown_text.result _ _
-    (λ text shown. unknown_name T i.from i.to (λ ends. IsDirectText T (query_at ends i.time)) _ text.items unknown shown)
-    c.unknown_text.ensures
+    IfOk-weaker c.shown_unknown.result _ _
+    (λ text shown. unknown_name c.args.json T i.from i.to (λ ends. IsDirectText c.args.json T (query_at ends i.time)) _ text.items unknown shown)
+    c.shown_unknown.ensures

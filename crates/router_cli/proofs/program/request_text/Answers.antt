@@ -24,7 +24,7 @@ returns-in_ok-city_text-in-City-clause-text g c =
     let told = g.S.Source.left c.args.source.now in
     let bytes = c.in_ok-city_text-in-City.field-0.items in
     subst (λ (r : Request). IsRequestAnswer files told r bytes) (sym c.in-City.is)
-    (subst (λ (r : CityRequestData). IsCityText r.side bytes) c.request.view_is c.in_ok-city_text-in-City.ensures)
+    (subst (λ (r : CityRequestData). IsCityText r.json r.side bytes) c.request.view_is c.in_ok-city_text-in-City.ensures)
 
 pub returns-in-Verify-clause-text : goal.returns-in-Verify-clause-text
 returns-in-Verify-clause-text g c =

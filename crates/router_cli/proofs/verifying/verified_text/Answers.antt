@@ -28,11 +28,11 @@ returns-in-Query c =
     let time = to_z-of_z w32 c.inquiry.inside.time (file_time-fits c.inquiry.inside.time c.inquiry.invariant) ∙ ap InquiryData.time is in
     let asked = asked_by T _ i.from _ i.to _ i.time _ (ap InquiryData.from is) (ap InquiryData.to is) time c.in_ok-name.ensures in
     let known = subst (IsQuery T i.from i.to i.time) c.in-Query.is asked in
-    IfOk-weaker c.verdict_text.result _ _
-    (λ text shown. known_text T i.from i.to (λ ends. ShowsVerdict T c.args.claimed.now (query_at ends i.time)) known.0 text.items known.1
-    (subst (λ Q. ShowsVerdict T c.args.claimed.now Q text.items) known.2
+    IfOk-weaker c.verdict_shown.result _ _
+    (λ text shown. known_text c.args.json T i.from i.to (λ ends. ShowsVerdict c.args.json T c.args.claimed.now (query_at ends i.time)) known.0 text.items known.1
+    (subst (λ Q. ShowsVerdict c.args.json T c.args.claimed.now Q text.items) known.2
     (record { said = c.judge.result; is = c.judge.ensures.verdict; yes = c.judge.ensures.yes; text = shown })))
-    c.verdict_text.ensures
+    c.verdict_shown.ensures
 
 pub returns-in-Unknown : goal.returns-in-Unknown
 returns-in-Unknown c =
@@ -42,6 +42,6 @@ returns-in-Unknown c =
     let time = to_z-of_z w32 c.inquiry.inside.time (file_time-fits c.inquiry.inside.time c.inquiry.invariant) ∙ ap InquiryData.time is in
     let asked = asked_by T _ i.from _ i.to _ i.time _ (ap InquiryData.from is) (ap InquiryData.to is) time c.in_ok-name.ensures in
     let unknown = subst (IsQuery T i.from i.to i.time) c.in-Unknown.is asked in
-    IfOk-weaker c.unknown_text.result _ _
-    (λ text shown. unknown_name T i.from i.to (λ ends. ShowsVerdict T c.args.claimed.now (query_at ends i.time)) _ text.items unknown shown)
-    c.unknown_text.ensures
+    IfOk-weaker c.shown_unknown.result _ _
+    (λ text shown. unknown_name c.args.json T i.from i.to (λ ends. ShowsVerdict c.args.json T c.args.claimed.now (query_at ends i.time)) _ text.items unknown shown)
+    c.shown_unknown.ensures
