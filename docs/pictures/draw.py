@@ -341,7 +341,7 @@ def draw_search(table, name, query, first, last, minute):
 
 BOXES = {
     "read": ["command_line", "tb_io", "text_lines", "gtfs_rows"],
-    "day": ["service_day", "footpaths", "foot_close", "service_trips", "trip_table", "mirror_table", "feed_maker"],
+    "day": ["service_day", "footpaths", "foot_close", "service_trips", "trip_table", "feed_maker"],
     "lines and transfers": ["line_split", "transfer_make", "uturn_cut", "transfer_reduce", "transfer_pack",
                             "reduce_workers"],
     "edition": ["edition_build", "edition_store", "history", "late_edit"],

@@ -3,7 +3,7 @@ use Rattle.std.proofs.Common.{◌≡◌, ◌∙◌, sym, ap, ℕ, ◌+◌, ◌-�
 use Rattle.std.proofs.lemmas.List.{get_or-map, get_or-reverse, length-map, length-reverse, take_more}
 use Rattle.tb_base.specs.declared.query.Leg.{Leg}
 use Rattle.tb_base.specs.TimetableData.{TimetableData}
-use Rattle.mirror_table.specs.TurnedJourneys.{turn_leg, turn_legs}
+use Rattle.edition_store.specs.TurnedJourneys.{turn_leg, turn_legs}
 
 pub length-turn_legs : (M : TimetableData) (legs : List Leg) → length (turn_legs M legs) ≡ length legs
 length-turn_legs M legs = length-reverse (map (turn_leg M) legs) ∙ length-map legs (turn_leg M)

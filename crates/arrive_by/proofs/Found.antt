@@ -13,9 +13,9 @@ use Rattle.tb_base.specs.declared.query.Value.{Value}
 use Rattle.tb_base.specs.declared.rule.Rule.TheVariants.{BadNumber}
 use Rattle.tb_base.proofs.Events.{MayAlight-inside}
 use Rattle.tb_laws.proofs.RuleLaws.{rules_from_journey}
-use Rattle.mirror_table.specs.Departures.{AreLatest, ArrivalData, LeavingData, SpellLeaving, departure, leaving_from, mirror_query}
-use Rattle.mirror_table.specs.Mirror.{IsMirror, mirror_time}
-use Rattle.mirror_table.proofs.Latest.{are_latest, spell_leaving}
+use Rattle.edition_store.specs.Departures.{AreLatest, ArrivalData, LeavingData, SpellLeaving, departure, leaving_from, mirror_query}
+use Rattle.edition_store.specs.Mirror.{IsMirror, mirror_time}
+use Rattle.edition_store.proofs.Latest.{are_latest, spell_leaving}
 use Rattle.arrive_by.specs.Latest.{AreLatestDepartures, DepartureData, departure_from, pair_of}
 
 -- an event is no earlier than a day before the service day's zero

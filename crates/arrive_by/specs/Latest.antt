@@ -3,9 +3,9 @@ use Rattle.std.specs.Prelude.{ℕ, ℤ, List, All, map}
 use Rattle.tb_base.specs.BestValues.{ChoiceData}
 use Rattle.tb_base.specs.TimetableData.{TimetableData}
 use Rattle.tb_base.specs.declared.query.Leg.{Leg}
-use Rattle.mirror_table.specs.Departures.{AreLatest, ArrivalData, LeavingData, SpellLeaving}
-use Rattle.mirror_table.specs.Mirror.{mirror_time}
-use Rattle.mirror_table.specs.TurnedJourneys.{turn_legs}
+use Rattle.edition_store.specs.Departures.{AreLatest, ArrivalData, LeavingData, SpellLeaving}
+use Rattle.edition_store.specs.Mirror.{mirror_time}
+use Rattle.edition_store.specs.TurnedJourneys.{turn_legs}
 
 -- when one leaves, the number of rides, and the legs of a journey
 pub record DepartureData : Type 0 where

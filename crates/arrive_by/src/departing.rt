@@ -2,16 +2,15 @@
 ghost use Rattle.std.specs.Prelude.{◌≡◌, ◌<◌, ◌≤ℤ◌, All, IfOk, length, map, pos};
 ghost use Rattle.tb_base.specs.BestValues.{AreBestValues, ChoiceData};
 ghost use Rattle.tb_base.specs.JourneyRules.{HasNumbers, SpellValue};
-ghost use Rattle.mirror_table.specs.Departures.{mirror_query};
-ghost use Rattle.mirror_table.specs.Mirror.{IsMirror};
+ghost use Rattle.edition_store.specs.Departures.{mirror_query};
+ghost use Rattle.edition_store.specs.Mirror.{IsMirror};
 ghost use Rattle.arrive_by.specs.Latest.{AreLatestDepartures, DepartureData};
 
 use crate::departures::{Arrival, Departure};
 use crate::turned::departures;
 use earliest_query::earliest;
-use edition_store::Network;
+use edition_store::{Network, mirrored_time};
 use journey_unfold::choices;
-use mirror_table::mirrored_time;
 use segment_queue::{Desk, Steps};
 use std::alloc::Global;
 use std::marker::Brand;

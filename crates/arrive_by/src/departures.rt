@@ -11,7 +11,7 @@ pub struct Arrival {
 }
 
 impl Model for Arrival {
-    ghost use Rattle.mirror_table.specs.Departures.{ArrivalData};
+    ghost use Rattle.edition_store.specs.Departures.{ArrivalData};
 
     ghost Value = { ArrivalData };
 

@@ -15,5 +15,5 @@ mod turned;
 
 pub use departing::latest;
 pub use departures::{Arrival, Departure};
-pub use mirror_table::mirror;
+pub use edition_store::mirror;
 pub use text::departures_text;

@@ -2,12 +2,11 @@
 ghost use Rattle.std.specs.Prelude.{◌≡◌, ◌≤ℤ◌, All, IfOk, map, negsuc};
 ghost use Rattle.tb_base.specs.BestValues.{ChoiceData};
 ghost use Rattle.tb_base.specs.JourneyRules.{HasNumbers};
-ghost use Rattle.mirror_table.specs.TurnedJourneys.{turn_leg, turn_legs};
+ghost use Rattle.edition_store.specs.TurnedJourneys.{turn_leg, turn_legs};
 ghost use Rattle.arrive_by.specs.Latest.{departure_from};
 
 use crate::departures::Departure;
-use edition_store::Network;
-use mirror_table::mirrored_time;
+use edition_store::{Network, mirrored_time};
 use segment_queue::Scan;
 use std::alloc::Global;
 use tb_base::{Choice, Leg, Memory};

@@ -1,11 +1,10 @@
 ghost use Rattle.std.specs.Prelude.{◌≡◌, ◌<◌, ◌≤◌, IfOk, IsSome};
 ghost use Rattle.edition_store.specs.Editions.{EditionData};
-ghost use Rattle.mirror_table.specs.Mirror.{IsMirror};
+ghost use Rattle.edition_store.specs.Mirror.{IsMirror};
 ghost use Rattle.reduce_workers.specs.Reductions.{reduced};
 
-use edition_store::{Edition, Shared};
+use edition_store::{Edition, Shared, mirror};
 use line_split::{Lines, split};
-use mirror_table::mirror;
 use reduce_workers::{Reduced, reduce_all};
 use std::alloc::Global;
 use std::thread::Threads;

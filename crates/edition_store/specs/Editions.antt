@@ -8,7 +8,7 @@ use Rattle.tb_base.specs.Sufficiency.{AreSufficient}
 use Rattle.tb_base.specs.TimetableData.{TimetableData}
 use Rattle.tb_base.specs.Transfers.{kept_hops, transfers_of}
 use Rattle.transfer_pack.specs.Packed.{PackedHops, packed}
-use Rattle.mirror_table.specs.Mirror.{IsMirror}
+use Rattle.edition_store.specs.Mirror.{IsMirror}
 
 -- a timetable, lines and a set of hops
 pub record NetworkData : Type 0 where

@@ -4,3 +4,6 @@ pub mod Steps
 pub mod Rules
 pub mod Tied
 pub mod AfterRun
+pub mod Departures
+pub mod Mirror
+pub mod TurnedJourneys

@@ -1,7 +1,7 @@
 ghost use Rattle.std.specs.Prelude.{◌≡◌, ℕ, IfOk, IfSome, MatchOption, None, Some};
 ghost use Rattle.tb_base.specs.Sufficiency.{AreSufficient};
 ghost use Rattle.tb_base.specs.Transfers.{kept_hops};
-ghost use Rattle.mirror_table.specs.Mirror.{IsMirror};
+ghost use Rattle.edition_store.specs.Mirror.{IsMirror};
 ghost use Rattle.transfer_pack.specs.Packed.{packed};
 ghost use Rattle.edition_store.specs.Editions.{IsEdition, IsMirrorNetwork, edition_of, kept_count, network_of};
 

@@ -8,6 +8,13 @@
 //! as it stands. An `Edition` is the network of a day and the number of its kept transfers; where
 //! latest departures are asked for, it has the network of its mirror too.
 //!
+//! In the mirror of a timetable time runs backwards: each trip runs from its last event to its first,
+//! each footpath leads back, and each time is that of a day looked at from its end. Who asks when one
+//! has to leave at the latest asks, in the mirror, when one can arrive at the earliest. To the layer
+//! above the crate promises that `mirror` gives exactly this timetable, that the mirror of the mirror
+//! is the timetable itself, and that each journey, turned round, is a journey of the mirror that
+//! leaves and arrives at the mirrored times.
+//!
 //! A `Store` gives one `Publisher`, which appends editions to one list and closes it in the end,
 //! and its seats, which pin the list in other threads and never wait for it: two copies of the list
 //! are kept, and readers are moved from one to the other (`left_right`). What is pinned stays as it
@@ -23,6 +30,8 @@
 mod content;
 mod edition;
 pub mod laws;
+mod mirror_time;
+mod mirrored;
 mod network;
 mod pinned;
 mod publisher;
@@ -31,9 +40,12 @@ mod seat;
 mod shared;
 mod shelf;
 mod store;
+mod turned_trips;
 
 pub use edition::Edition;
 pub use history::{Naming, Opened};
+pub use mirror_time::mirrored_time;
+pub use mirrored::mirror;
 pub use network::Network;
 pub use pinned::{Last, Pinned, Receipt};
 pub use publisher::Publisher;

@@ -9,8 +9,8 @@ use Rattle.tb_base.specs.declared.query.Place.{Place}
 use Rattle.answer_text.specs.Questions.{needs_mirror}
 use Rattle.answer_text.specs.declared.question.Question.{Question}
 use Rattle.answer_text.specs.declared.question.Question.TheVariants as question
-use Rattle.mirror_table.specs.Departures.{ArrivalData}
-use Rattle.mirror_table.specs.Mirror.{IsMirror}
+use Rattle.edition_store.specs.Departures.{ArrivalData}
+use Rattle.edition_store.specs.Mirror.{IsMirror}
 
 -- from which edition on, from which place to which, and how early one can leave
 pub record AskData : Type 0 where

@@ -3,7 +3,7 @@ ghost use Rattle.std.specs.Prelude.{◌≡◌, ◌<◌, ◌≤ℤ◌, IfOk, pos}
 ghost use Rattle.answer_text.specs.Questions.{HasTimes, IsArrivalTime};
 ghost use Rattle.answer_text.specs.declared.question.Question.TheVariants as question;
 ghost use Rattle.edition_store.specs.Editions.{net_of};
-ghost use Rattle.mirror_table.specs.Mirror.{IsMirror};
+ghost use Rattle.edition_store.specs.Mirror.{IsMirror};
 ghost use Rattle.query_gate.specs.Questions.{Serves};
 ghost use Rattle.query_gate.specs.Replies.{HaveNumbers, IsReply, LeavesAnswered, over};
 

@@ -16,7 +16,7 @@ use Rattle.answer_text.specs.Questions.{needs_mirror}
 use Rattle.answer_text.specs.declared.question.Question.{Question}
 use Rattle.answer_text.specs.declared.question.Question.TheVariants as question
 use Rattle.edition_store.specs.Editions.{IsNetwork, NetworkData, net_of}
-use Rattle.mirror_table.specs.Mirror.{IsMirror}
+use Rattle.edition_store.specs.Mirror.{IsMirror}
 use Rattle.query_gate.specs.Questions.{Ends, IsOrMirrors, Serves, ends_between}
 use Rattle.query_gate.specs.Replies.{AreBestChoices, AreBestOffers, IsReply, over}
 use Rattle.query_gate.specs.Json.{shown_reply}

@@ -1,7 +1,7 @@
 //! Editions, made by two workers.
 ghost use Rattle.std.specs.Prelude.{IfOk};
 ghost use Rattle.edition_store.specs.Editions.{EditionData};
-ghost use Rattle.mirror_table.specs.Mirror.{IsMirror};
+ghost use Rattle.edition_store.specs.Mirror.{IsMirror};
 
 use edition_build::{build, build_mirror};
 use edition_store::Edition;

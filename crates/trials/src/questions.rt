@@ -1,6 +1,6 @@
 //! Questions between two stops.
 ghost use Rattle.std.specs.Prelude.{◌<◌, ◌≤◌, ◌≤ℤ◌, pos, All, IfOk, length};
-ghost use Rattle.mirror_table.specs.Departures.{ArrivalData};
+ghost use Rattle.edition_store.specs.Departures.{ArrivalData};
 ghost use Rattle.tb_base.specs.BestValues.{QueryData};
 ghost use Rattle.tb_base.specs.Profiles.{WindowData};
 

@@ -1,7 +1,7 @@
 //! Ways to an answer. Each is called in one function alone, since whatever calls it is proved over
 //! all that its contract names.
 ghost use Rattle.std.specs.Prelude.{◌≡◌, ◌<◌, ◌≤ℤ◌, All, length, pos};
-ghost use Rattle.mirror_table.specs.Mirror.{IsMirror};
+ghost use Rattle.edition_store.specs.Mirror.{IsMirror};
 
 use arrive_by::{Arrival, Departure, latest};
 use edition_store::{Edition, Network};

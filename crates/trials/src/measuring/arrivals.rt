@@ -1,6 +1,6 @@
 //! Random times to arrive by, and the latest departures.
 ghost use Rattle.std.specs.Prelude.{◌<◌, length};
-ghost use Rattle.mirror_table.specs.Mirror.{IsMirror};
+ghost use Rattle.edition_store.specs.Mirror.{IsMirror};
 
 use super::drawn::{Pair, time_of_day};
 use super::found::Found;

@@ -1,5 +1,5 @@
 use Rattle.std.proofs.Common.{◌≡◌, take}
-use Rattle.mirror_table.specs.TurnedJourneys.{turn_legs}
+use Rattle.edition_store.specs.TurnedJourneys.{turn_legs}
 use Rattle.arrive_by.proofs.turned.turned_legs.Given as goal
 
 abbrev pub invariant-loop-i : goal.invariant-loop-i

@@ -1,6 +1,6 @@
 use Rattle.std.proofs.Common.{subst, sym}
 use Rattle.std.proofs.lemmas.Result.{IfOk-weaker}
-use Rattle.mirror_table.specs.Mirror.{IsMirror}
+use Rattle.edition_store.specs.Mirror.{IsMirror}
 use Rattle.edition_build.proofs.building.build_mirror.Goals as goal
 
 pub returns : goal.returns

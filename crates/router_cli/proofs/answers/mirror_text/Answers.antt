@@ -1,6 +1,6 @@
 use Rattle.std.proofs.Common.{subst, sym}
 use Rattle.edition_store.specs.Editions.{NetworkData}
-use Rattle.mirror_table.specs.Mirror.{IsMirror}
+use Rattle.edition_store.specs.Mirror.{IsMirror}
 use Rattle.router_cli.proofs.AnswerLemmas.{mirror_serves}
 use Rattle.router_cli.proofs.answers.mirror_text.Goals as goal
 

@@ -1,6 +1,6 @@
 //! Feeds asked between all of their stops.
 ghost use Rattle.std.specs.Prelude.{◌<◌, length};
-ghost use Rattle.mirror_table.specs.Mirror.{IsMirror};
+ghost use Rattle.edition_store.specs.Mirror.{IsMirror};
 
 use super::arriving::compare_departures;
 use super::hops::compare_hops;

@@ -2,7 +2,7 @@
 ghost use Rattle.std.specs.Prelude.{◌<◌, ◌≤◌, ◌≤ℤ◌, pos, All, IfOk, length};
 ghost use Rattle.tb_base.specs.BestValues.{QueryData};
 ghost use Rattle.tb_base.specs.Profiles.{WindowData};
-ghost use Rattle.mirror_table.specs.Departures.{ArrivalData};
+ghost use Rattle.edition_store.specs.Departures.{ArrivalData};
 
 use arrive_by::Arrival;
 use made_feeds::Draw;

@@ -1,6 +1,6 @@
 //! Feeds that look random, one after another, and what is compared over each.
 ghost use Rattle.std.specs.Prelude.{◌<◌, length};
-ghost use Rattle.mirror_table.specs.Mirror.{IsMirror};
+ghost use Rattle.edition_store.specs.Mirror.{IsMirror};
 
 use super::arriving::compare_departures;
 use super::drawn::{some_arrival, some_query, some_stops, some_time, some_window};

@@ -1,3 +1,0 @@
-pub mod Departures
-pub mod Mirror
-pub mod TurnedJourneys
