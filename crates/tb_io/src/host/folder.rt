@@ -48,7 +48,8 @@ impl<'a, R: Files> Folder for HostFolder<'a, R> {
     }
 
     fn read(&mut self, path: &str, from: u64, buf: &mut [u8]) -> Result<usize, Failed> {
-        counted(&mut self.faults, open_piece(self.rt, path, from, buf))
+        let opened = File::open(self.rt, path);
+        counted(&mut self.faults, piece_of(opened, from, buf))
     }
 }
 
@@ -76,11 +77,19 @@ fn presence(told: io::Result<Metadata>) -> Result<bool, Failed>
     }
 }
 
-// A piece of a file, which is opened anew.
-fn open_piece<R: Files>(rt: &R, path: &str, from: u64, buf: &mut [u8]) -> Result<usize, Failed>
-    ensures { ReadsAtMost result buf.new }
+// A piece of a file, by what the machine gives where it is opened.
+fn piece_of<F: Read + Seek + Drop>(
+    opened: io::Result<F>,
+    from: u64,
+    buf: &mut [u8],
+) -> Result<usize, Failed>
+    ensures bound { ReadsAtMost result buf.new }
+    ensures failed { IsErr opened → IsErr result }
+    ensures piece { ((f : F) → ReadsFrom (F.stream_position f) (F.stream_bytes f) (F.remaining f))
+        → IfOk opened (λ file. IsSome (F.stream_position file)
+        → IfOk result (λ n. IfSome (F.stream_bytes file) (λ bs. IsPiece bs from n buf.new))) }
 {
-    match File::open(rt, path) {
+    match opened {
         Ok(mut file) => read_piece(&mut file, from, buf),
         Err(_) => Err(Failed),
     }
