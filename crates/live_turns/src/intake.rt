@@ -1,5 +1,6 @@
 //! A source, piece by piece.
-ghost use Rattle.std.specs.Prelude.{◌≡◌, ◌⊎◌, ◌-◌, ◌^◌, ◌<◌, [], Err, IfOk, vec_len};
+ghost use Rattle.std.specs.Prelude.{◌≡◌, ◌⊎◌, ◌-◌, ◌^◌, ◌<◌, [], ℕ, List, Err, IfOk, vec_len};
+ghost use Rattle.std.specs.Io.KnownBytes.{Consumes};
 ghost use Rattle.text_lines.specs.Lines.{last_line};
 ghost use Rattle.live_turns.specs.Intakes.{ComeNext, Comes};
 ghost use Rattle.live_turns.specs.declared.intake.IntakeFault.TheVariants as fault;
@@ -72,6 +73,7 @@ impl Intake {
         ensures fault { result ≡ Err fault.ReadFault → S.faults source.old < S.faults source.new }
         ensures kept { (result ≡ Err fault.ReadFault)
             ⊎ (S.faults source.new ≡ S.faults source.old) }
+        ensures taken { (bytes : List ℕ) × Consumes (S.left source.old) (S.left source.new) bytes }
     {
         let count = match source.read(self.room.as_mut_slice()) {
             Err(_) => return Err(IntakeFault::ReadFault),
@@ -104,6 +106,7 @@ impl Intake {
         ensures fault { result ≡ Err fault.ReadFault → S.faults source.old < S.faults source.new }
         ensures kept { (result ≡ Err fault.ReadFault)
             ⊎ (S.faults source.new ≡ S.faults source.old) }
+        ensures taken { (bytes : List ℕ) × Consumes (S.left source.old) (S.left source.new) bytes }
     {
         match self.next_piece(source) {
             Ok(Some(lines)) => Ok((lines, true)),
