@@ -30,7 +30,7 @@ module _ {E X : Type 0} (Replies : List E → ℕ → ℕ → List ℕ → List 
   Runs = TextRunsFrom Replies counts shows
 
   -- the first edition may be said to be no earlier than an earlier one, and something told before
-  lowered : (es : List E) (k least n : ℕ) (told now end : List X) (lines : List (List ℕ)) (note text : List ℕ) → least ≤ n → Tells shows told now note → Runs es k n now lines text end → Runs es k least told lines (note ++ text) end
+  pub lowered : (es : List E) (k least n : ℕ) (told now end : List X) (lines : List (List ℕ)) (note text : List ℕ) → least ≤ n → Tells shows told now note → Runs es k n now lines text end → Runs es k least told lines (note ++ text) end
   lowered es k least n told now end [] note text le t h = tells_more shows told now end note text t h
   lowered es k least n told now end (line ∷ lines) note text le t h = (
     h.0,

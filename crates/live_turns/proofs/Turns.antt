@@ -163,6 +163,17 @@ module _ {A : Type 0} (Answers : A → List (List ℕ) → List ℕ → A → Ty
     by_next false e =
         mapped left _ _ (λ bs same. ([], sym same ∙ sym (append-nil (lines_in (h.turns ++ f.lines ∷ []))))) (whole most left mid now i j w1 w2 a b f.lines h e.0 e.1)
 
+  -- it was answered up to here, and all of its text is written
+  pub cut_here_at : (most : ℕ) (left mid : Option (List ℕ)) (i : IntakeData) (w1 w2 w3 : Option (List ℕ)) (a b : A) → (h : IsSoFar most left mid i w1 w2 a b) → w3 ≡ w2
+      → (c : IsCutRun Answers most left w1 w3 a) × (c.by ≡ b) × (c.count ≡ length c.text) × (lines_in c.turns ≡ ended most [] h.bytes)
+  unfolding cut_here
+  cut_here_at most left mid i w1 w2 w3 a b h e = (cut_here most left mid i w1 w2 w3 a b h e, refl, refl, h.lines)
+
+  -- it was answered up to the turn that is partly written
+  pub cut_within_at : (most : ℕ) (left mid now : Option (List ℕ)) (i j : IntakeData) (w1 w2 w3 : Option (List ℕ)) (a b : A) → IsSoFar most left mid i w1 w2 a b → (f : Fails Answers mid now i j w2 w3 b) → (c : IsCutRun Answers most left w1 w3 a) × (c.by ≡ f.by)
+  unfolding cut_within
+  cut_within_at most left mid now i j w1 w2 w3 a b h f = (cut_within most left mid now i j w1 w2 w3 a b h f, refl)
+
   -- nothing more was written, or a first part of a turn's text
   pub cut_off : (most : ℕ) (left mid now : Option (List ℕ)) (i j : IntakeData) (w1 w2 w3 : Option (List ℕ)) (a b : A) → IsSoFar most left mid i w1 w2 a b → (w3 ≡ w2) ⊎ Fails Answers mid now i j w2 w3 b → IsCutRun Answers most left w1 w3 a
   cut_off most left mid now i j w1 w2 w3 a b h (inl same) = cut_here most left mid i w1 w2 w3 a b h same

@@ -74,6 +74,8 @@ impl Intake {
         ensures kept { (result ≡ Err fault.ReadFault)
             ⊎ (S.faults source.new ≡ S.faults source.old) }
         ensures taken { (bytes : List ℕ) × Consumes (S.left source.old) (S.left source.new) bytes }
+        ensures none { result ≡ Err fault.ReadFault →
+            Consumes (S.left source.old) (S.left source.new) [] }
     {
         let count = match source.read(self.room.as_mut_slice()) {
             Err(_) => return Err(IntakeFault::ReadFault),
@@ -107,6 +109,8 @@ impl Intake {
         ensures kept { (result ≡ Err fault.ReadFault)
             ⊎ (S.faults source.new ≡ S.faults source.old) }
         ensures taken { (bytes : List ℕ) × Consumes (S.left source.old) (S.left source.new) bytes }
+        ensures none { result ≡ Err fault.ReadFault →
+            Consumes (S.left source.old) (S.left source.new) [] }
     {
         match self.next_piece(source) {
             Ok(Some(lines)) => Ok((lines, true)),
