@@ -1,3 +1,4 @@
 pub mod ReadBack
 pub mod Numbers
 pub mod Framed
+pub mod Plain

@@ -1,5 +1,7 @@
 -- The best values to every stop as JSON.
-use Rattle.std.specs.Prelude.{ℕ, List, [], ◌++◌, codes, length, slice_index_or}
+use Rattle.std.specs.Prelude.{ℕ, ℤ, List, [], ◌++◌, codes, length, slice_index_or}
+use Rattle.std.specs.Fmt.{decimal, signed_decimal}
+use Rattle.tb_base.specs.Clock.{time_text}
 use Rattle.tb_base.specs.declared.query.Value.{Value}
 use Rattle.tb_base.specs.TimetableData.{TimetableData}
 use Rattle.tb_base.specs.Transfers.{numbers_below}
@@ -8,16 +10,24 @@ use Rattle.answer_json.specs.Frames.{count_json, framed, moment, string_json}
 use Rattle.answer_json.specs.declared.frame.Frame.{Frame}
 use Rattle.answer_json.specs.declared.frame.Frame.TheVariants as frame
 
--- `{"arrive":TIME,..,"rides":N}`
+-- `{"arrive":TIME,..,"rides":N}`, a value by itself
 abbrev pub value_json : Value → List ℕ
 value_json v =
     codes "{" ++ moment (codes "arrive") v.arrive ++ count_json (codes "rides") v.rides ++ codes "}"
 
--- `{"stop":STOP,"values":[..]}`, with what a list by stops has for the stop
+-- `"HH:MM:SS",SECONDS`, a time as in the texts and as a number
+unfoldable pub time_json : ℤ → List ℕ
+time_json time = codes "\"" ++ time_text time ++ codes "\"," ++ signed_decimal time
+
+-- `["HH:MM:SS",SECONDS,RIDES]`, a value among many: its arrival and its rides
+abbrev pub triple_json : Value → List ℕ
+triple_json v = codes "[" ++ time_json v.arrive ++ codes "," ++ decimal v.rides ++ codes "]"
+
+-- `[STOP,[TRIPLE,..]]`, with what a list by stops has for the stop
 abbrev pub stop_json : TimetableData → List (List Value) → ℕ → List ℕ
 stop_json T lists stop =
-    codes "{\"stop\":" ++ string_json (stop_name T stop) ++ codes ",\"values\":"
-    ++ framed frame.Array value_json (slice_index_or lists stop []) ++ codes "}"
+    codes "[" ++ string_json (stop_name T stop) ++ codes ","
+    ++ framed frame.Array triple_json (slice_index_or lists stop []) ++ codes "]"
 
 -- one value a stop, by its number
 abbrev pub reach_json : Frame → TimetableData → List (List Value) → List ℕ

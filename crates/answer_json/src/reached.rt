@@ -1,15 +1,16 @@
 //! The best values to every stop as JSON.
 ghost use Rattle.std.specs.Prelude.{◌≡◌, ◌++◌, ◌<◌, ◌≤◌, ◌∷◌, [], OnOk, drop, length, map, slice_index_or};
+ghost use Rattle.std.specs.Fmt.{decimal};
 ghost use Rattle.tb_base.specs.Transfers.{numbers_below};
 ghost use Rattle.answer_json.specs.Frames.{followers, framed};
-ghost use Rattle.answer_json.specs.Reached.{reach_json, stop_json, value_json};
+ghost use Rattle.answer_json.specs.Reached.{reach_json, stop_json, time_json, triple_json, value_json};
 ghost use Rattle.answer_json.specs.declared.frame.Frame.TheVariants as frame;
 
 use crate::frame::{Frame, add_moment};
 use crate::journeys::add_stop;
 use crate::strings::add_count;
 use answer_text::Text;
-use tb_base::{Memory, StopNo, Timetable, Value};
+use tb_base::{Memory, Sec, StopNo, Timetable, Value};
 
 /// Adds a value as `{"arrive":TIME,"arrive_seconds":N,"rides":N}`.
 pub fn add_value(text: &mut Text, value: &Value) -> Result<(), Memory>
@@ -21,26 +22,58 @@ pub fn add_value(text: &mut Text, value: &Value) -> Result<(), Memory>
     text.add(b"}")
 }
 
+// Adds a number of rides, which is mostly one digit.
+fn add_rides(text: &mut Text, rides: u32) -> Result<(), Memory>
+    ensures { OnOk result (text.new ≡ text.old ++ decimal rides) }
+{
+    if rides < 10 {
+        text.add(&[b'0' + rides as u8])
+    } else {
+        text.number(rides)
+    }
+}
+
+// Adds a time as `"HH:MM:SS",SECONDS`.
+fn add_time(text: &mut Text, time: Sec) -> Result<(), Memory>
+    ensures { OnOk result (text.new ≡ text.old ++ time_json time) }
+{
+    text.add(b"\"")?;
+    text.time(time)?;
+    text.add(b"\",")?;
+    text.seconds(time)
+}
+
+// Adds a value as `["HH:MM:SS",SECONDS,RIDES]`.
+fn add_triple(text: &mut Text, value: &Value) -> Result<(), Memory>
+    ensures { OnOk result (text.new ≡ text.old ++ triple_json value.now) }
+{
+    text.add(b"[")?;
+    add_time(text, value.arrive)?;
+    text.add(b",")?;
+    add_rides(text, value.rides)?;
+    text.add(b"]")
+}
+
 // Adds values that follow others.
 fn add_later_values(text: &mut Text, values: &[Value]) -> Result<(), Memory>
-    ensures { OnOk result (text.new ≡ text.old ++ followers frame.Array value_json values.now) }
+    ensures { OnOk result (text.new ≡ text.old ++ followers frame.Array triple_json values.now) }
 {
     for value in values {
         text.add(b",")?;
-        add_value(text, value)?;
+        add_triple(text, value)?;
     }
     Ok(())
 }
 
 // Adds the array of some values.
 fn add_values(text: &mut Text, values: &[Value]) -> Result<(), Memory>
-    ensures { OnOk result (text.new ≡ text.old ++ framed frame.Array value_json values.now) }
+    ensures { OnOk result (text.new ≡ text.old ++ framed frame.Array triple_json values.now) }
 {
     match values {
         [] => text.add(b"[]"),
         [value, rest @ ..] => {
             text.add(b"[")?;
-            add_value(text, value)?;
+            add_triple(text, value)?;
             add_later_values(text, rest)?;
             text.add(b"]")
         }
@@ -67,11 +100,11 @@ fn add_reached(
     ensures { OnOk result (text.new
         ≡ text.old ++ stop_json table.now (map (λ list. list.items) lists.now) stop) }
 {
-    text.add(b"{\"stop\":")?;
+    text.add(b"[")?;
     add_stop(text, table, stop)?;
-    text.add(b",\"values\":")?;
+    text.add(b",")?;
     add_values(text, values_of(lists, stop))?;
-    text.add(b"}")
+    text.add(b"]")
 }
 
 // Adds the stops behind the first with their values.
@@ -95,8 +128,9 @@ fn add_later_stops(
     Ok(())
 }
 
-/// Adds each stop, by its number, as `{"stop":STOP,"values":[..]}`, each of its values as
-/// `{"arrive":TIME,"arrive_seconds":N,"rides":N}`. There is one list of values a stop.
+/// Adds each stop, by its number, as `[STOP,[VALUE,..]]`, each of its values as
+/// `["HH:MM:SS",SECONDS,RIDES]`: a network has tens of thousands of stops, and with a name at each
+/// part this would be four times as long. There is one list of values a stop.
 #[tactic(auto, using(crate::proofs::Numbers::framed_none))]
 pub fn add_reach(
     text: &mut Text,

@@ -1,5 +1,6 @@
 //! Strings in JSON.
 ghost use Rattle.std.specs.Prelude.{◌≡◌, ◌<◌, ◌++◌, ◌∷◌, List, OnOk, Some, ℕ};
+ghost use Rattle.std.specs.Bool.{OnTrue};
 ghost use Rattle.std.specs.Char.{digit_char};
 ghost use Rattle.json.specs.Json.{document, string};
 ghost use Rattle.json.specs.Print.{escape, escape_byte, escape_letter};
@@ -62,10 +63,25 @@ fn add_escaped(text: &mut Text, byte: u8) -> Result<(), Memory>
     text.add(&[byte])
 }
 
+// Whether each byte stands for itself in a string, as in most names.
+fn is_plain(bytes: &[u8]) -> bool
+    ensures { OnTrue result (escape bytes.now ≡ bytes.now) }
+{
+    for byte in bytes {
+        if *byte < 0x20 || *byte == b'"' || *byte == b'\\' {
+            return false;
+        }
+    }
+    true
+}
+
 // Adds what stands in a string for some bytes.
 fn add_content(text: &mut Text, bytes: &[u8]) -> Result<(), Memory>
     ensures { OnOk result (text.new ≡ text.old ++ escape bytes.now) }
 {
+    if is_plain(bytes) {
+        return text.add(bytes);
+    }
     for byte in bytes {
         add_escaped(text, *byte)?;
     }

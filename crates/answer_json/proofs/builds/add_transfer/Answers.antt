@@ -1,4 +1,4 @@
-use Rattle.std.proofs.Common.{◌++◌, ◌∷◌, [], codes}
+use Rattle.std.proofs.Common.{◌++◌, codes}
 use Rattle.answer_text.proofs.Joined.{joined, last_joined}
 use Rattle.answer_json.specs.Builds.{event_json, transfer_json}
 use Rattle.answer_json.proofs.builds.add_transfer.Goals as goal
