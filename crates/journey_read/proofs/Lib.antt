@@ -9,3 +9,4 @@ pub mod Verdicts
 pub mod Going
 pub mod Adding
 pub mod ClaimLegs
+mod JsonReading

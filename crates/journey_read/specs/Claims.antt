@@ -29,12 +29,16 @@ good n wanted = ok_or wanted (fault.BadLine n)
 abbrev pub stop_of : TimetableData → ℕ → List ℕ → Result ℕ JourneyFault
 stop_of T n name = ok_or (stop_named T name) (fault.UnknownStop n)
 
--- line n is `walk STOP STOP SECONDS`
-abbrev pub walk_of : TimetableData → ℕ → List (List ℕ) → Result Leg JourneyFault
-walk_of T n (from ∷ to ∷ secs ∷ []) =
+-- the walk that line n claims
+abbrev pub walk_between : TimetableData → ℕ → List ℕ → List ℕ → List ℕ → Result Leg JourneyFault
+walk_between T n from to secs =
     and_then (good n (number_of secs))
     (λ s. and_then (stop_of T n from)
     (λ p. and_then (stop_of T n to) (λ q. Ok (WalkLeg p q s))))
+
+-- line n is `walk STOP STOP SECONDS`
+abbrev pub walk_of : TimetableData → ℕ → List (List ℕ) → Result Leg JourneyFault
+walk_of T n (from ∷ to ∷ secs ∷ []) = walk_between T n from to secs
 walk_of T n words = Err (fault.BadLine n)
 
 -- where and when the ride of line n begins and ends: the times are read before the stops
@@ -47,6 +51,11 @@ ends_of T n from departure to arrival =
     (λ p. and_then (stop_of T n to)
     (λ q. Ok (record { from = p; departure = d; to = q; arrival = a })))))
 
+-- the ride that line n claims between these ends, on a trip with this name
+abbrev pub ride_named : TimetableData → ℕ → List ℕ → Bool → Ends → Result Leg JourneyFault
+ride_named T n trip before ends =
+    ok_or (ride_among trip before ends 0 T.trips) (fault.NoSuchRide n)
+
 -- what stands behind a ride: `day-before` where its trip began on the day before, else nothing
 abbrev pub before_of : List (List ℕ) → Option Bool
 before_of [] = Some false
@@ -57,8 +66,7 @@ before_of (mark ∷ more ∷ words) = None
 abbrev pub ride_of : TimetableData → ℕ → List (List ℕ) → Result Leg JourneyFault
 ride_of T n (trip ∷ from ∷ departure ∷ to ∷ arrival ∷ marks) =
     and_then (good n (before_of marks))
-    (λ before. and_then (ends_of T n from departure to arrival)
-    (λ ends. ok_or (ride_among trip before ends 0 T.trips) (fault.NoSuchRide n)))
+    (λ before. and_then (ends_of T n from departure to arrival) (ride_named T n trip before))
 ride_of T n words = Err (fault.BadLine n)
 
 -- the leg that line n claims

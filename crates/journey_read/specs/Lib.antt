@@ -2,4 +2,5 @@ pub mod Known
 pub mod Times
 pub mod Rides
 pub mod Claims
+pub mod JsonClaims
 pub mod Judging

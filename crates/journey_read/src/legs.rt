@@ -1,6 +1,6 @@
 //! What the words of a line claim.
 ghost use Rattle.std.specs.Prelude.{◌≡◌};
-ghost use Rattle.journey_read.specs.Claims.{before_of, ends_of, leg_of, ride_of, stop_named, stop_of, value_of, value_shown, walk_of};
+ghost use Rattle.journey_read.specs.Claims.{before_of, ends_of, leg_of, ride_named, ride_of, stop_named, stop_of, value_of, value_shown, walk_between, walk_of};
 
 use crate::claim::JourneyFault;
 use crate::rides::Ends;
@@ -9,10 +9,10 @@ use gtfs_rows::number_of;
 use tb_base::{Leg, Name, Place, StopNo, Timetable, Value};
 
 // The stop with a name.
-fn stop_named(table: &Timetable, name: &Name) -> Option<StopNo>
+fn stop_named(table: &Timetable, name: &[u8]) -> Option<StopNo>
     ensures { result ≡ stop_named table.now name.now }
 {
-    let place = table.place(name.bytes())?;
+    let place = table.place(name)?;
     match &place {
         Place::Stop(p) => Some(StopNo(p.0)),
         Place::Station(_) => None,
@@ -20,10 +20,26 @@ fn stop_named(table: &Timetable, name: &Name) -> Option<StopNo>
 }
 
 // The stop that a line names.
-fn stop_of(table: &Timetable, line: u32, name: &Name) -> Result<StopNo, JourneyFault>
+fn stop_of(table: &Timetable, line: u32, name: &[u8]) -> Result<StopNo, JourneyFault>
     ensures { result ≡ stop_of table.now line name.now }
 {
     stop_named(table, name).ok_or(JourneyFault::UnknownStop(line))
+}
+
+/// The walk that a line claims, by the names of its stops and its seconds in digits.
+pub(crate) fn walk_between(
+    table: &Timetable,
+    line: u32,
+    from: &[u8],
+    to: &[u8],
+    secs: &[u8],
+) -> Result<Leg, JourneyFault>
+    ensures { result ≡ walk_between table.now line from.now to.now secs.now }
+{
+    let secs = number_of(secs).ok_or(JourneyFault::BadLine(line))?;
+    let from = stop_of(table, line, from)?;
+    let to = stop_of(table, line, to)?;
+    Ok(Leg::Walk { from, to, secs })
 }
 
 // STOP STOP SECONDS.
@@ -33,25 +49,23 @@ fn walk_of(table: &Timetable, line: u32, words: &[Name]) -> Result<Leg, JourneyF
     let [from, to, secs] = words else {
         return Err(JourneyFault::BadLine(line));
     };
-    let secs = number_of(secs.bytes()).ok_or(JourneyFault::BadLine(line))?;
-    let from = stop_of(table, line, from)?;
-    let to = stop_of(table, line, to)?;
-    Ok(Leg::Walk { from, to, secs })
+    walk_between(table, line, from.bytes(), to.bytes(), secs.bytes())
 }
 
-// STOP TIME STOP TIME.
-fn ends_of(
+/// Where and when a ride begins and ends that a line claims, by the names of its stops and by its
+/// times as they are shown.
+pub(crate) fn ends_of(
     table: &Timetable,
     line: u32,
-    from: &Name,
-    departure: &Name,
-    to: &Name,
-    arrival: &Name,
+    from: &[u8],
+    departure: &[u8],
+    to: &[u8],
+    arrival: &[u8],
 ) -> Result<Ends, JourneyFault>
     ensures { result ≡ ends_of table.now line from.now departure.now to.now arrival.now }
 {
-    let departure = shown_time_of(departure.bytes()).ok_or(JourneyFault::BadLine(line))?;
-    let arrival = shown_time_of(arrival.bytes()).ok_or(JourneyFault::BadLine(line))?;
+    let departure = shown_time_of(departure).ok_or(JourneyFault::BadLine(line))?;
+    let arrival = shown_time_of(arrival).ok_or(JourneyFault::BadLine(line))?;
     let from = stop_of(table, line, from)?;
     let to = stop_of(table, line, to)?;
     Ok(Ends {
@@ -60,6 +74,21 @@ fn ends_of(
         to,
         arrival,
     })
+}
+
+/// The ride that a line claims between these ends, on a trip with this name that began on the day
+/// before, or on the day itself.
+pub(crate) fn ride_named(
+    table: &Timetable,
+    line: u32,
+    trip: &[u8],
+    before: bool,
+    ends: &Ends,
+) -> Result<Leg, JourneyFault>
+    ensures { result ≡ ride_named table.now line trip.now before ends.now }
+{
+    ends.ride(table, trip, before)
+        .ok_or(JourneyFault::NoSuchRide(line))
 }
 
 // Whether a ride's trip began on the day before: `day-before`, or nothing.
@@ -81,9 +110,15 @@ fn ride_of(table: &Timetable, line: u32, words: &[Name]) -> Result<Leg, JourneyF
         return Err(JourneyFault::BadLine(line));
     };
     let before = before_of(marks).ok_or(JourneyFault::BadLine(line))?;
-    let ends = ends_of(table, line, from, departure, to, arrival)?;
-    ends.ride(table, trip.bytes(), before)
-        .ok_or(JourneyFault::NoSuchRide(line))
+    let ends = ends_of(
+        table,
+        line,
+        from.bytes(),
+        departure.bytes(),
+        to.bytes(),
+        arrival.bytes(),
+    )?;
+    ride_named(table, line, trip.bytes(), before, &ends)
 }
 
 /// The leg that a line claims: `walk STOP STOP SECONDS`, `ride TRIP STOP TIME STOP TIME`, or the
@@ -105,12 +140,12 @@ pub(crate) fn leg_of(table: &Timetable, line: u32, words: &[Name]) -> Result<Leg
     }
 }
 
-// TIME and N, as a value.
-fn value_shown(time: &Name, count: &Name) -> Option<Value>
+/// TIME and N, as a value.
+pub(crate) fn value_shown(time: &[u8], count: &[u8]) -> Option<Value>
     ensures { result ≡ value_shown time.now count.now }
 {
-    let arrive = shown_time_of(time.bytes())?;
-    let rides = number_of(count.bytes())?;
+    let arrive = shown_time_of(time)?;
+    let rides = number_of(count)?;
     Some(Value { arrive, rides })
 }
 
@@ -122,7 +157,7 @@ pub(crate) fn value_of(words: &[Name]) -> Option<Value>
         return None;
     };
     if arrive.bytes() == b"arrive".as_slice() && rides.bytes() == b"rides".as_slice() {
-        value_shown(time, count)
+        value_shown(time.bytes(), count.bytes())
     } else {
         None
     }

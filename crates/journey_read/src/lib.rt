@@ -1,5 +1,5 @@
-//! Claimed journeys: the rules of a journey, and a text in the form in which journeys are shown,
-//! read against a timetable and judged by them.
+//! Claimed journeys: the rules of a journey, and a text in a form in which journeys are shown, in
+//! lines or as JSON, read against a timetable and judged by them.
 //!
 //! The layers above may rely on three things. No rule is broken exactly where legs spell a journey
 //! (rides that change in time, with walks by footpaths before, between and behind them) that leaves
@@ -11,6 +11,7 @@
 #![tactic(auto)]
 
 mod claim;
+mod json_claim;
 pub mod laws;
 mod leg_rules;
 mod legs;
@@ -21,6 +22,7 @@ mod times;
 mod verdict;
 
 pub use claim::{Claimed, JourneyFault};
+pub use json_claim::read_json_journey;
 pub use reader::read_journey;
 pub use rules::fault;
 pub use verdict::{Verdict, judge};

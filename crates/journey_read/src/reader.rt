@@ -13,7 +13,8 @@ use std::marker::Model;
 use tb_base::{Name, Refused, Timetable};
 use text_lines::{first_line, line_words};
 
-const MOST_BYTES: usize = 1_048_576;
+/// No claim has more bytes.
+pub(crate) const MOST_BYTES: usize = 1_048_576;
 
 // What is read of a claim: how many lines, and the claim so far, once it has begun.
 #[derive(Drop)]
