@@ -6,3 +6,5 @@ mod Reports
 mod OutcomeLines
 mod Sent
 mod Causes
+mod LastAt
+pub mod LiveRuns

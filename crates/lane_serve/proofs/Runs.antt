@@ -20,7 +20,7 @@ get_or_default [] i d e lt = absurd (omega arith)
 get_or_default (x ∷ xs) zero d e lt = refl
 get_or_default (x ∷ xs) (suc i) d e lt = get_or_default xs i d e (omega arith)
 
-starts_get : {A : Type 0} (ys xs : List A) (i : ℕ) (x : A) → StartsWith ys xs → slice_get xs i ≡ Some x → slice_get ys i ≡ Some x
+pub starts_get : {A : Type 0} (ys xs : List A) (i : ℕ) (x : A) → StartsWith ys xs → slice_get xs i ≡ Some x → slice_get ys i ≡ Some x
 starts_get ys xs i x s h = subst (λ l. slice_get l i ≡ Some x) (sym (rest_of ys xs s)) (get_append xs (drop (length xs) ys) i x h)
 
 starts_length : {A : Type 0} (ys xs : List A) → StartsWith ys xs → length xs ≤ length ys

@@ -3,13 +3,17 @@ use mathlib.Core.Bool.{Bool, true, false}
 use mathlib.Core.List.{[], ◌∷◌}
 use denote.Exit.{Exit, if_kept, unseen}
 use denote.RattleType.{RattleType}
+use denote.Ref.{NamedLft}
 use denote.Struct.Field.{row_field}
 use denote.Struct.Tuple.{TupleAt, type_at}
 use denote.Param.Send.{IsSend, IsSync, Quiet, sendable}
-use denote.Param.SendFields.{as_row_send, declared_send}
+use denote.Param.SendFields.{FieldsHave, as_row_send, declared_send, declared_sync}
 use Rattle.std.proofs.Crossing.{crosses}
 use Rattle.history.specs.declared.law.Naming.{Ghosts}
 use Rattle.query_gate.proofs.Sent.{caller_send}
+use Rattle.edition_store.specs.contracts.edition.Edition as edition
+use Rattle.edition_store.specs.contracts.network.Network as network
+use Rattle.lane_serve.specs.contracts.live.office.Bureau as bureau
 use Rattle.lane_serve.specs.contracts.run.Seated as seated
 use Rattle.lane_serve.specs.contracts.script.Lane as lane
 
@@ -18,6 +22,27 @@ seated_send J g = search (caller_send, sendable, crosses) depth 40 fits 100000
 
 pub lane_sync : IsSync lane.the_row
 lane_sync = search (sendable, crosses) depth 40 fits 100000
+
+network_sync : IsSync network.the_row
+network_sync = search (sendable, crosses) depth 40 fits 100000
+
+-- what lanes share: an edition
+pub edition_sync : IsSync edition.the_row
+edition_sync = search (network_sync, sendable, crosses) depth 40 fits 100000
+
+pub bureau_sync : (κ : NamedLft) (G : RattleType) → IsSync G → IsSync (bureau.the_row κ G)
+bureau_sync κ G s =
+    let parts : FieldsHave IsSync (bureau.the_type κ G).parts = (
+      search (s, sendable, crosses) depth 40 fits 100000,
+      (
+        search (sendable, crosses) depth 40 fits 100000,
+        (
+          search (sendable, crosses) depth 40 fits 100000,
+          (search (edition_sync, sendable, crosses) depth 40 fits 100000, tt),
+        ),
+      ),
+    ) in
+    declared_sync (bureau.the_type κ G) parts
 
 -- five captures, each of which may go
 pub captures_send : (A B C D E : RattleType) → IsSend A → IsSend B → IsSend C → IsSend D → IsSend E → IsSend (TupleAt [] (A ∷ B ∷ C ∷ D ∷ E ∷ []))

@@ -1,5 +1,5 @@
 -- What a lane is answered, over a list of published editions.
-use Rattle.std.specs.Prelude.{◌≡◌, ℕ, ◌+◌, ◌≤◌, ◌==◌, ◌||◌, List, [], ◌∷◌, ◌++◌, Bool, length, nat_lt, ⊤, if◌then◌else◌}
+use Rattle.std.specs.Prelude.{◌≡◌, ℕ, ◌+◌, ◌≤◌, ◌==◌, ◌||◌, List, [], ◌∷◌, Bool, length, nat_lt, ⊤, if◌then◌else◌}
 use Rattle.edition_store.specs.Editions.{EditionData}
 use Rattle.query_gate.specs.Callers.{Answers, IsAnsweredBy, IsEditionOf}
 use Rattle.query_gate.specs.Json.{shown_reply}

@@ -6,3 +6,7 @@ pub mod Seats
 pub mod Sides
 pub mod Texts
 pub mod Json
+pub mod LiveLines
+pub mod LiveTexts
+pub mod LiveReplies
+pub mod LiveTurns

@@ -1,5 +1,5 @@
 -- What a script says: lanes of requests, or the first bad line.
-use Rattle.std.specs.Prelude.{◌≡◌, ℕ, ◌+◌, ◌<◌, ◌≤◌, ◌==◌, List, [], ◌∷◌, ◌++◌, Bool, false, length, codes, bytes_eq, nat_lt, sum_by, ◌≤ℤ◌, pos, Option, Some, None, Result, Ok, Err, All, ⊤, if◌then◌else◌}
+use Rattle.std.specs.Prelude.{ℕ, ◌+◌, ◌<◌, ◌≤◌, ◌==◌, List, [], ◌∷◌, ◌++◌, Bool, length, codes, bytes_eq, nat_lt, sum_by, Option, Some, None, Result, Ok, Err, All, ⊤, if◌then◌else◌}
 use Rattle.std.specs.List.{list_any}
 use Rattle.std.specs.Option.{option_and_then}
 use Rattle.answer_text.specs.Questions.{needs_mirror, question_of}

@@ -13,7 +13,7 @@ use std::alloc::Global;
 use tb_base::Memory;
 
 // Adds `{"day":WORD,"edition":N,"trips":N,"lines":N,"kept":N}`.
-fn add_published(
+pub(crate) fn add_published(
     text: &mut Text,
     word: &str,
     number: u32,
@@ -34,7 +34,7 @@ fn add_published(
 }
 
 // Adds `{"day":WORD,"fault":FAULT}`.
-fn add_refused(text: &mut Text, word: &str, fault: &FeedFault) -> Result<(), Memory>
+pub(crate) fn add_refused(text: &mut Text, word: &str, fault: &FeedFault) -> Result<(), Memory>
     ensures { OnOk result (text.new ≡ text.old ++ refused_json word.now fault.now) }
 {
     text.add(b"{\"day\":")?;

@@ -13,6 +13,7 @@
 
 mod json;
 mod lane;
+mod live;
 mod plan;
 mod publishing;
 mod run;
@@ -22,6 +23,7 @@ mod texts;
 
 pub use json::served_shown;
 pub use lane::{LaneReport, ReplyText, close_lane, run_lane};
+pub use live::LiveMode;
 pub use plan::{Outcome, PlanItem};
 pub use run::{ServeFault, Served, serve};
 pub use script::{Lane, Line, Script, ScriptFault, read_script};

@@ -11,7 +11,7 @@ use std::alloc::Global;
 use tb_base::Memory;
 
 // Adds `edition N WORD trips N lines N kept N`.
-fn add_published(
+pub(crate) fn add_published(
     text: &mut Text,
     word: &str,
     number: u32,
@@ -36,7 +36,12 @@ fn add_published(
 }
 
 // Adds `refused WORD FAULT`.
-fn add_refused(alloc: Global, text: &mut Text, word: &str, fault: &FeedFault) -> Result<(), Memory>
+pub(crate) fn add_refused(
+    alloc: Global,
+    text: &mut Text,
+    word: &str,
+    fault: &FeedFault,
+) -> Result<(), Memory>
     ensures { OnOk result (text.new ≡ text.old ++ refused_text word.now fault.now) }
 {
     text.add(b"refused ")?;

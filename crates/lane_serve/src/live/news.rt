@@ -1,0 +1,152 @@
+//! News of the publisher.
+ghost use Rattle.std.specs.Prelude.{◌≡◌, ◌++◌, List, OnOk, IfOk, ℕ};
+ghost use Rattle.live_turns.specs.Runs.{Tells};
+ghost use Rattle.lane_serve.specs.LiveTexts.{became_json, became_text, failed_json, failed_text, news_shown};
+
+use crate::{json, texts};
+use answer_json::{add_member, add_string};
+use answer_text::Text;
+use gtfs_rows::FeedFault;
+use live_turns::{Naming, Taken, Taker};
+use std::alloc::Global;
+use std::marker::Model;
+use std::sync::Wait;
+use tb_base::Memory;
+
+/// What became of an item.
+#[derive(Drop)]
+pub(crate) enum Became {
+    /// It was published as the edition of this number, from 1, with so many trips, lines and kept
+    /// transfers.
+    Published {
+        number: u32,
+        trips: u32,
+        lines: u32,
+        kept: u64,
+    },
+    /// The first thing that is wrong with its feed.
+    Refused(FeedFault),
+    /// Its feed could not be read.
+    ReadFault,
+    /// There was no memory for it.
+    Memory,
+}
+
+/// The word of an item, and what became of it.
+#[derive(Drop)]
+pub(crate) struct News {
+    pub word: String,
+    pub became: Became,
+}
+
+impl Model for News {
+    ghost use Rattle.std.specs.Prelude.{string_bytes};
+    ghost use Rattle.lane_serve.specs.LiveTexts.{NewsData};
+
+    ghost Value = { NewsData };
+
+    ghost view = { λ n. record { word = string_bytes n.word; became = n.became } };
+}
+
+// Adds `refused WORD REASON`.
+fn add_failed_text(text: &mut Text, word: &str, reason: &[u8]) -> Result<(), Memory>
+    ensures { OnOk result (text.new ≡ text.old ++ failed_text word.now reason.now) }
+{
+    text.add(b"refused ")?;
+    text.add(word.as_bytes())?;
+    text.add(b" ")?;
+    text.add(reason)?;
+    text.add(b"\n")
+}
+
+// Adds the line of what became of the item of a word.
+fn add_became_text(
+    alloc: Global,
+    text: &mut Text,
+    word: &str,
+    became: &Became,
+) -> Result<(), Memory>
+    ensures { OnOk result (text.new ≡ text.old ++ became_text word.now became.now) }
+{
+    match became {
+        Became::Published {
+            number,
+            trips,
+            lines,
+            kept,
+        } => texts::add_published(text, word, *number, *trips, *lines, *kept),
+        Became::Refused(fault) => texts::add_refused(alloc, text, word, fault),
+        Became::ReadFault => add_failed_text(text, word, b"read fault"),
+        Became::Memory => add_failed_text(text, word, b"out of memory"),
+    }
+}
+
+// Adds `{"day":WORD,"message":REASON}`.
+fn add_failed_json(text: &mut Text, word: &str, reason: &[u8]) -> Result<(), Memory>
+    ensures { OnOk result (text.new ≡ text.old ++ failed_json word.now reason.now) }
+{
+    text.add(b"{\"day\":")?;
+    add_string(text, word.as_bytes())?;
+    add_member(text, b"message", reason)?;
+    text.add(b"}\n")
+}
+
+// The same as JSON.
+fn add_became_json(text: &mut Text, word: &str, became: &Became) -> Result<(), Memory>
+    ensures { OnOk result (text.new ≡ text.old ++ became_json word.now became.now) }
+{
+    match became {
+        Became::Published {
+            number,
+            trips,
+            lines,
+            kept,
+        } => json::add_published(text, word, *number, *trips, *lines, *kept),
+        Became::Refused(fault) => json::add_refused(text, word, fault),
+        Became::ReadFault => add_failed_json(text, word, b"read fault"),
+        Became::Memory => add_failed_json(text, word, b"out of memory"),
+    }
+}
+
+// Adds the line of a piece of news.
+fn add_news(alloc: Global, json: bool, text: &mut Text, news: &News) -> Result<(), Memory>
+    ensures { OnOk result (text.new ≡ text.old ++ news_shown json news.now) }
+{
+    let word = news.word.as_str();
+    if json {
+        add_became_json(text, word, &news.became)
+    } else {
+        add_became_text(alloc, text, word, &news.became)
+    }
+}
+
+/// The line of a piece of news.
+pub(crate) fn news_shown(alloc: Global, json: bool, news: &News) -> Result<Vec<u8>, Memory>
+    ensures { IfOk result (λ v. v.items ≡ news_shown json news.now) }
+{
+    let mut text = Text::new(alloc);
+    add_news(alloc, json, &mut text, news)?;
+    Ok(text.into_bytes())
+}
+
+/// Adds the news that are there, each in a line. Refused only for want of memory, or for a piece of
+/// news that came out of turn, of which there is none.
+pub(crate) fn tell_news<L: Naming, R: Wait>(
+    rt: &R,
+    alloc: Global,
+    json: bool,
+    news: &mut Taker<News, L>,
+    text: &mut Text,
+) -> Result<(), Memory>
+    ensures { OnOk result ((note : List ℕ) × Tells (news_shown json) news.old news.new note
+        × (text.new ≡ text.old ++ note)) }
+{
+    for _turn in rt.forever() {
+        match news.poll(rt) {
+            Some(Taken::Next(next)) => add_news(alloc, json, text, &next)?,
+            Some(Taken::End) | None => return Ok(()),
+            Some(Taken::OutOfTurn) => return Err(Memory),
+        }
+    }
+    unreachable!()
+}

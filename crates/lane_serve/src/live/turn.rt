@@ -1,0 +1,236 @@
+//! One turn of lines.
+ghost use Rattle.std.specs.Prelude.{◌≡◌, ◌<◌, ◌+◌, ◌++◌, ◌∷◌, [], All, IfOk, OnOk, flat_map, length, sum_by, vec_len};
+ghost use Rattle.edition_store.specs.Editions.{EditionData};
+ghost use Rattle.history.specs.Lists.{Extends};
+ghost use Rattle.lane_serve.specs.LiveLines.{HasSaidTimes, HasWantedTimes, asked_from, item_said, live_counts, live_gives, live_said, wanted};
+ghost use Rattle.lane_serve.specs.LiveTurns.{IsLiveTurn, LineSideData, joined_texts};
+
+use crate::live::news::{News, tell_news};
+use crate::live::office::answer_asked;
+use crate::live::saying::{Asked, LiveMode, Saying, Wanted, live_said};
+use crate::plan::PlanItem;
+use answer_text::Text;
+use edition_store::{Naming, Seat};
+use live_turns::{Giver, Taker};
+use segment_queue::Desk;
+use std::alloc::Global;
+use std::marker::Model;
+use std::sync::Wait;
+use std::thread::Threads;
+use tb_base::{Gate, Memory, Name};
+
+/// The side of a process that takes lines: a seat from which editions are pinned, a desk for each
+/// lane, the number of the next line, who gives items to the publisher, and who takes its news.
+#[derive(Drop)]
+pub(crate) struct LineSide<J: Naming, K: Naming, L: Naming> {
+    alloc: Global,
+    mode: LiveMode,
+    seat: Seat<J>,
+    desks: Vec<Desk>,
+    next: u64,
+    giver: Giver<PlanItem, K>,
+    news: Taker<News, L>,
+}
+
+impl<J: Naming, K: Naming, L: Naming> Model for LineSide<J, K, L> {
+    ghost use Rattle.std.specs.Prelude.{vec_len};
+    ghost use Rattle.lane_serve.specs.LiveTurns.{LineSideData};
+
+    ghost Value = { LineSideData };
+
+    ghost view = { λ s. record {
+      mode = s.mode;
+      lanes = vec_len s.desks;
+      live = record { kept = s.seat; next = s.next; told = s.news };
+      given = s.giver;
+    } };
+}
+
+// So many desks.
+fn desks_for(alloc: Global, lanes: u32) -> Result<Vec<Desk>, Memory>
+    ensures { IfOk result (λ v. vec_len v ≡ lanes) }
+{
+    let mut desks = Vec::new(alloc);
+    for _lane in 0..lanes {
+        let Ok(()) = desks.push(Desk::new(alloc)) else {
+            return Err(Memory);
+        };
+    }
+    Ok(desks)
+}
+
+impl<J: Naming, K: Naming, L: Naming> LineSide<J, K, L> {
+    /// A side before its first line, with so many lanes. Refused only for want of memory.
+    pub(crate) fn new(
+        alloc: Global,
+        mode: LiveMode,
+        lanes: u32,
+        seat: Seat<J>,
+        giver: Giver<PlanItem, K>,
+        news: Taker<News, L>,
+    ) -> Result<LineSide<J, K, L>, Memory>
+        ensures { IfOk result (λ s. s ≡ record {
+          mode = mode;
+          lanes = lanes;
+          live = record { kept = seat; next = 1; told = news };
+          given = giver;
+        }) }
+    {
+        match desks_for(alloc, lanes) {
+            Ok(desks) => Ok(LineSide {
+                alloc,
+                mode,
+                seat,
+                desks,
+                next: 1,
+                giver,
+                news,
+            }),
+            Err(Memory) => {
+                drop(seat);
+                drop(giver);
+                drop(news);
+                Err(Memory)
+            }
+        }
+    }
+
+    /// Its parts, in the end: the seat, who gives items, and who takes news.
+    pub(crate) fn into_parts(self) -> (Seat<J>, Giver<PlanItem, K>, Taker<News, L>)
+        ensures seat { result.0 ≡ self.live.kept }
+        ensures giver { result.1 ≡ self.given }
+        ensures news { result.2 ≡ self.live.told }
+    {
+        let LineSide {
+            seat,
+            desks,
+            giver,
+            news,
+            ..
+        } = self;
+        drop(desks);
+        (seat, giver, news)
+    }
+}
+
+// What is wanted by what a line says. An item is given to the publisher.
+fn hand_over<K: Naming, R: Wait>(
+    rt: &R,
+    alloc: Global,
+    giver: &mut Giver<PlanItem, K>,
+    saying: Saying,
+) -> Result<Wanted, Memory>
+    requires { HasSaidTimes saying }
+    ensures wanted { IfOk result (λ w. w ≡ wanted saying) }
+    ensures times { IfOk result HasWantedTimes }
+    ensures given { OnOk result (giver.new ≡ giver.old ++ item_said saying) }
+{
+    match saying {
+        Saying::Nothing => Ok(Wanted::Nothing),
+        Saying::Request(request) => Ok(Wanted::Reply(request)),
+        Saying::Publish(item) => {
+            let word = Name::new(alloc, item.word.as_bytes())?;
+            giver.give(rt, item)?;
+            Ok(Wanted::Queued(word))
+        }
+        Saying::BadLine => Ok(Wanted::BadLine),
+        Saying::BadTime => Ok(Wanted::BadTime),
+    }
+}
+
+// What is wanted by the next line. `next` is its number, and then that of the line behind it.
+fn hear<K: Naming, R: Wait>(
+    rt: &R,
+    alloc: Global,
+    mode: LiveMode,
+    next: &mut u64,
+    giver: &mut Giver<PlanItem, K>,
+    line: &Name,
+) -> Result<Asked, Memory>
+    ensures asked { IfOk result (λ a.
+        a ≡ record { number = next.old; wanted = wanted (live_said mode line.now) }) }
+    ensures times { IfOk result (λ (a : Asked). HasWantedTimes a.wanted) }
+    ensures next { OnOk result (next.new ≡ next.old + live_counts mode line.now) }
+    ensures given { OnOk result (giver.new ≡ giver.old ++ live_gives mode line.now) }
+{
+    let saying = live_said(alloc, mode, line.bytes())?;
+    let number = *next;
+    let Some(behind) = number.checked_add(saying.count()) else {
+        return Err(Memory);
+    };
+    let wanted = hand_over(rt, alloc, giver, saying)?;
+    *next = behind;
+    Ok(Asked { number, wanted })
+}
+
+// The same of each line, in order.
+fn hear_all<K: Naming, R: Wait>(
+    rt: &R,
+    alloc: Global,
+    mode: LiveMode,
+    next: &mut u64,
+    giver: &mut Giver<PlanItem, K>,
+    lines: &[Name],
+) -> Result<Vec<Asked>, Memory>
+    ensures asked { IfOk result (λ v. v.items ≡ asked_from mode next.old lines.now) }
+    ensures times { IfOk result
+        (λ v. All (λ (a : Asked). HasWantedTimes a.wanted) v.items) }
+    ensures next { OnOk result
+        (next.new ≡ next.old + sum_by (live_counts mode) lines.now) }
+    ensures given { OnOk result
+        (giver.new ≡ giver.old ++ flat_map (live_gives mode) lines.now) }
+{
+    let mut asked = Vec::new(alloc);
+    for line in lines {
+        let one = hear(rt, alloc, mode, next, giver, line)?;
+        let Ok(()) = asked.push(one) else {
+            return Err(Memory);
+        };
+    }
+    Ok(asked)
+}
+
+// Adds texts.
+fn add_texts(text: &mut Text, texts: &[Vec<u8>]) -> Result<(), Memory>
+    ensures { OnOk result (text.new ≡ text.old ++ joined_texts texts.now) }
+{
+    for more in texts {
+        text.add(more.as_slice())?;
+    }
+    Ok(())
+}
+
+/// The text of one turn: what is new, and a reply to each line in order, all by the edition that is
+/// the last one when the turn begins. Items that lines name are given to the publisher. Refused
+/// only for want of memory.
+pub(crate) fn take_turn<J: Naming, K: Naming, L: Naming, G: Gate, R: Threads + Wait + Sync>(
+    rt: &R,
+    gate: &G,
+    side: &mut LineSide<J, K, L>,
+    lines: &[Name],
+) -> Result<Vec<u8>, Memory>
+    requires { 0 < side.old.lanes }
+    ensures turn { IfOk result (λ v.
+        IsLiveTurn side.old.mode side.old lines.now v.items side.new) }
+    ensures mode { side.new.mode ≡ side.old.mode }
+    ensures lanes { OnOk result (side.new.lanes ≡ side.old.lanes) }
+    ensures later { Extends side.new.live.kept side.old.live.kept }
+{
+    let alloc = side.alloc;
+    let json = side.mode.json;
+    let mut text = Text::new(alloc);
+    tell_news(rt, alloc, json, &mut side.news, &mut text)?;
+    let pinned = side.seat.pin()?;
+    let asked = hear_all(rt, alloc, side.mode, &mut side.next, &mut side.giver, lines)?;
+    let texts = answer_asked(
+        rt,
+        alloc,
+        gate,
+        json,
+        &pinned,
+        &mut side.desks,
+        asked.as_slice(),
+    )?;
+    add_texts(&mut text, texts.as_slice())?;
+    Ok(text.into_bytes())
+}
