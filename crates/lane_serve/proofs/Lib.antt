@@ -8,3 +8,5 @@ mod Sent
 mod Causes
 mod LastAt
 pub mod LiveRuns
+pub mod LiveFirst
+mod LivePublisher

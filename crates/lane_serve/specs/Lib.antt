@@ -10,3 +10,6 @@ pub mod LiveLines
 pub mod LiveTexts
 pub mod LiveReplies
 pub mod LiveTurns
+pub mod Lending
+pub mod Live
+pub mod LivePublisher
