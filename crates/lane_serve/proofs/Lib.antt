@@ -8,3 +8,7 @@ mod Sent
 mod Causes
 mod LastAt
 pub mod LiveRuns
+pub mod LiveFirst
+mod LivePublisher
+mod LivedRuns
+mod LiveSent

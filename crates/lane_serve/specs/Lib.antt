@@ -10,3 +10,7 @@ pub mod LiveLines
 pub mod LiveTexts
 pub mod LiveReplies
 pub mod LiveTurns
+pub mod Lending
+pub mod Live
+pub mod LivePublisher
+pub mod LiveSides

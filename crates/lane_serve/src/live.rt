@@ -5,13 +5,18 @@
 //! edition of it, and the text is written before the next piece is read.
 
 pub(crate) mod laws;
+mod lending;
+mod lived;
 mod news;
 mod office;
+mod publisher;
 mod running;
 mod saying;
+mod sides;
 mod telling;
 mod turn;
 
+pub use lived::{LiveFault, run_live};
 pub(crate) use news::{Became, News, news_shown, tell_news};
 pub(crate) use running::{LinesFault, run_turns};
 pub use saying::LiveMode;

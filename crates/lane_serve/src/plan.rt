@@ -159,14 +159,14 @@ pub(crate) fn first_outcome(alloc: Global, edition: &Edition) -> Result<Vec<Outc
 }
 
 // Publishes the edition of item i. The gate is told just before and right after.
-fn publish<P: Publishes, G: Gate, R: Wait>(
+pub(crate) fn publish<P: Publishes, G: Gate, R: Wait>(
     rt: &R,
     gate: &G,
     i: u32,
     edition: Shared,
     publisher: P,
 ) -> Result<P, Memory>
-    requires { length (P.list publisher) < 100 }
+    requires { length (P.list publisher) < 2 ^ 32 - 1 }
     ensures { IfOk result (λ p. P.list p ≡ P.list publisher ++ edition ∷ []) }
 {
     gate.begin(Work::Publication(i));

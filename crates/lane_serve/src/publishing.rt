@@ -1,5 +1,5 @@
 //! Who publishes.
-ghost use Rattle.std.specs.Prelude.{◌≡◌, ◌∷◌, [], ◌++◌, ◌<◌, IfOk, length};
+ghost use Rattle.std.specs.Prelude.{◌≡◌, ◌∷◌, [], ◌++◌, ◌<◌, ◌-◌, ◌^◌, IfOk, length};
 
 use edition_store::{Naming, Publisher, Shared};
 use std::sync::Wait;
@@ -19,7 +19,7 @@ pub(crate) trait Publishes {
 
     /// Appends the edition to the list. At a refusal the list is ended.
     fn with_edition<R: Wait>(self, rt: &R, edition: Shared) -> Result<Self, Memory>
-        requires { length (list self) < 100 }
+        requires { length (list self) < 2 ^ 32 - 1 }
         ensures { IfOk result (λ p. list p ≡ list self ++ edition ∷ []) };
 
     /// Ends a list of which nothing is asked any more.

@@ -1,0 +1,28 @@
+use Rattle.std.proofs.Common.{◌+◌, ◌∙◌, subst, take, get_or, arith}
+use Rattle.std.proofs.lemmas.List.{take_more}
+use Rattle.lane_serve.specs.LivePublisher.{TakesItem}
+use Rattle.lane_serve.proofs.LivePublisher.{published_more, rose_more}
+use Rattle.lane_serve.proofs.live.publisher.publish_words.Goals as goal
+
+pub loop-i-preserved : goal.loop-i-preserved
+loop-i-preserved g c =
+    let inv = c.loop-i.invariant in
+    let files = g.F.Folder.files c.args.folder.now in
+    let now = g.F.Folder.files c.loop-i.folder in
+    let options = c.args.building.options in
+    let mirrored = c.args.building.mirrored in
+    let start = g.F.Folder.faults c.args.folder.now in
+    let before = g.F.Folder.faults c.loop-i.folder in
+    let after = g.F.Folder.faults c.publish_item.new.folder in
+    let words = c.args.words.now in
+    let i = c.loop-i.i in
+    let item = c.index-words-i.result in
+    let es = g.P.Publishes.list c.loop-i.publisher in
+    let gone = g.P.Publishes.list c.in-Ok.next in
+    let taken = subst (λ x. TakesItem now options mirrored x before after es gone c.loop-i.news c.publish_item.new.news) c.index-words-i.is c.in-Ok.ensures.taken in (
+      published_more files now options mirrored (take i words) (take (i + 1) words) (get_or words i item) before after es gone c.loop-i.news c.publish_item.new.news inv.1
+          (take_more words i item c.loop-i-test.true) inv.0 taken,
+      c.publish_item.ensures.files ∙ inv.1,
+      (let a = inv.2 in let b = c.publish_item.ensures.later in omega arith),
+      rose_more start before after now options mirrored (get_or words i item) es gone c.loop-i.news c.publish_item.new.news inv.2 c.publish_item.ensures.later inv.3 taken,
+    )

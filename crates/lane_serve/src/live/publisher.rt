@@ -1,0 +1,256 @@
+//! The publisher of a process that lives: items as they are named, and news of each.
+ghost use Rattle.std.specs.Prelude.{ℕ, ◌≡◌, ◌<◌, ◌≤◌, ◌-◌, ◌^◌, ◌∷◌, [], ◌++◌, ◌+◌, IfOk, OnOk, drop, length, take, string_bytes};
+ghost use Rattle.edition_store.specs.Editions.{EditionData};
+ghost use Rattle.lane_serve.specs.Live.{ArePublished, became_of};
+ghost use Rattle.lane_serve.specs.LivePublisher.{IsNextEdition, IsNextItem, ReadFaultsRose, TakesItem, items_taken};
+ghost use Rattle.lane_serve.specs.Plans.{IsGoodBuilding};
+
+use crate::live::lending::build_anyway;
+use crate::live::news::{Became, News};
+use crate::plan::{Building, Built, PlanEnd, PlanItem, publish};
+use crate::publishing::Publishes;
+use edition_store::{Edition, Shared};
+use live_turns::{Giver, Naming, Taken, Taker};
+use std::alloc::Global;
+use std::sync::Wait;
+use std::thread::Threads;
+use tb_base::{Gate, Memory};
+use tb_io::Folder;
+
+/// What became of an item that is published as the edition of this number.
+pub(crate) fn became_of(number: u32, edition: &Edition) -> Became
+    ensures { result ≡ became_of number edition.now }
+{
+    Became::Published {
+        number,
+        trips: edition.table().trip_count(),
+        lines: edition.lines().count(),
+        kept: edition.kept(),
+    }
+}
+
+// Publishes item i. Where no number is left for an edition, there is no memory for it.
+fn publish_next<P: Publishes, G: Gate, R: Wait>(
+    rt: &R,
+    gate: &G,
+    i: u32,
+    edition: Shared,
+    publisher: P,
+) -> Result<(P, Became), Memory>
+    ensures { IfOk result (λ t. IsNextEdition (P.list publisher) (P.list t.0) edition t.1) }
+{
+    let number = publisher.number();
+    let Some(next) = number.checked_add(1) else {
+        drop(edition);
+        return Ok((publisher, Became::Memory));
+    };
+    let became = became_of(next, edition.edition());
+    match publish(rt, gate, i, edition, publisher) {
+        Ok(publisher) => Ok((publisher, became)),
+        Err(Memory) => Err(Memory),
+    }
+}
+
+// Reads, builds and publishes item i, and says what became of it.
+fn take_next<P: Publishes, F: Folder, G: Gate, R: Threads + Wait + Sync>(
+    rt: &R,
+    alloc: Global,
+    gate: &G,
+    building: Building,
+    folder: &mut F,
+    i: u32,
+    item: &PlanItem,
+    publisher: P,
+) -> Result<(P, Became), Memory>
+    requires { IsGoodBuilding building }
+    ensures files { F.files folder.new ≡ F.files folder.old }
+    ensures later { F.faults folder.old ≤ F.faults folder.new }
+    ensures became { IfOk result (λ t. IsNextItem (F.files folder.old) building.options
+        building.mirrored item.now (F.faults folder.old) (F.faults folder.new)
+        (P.list publisher) (P.list t.0) t.1) }
+{
+    match build_anyway(rt, alloc, gate, building, folder, item) {
+        Ok(Built::Edition(edition)) => publish_next(rt, gate, i, edition, publisher),
+        Ok(Built::Refused(fault)) => Ok((publisher, Became::Refused(fault))),
+        Err(PlanEnd::ReadFault) => Ok((publisher, Became::ReadFault)),
+        Err(PlanEnd::Memory) => Ok((publisher, Became::Memory)),
+    }
+}
+
+// Gives the news of what became of an item.
+fn give_news<L: Naming, R: Wait>(
+    rt: &R,
+    alloc: Global,
+    news: &mut Giver<News, L>,
+    item: &PlanItem,
+    became: Became,
+) -> Result<(), Memory>
+    ensures { OnOk result (news.new ≡ news.old
+        ++ record { word = item.now.word; became = became } ∷ []) }
+{
+    match String::from_str(alloc, item.word.as_str()) {
+        Ok(word) => news.give(rt, News { word, became }),
+        Err(_) => {
+            drop(became);
+            Err(Memory)
+        }
+    }
+}
+
+// Reads, builds and publishes item i, and gives news of it.
+fn publish_item<P: Publishes, L: Naming, F: Folder, G: Gate, R: Threads + Wait + Sync>(
+    rt: &R,
+    alloc: Global,
+    gate: &G,
+    building: Building,
+    folder: &mut F,
+    i: u32,
+    item: &PlanItem,
+    news: &mut Giver<News, L>,
+    publisher: P,
+) -> Result<P, Memory>
+    requires { IsGoodBuilding building }
+    ensures files { F.files folder.new ≡ F.files folder.old }
+    ensures later { F.faults folder.old ≤ F.faults folder.new }
+    ensures taken { IfOk result (λ p. TakesItem (F.files folder.old) building.options
+        building.mirrored item.now (F.faults folder.old) (F.faults folder.new)
+        (P.list publisher) (P.list p) news.old news.new) }
+{
+    match take_next(rt, alloc, gate, building, folder, i, item, publisher) {
+        Ok((publisher, became)) => match give_news(rt, alloc, news, item, became) {
+            Ok(()) => Ok(publisher),
+            Err(Memory) => {
+                publisher.end(rt);
+                Err(Memory)
+            }
+        },
+        Err(Memory) => Err(Memory),
+    }
+}
+
+// Reads, builds and publishes the further items of the words, behind the first one, which is
+// published.
+fn publish_words<P: Publishes, L: Naming, F: Folder, G: Gate, R: Threads + Wait + Sync>(
+    rt: &R,
+    alloc: Global,
+    gate: &G,
+    building: Building,
+    folder: &mut F,
+    words: &[PlanItem],
+    news: &mut Giver<News, L>,
+    publisher: P,
+) -> Result<P, Memory>
+    requires building { IsGoodBuilding building }
+    requires some { 0 < length words.now }
+    requires first { ArePublished (F.files folder.old) building.options building.mirrored
+        (take 1 words.now) news.old (P.list publisher) }
+    requires rose { ReadFaultsRose (F.faults folder.old) (F.faults folder.old) news.old }
+    ensures files { F.files folder.new ≡ F.files folder.old }
+    ensures later { F.faults folder.old ≤ F.faults folder.new }
+    ensures published { IfOk result (λ p. ArePublished (F.files folder.old) building.options
+        building.mirrored words.now news.new (P.list p)) }
+    ensures rose { OnOk result
+        (ReadFaultsRose (F.faults folder.old) (F.faults folder.new) news.new) }
+{
+    let mut publisher = publisher;
+    let mut number = 0u32;
+    for i in 1..words.len() {
+        number = number.saturating_add(1);
+        publisher = match publish_item(
+            rt, alloc, gate, building, folder, number, &words[i], news, publisher,
+        ) {
+            Ok(next) => next,
+            Err(Memory) => return Err(Memory),
+        };
+    }
+    Ok(publisher)
+}
+
+// Takes items as they are handed over, up to the end, and reads, builds and publishes each.
+fn publish_named<P: Publishes, K: Naming, L: Naming, F: Folder, G: Gate, R: Threads + Wait + Sync>(
+    rt: &R,
+    alloc: Global,
+    gate: &G,
+    building: Building,
+    folder: &mut F,
+    words: &[PlanItem],
+    items: &mut Taker<PlanItem, K>,
+    news: &mut Giver<News, L>,
+    publisher: P,
+) -> Result<P, Memory>
+    requires building { IsGoodBuilding building }
+    requires some { 0 < length items.old }
+    requires first { ArePublished (F.files folder.old) building.options building.mirrored
+        (items_taken words.now items.old) news.old (P.list publisher) }
+    ensures files { F.files folder.new ≡ F.files folder.old }
+    ensures later { F.faults folder.old ≤ F.faults folder.new }
+    ensures published { IfOk result (λ p. ArePublished (F.files folder.old) building.options
+        building.mirrored (items_taken words.now items.new) news.new (P.list p)) }
+    ensures rose { OnOk result ((start : ℕ) → start ≤ F.faults folder.old →
+        ReadFaultsRose start (F.faults folder.old) news.old →
+        ReadFaultsRose start (F.faults folder.new) news.new) }
+{
+    let mut publisher = publisher;
+    let mut number = u32::try_from(words.len()).unwrap_or(u32::MAX);
+    for _turn in rt.forever() {
+        let item = match items.take(rt) {
+            Taken::Next(item) => item,
+            Taken::End => return Ok(publisher),
+            Taken::OutOfTurn => {
+                publisher.end(rt);
+                return Err(Memory);
+            }
+        };
+        publisher = match publish_item(
+            rt, alloc, gate, building, folder, number, &item, news, publisher,
+        ) {
+            Ok(next) => next,
+            Err(Memory) => return Err(Memory),
+        };
+        number = number.saturating_add(1);
+    }
+    unreachable!()
+}
+
+/// Reads, builds and publishes the further items of the words, behind the first one, which is
+/// published, and then each item that is handed over, up to the end, all in order; and gives news of
+/// each. A feed that is refused, a folder that fails and want of memory for an item end nothing.
+/// Refused where a publication fails for want of memory, or where news can't be given.
+pub(crate) fn publish_all<
+    P: Publishes,
+    K: Naming,
+    L: Naming,
+    F: Folder,
+    G: Gate,
+    R: Threads + Wait + Sync,
+>(
+    rt: &R,
+    alloc: Global,
+    gate: &G,
+    building: Building,
+    folder: &mut F,
+    words: &[PlanItem],
+    items: &mut Taker<PlanItem, K>,
+    news: &mut Giver<News, L>,
+    publisher: P,
+) -> Result<P, Memory>
+    requires building { IsGoodBuilding building }
+    requires some { 0 < length words.now }
+    requires one { length items.old ≡ 1 }
+    requires first { ArePublished (F.files folder.old) building.options building.mirrored
+        (take 1 words.now) news.old (P.list publisher) }
+    requires rose { ReadFaultsRose (F.faults folder.old) (F.faults folder.old) news.old }
+    ensures files { F.files folder.new ≡ F.files folder.old }
+    ensures later { F.faults folder.old ≤ F.faults folder.new }
+    ensures published { IfOk result (λ p. ArePublished (F.files folder.old) building.options
+        building.mirrored (items_taken words.now items.new) news.new (P.list p)) }
+    ensures rose { OnOk result
+        (ReadFaultsRose (F.faults folder.old) (F.faults folder.new) news.new) }
+{
+    match publish_words(rt, alloc, gate, building, folder, words, news, publisher) {
+        Ok(publisher) => publish_named(
+            rt, alloc, gate, building, folder, words, items, news, publisher,
+        ),
+        Err(Memory) => Err(Memory),
+    }
+}
