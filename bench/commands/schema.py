@@ -2,7 +2,8 @@
 
 Runs each example of the documents that asks for an answer once more with --json, and some whose
 names need escapes and whose words or files are refused, and holds each line that comes against the
-schema of its command. Prints one line for each run. Needs python3-jsonschema.
+schema of its command. Each journey that ask and profile write is a claim, and verify holds it to be
+one. Prints one line for each run. Needs python3-jsonschema.
 """
 import json
 import os
@@ -15,6 +16,12 @@ from harness import TOP, BenchError, router
 
 SCHEMAS = os.path.join(TOP, "docs", "schema")
 REFUSAL = "refusal"
+CLAIM = "claim"
+# What stands in a line of a claim, by its first word.
+LEGS = {
+    "walk": ("from", "to", "seconds"),
+    "ride": ("trip", "from", "departure", "to", "arrival"),
+}
 # The stop's name has a quote, a backslash, a tab and a letter beyond ASCII.
 NAMED = 'a "b" \\ \t \u00e9'
 FILES = {
@@ -57,9 +64,30 @@ def validators():
     }
 
 
+def claim_of(text):
+    """A claim in lines, as JSON."""
+    (_, arrive, _, rides), *legs = (shlex.split(line) for line in text.splitlines())
+    claim = {"arrive": arrive, "rides": int(rides), "legs": []}
+    for kind, *words in legs:
+        leg = dict(zip(LEGS[kind], words))
+        if "seconds" in leg:
+            leg["seconds"] = int(leg["seconds"])
+        if "day-before" in words:
+            leg["day"] = -1
+        claim["legs"].append(leg)
+    return json.dumps(claim)
+
+
+def given_to(words, path):
+    """What a command of the documents reads from a file."""
+    with open(os.path.join(TOP, path), encoding="utf-8") as file:
+        text = file.read()
+    return claim_of(text) if name_of(words) == "verify" else text
+
+
 def asked():
-    """The commands of the documents that ask the program something: their words, and where they
-    take standard input from."""
+    """The commands of the documents that ask the program something: their words, and what they
+    read from standard input."""
     for path in documents():
         for command, _ in examples(lines_of(path)):
             words = shlex.split(command)
@@ -69,7 +97,7 @@ def asked():
             if "<" in words:
                 words, given = words[: words.index("<")], words[-1]
             if not any(sign in words for sign in "|>;"):
-                yield words[1:], given
+                yield words[1:], given_to(words[1:], given) if given else ""
 
 
 def more(folder):
@@ -80,26 +108,35 @@ def more(folder):
         with open(os.path.join(feed, name), "w", encoding="utf-8") as file:
             file.write("".join(f"{row}\n" for row in rows))
     day, ends, late = "20260303", [NAMED, "C"], "00:00:00"
-    script = os.path.join(folder, "script")
-    with open(script, "w", encoding="utf-8") as file:
-        quoted = NAMED.replace('"', '""')
-        file.write(f'lane "l \\ 1"\nask "{quoted}" C {late}\nsince 2 reach "{quoted}" {late}\n')
-        file.write(f'ask X C {late}\nprofile "{quoted}" C {late} 26:00:00\n')
-    yield ["direct", feed, day, *ends, late], None
-    yield ["direct", feed, day, *reversed(ends), late], None
-    yield ["ask", feed, day, *ends, late], None
-    yield ["ask", feed, day, "no \\ stop", "C", late], None
-    yield ["profile", feed, day, *ends, late, "26:00:00"], None
-    yield ["latest", feed, day, *ends, "26:00:00"], None
-    yield ["reach", feed, day, NAMED, late], None
-    yield ["build", feed, day, "list"], None
+    quoted = NAMED.replace('"', '""')
+    script = (
+        f'lane "l \\ 1"\nask "{quoted}" C {late}\nsince 2 reach "{quoted}" {late}\n'
+        f'ask X C {late}\nreach "{quoted}" {late}\nprofile "{quoted}" C {late} 26:00:00\n'
+    )
+    updates = os.path.join(folder, "updates")
+    with open(updates, "w", encoding="utf-8") as file:
+        file.write("late T-none 0 60\n")
+    claim = claim_of(
+        f"arrive 00:20:00 rides 1\nride 'T 1' {shlex.quote(NAMED)} 00:10:00 C 00:20:00 day-before"
+    )
+    yield ["direct", feed, day, *ends, late], ""
+    yield ["direct", feed, day, *reversed(ends), late], ""
+    yield ["ask", feed, day, *ends, late], ""
+    yield ["ask", feed, day, "no \\ stop", "C", late], ""
+    yield ["profile", feed, day, *ends, late, "26:00:00"], ""
+    yield ["latest", feed, day, *ends, "26:00:00"], ""
+    yield ["reach", feed, day, NAMED, late], ""
+    yield ["build", feed, day, "list"], ""
     yield ["serve", f"{feed}@{day}", f"{feed}-none@{day}"], script
-    yield ["city", "4"], None
-    yield ["ask", f"{feed}-none", day, *ends, late], None
-    yield ["serve", f"{feed}@{day}"], os.path.join(feed, "stops.txt")
+    yield ["city", "4"], ""
+    yield ["ask", f"{feed}-none", day, *ends, late], ""
+    yield ["serve", f"{feed}@{day}"], "\n".join(FILES["stops.txt"])
+    yield ["verify", feed, day, *ends, late], claim
+    yield ["verify", feed, day, *ends, "00:10:01"], claim
+    yield ["verify", feed, day, *ends, late], claim.replace('"rides": 1', '"rides": 2')
     yield ["verify", feed, day, *ends, late], script
-    yield ["late", feed, day, script, *ends, late], None
-    yield ["ask", feed], None
+    yield ["late", feed, day, updates, *ends, late], ""
+    yield ["ask", feed], ""
 
 
 def faults(validator, text):
@@ -121,22 +158,41 @@ def name_of(words):
     return words[0]
 
 
+def answer(program, words, given):
+    """How a command with --json ends: its status, and what it writes."""
+    ended = subprocess.run(
+        [program, "--json", *words], cwd=TOP, input=given.encode(), capture_output=True
+    )
+    return ended.returncode, ended.stdout.decode(), ended.stderr.decode()
+
+
+def claims_of(words, out):
+    """Each journey that ask or profile wrote, and the words by which verify holds it to be one."""
+    place = words.index(name_of(words))
+    if words[place] not in ("ask", "profile") or "unknown_stop" in out:
+        return
+    asks = [*words[:place], "verify", *words[place + 1 : place + 6]]
+    for line in out.splitlines():
+        yield asks, line
+
+
 def run(words):
     schemas = validators()
     program = router()
     bad = 0
     with tempfile.TemporaryDirectory() as folder:
         for asks, given in [*asked(), *more(folder)]:
-            with open(os.path.join(TOP, given) if given else os.devnull, "rb") as stdin:
-                ended = subprocess.run(
-                    [program, "--json", *asks], cwd=TOP, stdin=stdin, capture_output=True
-                )
-            out, err = ended.stdout.decode(), ended.stderr.decode()
+            status, out, err = answer(program, asks, given)
             found = [*faults(schemas[name_of(asks)], out), *faults(schemas[REFUSAL], err)]
-            if (ended.returncode == 0) == bool(err):
-                found.append(f"status {ended.returncode}, and on standard error {err!r}")
+            if (status == 0) == bool(err):
+                found.append(f"status {status}, and on standard error {err!r}")
+            for holds, claim in claims_of(asks, out):
+                found += faults(schemas[CLAIM], claim)
+                said = answer(program, holds, claim)
+                if said != (0, '{"valid":true}\n', ""):
+                    found.append(f"verify says {said} of {claim}")
             bad += bool(found)
-            print(f"{'DIFFERS' if found else 'ok'}: {ended.returncode} {shlex.join(asks)}")
+            print(f"{'DIFFERS' if found else 'ok'}: {status} {shlex.join(asks)}")
             for fault in found:
                 print(f"  {fault}")
     return 1 if bad else 0

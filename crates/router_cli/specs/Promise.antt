@@ -51,7 +51,7 @@ IsRequestEnding files told (request.Serve r) s = IfSome told (λ bytes.
 IsRequestEnding files told (request.City r) s = EndsBy status.Done s
 IsRequestEnding files told (request.Verify r) s =
     (day : Result TimetableData FeedFault) → IsDayOf files r.dir r.date r.options day →
-    IsVerifyEnding told day s
+    IsVerifyEnding r.json told day s
 IsRequestEnding files told (request.Late r) s =
     (day : Result TimetableData FeedFault) → IsDayOf files r.dir r.date r.options day →
     IsLateEnding files r day s

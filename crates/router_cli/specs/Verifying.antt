@@ -13,6 +13,7 @@ use Rattle.answer_json.specs.Reached.{value_json}
 use Rattle.gtfs_rows.specs.declared.fault.FeedFault.{FeedFault}
 use Rattle.tb_io.specs.Files.{FileList}
 use Rattle.journey_read.specs.Claims.{claim_of}
+use Rattle.journey_read.specs.JsonClaims.{json_claim_of}
 use Rattle.journey_read.specs.Judging.{IsVerdict}
 use Rattle.journey_read.specs.declared.claim.JourneyFault.{JourneyFault}
 use Rattle.journey_read.specs.declared.verdict.Verdict.{Verdict}
@@ -72,9 +73,14 @@ abbrev pub IsVerifiedText : Bool → TimetableData → InquiryData → ChoiceDat
 IsVerifiedText json T i claimed =
     IsTextBetween json T i.from i.to (λ ends. ShowsVerdict json T claimed (query_at ends i.time))
 
+-- what bytes claim, as JSON or as lines
+abbrev pub claim_as : Bool → TimetableData → List ℕ → Result ChoiceData JourneyFault
+claim_as json T bytes = if json then json_claim_of T bytes else claim_of T bytes
+
 -- where the source tells its bytes, they claim this over the timetable
-abbrev pub ClaimGives : TimetableData → Option (List ℕ) → Result ChoiceData JourneyFault → Type 0
-ClaimGives T told result = IfSome told (λ bytes. claim_of T bytes ≡ result)
+abbrev pub ClaimGives : Bool → TimetableData → Option (List ℕ) → Result ChoiceData JourneyFault
+    → Type 0
+ClaimGives json T told result = IfSome told (λ bytes. claim_as json T bytes ≡ result)
 
 -- the bytes are what is written of the claim over the timetable of the day
 pub record IsVerifyAnswer (files : Option FileList) (told : Option (List ℕ)) (r : VerifyRequestData)
@@ -82,7 +88,7 @@ pub record IsVerifyAnswer (files : Option FileList) (told : Option (List ℕ)) (
   pub table : TimetableData
   pub day : GivesDay files r.dir r.date r.options (Ok table)
   pub claimed : ChoiceData
-  pub claim : ClaimGives table told (Ok claimed)
+  pub claim : ClaimGives r.json table told (Ok claimed)
   pub text : IsVerifiedText r.json table r.inquiry claimed bytes
 
 -- the day of a request has a timetable: any sound one, where the folder doesn't tell its files
@@ -93,7 +99,8 @@ HasDay files r = (T : TimetableData) × GivesDay files r.dir r.date r.options (O
 abbrev pub ClaimRefused : Option FileList → Option (List ℕ) → VerifyRequestData → JourneyFault
     → Type 0
 ClaimRefused files told r f =
-    (T : TimetableData) × GivesDay files r.dir r.date r.options (Ok T) × ClaimGives T told (Err f)
+    (T : TimetableData) × GivesDay files r.dir r.date r.options (Ok T)
+    × ClaimGives r.json T told (Err f)
 
 -- Why nothing is written of a claim: the feed is refused; or the day has a timetable, and the claim
 -- is refused over it. Of ReadFault and Memory nothing is said here.
@@ -119,14 +126,16 @@ IsClaimEnding (Ok claimed) = EndsBy status.Done
 IsClaimEnding (Err f) = EndsBy (status.JourneyRefused f)
 
 -- The same of a request: by the feed's first fault; else as the claim over the day's timetable.
-abbrev pub IsVerifyEnding : Option (List ℕ) → Result TimetableData FeedFault → Status → Type 0
-IsVerifyEnding told (Ok T) s = IfSome told (λ bytes. IsClaimEnding (claim_of T bytes) s)
-IsVerifyEnding told (Err f) s = EndsBy (status.FeedRefused f) s
+abbrev pub IsVerifyEnding : Bool → Option (List ℕ) → Result TimetableData FeedFault → Status
+    → Type 0
+IsVerifyEnding json told (Ok T) s =
+    IfSome told (λ bytes. IsClaimEnding (claim_as json T bytes) s)
+IsVerifyEnding json told (Err f) s = EndsBy (status.FeedRefused f) s
 
 -- why a source gives no claim, by its count of faults before and now
-abbrev pub IsNoClaim : TimetableData → Option (List ℕ) → ℕ → ℕ → Status → Type 0
-IsNoClaim T told before now (status.JourneyRefused f) =
-    ClaimGives T told (Err f) × (now ≡ before)
-IsNoClaim T told before now status.ReadFault = before < now
-IsNoClaim T told before now status.Memory = now ≡ before
-IsNoClaim T told before now s = ⊥
+abbrev pub IsNoClaim : Bool → TimetableData → Option (List ℕ) → ℕ → ℕ → Status → Type 0
+IsNoClaim json T told before now (status.JourneyRefused f) =
+    ClaimGives json T told (Err f) × (now ≡ before)
+IsNoClaim json T told before now status.ReadFault = before < now
+IsNoClaim json T told before now status.Memory = now ≡ before
+IsNoClaim json T told before now s = ⊥

@@ -2,8 +2,9 @@
 ghost use Rattle.std.specs.Prelude.{◌≡◌, ◌<◌, ◌-◌, ◌^◌, Err, IfErr, IfOk, List, Ok, length, ℕ};
 ghost use Rattle.std.specs.Io.KnownBytes.{Consumes};
 ghost use Rattle.tb_base.specs.BestValues.{ChoiceData};
+ghost use Rattle.tb_base.specs.Refusals.{Yields};
 ghost use Rattle.router_cli.specs.Outcome.{LeavesOutside, status_of_text};
-ghost use Rattle.router_cli.specs.Verifying.{ClaimGives, HasDay, IsNoClaim, IsNoVerifyAnswer, IsVerifyAnswer, IsVerifiedText, LeavesClaim};
+ghost use Rattle.router_cli.specs.Verifying.{ClaimGives, HasDay, IsNoClaim, IsNoVerifyAnswer, IsVerifyAnswer, IsVerifiedText, LeavesClaim, claim_as};
 
 use crate::day::table_of;
 use crate::over_table::{Asked, query_of};
@@ -11,7 +12,7 @@ use crate::status::Status;
 use crate::verdicts::verdict_shown;
 use answer_json::shown_unknown;
 use command_line::{Inquiry, VerifyRequest};
-use journey_read::{Claimed, JourneyFault, judge, read_journey};
+use journey_read::{Claimed, JourneyFault, judge, read_journey, read_json_journey};
 use std::alloc::Global;
 use tb_base::{Memory, Refused, Timetable};
 use tb_io::{Folder, Source, Taken, take_source};
@@ -19,22 +20,40 @@ use tb_io::{Folder, Source, Taken, take_source};
 // No claim has more bytes.
 const MOST_BYTES: u64 = 1_048_576;
 
+// What bytes claim over a timetable, as JSON or as lines.
+fn read_claim(
+    alloc: Global,
+    json: bool,
+    table: &Timetable,
+    bytes: &[u8],
+) -> Result<Claimed, Refused<JourneyFault>>
+    ensures claim { Yields result (λ c. c) (claim_as json table.now bytes.now) }
+    ensures count { IfOk result (λ c. length c.legs < 2 ^ 32) }
+{
+    if json {
+        read_json_journey(alloc, table, bytes)
+    } else {
+        read_journey(alloc, table, bytes)
+    }
+}
+
 // The claim that a source makes over a timetable.
 fn claim_from<S: Source>(
     alloc: Global,
+    json: bool,
     table: &Timetable,
     source: &mut S,
 ) -> Result<Claimed, Status>
     requires { S.faults source.old < 2 ^ 64 - 1 }
-    ensures claim { IfOk result (λ c. ClaimGives table.now (S.left source.old) (Ok c)) }
+    ensures claim { IfOk result (λ c. ClaimGives json table.now (S.left source.old) (Ok c)) }
     ensures count { IfOk result (λ c. length c.legs < 2 ^ 32) }
     ensures kept { IfOk result (λ _. S.faults source.new ≡ S.faults source.old) }
-    ensures refused { IfErr result (IsNoClaim table.now (S.left source.old)
+    ensures refused { IfErr result (IsNoClaim json table.now (S.left source.old)
         (S.faults source.old) (S.faults source.new)) }
     ensures read { (bs : List ℕ) × Consumes (S.left source.old) (S.left source.new) bs }
 {
     match take_source(alloc, source, MOST_BYTES) {
-        Ok(bytes) => match read_journey(alloc, table, bytes.as_slice()) {
+        Ok(bytes) => match read_claim(alloc, json, table, bytes.as_slice()) {
             Ok(claimed) => Ok(claimed),
             Err(Refused::Fault(fault)) => Err(Status::JourneyRefused(fault)),
             Err(Refused::Memory) => Err(Status::Memory),
@@ -73,14 +92,14 @@ fn claimed_text<S: Source>(
 ) -> Result<Vec<u8>, Status>
     requires { S.faults source.old < 2 ^ 64 - 1 }
     ensures text { IfOk result (λ text. (claimed : ChoiceData)
-        × ClaimGives table.now (S.left source.old) (Ok claimed)
+        × ClaimGives json table.now (S.left source.old) (Ok claimed)
         × IsVerifiedText json table.now inquiry.now claimed text.items) }
     ensures kept { IfOk result (λ _. S.faults source.new ≡ S.faults source.old) }
-    ensures refused { IfErr result (IsNoClaim table.now (S.left source.old)
+    ensures refused { IfErr result (IsNoClaim json table.now (S.left source.old)
         (S.faults source.old) (S.faults source.new)) }
     ensures read { (bs : List ℕ) × Consumes (S.left source.old) (S.left source.new) bs }
 {
-    let claimed = match claim_from(alloc, table, source) {
+    let claimed = match claim_from(alloc, json, table, source) {
         Ok(claimed) => claimed,
         Err(status) => return Err(status),
     };
