@@ -11,6 +11,7 @@ use Rattle.tb_base.specs.Sufficiency.{IsPossibleHop}
 use Rattle.segment_queue.specs.declared.desk.Segment.{Segment}
 use Rattle.segment_queue.specs.Queue.{DeskData, mark_of}
 use Rattle.segment_queue.specs.Traced.{IsEntered, round_of, round_segments, segment_of}
+use Rattle.earliest_query.specs.Sweeping.{KeepsSegments}
 use Rattle.earliest_query.specs.UnderWay.{Extends, IsOutdone, IsQueue, IsReachedAhead, IsReachedBy, trips_left}
 use Rattle.segment_queue.proofs.Rounds.{segment_at-kept, segment_of-kept, round_of-kept}
 
@@ -102,3 +103,10 @@ queue-later N Q D round top later q = record {
   marked = λ t h. elim (q.marked t h) [ inl e ↦ inl e | inr c ↦ inr (record { cover = covered-later N.table D.segments (length D.segments) (length D.segments) round top t (mark_of N.table D.marks t) c.cover (omega arith) later; ahead = c.ahead }) ];
   ends = q.ends;
 }
+
+-- a desk keeps the segments of one that has the same, and of one that those of which it keeps
+pub keeps_same : (D E : DeskData) → E.segments ≡ D.segments → KeepsSegments D E
+keeps_same D E same = ([], same ∙ sym (append-nil D.segments))
+
+pub keeps_trans : (D E F : DeskData) → KeepsSegments D E → KeepsSegments E F → KeepsSegments D F
+keeps_trans D E F a b = (a.0 ++ b.0, b.1 ∙ (ap (λ xs. xs ++ b.0) a.1 ∙ append_assoc D.segments a.0 b.0))

@@ -8,6 +8,7 @@ use Rattle.tb_base.specs.Walking.{walk}
 use Rattle.tb_base.specs.BestValues.{IsAttained, IsStep, QueryData}
 use Rattle.tb_laws.specs.Pruning.{HoldWalks, IsLate}
 use Rattle.segment_queue.specs.declared.desk.Hit.{Hit}
+use Rattle.segment_queue.specs.declared.desk.Segment.{Segment}
 use Rattle.segment_queue.specs.Levels.{AreDescending, AreKept, level_mark}
 use Rattle.segment_queue.specs.Queue.{DeskData, IsFalling, IsSoundSegment}
 use Rattle.segment_queue.specs.Traced.{IsEntered, IsTracedHit, UsesHops, round_of, round_segments, segment_of}
@@ -50,6 +51,10 @@ pub record IsGoneOn (N : NetData) (Q : QueryData) (D : DeskData)
       IsLate values (arrival_at N.table (segment_of D.segments n).trip i +ℤ pos secs)
       (round_of D.segments n)
   pub attained : All (IsAttained N.table Q) values
+
+-- the second desk has the segments of the first, and maybe more behind them
+abbrev pub KeepsSegments : DeskData → DeskData → Type 0
+KeepsSegments D E = (more : List Segment) × (E.segments ≡ D.segments ++ more)
 
 -- whoever may be boarded first, no earlier than the time of the query, has been reached
 abbrev pub AreStarted : TimetableData → QueryData → DeskData → Type 0

@@ -31,3 +31,4 @@ pub use at_event::AtEvent;
 pub use query::earliest;
 pub use search::Search;
 pub use sweep::Sweep;
+pub use swept_riding::segment_total;

@@ -5,7 +5,7 @@ ghost use Rattle.tb_base.specs.declared.query.Value.{Value as ValueData};
 ghost use Rattle.tb_laws.specs.Pruning.{IsLate};
 ghost use Rattle.segment_queue.specs.Queue.{Fits};
 ghost use Rattle.segment_queue.specs.Traced.{IsTraced};
-ghost use Rattle.earliest_query.specs.Sweeping.{IsKeptBeside, IsSweptSoFar, IsSweptTo, SweepData, values_with};
+ghost use Rattle.earliest_query.specs.Sweeping.{IsKeptBeside, IsSweptSoFar, IsSweptTo, KeepsSegments, SweepData, values_with};
 
 use super::all_rounds::keep;
 use super::found::{drop_walks, take_hits};
@@ -80,8 +80,9 @@ impl Sweep {
 
     /// Comes down to the time of the query, which is no later than the time before. It leaves the
     /// hits of this time in the desk: for each journey that leaves no earlier, one of them or a
-    /// value of before is no worse. Values that a hit is no worse than are let go. It needs memory; at a refusal the desk still fits, and the
-    /// sweep has to begin anew. No bound on steps is promised.
+    /// value of before is no worse. Values that a hit is no worse than are let go, and segments stay
+    /// as they are, before those of this time. It needs memory; at a refusal the desk still fits,
+    /// and the sweep has to begin anew. No bound on steps is promised.
     pub fn ask<L: Ledger, S: Look<L>>(
         &mut self,
         alloc: Global,
@@ -98,6 +99,7 @@ impl Sweep {
         requires sufficient { AreSufficient (S.net scan.now).table (S.net scan.now).hops }
         ensures swept { OnOk result
             (IsSweptTo (S.net scan.now) query.now desk.new self.new.levels self.new.values) }
+        ensures kept { OnOk result (KeepsSegments desk.old desk.new) }
         ensures traced { OnOk result (IsTraced (S.net scan.now).table query.now desk.new) }
         ensures stairs { OnOk result (AllPairs (λ h k. IsStep h.value k.value) desk.new.hits) }
         ensures found { OnOk result ((w : ValueData) →

@@ -7,7 +7,7 @@ ghost use Rattle.segment_queue.specs.Traced.{round_of};
 ghost use Rattle.segment_queue.specs.declared.desk.Hit.{Hit};
 ghost use Rattle.earliest_query.specs.Choices.{hits_of};
 ghost use Rattle.earliest_query.specs.Bounding.{IsBestBefore, bounding_hit, earlier_value};
-ghost use Rattle.earliest_query.specs.Sweeping.{IsSweptQueue, IsSweptRound};
+ghost use Rattle.earliest_query.specs.Sweeping.{IsSweptQueue, IsSweptRound, KeepsSegments};
 ghost use Rattle.earliest_query.specs.UnderWay.{Covers, Extends, IsBounded, IsDone, IsImproved};
 
 use super::all_rounds::last_hit;
@@ -86,8 +86,8 @@ fn have_level(alloc: Global, levels: &mut Levels, round: u32) -> Result<(), Memo
     Ok(())
 }
 
-// How many segments there are. More than have numbers are refused, and no fewer.
-pub(crate) fn segment_total(desk: &Desk) -> Result<u32, Memory>
+/// How many segments a desk has. More than have numbers are refused, and no fewer.
+pub fn segment_total(desk: &Desk) -> Result<u32, Memory>
     ensures count { IfOk result (λ count. count ≡ length desk.now.segments) }
     ensures most { IfOk result (λ count. count < 4294967295) }
     ensures too_many { OnErr result (4294967295 ≤ length desk.now.segments) }
@@ -218,6 +218,7 @@ impl<S: Scan> Search<'_, S> {
             (λ to. IsSweptRound (S.net self.now.scan.now) self.now.query.now desk.new levels.new
             values.now to (round + 1)) }
         ensures further { IfOk result (λ to. from < to) }
+        ensures kept { OnOk result (KeepsSegments desk.old desk.new) }
         ensures most { IfOk result (λ to. to < 4294967295) }
         ensures still { Fits (S.net self.now.scan.now).table desk.old →
             Fits (S.net self.now.scan.now).table desk.new }
@@ -250,6 +251,7 @@ impl<S: Scan> Search<'_, S> {
         ensures ridden { OnOk result
             ((rounds : ℕ) × IsSweptRound (S.net self.now.scan.now) self.now.query.now desk.new
             levels.new values.now (length desk.new.segments) rounds) }
+        ensures kept { OnOk result (KeepsSegments desk.old desk.new) }
         ensures still { Fits (S.net self.now.scan.now).table desk.old →
             Fits (S.net self.now.scan.now).table desk.new }
     {

@@ -29,3 +29,6 @@ returns-clause-ridden g c =
     let hits : F.hits ≡ D.hits ++ hits_of c.args.round c.in_ok-best.best = c.in_ok-keep_hit.ensures.hits ∙ ap (λ hs. hs ++ hits_of c.args.round c.in_ok-best.best) ridden.extends.hits in
     swept_next N Q D E F c.args.levels.now c.ride_level_round.new.levels c.args.values.now c.best_before-before.result c.in_ok-best.best c.args.from c.in_ok-to.to c.args.round c.requires.ridden c.in_ok-to.ensures.count
     ridden.queue ridden.extends ridden.followed ridden.bounded c.best_before-before.ensures ridden.improved c.keep_hit.ensures.segments hits
+
+pub returns-clause-kept : goal.returns-clause-kept
+returns-clause-kept g c = let ridden = c.in_ok-best.ensures in (ridden.extends.more, c.keep_hit.ensures.segments ∙ ridden.extends.segments)

@@ -7,6 +7,7 @@ use Rattle.tb_laws.specs.Pruning.{AreCoveredBy, IsLate}
 use Rattle.segment_queue.specs.Queue.{DeskData}
 use Rattle.earliest_query.specs.Choices.{hits_of}
 use Rattle.earliest_query.specs.Sweeping.{IsKeptBeside, IsSweptQueue, IsSweptRound, SweepData, values_with}
+use Rattle.earliest_query.proofs.Growing.{keeps_same, keeps_trans}
 use Rattle.earliest_query.proofs.SweptDown.{first_round, gone_on-same, late_among, queue_earlier, rode, round_found, swept_taken}
 use Rattle.earliest_query.proofs.SweptRounds.{swept_queue-on}
 use Rattle.earliest_query.proofs.sweep.Sweep.ask.Goals as goal
@@ -63,3 +64,11 @@ returns-clause-found g c = λ w has.
 
 pub returns-clause-let_go : goal.returns-clause-let_go
 returns-clause-let_go g c = subst (λ hs. All (IsKeptBeside hs) c.take_hits.new.values.items) c.hits.ensures c.in_ok-take_hits.ensures.let_go
+
+pub returns-clause-kept : goal.returns-clause-kept
+returns-clause-kept g c =
+    let C : DeskData = c.keep.new.desk in
+    let E : DeskData = c.start_level.new.desk in
+    let same = ap (λ (d : DeskData). d.segments) c.keep.ensures ∙ ap (λ (d : DeskData). d.segments) c.clear_hits.ensures in
+    let more = c.in_ok-start_level.ensures.extends in
+    keeps_trans c.args.desk.now E c.ride_levels.new.desk (keeps_trans c.args.desk.now C E (keeps_same c.args.desk.now C same) (more.more, more.segments)) c.in_ok-ride_levels.ensures.kept
