@@ -90,7 +90,7 @@ module _ (T : TimetableData) (from : List ℕ) (leave : ℤ) where
   abbrev no_value : List Value
   no_value = []
 
-  none_at : (n q : ℕ) → values_at (replicate n []) q ≡ []
+  pub none_at : (n q : ℕ) → values_at (replicate n []) q ≡ []
   none_at n q = elim (cases_lt q n) [
     | inl inside ↦ get_or-replicate n q [] [] inside
     | inr past ↦ get_or_past (replicate n []) q [] (let long : length (replicate n no_value) ≡ n = length-replicate n no_value in omega (arith, past, long))

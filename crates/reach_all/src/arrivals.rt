@@ -82,6 +82,13 @@ impl Arrivals {
         offer_at(&mut self.rows, stop.index(), value)
     }
 
+    // The values by stops, lent.
+    pub(crate) fn rows(&self) -> &[Vec<Value>]
+        ensures { map (λ row. row.items) result.now ≡ self.now }
+    {
+        self.rows.as_slice()
+    }
+
     // The values by stops.
     pub(crate) fn into_rows(self) -> Vec<Vec<Value>>
         ensures { map (λ row. row.items) result.items ≡ self }

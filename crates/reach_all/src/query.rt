@@ -13,7 +13,7 @@ use std::sync::ledger::Ledger;
 use tb_base::{Memory, Query, Sec, StopNo, Value};
 
 // A query without targets.
-fn query_everywhere(alloc: Global, from: &[StopNo], leave: Sec) -> Result<Query, Memory>
+pub(crate) fn query_everywhere(alloc: Global, from: &[StopNo], leave: Sec) -> Result<Query, Memory>
     ensures { IfOk result (λ query. query ≡ everywhere from.now leave) }
 {
     Ok(Query {
