@@ -191,7 +191,11 @@ fn wrong_as_json<R: Threads + Wait + Sync>(
     let written = command_ending(rt, alloc, files, question, AskedCommand::JsonAsk)?;
     let read_back = are_read_back(rt, alloc, files, question, &written);
     drop(written);
-    Ok(if read_back? { None } else { Some(Wrong::NotReadBack) })
+    Ok(if read_back? {
+        None
+    } else {
+        Some(Wrong::NotReadBack)
+    })
 }
 
 // What is wrong with how a further command ends, beside the first.
