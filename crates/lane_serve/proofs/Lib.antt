@@ -10,3 +10,4 @@ mod LastAt
 pub mod LiveRuns
 pub mod LiveFirst
 mod LivePublisher
+mod LivedRuns

@@ -12,6 +12,7 @@ mod office;
 mod publisher;
 mod running;
 mod saying;
+mod sides;
 mod telling;
 mod turn;
 

@@ -1,5 +1,27 @@
-//! How a process that lives ends.
+//! What a process that lives begins and ends with.
+ghost use Rattle.std.specs.Prelude.{◌≡◌, ◌⊎◌, ◌<◌, ◌-◌, ◌^◌, ◌∷◌, [], Err, IfErr, IfOk, OnOk, false, slice_get, true, vec_len};
+ghost use Rattle.std.specs.Io.KnownBytes.{Appends};
+ghost use Rattle.history.specs.Lists.{StartsWith};
+ghost use Rattle.live_turns.specs.Runs.{Tells};
+ghost use Rattle.lane_serve.specs.Live.{became_of};
+ghost use Rattle.lane_serve.specs.LiveSides.{FailsToTellFirst, HaveClosed, told_as};
+ghost use Rattle.lane_serve.specs.LiveTexts.{news_shown};
+
+use crate::live::news::{News, news_shown, tell_news};
+use crate::live::publisher::became_of;
+use crate::live::running::LinesFault;
+use crate::live::turn::desks_for;
+use crate::plan::PlanItem;
+use crate::publishing::Publishes;
+use answer_text::Text;
+use edition_store::{Edition, Naming, Opened, Publisher, Seat, Shared, Store};
 use gtfs_rows::FeedFault;
+use live_turns::{Given, Giver, Taker, open};
+use segment_queue::Desk;
+use std::alloc::Global;
+use std::sync::Wait;
+use tb_base::Memory;
+use tb_io::{Put, Sink, put_all};
 
 /// Why a process that lives ends before its lines do.
 #[derive(Drop)]
@@ -12,4 +34,267 @@ pub enum LiveFault {
     WriteFault,
     /// Want of memory.
     Memory,
+}
+
+// The last of some things; the others are dropped.
+fn last_of<T: Drop>(things: Vec<T>) -> Option<T>
+    ensures { result ≡ slice_get things.items (vec_len things - 1) }
+{
+    let mut things = things;
+    let last = things.pop();
+    drop(things);
+    last
+}
+
+// A publisher whose list is this edition alone, and a seat.
+fn seat_one<J: Naming, R: Wait>(
+    rt: &R,
+    alloc: Global,
+    opened: Opened<Edition>,
+    first: Shared,
+) -> Result<(Publisher<J>, Seat<J>), Memory>
+    requires book { opened.seen.book ≡ J.book }
+    ensures list { IfOk result (λ t. t.0 ≡ first ∷ []) }
+    ensures seat { IfOk result (λ t. t.1 ≡ record { list = first ∷ []; closed = false }) }
+{
+    match Store::new::<J>(alloc, opened, first, 1) {
+        Ok((publisher, seats)) => match last_of(seats) {
+            Some(seat) => Ok((publisher, seat)),
+            None => {
+                publisher.end(rt);
+                Err(Memory)
+            }
+        },
+        Err(Memory) => Err(Memory),
+    }
+}
+
+// Who gives items and who takes them, and who gives news and who takes them, with the first of each.
+fn hand_overs<K: Naming, L: Naming>(
+    alloc: Global,
+    named: Opened<PlanItem>,
+    item: &PlanItem,
+    told: Opened<News>,
+    news: &News,
+) -> Result<
+    (
+        Giver<PlanItem, K>,
+        Taker<PlanItem, K>,
+        Giver<News, L>,
+        Taker<News, L>,
+    ),
+    Memory,
+>
+    requires items { named.seen.book ≡ K.book }
+    requires news { told.seen.book ≡ L.book }
+    ensures giver { IfOk result (λ t. t.0 ≡ item.now ∷ []) }
+    ensures items { IfOk result (λ t. t.1 ≡ item.now ∷ []) }
+    ensures tells { IfOk result (λ t. t.2 ≡ news.now ∷ []) }
+    ensures told { IfOk result (λ t. t.3 ≡ news.now ∷ []) }
+{
+    match open::<PlanItem, K>(alloc, named, item) {
+        Ok((giver, items)) => match open::<News, L>(alloc, told, news) {
+            Ok((tells, told)) => Ok((giver, items, tells, told)),
+            Err(Memory) => {
+                drop(giver);
+                drop(items);
+                Err(Memory)
+            }
+        },
+        Err(Memory) => Err(Memory),
+    }
+}
+
+// The list of a publisher begins with what a seat keeps. Refused only for want of memory.
+fn cover<J: Naming>(publisher: &mut Publisher<J>, seat: Seat<J>) -> Result<(), Memory>
+    ensures starts { OnOk result (StartsWith publisher.old seat.list) }
+    ensures same { publisher.new ≡ publisher.old }
+{
+    let mut seat = seat;
+    let pinned = seat.pin();
+    drop(seat);
+    match pinned {
+        Ok(pinned) => {
+            publisher.covers(&pinned);
+            drop(pinned);
+            Ok(())
+        }
+        Err(Memory) => Err(Memory),
+    }
+}
+
+// Whether all that was given was taken.
+fn all_taken<K: Naming>(given: Given<PlanItem, K>, items: &Taker<PlanItem, K>) -> bool
+    ensures { result ≡ true → items.now ≡ given }
+{
+    let mut given = given;
+    let all = given.were_taken(items);
+    drop(given);
+    all
+}
+
+// The lines of the news that aren't told yet, once no more is given. Refused only for want of
+// memory, or where a piece of news is lost, of which there is none.
+fn rest_of_news<L: Naming, R: Wait>(
+    rt: &R,
+    alloc: Global,
+    json: bool,
+    tells: Giver<News, L>,
+    news: Taker<News, L>,
+) -> Result<Vec<u8>, Memory>
+    ensures { IfOk result (λ v. Tells (news_shown json) news tells v.items) }
+{
+    let mut told = tells.end();
+    let mut news = news;
+    let mut text = Text::new(alloc);
+    let polled = tell_news(rt, alloc, json, &mut news, &mut text);
+    let all = told.were_taken(&news);
+    drop(told);
+    drop(news);
+    if all && polled.is_ok() {
+        Ok(text.into_bytes())
+    } else {
+        drop(text);
+        Err(Memory)
+    }
+}
+
+/// The rest of the news, once both sides are at their ends, and no list is published any more.
+pub(crate) fn closing_note<J: Naming, K: Naming, L: Naming, R: Wait>(
+    rt: &R,
+    alloc: Global,
+    json: bool,
+    publisher: Publisher<J>,
+    items: &Taker<PlanItem, K>,
+    tells: Giver<News, L>,
+    seat: Seat<J>,
+    given: Given<PlanItem, K>,
+    news: Taker<News, L>,
+) -> Result<Vec<u8>, Memory>
+    ensures { IfOk result (λ v.
+        HaveClosed json publisher seat items.now given tells news v.items) }
+{
+    let mut publisher = publisher;
+    let covered = cover(&mut publisher, seat);
+    publisher.end(rt);
+    let taken = all_taken(given, items);
+    let note = rest_of_news(rt, alloc, json, tells, news);
+    if taken && covered.is_ok() {
+        note
+    } else {
+        drop(note);
+        Err(Memory)
+    }
+}
+
+/// The fault that a cause is told as.
+pub(crate) fn told_as(cause: LinesFault) -> LiveFault
+    ensures { result ≡ told_as cause }
+{
+    match cause {
+        LinesFault::ReadFault => LiveFault::ReadFault,
+        LinesFault::WriteFault => LiveFault::WriteFault,
+        LinesFault::Memory => LiveFault::Memory,
+    }
+}
+
+/// Writes the line of a piece of news.
+pub(crate) fn write_news<O: Sink>(
+    alloc: Global,
+    json: bool,
+    news: &News,
+    sink: &mut O,
+) -> Result<(), LiveFault>
+    requires { O.faults sink.old < 2 ^ 64 - 1 }
+    ensures written { OnOk result (Appends (O.written sink.old) (O.written sink.new)
+        (news_shown json news.now)) }
+    ensures failed { IfErr result (FailsToTellFirst (news_shown json news.now)
+        (O.written sink.old) (O.written sink.new)) }
+    ensures write { result ≡ Err LiveFault.WriteFault → O.faults sink.old < O.faults sink.new }
+    ensures sink { (result ≡ Err LiveFault.WriteFault)
+        ⊎ (O.faults sink.new ≡ O.faults sink.old) }
+{
+    match news_shown(alloc, json, news) {
+        Ok(line) => match put_all(sink, line.as_slice()) {
+            Ok(()) => Ok(()),
+            Err(Put::WriteFault) => Err(LiveFault::WriteFault),
+        },
+        Err(Memory) => Err(LiveFault::Memory),
+    }
+}
+
+/// What a run begins with: a publisher, who takes items, who gives news; desks, a seat, who gives
+/// items, and who takes news.
+pub(crate) fn begin<J: Naming, K: Naming, L: Naming, R: Wait>(
+    rt: &R,
+    alloc: Global,
+    lanes: u32,
+    opened: Opened<Edition>,
+    named: Opened<PlanItem>,
+    told: Opened<News>,
+    first: Shared,
+    item: &PlanItem,
+    news: &News,
+) -> Result<
+    (
+        Publisher<J>,
+        Taker<PlanItem, K>,
+        Giver<News, L>,
+        Vec<Desk>,
+        Seat<J>,
+        Giver<PlanItem, K>,
+        Taker<News, L>,
+    ),
+    Memory,
+>
+    requires editions { opened.seen.book ≡ J.book }
+    requires items { named.seen.book ≡ K.book }
+    requires news { told.seen.book ≡ L.book }
+    ensures list { IfOk result (λ t. t.0 ≡ first ∷ []) }
+    ensures items { IfOk result (λ t. t.1 ≡ item.now ∷ []) }
+    ensures news { IfOk result (λ t. t.2 ≡ news.now ∷ []) }
+    ensures desks { IfOk result (λ t. vec_len t.3 ≡ lanes) }
+    ensures seat { IfOk result (λ t. t.4 ≡ record { list = first ∷ []; closed = false }) }
+    ensures giver { IfOk result (λ t. t.5 ≡ item.now ∷ []) }
+    ensures told { IfOk result (λ t. t.6 ≡ news.now ∷ []) }
+{
+    let desks = match desks_for(alloc, lanes) {
+        Ok(desks) => desks,
+        Err(Memory) => {
+            drop(first);
+            return Err(Memory);
+        }
+    };
+    match hand_overs::<K, L>(alloc, named, item, told, news) {
+        Ok((giver, items, tells, told)) => {
+            match seat_one::<J, R>(rt, alloc, opened, first) {
+                Ok((publisher, seat)) => { Ok((publisher, items, tells, desks, seat, giver, told)) }
+                Err(Memory) => {
+                    drop(desks);
+                    drop(giver);
+                    drop(items);
+                    drop(tells);
+                    drop(told);
+                    Err(Memory)
+                }
+            }
+        }
+        Err(Memory) => {
+            drop(desks);
+            drop(first);
+            Err(Memory)
+        }
+    }
+}
+
+/// The news of the first item, which is published.
+pub(crate) fn first_news(alloc: Global, item: &PlanItem, first: &Edition) -> Result<News, Memory>
+    ensures { IfOk result (λ n.
+        n ≡ record { word = item.now.word; became = became_of 1 first.now }) }
+{
+    let word = String::from_str(alloc, item.word.as_str())?;
+    Ok(News {
+        word,
+        became: became_of(1, first),
+    })
 }

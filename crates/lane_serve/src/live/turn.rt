@@ -3,7 +3,7 @@ ghost use Rattle.std.specs.Prelude.{◌≡◌, ◌<◌, ◌+◌, ◌++◌, ◌�
 ghost use Rattle.edition_store.specs.Editions.{EditionData};
 ghost use Rattle.history.specs.Lists.{Extends};
 ghost use Rattle.lane_serve.specs.LiveLines.{HasSaidTimes, HasWantedTimes, asked_from, item_said, live_counts, live_gives, live_said, wanted};
-ghost use Rattle.lane_serve.specs.LiveTurns.{IsLiveTurn, LineSideData, joined_texts};
+ghost use Rattle.lane_serve.specs.LiveTurns.{before_lines, IsLiveTurn, LineSideData, joined_texts};
 
 use crate::live::news::{News, tell_news};
 use crate::live::office::answer_asked;
@@ -46,8 +46,8 @@ impl<J: Naming, K: Naming, L: Naming> Model for LineSide<J, K, L> {
     } };
 }
 
-// So many desks.
-fn desks_for(alloc: Global, lanes: u32) -> Result<Vec<Desk>, Memory>
+/// So many desks.
+pub(crate) fn desks_for(alloc: Global, lanes: u32) -> Result<Vec<Desk>, Memory>
     ensures { IfOk result (λ v. vec_len v ≡ lanes) }
 {
     let mut desks = Vec::new(alloc);
@@ -60,38 +60,25 @@ fn desks_for(alloc: Global, lanes: u32) -> Result<Vec<Desk>, Memory>
 }
 
 impl<J: Naming, K: Naming, L: Naming> LineSide<J, K, L> {
-    /// A side before its first line, with so many lanes. Refused only for want of memory.
+    /// A side before its first line, with a lane at each desk.
     pub(crate) fn new(
         alloc: Global,
         mode: LiveMode,
-        lanes: u32,
+        desks: Vec<Desk>,
         seat: Seat<J>,
         giver: Giver<PlanItem, K>,
         news: Taker<News, L>,
-    ) -> Result<LineSide<J, K, L>, Memory>
-        ensures { IfOk result (λ s. s ≡ record {
-          mode = mode;
-          lanes = lanes;
-          live = record { kept = seat; next = 1; told = news };
-          given = giver;
-        }) }
+    ) -> LineSide<J, K, L>
+        ensures { result ≡ before_lines mode (vec_len desks) seat giver news }
     {
-        match desks_for(alloc, lanes) {
-            Ok(desks) => Ok(LineSide {
-                alloc,
-                mode,
-                seat,
-                desks,
-                next: 1,
-                giver,
-                news,
-            }),
-            Err(Memory) => {
-                drop(seat);
-                drop(giver);
-                drop(news);
-                Err(Memory)
-            }
+        LineSide {
+            alloc,
+            mode,
+            seat,
+            desks,
+            next: 1,
+            giver,
+            news,
         }
     }
 
