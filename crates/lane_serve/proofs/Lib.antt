@@ -11,3 +11,4 @@ pub mod LiveRuns
 pub mod LiveFirst
 mod LivePublisher
 mod LivedRuns
+mod LiveSent

@@ -32,12 +32,6 @@ TakesItem files options mirrored item before after es now told news =
     (b : Became) × IsNextItem files options mirrored item before after es now b
     × (news ≡ told ++ record { word = item.word; became = b } ∷ [])
 
--- a read failed only where the folder's count rose, or stands at its last value
-abbrev pub ReadFaultsRose : ℕ → ℕ → List NewsData → Type 0
-ReadFaultsRose before after [] = ⊤
-ReadFaultsRose before after (x ∷ news) =
-    (x.became ≡ became.ReadFault → Rose before after) × ReadFaultsRose before after news
-
 -- the items that a publisher takes: those of the words, and those that were handed over behind the
 -- first one, which is the first word's
 abbrev pub items_taken : List ItemData → List ItemData → List ItemData

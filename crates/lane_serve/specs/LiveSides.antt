@@ -1,5 +1,5 @@
 -- The two sides of a process that lives, and how they end.
-use Rattle.std.specs.Prelude.{◌≡◌, ◌<◌, ℕ, List, length, take, Bool, Option, IfSome, ⊤}
+use Rattle.std.specs.Prelude.{◌≡◌, ◌<◌, ℕ, List, length, take, Bool, Option, IfSome}
 use Rattle.std.specs.Io.KnownBytes.{Appends}
 use Rattle.tb_io.specs.Files.{FileList}
 use Rattle.footpaths.specs.declared.paths.Options.{Options}
@@ -79,10 +79,3 @@ FailsToTellFirst line before now (fault.Feed f) = ⊥
 FailsToTellFirst line before now fault.ReadFault = ⊥
 FailsToTellFirst line before now fault.WriteFault = (n : ℕ) × Appends before now (take n line)
 FailsToTellFirst line before now fault.Memory = now ≡ before
-
--- the first item's feed isn't at fault
-abbrev pub IsNoFeedFault : LiveFault → Type 0
-IsNoFeedFault (fault.Feed f) = ⊥
-IsNoFeedFault fault.ReadFault = ⊤
-IsNoFeedFault fault.WriteFault = ⊤
-IsNoFeedFault fault.Memory = ⊤

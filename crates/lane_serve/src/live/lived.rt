@@ -1,27 +1,38 @@
-//! What a process that lives begins and ends with.
-ghost use Rattle.std.specs.Prelude.{◌≡◌, ◌⊎◌, ◌<◌, ◌-◌, ◌^◌, ◌∷◌, [], Err, IfErr, IfOk, OnOk, false, slice_get, true, vec_len};
-ghost use Rattle.std.specs.Io.KnownBytes.{Appends};
+//! A process that lives, from its first edition to the end of its lines.
+ghost use Rattle.std.specs.Prelude.{◌≡◌, ◌≢◌, ◌⊎◌, ◌<◌, ◌≤◌, ◌-◌, ◌^◌, ◌∷◌, [], ℕ, List, Err, IfErr, IfOk, IsSome, OnErr, OnOk, Ok, false, true, length, slice_get, take, vec_len};
+ghost use Rattle.std.specs.Io.KnownBytes.{Appends, Consumes};
+ghost use Rattle.footpaths.specs.Limits.{AreWithinADay};
+ghost use Rattle.gtfs_rows.specs.declared.fault.FeedFault.{FeedFault};
 ghost use Rattle.history.specs.Lists.{StartsWith};
+ghost use Rattle.tb_base.specs.Workers.{AreWorkers};
 ghost use Rattle.live_turns.specs.Runs.{Tells};
-ghost use Rattle.lane_serve.specs.Live.{became_of};
-ghost use Rattle.lane_serve.specs.LiveSides.{FailsToTellFirst, HaveClosed, told_as};
+ghost use Rattle.lane_serve.specs.Live.{BeginsWithFirst, HasFailed, HasFailedBehind, HasLived, HasLivedUntil, ReadFaultsRose, became_of};
+ghost use Rattle.lane_serve.specs.LiveSides.{BeginsLive, FailsToTellFirst, HaveClosed, told_as};
 ghost use Rattle.lane_serve.specs.LiveTexts.{news_shown};
+ghost use Rattle.lane_serve.specs.LiveTurns.{before_lines};
+ghost use Rattle.lane_serve.specs.Plans.{IsEditionOfItem, IsGoodBuilding, ItemData};
 
+use crate::live::laws::turns_are_one_run;
 use crate::live::news::{News, news_shown, tell_news};
 use crate::live::publisher::became_of;
 use crate::live::running::LinesFault;
-use crate::live::turn::desks_for;
-use crate::plan::PlanItem;
+use crate::live::saying::LiveMode;
+use crate::live::sides::{LinesEnd, both_sides};
+use crate::live::turn::{LineSide, desks_for};
+use crate::plan::{Building, Built, PlanEnd, PlanItem, build_item};
 use crate::publishing::Publishes;
 use answer_text::Text;
 use edition_store::{Edition, Naming, Opened, Publisher, Seat, Shared, Store};
+use footpaths::Options;
 use gtfs_rows::FeedFault;
 use live_turns::{Given, Giver, Taker, open};
 use segment_queue::Desk;
 use std::alloc::Global;
+use std::marker::Brand;
 use std::sync::Wait;
-use tb_base::Memory;
-use tb_io::{Put, Sink, put_all};
+use std::thread::Threads;
+use tb_base::{Gate, Memory};
+use tb_io::{Folder, Put, Sink, Source, put_all};
 
 /// Why a process that lives ends before its lines do.
 #[derive(Drop)]
@@ -159,8 +170,8 @@ fn rest_of_news<L: Naming, R: Wait>(
     }
 }
 
-/// The rest of the news, once both sides are at their ends, and no list is published any more.
-pub(crate) fn closing_note<J: Naming, K: Naming, L: Naming, R: Wait>(
+// The rest of the news, once both sides are at their ends, and no list is published any more.
+fn closing_note<J: Naming, K: Naming, L: Naming, R: Wait>(
     rt: &R,
     alloc: Global,
     json: bool,
@@ -187,8 +198,8 @@ pub(crate) fn closing_note<J: Naming, K: Naming, L: Naming, R: Wait>(
     }
 }
 
-/// The fault that a cause is told as.
-pub(crate) fn told_as(cause: LinesFault) -> LiveFault
+// The fault that a cause is told as.
+fn told_as(cause: LinesFault) -> LiveFault
     ensures { result ≡ told_as cause }
 {
     match cause {
@@ -198,8 +209,99 @@ pub(crate) fn told_as(cause: LinesFault) -> LiveFault
     }
 }
 
-/// Writes the line of a piece of news.
-pub(crate) fn write_news<O: Sink>(
+// The run behind the first news, which are written: the sides, and the rest of the news.
+fn run_sides<
+    J: Naming + Send + Sync,
+    K: Naming + Send + Sync,
+    L: Naming + Send + Sync,
+    F: Folder + Send,
+    G: Gate,
+    S: Source,
+    O: Sink,
+    R: Threads + Wait + Sync,
+>(
+    rt: &R,
+    alloc: Global,
+    gate: &G,
+    building: &Building,
+    mode: LiveMode,
+    words: &[PlanItem],
+    folder: &mut F,
+    publisher: Publisher<J>,
+    items: Taker<PlanItem, K>,
+    tells: Giver<News, L>,
+    desks: Vec<Desk>,
+    seat: Seat<J>,
+    giver: Giver<PlanItem, K>,
+    told: Taker<News, L>,
+    source: &mut S,
+    sink: &mut O,
+) -> Result<(), LiveFault>
+    requires building { IsGoodBuilding building.now }
+    requires mirrored { building.now.mirrored ≡ mode.mirrored }
+    requires some { 0 < length words.now }
+    requires begins { BeginsLive (F.files folder.old) building.now.options mode words.now
+        publisher items tells
+        (before_lines mode (vec_len desks) seat giver told) }
+    requires rose { ReadFaultsRose (F.faults folder.old) (F.faults folder.old) tells }
+    requires source { S.faults source.old < 2 ^ 64 - 1 }
+    requires sink { O.faults sink.old < 2 ^ 64 - 1 }
+    ensures files { F.files folder.new ≡ F.files folder.old }
+    ensures whole { OnOk result (HasLived (F.files folder.old) building.now.options mode
+        words.now tells (F.faults folder.old) (F.faults folder.new) (S.left source.old)
+        (O.written sink.old) (O.written sink.new)) }
+    ensures failed { IfErr result (HasFailedBehind (F.files folder.old) building.now.options mode
+        words.now tells (S.left source.old) (S.left source.new) (O.written sink.old)
+        (O.written sink.new)) }
+    ensures bytes { (bytes : List ℕ) × Consumes (S.left source.old) (S.left source.new) bytes }
+    ensures read { result ≡ Err LiveFault.ReadFault → S.faults source.old < S.faults source.new }
+    ensures source { (result ≡ Err LiveFault.ReadFault)
+        ⊎ (S.faults source.new ≡ S.faults source.old) }
+    ensures write { result ≡ Err LiveFault.WriteFault → O.faults sink.old < O.faults sink.new }
+    ensures sink { (result ≡ Err LiveFault.WriteFault)
+        ⊎ (O.faults sink.new ≡ O.faults sink.old) }
+{
+    turns_are_one_run();
+    let mut items = items;
+    let mut tells = tells;
+    let side = LineSide::new(alloc, mode, desks, seat, giver, told);
+    let (published, end) = both_sides(
+        rt, alloc, gate, building, words, folder, publisher, &mut items, &mut tells, side, source,
+        sink,
+    );
+    let LinesEnd {
+        ended,
+        seat,
+        given,
+        news,
+    } = end;
+    match published {
+        Ok(publisher) => match ended {
+            Ok(()) => {
+                match closing_note(
+                    rt, alloc, mode.json, publisher, &items, tells, seat, given, news,
+                ) {
+                    Ok(note) => match put_all(sink, note.as_slice()) {
+                        Ok(()) => Ok(()),
+                        Err(Put::WriteFault) => Err(LiveFault::WriteFault),
+                    },
+                    Err(Memory) => Err(LiveFault::Memory),
+                }
+            }
+            Err(cause) => {
+                publisher.end(rt);
+                Err(told_as(cause))
+            }
+        },
+        Err(Memory) => match ended {
+            Ok(()) => Err(LiveFault::Memory),
+            Err(cause) => Err(told_as(cause)),
+        },
+    }
+}
+
+// Writes the line of a piece of news.
+fn write_news<O: Sink>(
     alloc: Global,
     json: bool,
     news: &News,
@@ -223,9 +325,9 @@ pub(crate) fn write_news<O: Sink>(
     }
 }
 
-/// What a run begins with: a publisher, who takes items, who gives news; desks, a seat, who gives
-/// items, and who takes news.
-pub(crate) fn begin<J: Naming, K: Naming, L: Naming, R: Wait>(
+// What a run begins with: a publisher, who takes items, who gives news; desks, a seat, who gives
+// items, and who takes news.
+fn begin<J: Naming, K: Naming, L: Naming, R: Wait>(
     rt: &R,
     alloc: Global,
     lanes: u32,
@@ -287,8 +389,8 @@ pub(crate) fn begin<J: Naming, K: Naming, L: Naming, R: Wait>(
     }
 }
 
-/// The news of the first item, which is published.
-pub(crate) fn first_news(alloc: Global, item: &PlanItem, first: &Edition) -> Result<News, Memory>
+// The news of the first item, which is published.
+fn first_news(alloc: Global, item: &PlanItem, first: &Edition) -> Result<News, Memory>
     ensures { IfOk result (λ n.
         n ≡ record { word = item.now.word; became = became_of 1 first.now }) }
 {
@@ -297,4 +399,165 @@ pub(crate) fn first_news(alloc: Global, item: &PlanItem, first: &Edition) -> Res
         word,
         became: became_of(1, first),
     })
+}
+
+// The run, where the first item's edition is built. `opened`, `named` and `told` have the names of
+// the list of editions and of the two hand-overs.
+fn live_from<
+    J: Naming + Send + Sync,
+    K: Naming + Send + Sync,
+    L: Naming + Send + Sync,
+    F: Folder + Send,
+    G: Gate,
+    S: Source,
+    O: Sink,
+    R: Threads + Wait + Sync,
+>(
+    rt: &R,
+    alloc: Global,
+    gate: &G,
+    building: &Building,
+    mode: LiveMode,
+    lanes: u32,
+    words: &[PlanItem],
+    folder: &mut F,
+    opened: Opened<Edition>,
+    named: Opened<PlanItem>,
+    told: Opened<News>,
+    first: Shared,
+    source: &mut S,
+    sink: &mut O,
+) -> Result<(), LiveFault>
+    requires editions { opened.seen.book ≡ J.book }
+    requires items { named.seen.book ≡ K.book }
+    requires news { told.seen.book ≡ L.book }
+    requires building { IsGoodBuilding building.now }
+    requires mirrored { building.now.mirrored ≡ mode.mirrored }
+    requires some { 0 < length words.now }
+    requires lanes { 0 < lanes }
+    requires first { BeginsWithFirst (F.files folder.old) building.now.options
+        building.now.mirrored words.now (first ∷ []) }
+    requires source { S.faults source.old < 2 ^ 64 - 1 }
+    requires sink { O.faults sink.old < 2 ^ 64 - 1 }
+    ensures files { F.files folder.new ≡ F.files folder.old }
+    ensures whole { OnOk result (HasLived (F.files folder.old) building.now.options mode
+        words.now [] (F.faults folder.old) (F.faults folder.new) (S.left source.old)
+        (O.written sink.old) (O.written sink.new)) }
+    ensures failed { IfErr result (HasFailed (F.files folder.old) building.now.options mode
+        words.now (S.left source.old) (S.left source.new) (O.written sink.old)
+        (O.written sink.new)) }
+    ensures later { result ≡ Err LiveFault.ReadFault → HasLivedUntil LiveFault.ReadFault
+        (F.files folder.old) building.now.options mode words.now [] (S.left source.old)
+        (S.left source.new) (O.written sink.old) (O.written sink.new) }
+    ensures bytes { (bytes : List ℕ) × Consumes (S.left source.old) (S.left source.new) bytes }
+    ensures read { result ≡ Err LiveFault.ReadFault → S.faults source.old < S.faults source.new }
+    ensures source { (result ≡ Err LiveFault.ReadFault)
+        ⊎ (S.faults source.new ≡ S.faults source.old) }
+    ensures write { result ≡ Err LiveFault.WriteFault → O.faults sink.old < O.faults sink.new }
+    ensures sink { (result ≡ Err LiveFault.WriteFault)
+        ⊎ (O.faults sink.new ≡ O.faults sink.old) }
+{
+    let item = &words[0];
+    let news = match first_news(alloc, item, first.edition()) {
+        Ok(news) => news,
+        Err(Memory) => {
+            drop(first);
+            return Err(LiveFault::Memory);
+        }
+    };
+    match begin::<J, K, L, R>(rt, alloc, lanes, opened, named, told, first, item, &news) {
+        Ok((publisher, items, tells, desks, seat, giver, told)) => {
+            match write_news(alloc, mode.json, &news, sink) {
+                Ok(()) => run_sides(
+                    rt, alloc, gate, building, mode, words, folder, publisher, items, tells, desks,
+                    seat, giver, told, source, sink,
+                ),
+                Err(fault) => {
+                    publisher.end(rt);
+                    drop(items);
+                    drop(tells);
+                    drop(desks);
+                    drop(seat);
+                    drop(giver);
+                    drop(told);
+                    Err(fault)
+                }
+            }
+        }
+        Err(Memory) => Err(LiveFault::Memory),
+    }
+}
+
+/// Publishes the plan's items, and then those that lines name, each as it is read and built, while
+/// the lines of a source are answered as they come, by so many lanes: 1 to 64. News of each item are
+/// told, first of all that of the first one, which is published before a line is read. `workers`
+/// workers reduce the transfers of an item: 1 to 64. `Feed` comes only where the first item's feed
+/// is refused; what becomes of further items ends nothing. It may wait. That lines are answered
+/// while an item is built is tested and in no clause.
+pub fn run_live<F: Folder + Send, S: Source, O: Sink, G: Gate, R: Threads + Wait + Sync>(
+    rt: &R,
+    alloc: Global,
+    plan: &[PlanItem],
+    options: &Options,
+    workers: u32,
+    lanes: u32,
+    mode: LiveMode,
+    folder: &mut F,
+    source: &mut S,
+    sink: &mut O,
+    gate: &G,
+) -> Result<(), LiveFault>
+    requires plan { 0 < length plan.now }
+    requires options { AreWithinADay options.now }
+    requires workers { AreWorkers workers }
+    requires lanes { 0 < lanes }
+    requires folder { F.faults folder.old < 2 ^ 64 - 1 }
+    requires source { S.faults source.old < 2 ^ 64 - 1 }
+    requires sink { O.faults sink.old < 2 ^ 64 - 1 }
+    ensures whole { OnOk result (HasLived (F.files folder.old) options.now mode plan.now []
+        (F.faults folder.old) (F.faults folder.new) (S.left source.old) (O.written sink.old)
+        (O.written sink.new)) }
+    ensures failed { IfErr result (HasFailed (F.files folder.old) options.now mode plan.now
+        (S.left source.old) (S.left source.new) (O.written sink.old) (O.written sink.new)) }
+    ensures files { F.files folder.new ≡ F.files folder.old }
+    ensures taken { (bytes : List ℕ) × Consumes (S.left source.old) (S.left source.new) bytes }
+    ensures read { result ≡ Err LiveFault.ReadFault →
+        (F.faults folder.old < F.faults folder.new)
+        ⊎ (S.faults source.old < S.faults source.new) }
+    ensures source { (result ≡ Err LiveFault.ReadFault)
+        ⊎ (S.faults source.new ≡ S.faults source.old) }
+    ensures later { result ≡ Err LiveFault.ReadFault →
+        F.faults folder.new ≡ F.faults folder.old → HasLivedUntil LiveFault.ReadFault
+        (F.files folder.old) options.now mode plan.now [] (S.left source.old)
+        (S.left source.new) (O.written sink.old) (O.written sink.new) }
+    ensures write { result ≡ Err LiveFault.WriteFault → O.faults sink.old < O.faults sink.new }
+    ensures sink { (result ≡ Err LiveFault.WriteFault)
+        ⊎ (O.faults sink.new ≡ O.faults sink.old) }
+{
+    let building = Building {
+        options: *options,
+        workers,
+        mirrored: mode.mirrored,
+    };
+    match build_item(rt, alloc, gate, building, folder, &plan[0]) {
+        Ok(Built::Edition(edition)) => live_from::<Brand, Brand, Brand, F, G, S, O, R>(
+            rt,
+            alloc,
+            gate,
+            &building,
+            mode,
+            lanes,
+            plan,
+            folder,
+            Opened::new(),
+            Opened::new(),
+            Opened::new(),
+            edition,
+            source,
+            sink,
+        ),
+        Ok(Built::Refused(fault)) => Err(LiveFault::Feed(fault)),
+        Err(PlanEnd::ReadFault) => Err(LiveFault::ReadFault),
+        Err(PlanEnd::Memory) => Err(LiveFault::Memory),
+    }
 }

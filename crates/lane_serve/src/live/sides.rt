@@ -1,26 +1,25 @@
 //! The two sides of a process that lives: a publisher, and lines.
-ghost use Rattle.std.specs.Prelude.{◌≡◌, ◌≢◌, ◌⊎◌, ◌<◌, ◌≤◌, ◌-◌, ◌^◌, ℕ, List, Err, IfErr, IfOk, IfSome, IsNone, IsSome, OnOk, length, take, vec_len};
+ghost use Rattle.std.specs.Prelude.{◌≡◌, ◌≢◌, ◌⊎◌, ◌<◌, ◌≤◌, ◌-◌, ◌^◌, ℕ, List, Err, IfErr, IfOk, IfSome, IsNone, IsSome, OnOk, length, take};
 ghost use Rattle.std.specs.Io.KnownBytes.{Consumes};
-ghost use Rattle.lane_serve.specs.Live.{ArePublished};
+ghost use Rattle.std.specs.Thread.{IsSync};
+ghost use Rattle.lane_serve.specs.Live.{ArePublished, ReadFaultsRose};
 ghost use Rattle.lane_serve.specs.LivePublisher.{items_taken};
-ghost use Rattle.lane_serve.specs.LiveSides.{EachSome, HasCutLines, HasRunLines};
-ghost use Rattle.lane_serve.specs.LiveTurns.{before_lines};
+ghost use Rattle.lane_serve.specs.LiveSides.{HasCutLines, HasRunLines};
+ghost use Rattle.lane_serve.specs.LiveTurns.{LineSideData};
 ghost use Rattle.lane_serve.specs.Plans.{IsGoodBuilding};
 ghost use Rattle.lane_serve.specs.declared.live.running.LinesFault.TheVariants as fault;
 
 use crate::live::news::News;
 use crate::live::publisher::publish_all;
 use crate::live::running::{LinesFault, run_turns};
-use crate::live::saying::LiveMode;
 use crate::live::turn::LineSide;
 use crate::plan::{Building, PlanItem};
 use crate::publishing::Publishes;
 use edition_store::{Naming, Seat};
 use live_turns::{Given, Giver, Taker};
-use segment_queue::Desk;
 use std::alloc::Global;
 use std::sync::Wait;
-use std::thread::Threads;
+use std::thread::{Threads, join_mut};
 use tb_base::{Gate, Memory};
 use tb_io::{Folder, Sink, Source};
 
@@ -33,68 +32,28 @@ pub(crate) struct LinesEnd<J: Naming, K: Naming, L: Naming> {
     pub news: Taker<News, L>,
 }
 
-/// Takes the parts of the side of lines out of their places, and answers the lines of a source. The
-/// side's items end with it.
-pub(crate) fn line_side<
-    J: Naming,
-    K: Naming,
-    L: Naming,
-    G: Gate,
-    S: Source,
-    O: Sink,
-    R: Threads + Wait + Sync,
->(
-    rt: &R,
-    alloc: Global,
-    gate: &G,
-    mode: &LiveMode,
-    desks: &mut Option<Vec<Desk>>,
-    seat: &mut Option<Seat<J>>,
-    giver: &mut Option<Giver<PlanItem, K>>,
-    told: &mut Option<Taker<News, L>>,
-    source: &mut S,
-    sink: &mut O,
-) -> LinesEnd<J, K, L>
-    requires lanes { IfSome desks.old (λ d. 0 < vec_len d) }
-    requires places { IsSome desks.old × IsSome seat.old × IsSome giver.old × IsSome told.old }
-    requires source { S.faults source.old < 2 ^ 64 - 1 }
-    requires sink { O.faults sink.old < 2 ^ 64 - 1 }
-    ensures whole { OnOk result.ended (EachSome desks.old seat.old giver.old told.old
-        (λ d s g t. HasRunLines mode.now (S.left source.old) (O.written sink.old)
-        (O.written sink.new) (before_lines mode.now (vec_len d) s g t) result.seat result.given
-        result.news)) }
-    ensures cut { IfErr result.ended (λ cause. EachSome desks.old seat.old giver.old told.old
-        (λ d s g t. HasCutLines cause mode.now (S.left source.old) (S.left source.new)
-        (O.written sink.old) (O.written sink.new) (before_lines mode.now (vec_len d) s g t)
-        result.seat)) }
-    ensures bytes { (bytes : List ℕ) × Consumes (S.left source.old) (S.left source.new) bytes }
-    ensures read { result.ended ≡ Err fault.ReadFault →
-        S.faults source.old < S.faults source.new }
-    ensures source { (result.ended ≡ Err fault.ReadFault)
-        ⊎ (S.faults source.new ≡ S.faults source.old) }
-    ensures write { result.ended ≡ Err fault.WriteFault → O.faults sink.old < O.faults sink.new }
-    ensures sink { (result.ended ≡ Err fault.WriteFault)
-        ⊎ (O.faults sink.new ≡ O.faults sink.old) }
-{
-    let Some(desks) = desks.take() else {
-        unreachable!()
-    };
-    let Some(seat) = seat.take() else {
-        unreachable!()
-    };
-    let Some(giver) = giver.take() else {
-        unreachable!()
-    };
-    let Some(told) = told.take() else {
-        unreachable!()
-    };
-    answer_source(
-        rt, alloc, gate, *mode, desks, seat, giver, told, source, sink,
-    )
+/// What becomes a side of lines. The proof of a closure goes through each part of what it captures,
+/// so the sides are proved for any such type.
+pub(crate) trait IntoSide<J: Naming, K: Naming, L: Naming> {
+    ghost use Rattle.lane_serve.specs.LiveTurns.{LineSideData};
+
+    ghost state: { Self → LineSideData };
+
+    /// The side of lines.
+    fn into_side(self) -> LineSide<J, K, L>
+        ensures { result ≡ state self };
+}
+
+impl<J: Naming, K: Naming, L: Naming> IntoSide<J, K, L> for LineSide<J, K, L> {
+    ghost state = { λ s. s };
+
+    fn into_side(self) -> LineSide<J, K, L> {
+        self
+    }
 }
 
 // Answers the lines of a source. The side's items end with it.
-fn answer_source<
+fn run_lines<
     J: Naming,
     K: Naming,
     L: Naming,
@@ -106,24 +65,19 @@ fn answer_source<
     rt: &R,
     alloc: Global,
     gate: &G,
-    mode: LiveMode,
-    desks: Vec<Desk>,
-    seat: Seat<J>,
-    giver: Giver<PlanItem, K>,
-    told: Taker<News, L>,
+    side: LineSide<J, K, L>,
     source: &mut S,
     sink: &mut O,
 ) -> LinesEnd<J, K, L>
-    requires lanes { 0 < vec_len desks }
+    requires lanes { 0 < side.lanes }
     requires source { S.faults source.old < 2 ^ 64 - 1 }
     requires sink { O.faults sink.old < 2 ^ 64 - 1 }
-    ensures whole { OnOk result.ended (HasRunLines mode (S.left source.old)
-        (O.written sink.old) (O.written sink.new)
-        (before_lines mode (vec_len desks) seat giver told) result.seat
-        result.given result.news) }
-    ensures cut { IfErr result.ended (λ cause. HasCutLines cause mode (S.left source.old)
-        (S.left source.new) (O.written sink.old) (O.written sink.new)
-        (before_lines mode (vec_len desks) seat giver told) result.seat) }
+    ensures whole { OnOk result.ended (HasRunLines side.mode (S.left source.old)
+        (O.written sink.old) (O.written sink.new) side result.seat result.given
+        result.news) }
+    ensures cut { IfErr result.ended (λ cause. HasCutLines cause side.mode
+        (S.left source.old) (S.left source.new) (O.written sink.old) (O.written sink.new)
+        side result.seat) }
     ensures bytes { (bytes : List ℕ) × Consumes (S.left source.old) (S.left source.new) bytes }
     ensures read { result.ended ≡ Err fault.ReadFault →
         S.faults source.old < S.faults source.new }
@@ -133,7 +87,7 @@ fn answer_source<
     ensures sink { (result.ended ≡ Err fault.WriteFault)
         ⊎ (O.faults sink.new ≡ O.faults sink.old) }
 {
-    let mut side = LineSide::new(alloc, mode, desks, seat, giver, told);
+    let mut side = side;
     let ended = run_turns(rt, alloc, gate, &mut side, source, sink);
     let (seat, giver, news) = side.into_parts();
     LinesEnd {
@@ -144,15 +98,51 @@ fn answer_source<
     }
 }
 
-/// Takes the publisher out of its place, which is empty afterwards, and publishes.
-pub(crate) fn publish_side<
-    P: Publishes,
+// Takes the side of lines out of its place, and has it answer the lines of a source.
+fn line_side<
+    X: IntoSide<J, K, L>,
+    J: Naming,
     K: Naming,
     L: Naming,
-    F: Folder,
     G: Gate,
+    S: Source,
+    O: Sink,
     R: Threads + Wait + Sync,
 >(
+    rt: &R,
+    alloc: Global,
+    gate: &G,
+    slot: &mut Option<X>,
+    source: &mut S,
+    sink: &mut O,
+) -> LinesEnd<J, K, L>
+    requires some { IsSome slot.old }
+    requires lanes { IfSome slot.old (λ s. 0 < LineSideData.lanes (X.state s)) }
+    requires source { S.faults source.old < 2 ^ 64 - 1 }
+    requires sink { O.faults sink.old < 2 ^ 64 - 1 }
+    ensures whole { OnOk result.ended (IfSome slot.old (λ s. HasRunLines
+        (LineSideData.mode (X.state s)) (S.left source.old) (O.written sink.old)
+        (O.written sink.new) (X.state s) result.seat result.given result.news)) }
+    ensures cut { IfErr result.ended (λ cause. IfSome slot.old (λ s. HasCutLines cause
+        (LineSideData.mode (X.state s)) (S.left source.old) (S.left source.new)
+        (O.written sink.old) (O.written sink.new) (X.state s) result.seat)) }
+    ensures bytes { (bytes : List ℕ) × Consumes (S.left source.old) (S.left source.new) bytes }
+    ensures read { result.ended ≡ Err fault.ReadFault →
+        S.faults source.old < S.faults source.new }
+    ensures source { (result.ended ≡ Err fault.ReadFault)
+        ⊎ (S.faults source.new ≡ S.faults source.old) }
+    ensures write { result.ended ≡ Err fault.WriteFault → O.faults sink.old < O.faults sink.new }
+    ensures sink { (result.ended ≡ Err fault.WriteFault)
+        ⊎ (O.faults sink.new ≡ O.faults sink.old) }
+{
+    let Some(side) = slot.take() else {
+        unreachable!()
+    };
+    run_lines(rt, alloc, gate, side.into_side(), source, sink)
+}
+
+// Takes the publisher out of its place, which is empty afterwards, and publishes.
+fn publish_side<P: Publishes, K: Naming, L: Naming, F: Folder, G: Gate, R: Threads + Wait + Sync>(
     rt: &R,
     alloc: Global,
     gate: &G,
@@ -169,10 +159,13 @@ pub(crate) fn publish_side<
     requires slot { IsSome slot.old }
     requires first { IfSome slot.old (λ p. ArePublished (F.files folder.old)
         building.now.options building.now.mirrored (take 1 words.now) news.old (P.list p)) }
+    requires rose { ReadFaultsRose (F.faults folder.old) (F.faults folder.old) news.old }
     ensures files { F.files folder.new ≡ F.files folder.old }
     ensures published { IfOk result (λ p. ArePublished (F.files folder.old)
         building.now.options building.now.mirrored (items_taken words.now items.new) news.new
         (P.list p)) }
+    ensures rose { OnOk result
+        (ReadFaultsRose (F.faults folder.old) (F.faults folder.new) news.new) }
     ensures taken { IsNone slot.new }
 {
     let Some(publisher) = slot.take() else {
@@ -181,4 +174,180 @@ pub(crate) fn publish_side<
     publish_all(
         rt, alloc, gate, *building, folder, words, items, news, publisher,
     )
+}
+
+// Publishes, and does something beside it: at once, where a thread can be started; else what is
+// beside comes first.
+fn publish_beside<
+    P: Publishes + Send,
+    K: Naming + Send + Sync,
+    L: Naming + Send + Sync,
+    F: Folder + Send,
+    G: Gate,
+    R: Threads + Wait + Sync,
+    T,
+    B: FnMut() -> T,
+>(
+    rt: &R,
+    alloc: Global,
+    gate: &G,
+    building: &Building,
+    words: &[PlanItem],
+    folder: &mut F,
+    slot: &mut Option<P>,
+    items: &mut Taker<PlanItem, K>,
+    news: &mut Giver<News, L>,
+    beside: &mut B,
+) -> (Result<P, Memory>, T)
+    requires building { IsGoodBuilding building.now }
+    requires some { 0 < length words.now }
+    requires one { length items.old ≡ 1 }
+    requires slot { IsSome slot.old }
+    requires first { IfSome slot.old (λ p. ArePublished (F.files folder.old)
+        building.now.options building.now.mirrored (take 1 words.now) news.old (P.list p)) }
+    requires rose { ReadFaultsRose (F.faults folder.old) (F.faults folder.old) news.old }
+    requires beside { B.pre beside.old }
+    ensures beside { B.step beside.old result.1 beside.new }
+    ensures files { F.files folder.new ≡ F.files folder.old }
+    ensures published { IfOk result.0 (λ p. ArePublished (F.files folder.old)
+        building.now.options building.now.mirrored (items_taken words.now items.new) news.new
+        (P.list p)) }
+    ensures rose { OnOk result.0
+        (ReadFaultsRose (F.faults folder.old) (F.faults folder.new) news.new) }
+    ensures taken { IsNone slot.new }
+{
+    join_mut(
+        rt,
+        &mut || -> Result<P, Memory>
+            requires { IsSync R.row × IsGoodBuilding building.now × (0 < length words.now)
+                × (length items.now ≡ 1) × IsSome slot.now
+                × IfSome slot.now (λ p. ArePublished (F.files folder.now)
+                building.now.options building.now.mirrored (take 1 words.now) news.now
+                (P.list p))
+                × ReadFaultsRose (F.faults folder.now) (F.faults folder.now) news.now }
+            ensures { (F.files folder.exit.now ≡ F.files folder.entry.now)
+                × IfOk result (λ p. ArePublished (F.files folder.entry.now)
+                building.entry.now.options building.entry.now.mirrored
+                (items_taken words.entry.now items.exit.now) news.exit.now (P.list p))
+                × OnOk result (ReadFaultsRose (F.faults folder.entry.now)
+                (F.faults folder.exit.now) news.exit.now)
+                × IsNone slot.exit.now }
+        { publish_side(rt, alloc, gate, building, words, folder, slot, items, news) },
+        beside,
+    )
+}
+
+// A publisher's place, from which it was taken.
+fn let_go<P: Publishes, R: Wait>(rt: &R, slot: Option<P>)
+    requires { IsNone slot }
+{
+    if let Some(publisher) = slot {
+        publisher.end(rt);
+    }
+}
+
+// The place of a side of lines, from which it was taken.
+fn let_lines_go<X: Drop>(lines: Option<X>) {
+    drop(lines);
+}
+
+/// The two sides, at once where a thread can be started; else the publisher comes behind the lines.
+pub(crate) fn both_sides<
+    P: Publishes + Send,
+    X: IntoSide<J, K, L> + Drop,
+    J: Naming,
+    K: Naming + Send + Sync,
+    L: Naming + Send + Sync,
+    F: Folder + Send,
+    G: Gate,
+    S: Source,
+    O: Sink,
+    R: Threads + Wait + Sync,
+>(
+    rt: &R,
+    alloc: Global,
+    gate: &G,
+    building: &Building,
+    words: &[PlanItem],
+    folder: &mut F,
+    publisher: P,
+    items: &mut Taker<PlanItem, K>,
+    news: &mut Giver<News, L>,
+    side: X,
+    source: &mut S,
+    sink: &mut O,
+) -> (Result<P, Memory>, LinesEnd<J, K, L>)
+    requires building { IsGoodBuilding building.now }
+    requires some { 0 < length words.now }
+    requires one { length items.old ≡ 1 }
+    requires first { ArePublished (F.files folder.old) building.now.options
+        building.now.mirrored (take 1 words.now) news.old (P.list publisher) }
+    requires rose { ReadFaultsRose (F.faults folder.old) (F.faults folder.old) news.old }
+    requires lanes { 0 < LineSideData.lanes (X.state side) }
+    requires source { S.faults source.old < 2 ^ 64 - 1 }
+    requires sink { O.faults sink.old < 2 ^ 64 - 1 }
+    ensures files { F.files folder.new ≡ F.files folder.old }
+    ensures published { IfOk result.0 (λ p. ArePublished (F.files folder.old)
+        building.now.options building.now.mirrored (items_taken words.now items.new) news.new
+        (P.list p)) }
+    ensures rose { OnOk result.0
+        (ReadFaultsRose (F.faults folder.old) (F.faults folder.new) news.new) }
+    ensures whole { OnOk result.1.ended (HasRunLines (LineSideData.mode (X.state side)) (S.left source.old)
+        (O.written sink.old) (O.written sink.new)
+        (X.state side)
+        result.1.seat result.1.given result.1.news) }
+    ensures cut { IfErr result.1.ended (λ cause. HasCutLines cause
+        (LineSideData.mode (X.state side))
+        (S.left source.old) (S.left source.new) (O.written sink.old) (O.written sink.new)
+        (X.state side)
+        result.1.seat) }
+    ensures bytes { (bytes : List ℕ) × Consumes (S.left source.old) (S.left source.new) bytes }
+    ensures read { result.1.ended ≡ Err fault.ReadFault →
+        S.faults source.old < S.faults source.new }
+    ensures source { (result.1.ended ≡ Err fault.ReadFault)
+        ⊎ (S.faults source.new ≡ S.faults source.old) }
+    ensures write { result.1.ended ≡ Err fault.WriteFault →
+        O.faults sink.old < O.faults sink.new }
+    ensures sink { (result.1.ended ≡ Err fault.WriteFault)
+        ⊎ (O.faults sink.new ≡ O.faults sink.old) }
+{
+    let mut slot = Some(publisher);
+    let mut lines = Some(side);
+    let (published, end) = publish_beside(
+        rt,
+        alloc,
+        gate,
+        building,
+        words,
+        folder,
+        &mut slot,
+        items,
+        news,
+        &mut || -> LinesEnd<J, K, L>
+            requires { IsSync R.row × IsSome lines
+                × IfSome lines (λ s. 0 < LineSideData.lanes (X.state s))
+                × (S.faults source.now < 2 ^ 64 - 1) × (O.faults sink.now < 2 ^ 64 - 1) }
+            ensures { OnOk result.ended (IfSome lines.entry (λ s. HasRunLines
+                (LineSideData.mode (X.state s)) (S.left source.entry.now)
+                (O.written sink.entry.now) (O.written sink.exit.now) (X.state s) result.seat
+                result.given result.news))
+                × IfErr result.ended (λ cause. IfSome lines.entry (λ s. HasCutLines cause
+                (LineSideData.mode (X.state s)) (S.left source.entry.now)
+                (S.left source.exit.now) (O.written sink.entry.now)
+                (O.written sink.exit.now) (X.state s) result.seat))
+                × ((bytes : List ℕ) × Consumes (S.left source.entry.now)
+                (S.left source.exit.now) bytes)
+                × (result.ended ≡ Err fault.ReadFault →
+                S.faults source.entry.now < S.faults source.exit.now)
+                × ((result.ended ≡ Err fault.ReadFault)
+                ⊎ (S.faults source.exit.now ≡ S.faults source.entry.now))
+                × (result.ended ≡ Err fault.WriteFault →
+                O.faults sink.entry.now < O.faults sink.exit.now)
+                × ((result.ended ≡ Err fault.WriteFault)
+                ⊎ (O.faults sink.exit.now ≡ O.faults sink.entry.now)) }
+        { line_side(rt, alloc, gate, &mut lines, source, sink) },
+    );
+    let_go(rt, slot);
+    let_lines_go(lines);
+    (published, end)
 }
