@@ -1,10 +1,9 @@
 -- The run of a process that lives, from its sides.
-use Rattle.std.proofs.Common.{◌≡◌, ◌⊎◌, inl, inr, ℕ, suc, ◌+◌, ◌<◌, ◌≤◌, List, [], ◌∷◌, ◌++◌, drop, take, length, refl, sym, ap, subst, ◌∙◌, Option, Some, None, Ok, Bool, arith, append_assoc}
+use Rattle.std.proofs.Common.{◌≡◌, ◌⊎◌, inl, inr, ℕ, suc, ◌+◌, ◌<◌, ◌≤◌, List, [], ◌∷◌, ◌++◌, drop, take, length, refl, sym, ap, subst, ◌∙◌, Option, Some, None, Result, Ok, Err, Bool, false, get_or, arith, append_assoc}
 use Rattle.std.specs.Prelude.{IfSome, flat_map}
 use Rattle.std.proofs.lemmas.List.{append-nil, length-append, take_all}
 use Rattle.std.proofs.Math.Seq.{take-append-add}
 use Rattle.std.specs.Io.KnownBytes.{Appends, Consumes}
-use Rattle.tb_base.specs.TimetableData.{TimetableData}
 use Rattle.tb_io.proofs.Pieces.{appends_more}
 use Rattle.tb_io.specs.Files.{FileList}
 use Rattle.footpaths.specs.declared.paths.Options.{Options}
@@ -20,15 +19,14 @@ use Rattle.lane_serve.specs.declared.live.lived.LiveFault.TheVariants as fault
 use Rattle.lane_serve.specs.declared.live.running.LinesFault.{LinesFault}
 use Rattle.lane_serve.specs.declared.live.running.LinesFault.TheVariants as cut
 use Rattle.lane_serve.specs.declared.live.saying.LiveMode.{LiveMode}
-use Rattle.lane_serve.specs.Live.{ArePublished, BeginsWithFirst, HasFailed, HasFailedBehind, HasLived, HasLivedUntil, IsTextOf}
+use Rattle.lane_serve.specs.Live.{ArePublished, BeginsWithFirst, HasFailed, HasFailedBehind, HasBecome, HasLived, HasLivedUntil, IsPublished, IsTextOf, ReadFaultsRose, became_of}
 use Rattle.lane_serve.specs.LiveLines.{live_counts, live_gives}
 use Rattle.lane_serve.specs.LivePublisher.{items_taken}
 use Rattle.lane_serve.specs.LiveReplies.{LiveReplies}
-use Rattle.lane_serve.specs.LiveSides.{BeginsLive, FailsToTellFirst, HasCutLines, HasRunLines, HaveClosed, told_as}
+use Rattle.lane_serve.specs.LiveSides.{BeginsLive, FailsToTellFirst, FailsToTellRest, HasCutLines, HasRunLines, HaveClosed, TellsRest, told_as}
 use Rattle.lane_serve.specs.LiveTexts.{NewsData, news_shown}
-use Rattle.lane_serve.specs.LiveTurns.{CutTurnsAreOneRun, IsCutBy, IsLiveRun, IsLiveText, IsLiveTurn, LineSideData, TurnsAreOneRun}
+use Rattle.lane_serve.specs.LiveTurns.{CutTurnsAreOneRun, IsCutBy, IsLiveRun, IsLiveText, IsLiveTurn, LineSideData, TurnsAreOneRun, before_lines}
 use Rattle.lane_serve.specs.Plans.{ItemData}
-use Rattle.lane_serve.specs.Served.{FirstGives}
 
 -- the text of a side that begins with the first news told, at its first line
 begun_text : (mode : LiveMode) (es : List EditionData) (side : LineSideData) (news told : List NewsData) (lines : List (List ℕ)) (text : List ℕ) (first : List EditionData) →
@@ -66,10 +64,16 @@ none_first : (left : Option (List ℕ)) → IfSome left (λ bytes. (more : List 
 none_first None = tt
 none_first (Some bytes) = (lines_of bytes, refl)
 
-was_read : (cause : LinesFault) → told_as cause ≡ fault.ReadFault → cause ≡ cut.ReadFault
-was_read cut.ReadFault e = refl
-was_read cut.WriteFault e = absurd (cc e)
-was_read cut.Memory e = absurd (cc e)
+told_once : (a b : LinesFault) → told_as a ≡ told_as b → a ≡ b
+told_once cut.ReadFault cut.ReadFault h = refl
+told_once cut.ReadFault cut.WriteFault h = absurd (cc h)
+told_once cut.ReadFault cut.Memory h = absurd (cc h)
+told_once cut.WriteFault cut.ReadFault h = absurd (cc h)
+told_once cut.WriteFault cut.WriteFault h = refl
+told_once cut.WriteFault cut.Memory h = absurd (cc h)
+told_once cut.Memory cut.ReadFault h = absurd (cc h)
+told_once cut.Memory cut.WriteFault h = absurd (cc h)
+told_once cut.Memory cut.Memory h = refl
 
 whole_as : (cause : LinesFault) (count : ℕ) (text : List ℕ) → (cause ≡ cut.WriteFault) ⊎ (count ≡ length text) → (told_as cause ≡ fault.WriteFault) ⊎ (count ≡ length text)
 whole_as cause count text (inl e) = inl (ap told_as e)
@@ -94,10 +98,10 @@ module _ (files : Option FileList) (options : Options) (mode : LiveMode) (words 
         (subst (λ t. IsLiveText mode es side (run_over es s).lines (run_over es s).text t) r.told_is (run_over es s).right)
 
     -- all lines are answered, and all news are told
-    pub whole_run : (rest now : Option (List ℕ)) (es : List EditionData) (taken : List ItemData) (news : List NewsData) (note : List ℕ) → 0 < length words →
-        ArePublished files options mode.mirrored (items_taken words taken) news es → HaveClosed mode.json es kept taken given news told note → Appends mid now note →
-        HasLived files options mode words news0 left before now
-    whole_run rest now es taken news note some p closed w =
+    pub whole_run : (now : Option (List ℕ)) (start end : ℕ) (es : List EditionData) (taken : List ItemData) (news : List NewsData) (note : List ℕ) → 0 < length words →
+        ArePublished files options mode.mirrored (items_taken words taken) news es → ReadFaultsRose start end news → HaveClosed mode.json es kept taken given news told note → Appends mid now note →
+        HasLived files options mode words news0 start end left before now
+    whole_run now start end es taken news note some p rose closed w =
         let run = run_over es closed.starts in
         let all : given ≡ take 1 words ++ flat_map (live_gives mode) run.lines = sym r.given_is ∙ run.given ∙ ap (λ l. l ++ flat_map (live_gives mode) run.lines) (b.given_is ∙ b.items_are) in
         let is = named_items words taken (flat_map (live_gives mode) run.lines) some (closed.items ∙ all) in
@@ -108,6 +112,7 @@ module _ (files : Option FileList) (options : Options) (mode : LiveMode) (words 
           text = run.text ++ note;
           all = run.all;
           published = subst (λ l. ArePublished files options mode.mirrored l news es) is p;
+          rose = rose;
           right = told_last (LiveReplies mode) (live_counts mode) (news_shown mode.json) es 1 1 news0 told news run.lines run.text note (right_over es closed.starts) closed.tells;
           written = appends_more before mid now run.text note run.written w;
         }
@@ -151,6 +156,20 @@ module _ (files : Option FileList) (options : Options) (mode : LiveMode) (words 
           written = subst (λ t. Appends before now t) (sym (take-append-add run.text note n)) (appends_more before mid now run.text (take n note) run.written w);
         }
 
+    -- all lines are answered, and the rest of the news is told
+    pub whole_rest : (now : Option (List ℕ)) (start end : ℕ) (es : List EditionData) (taken : List ItemData) (news : List NewsData) → 0 < length words →
+        ArePublished files options mode.mirrored (items_taken words taken) news es → ReadFaultsRose start end news → TellsRest mode.json es kept taken given news told mid now →
+        HasLived files options mode words news0 start end left before now
+    whole_rest now start end es taken news some p rose t = whole_run now start end es taken news t.0 some p rose t.1 t.2
+
+    -- all lines are answered, and the rest of the news fails to be told
+    pub failed_rest : (rest now : Option (List ℕ)) (es : List EditionData) (taken : List ItemData) (news : List NewsData) (cause : LiveFault) →
+        FailsToTellRest mode.json es kept taken given news told mid now cause → HasFailedBehind files options mode words news0 left rest before now cause
+    failed_rest rest now es taken news (fault.Feed f) t = absurd t
+    failed_rest rest now es taken news fault.ReadFault t = absurd t
+    failed_rest rest now es taken news fault.WriteFault t = cut_note rest now es taken news t.0 t.1 t.2 t.3
+    failed_rest rest now es taken news fault.Memory t = short_run rest now t
+
   -- the lines are cut off by a fault
   pub cut_lines : (law : CutTurnsAreOneRun mode) (rest : Option (List ℕ)) (cause : LinesFault) → HasCutLines cause side.mode left rest before mid side kept →
       HasLivedUntil (told_as cause) files options mode words news0 left rest before mid
@@ -164,7 +183,7 @@ module _ (files : Option FileList) (options : Options) (mode : LiveMode) (words 
         text = run.text;
         count = run.count;
         first = run.first;
-        came = λ e. run.came (was_read cause e);
+        came = λ e. run.came (told_once cause cut.ReadFault e);
         begins = kept_begins h.later;
         right = begun_text mode kept.list side news0 run.told run.lines run.text es0 b.one b.kept_is b.next_is b.told_is run.right;
         whole = whole_as cause run.count run.text run.whole;
@@ -178,6 +197,18 @@ failed_as files options mode words told left rest before now cut.ReadFault h = h
 failed_as files options mode words told left rest before now cut.WriteFault h = h
 failed_as files options mode words told left rest before now cut.Memory h = h
 
+-- a run that ends with a cause of the lines ends with the fault that it is told as
+module _ {A B : Type 0} (ended : Result A LinesFault) (result : Result B LiveFault) (cause : LinesFault) (is : ended ≡ Err cause) (told : result ≡ Err (told_as cause)) where
+  ended_so : (e : LinesFault) → ended ≡ Err e → result ≡ Err (told_as e)
+  ended_so e h = let same : cause ≡ e = cc (sym is ∙ h) in told ∙ ap (λ c. Err (told_as c)) same
+
+  pub kept_as : (e : LinesFault) (P : Type 0) → (ended ≡ Err e) ⊎ P → (result ≡ Err (told_as e)) ⊎ P
+  kept_as e P (inl h) = inl (ended_so e h)
+  kept_as e P (inr h) = inr h
+
+  pub rose_as : (e : LinesFault) (P : Type 0) → (ended ≡ Err e → P) → result ≡ Err (told_as e) → P
+  rose_as e P f h = let same : told_as cause ≡ told_as e = cc (sym told ∙ h) in f (is ∙ ap (λ c. Err c) (told_once cause e same))
+
 -- the first news, and the run behind them
 module _ (files : Option FileList) (options : Options) (mode : LiveMode) (words : List ItemData) (first : NewsData) (left before mid : Option (List ℕ)) (line : List ℕ) (is : line ≡ news_shown mode.json first)
     (w : Appends before mid line) where
@@ -187,19 +218,20 @@ module _ (files : Option FileList) (options : Options) (mode : LiveMode) (words 
   right_first : (es : List EditionData) (lines : List (List ℕ)) (text : List ℕ) (news : List NewsData) → IsTextOf mode es (first ∷ []) lines text news → IsTextOf mode es [] lines (line ++ text) news
   right_first es lines text news h = lowered (LiveReplies mode) (live_counts mode) (news_shown mode.json) es 1 1 1 [] (first ∷ []) news lines line text (omega arith) told_first h
 
-  pub lived_all : (now : Option (List ℕ)) → HasLived files options mode words (first ∷ []) left mid now → HasLived files options mode words [] left before now
-  lived_all now h = record {
+  pub lived_all : (start end : ℕ) (now : Option (List ℕ)) → HasLived files options mode words (first ∷ []) start end left mid now → HasLived files options mode words [] start end left before now
+  lived_all start end now h = record {
     lines = h.lines;
     news = h.news;
     editions = h.editions;
     text = line ++ h.text;
     all = h.all;
     published = h.published;
+    rose = h.rose;
     right = right_first h.editions h.lines h.text h.news h.right;
     written = appends_more before mid now line h.text w h.written;
   }
 
-  lived_until : (rest now : Option (List ℕ)) (cause : LiveFault) → HasLivedUntil cause files options mode words (first ∷ []) left rest mid now → HasLivedUntil cause files options mode words [] left rest before now
+  pub lived_until : (rest now : Option (List ℕ)) (cause : LiveFault) → HasLivedUntil cause files options mode words (first ∷ []) left rest mid now → HasLivedUntil cause files options mode words [] left rest before now
   lived_until rest now cause h = record {
     lines = h.lines;
     news = h.news;
@@ -220,12 +252,24 @@ module _ (files : Option FileList) (options : Options) (mode : LiveMode) (words 
   failed_all rest now fault.WriteFault h = lived_until rest now fault.WriteFault h
   failed_all rest now fault.Memory h = inr (lived_until rest now fault.Memory h)
 
+  module _ (told : List NewsData) (one : told ≡ first ∷ []) (now : Option (List ℕ)) where
+    -- behind the first news all went well
+    pub lived_behind : (start end : ℕ) → HasLived files options mode words told start end left mid now → HasLived files options mode words [] start end left before now
+    lived_behind start end h = lived_all start end now (subst (λ t. HasLived files options mode words t start end left mid now) one h)
+
+    -- behind the first news the run fails
+    pub failed_behind : (rest : Option (List ℕ)) (cause : LiveFault) → HasFailedBehind files options mode words told left rest mid now cause → HasFailed files options mode words left rest before now cause
+    failed_behind rest cause h = failed_all rest now cause (subst (λ t. HasFailedBehind files options mode words t left rest mid now cause) one h)
+
+    pub read_behind : (rest : Option (List ℕ)) → HasFailedBehind files options mode words told left rest mid now fault.ReadFault → HasLivedUntil fault.ReadFault files options mode words [] left rest before now
+    read_behind rest h = lived_until rest now fault.ReadFault (subst (λ t. HasLivedUntil fault.ReadFault files options mode words t left rest mid now) one h)
+
 -- the first news can't be told
 pub failed_first : (files : Option FileList) (options : Options) (mode : LiveMode) (words : List ItemData) (e : EditionData) (first : NewsData) (left rest before now : Option (List ℕ)) (cause : LiveFault) →
-    BeginsWithFirst files options mode.mirrored words (e ∷ []) → FailsToTellFirst (news_shown mode.json first) before now cause → HasFailed files options mode words left rest before now cause
-failed_first files options mode words e first left rest before now (fault.Feed f) good h = absurd h
-failed_first files options mode words e first left rest before now fault.ReadFault good h = absurd h
-failed_first files options mode words e first left rest before now fault.WriteFault good h =
+    BeginsWithFirst files options mode.mirrored words (e ∷ []) → rest ≡ left → FailsToTellFirst (news_shown mode.json first) before now cause → HasFailed files options mode words left rest before now cause
+failed_first files options mode words e first left rest before now (fault.Feed f) good same h = absurd h
+failed_first files options mode words e first left rest before now fault.ReadFault good same h = absurd h
+failed_first files options mode words e first left rest before now fault.WriteFault good same h =
     record {
       lines = [];
       news = first ∷ [];
@@ -239,13 +283,65 @@ failed_first files options mode words e first left rest before now fault.WriteFa
       whole = inl refl;
       written = h.1;
     }
-failed_first files options mode words e first left rest before now fault.Memory good h = inl h
+failed_first files options mode words e first left rest before now fault.Memory good same h = inl (h, same)
 
--- a first item that was published has a timetable
-pub first_gives : (files : Option FileList) (options : Options) (mirrored : Bool) (words : List ItemData) (es : List EditionData) → BeginsWithFirst files options mirrored words es → (T : TimetableData) × FirstGives files options words (Ok T)
-first_gives files options mirrored [] es h = absurd h
-first_gives files options mirrored (w ∷ words) [] h = absurd h
-first_gives files options mirrored (w ∷ words) (e ∷ es) h = (e.table, h.0)
+-- what fails to be told is no fault of a source
+pub no_read : {A : Type 0} (line : List ℕ) (before now : Option (List ℕ)) (cause : LiveFault) (result : Result A LiveFault) (P : Type 0) → FailsToTellFirst line before now cause → result ≡ Err cause → result ≡ Err fault.ReadFault → P
+no_read line before now (fault.Feed f) result P h is e = absurd h
+no_read line before now fault.ReadFault result P h is e = absurd h
+no_read line before now fault.WriteFault result P h is e = absurd (cc (sym is ∙ e))
+no_read line before now fault.Memory result P h is e = absurd (cc (sym is ∙ e))
+
+-- the first item's edition is published, and its news
+first_published : (files : Option FileList) (options : Options) (mirrored : Bool) (words : List ItemData) (w : ItemData) (e : EditionData) (x : NewsData) →
+    take 1 words ≡ w ∷ [] → x ≡ record { word = w.word; became = became_of 1 e } → BeginsWithFirst files options mirrored words (e ∷ []) →
+    ArePublished files options mirrored (take 1 words) (x ∷ []) (e ∷ [])
+first_published files options mirrored [] w e x one is h = absurd h
+first_published files options mirrored (v ∷ words) w e x one is h =
+    let same : v ≡ w = cc one in
+    let b : x.became ≡ became_of 1 e = ap (λ (n : NewsData). n.became) is in
+    record {
+      outcomes = (
+        e ∷ [],
+        [],
+        refl,
+        ap (λ (n : NewsData). n.word) is ∙ ap (λ (i : ItemData). i.word) (sym same),
+        subst (λ c. HasBecome files options mirrored 0 v c (e ∷ [])) (sym b) (e, refl, h, refl),
+        refl,
+      );
+      first = subst (λ c. IsPublished c) (sym b) tt;
+    }
+
+-- what a run begins with, before its first line
+pub begins_live : (files : Option FileList) (options : Options) (mode : LiveMode) (words : List ItemData) (w : ItemData) (e : EditionData) (x : NewsData) (es : List EditionData)
+    (items given : List ItemData) (news told : List NewsData) (lanes : ℕ) (seat : Shown EditionData) → take 1 words ≡ w ∷ [] → x ≡ record { word = w.word; became = became_of 1 e } →
+    BeginsWithFirst files options mode.mirrored words (e ∷ []) → es ≡ e ∷ [] → items ≡ w ∷ [] → news ≡ x ∷ [] → 0 < lanes → seat ≡ record { list = e ∷ []; closed = false } →
+    given ≡ w ∷ [] → told ≡ x ∷ [] → BeginsLive files options mode words es items news (before_lines mode lanes seat given told)
+begins_live files options mode words w e x es items given news told lanes seat one is good es_is items_is news_is some seat_is given_is told_is =
+    let published = first_published files options mode.mirrored words w e x one is good in
+    record {
+      one = ap length es_is;
+      good = subst (λ l. BeginsWithFirst files options mode.mirrored words l) (sym es_is) good;
+      published = subst (λ l. ArePublished files options mode.mirrored (take 1 words) l es) (sym news_is) (subst (λ l. ArePublished files options mode.mirrored (take 1 words) (x ∷ []) l) (sym es_is) published);
+      items_are = items_is ∙ sym one;
+      some = some;
+      mode_is = refl;
+      kept_is = ap (λ (s : Shown EditionData). s.list) seat_is ∙ sym es_is;
+      next_is = refl;
+      told_is = told_is ∙ sym news_is;
+      given_is = given_is ∙ sym items_is;
+    }
+
+-- the first news tell of no failed read
+pub first_rose : (count : ℕ) (w : List ℕ) (e : EditionData) (x : NewsData) (news : List NewsData) → x ≡ record { word = w; became = became_of 1 e } → news ≡ x ∷ [] → ReadFaultsRose count count news
+first_rose count w e x news is news_is =
+    let b : x.became ≡ became_of 1 e = ap (λ (n : NewsData). n.became) is in
+    subst (λ l. ReadFaultsRose count count l) (sym news_is) (λ h. absurd (cc (sym b ∙ h)), tt)
+
+-- the first of some things
+pub take_one : {A : Type 0} (xs : List A) (x y : A) → 0 < length xs → y ≡ get_or xs 0 x → take 1 xs ≡ y ∷ []
+take_one [] x y some is = absurd (omega (arith, some))
+take_one (z ∷ xs) x y some is = ap (λ w. w ∷ []) (sym is)
 
 -- nothing is taken
 pub taken_none : (left : Option (List ℕ)) → (bytes : List ℕ) × Consumes left left bytes

@@ -1,5 +1,5 @@
 -- The publisher of a process that lives, item by item.
-use Rattle.std.specs.Prelude.{◌≡◌, ◌⊎◌, ℕ, ◌+◌, List, [], ◌∷◌, ◌++◌, drop, length, Bool, Option, ⊤}
+use Rattle.std.specs.Prelude.{◌≡◌, ◌⊎◌, ℕ, ◌+◌, List, [], ◌∷◌, ◌++◌, drop, length, Bool, Option}
 use Rattle.tb_io.specs.Causes.{Rose}
 use Rattle.tb_io.specs.Files.{FileList}
 use Rattle.footpaths.specs.declared.paths.Options.{Options}

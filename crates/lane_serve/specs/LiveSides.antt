@@ -79,3 +79,22 @@ FailsToTellFirst line before now (fault.Feed f) = ⊥
 FailsToTellFirst line before now fault.ReadFault = ⊥
 FailsToTellFirst line before now fault.WriteFault = (n : ℕ) × Appends before now (take n line)
 FailsToTellFirst line before now fault.Memory = now ≡ before
+
+-- both sides are at their ends, and the rest of the news was written
+abbrev pub TellsRest : Bool → List EditionData → Shown EditionData → List ItemData →
+    List ItemData → List NewsData → List NewsData → Option (List ℕ) → Option (List ℕ) → Type 0
+TellsRest json es known taken given news told before now =
+    (note : List ℕ) × HaveClosed json es known taken given news told note
+    × Appends before now note
+
+-- how the rest of the news fails to be told: the sink failed, or memory was wanting and nothing is
+-- written
+abbrev pub FailsToTellRest : Bool → List EditionData → Shown EditionData → List ItemData →
+    List ItemData → List NewsData → List NewsData → Option (List ℕ) → Option (List ℕ) →
+    LiveFault → Type 0
+FailsToTellRest json es known taken given news told before now (fault.Feed f) = ⊥
+FailsToTellRest json es known taken given news told before now fault.ReadFault = ⊥
+FailsToTellRest json es known taken given news told before now fault.WriteFault =
+    (note : List ℕ) × (n : ℕ) × HaveClosed json es known taken given news told note
+    × Appends before now (take n note)
+FailsToTellRest json es known taken given news told before now fault.Memory = now ≡ before

@@ -7,7 +7,7 @@ ghost use Rattle.history.specs.Lists.{StartsWith};
 ghost use Rattle.tb_base.specs.Workers.{AreWorkers};
 ghost use Rattle.live_turns.specs.Runs.{Tells};
 ghost use Rattle.lane_serve.specs.Live.{BeginsWithFirst, HasFailed, HasFailedBehind, HasLived, HasLivedUntil, ReadFaultsRose, became_of};
-ghost use Rattle.lane_serve.specs.LiveSides.{BeginsLive, FailsToTellFirst, HaveClosed, told_as};
+ghost use Rattle.lane_serve.specs.LiveSides.{BeginsLive, FailsToTellFirst, FailsToTellRest, HaveClosed, TellsRest, told_as};
 ghost use Rattle.lane_serve.specs.LiveTexts.{news_shown};
 ghost use Rattle.lane_serve.specs.LiveTurns.{before_lines};
 ghost use Rattle.lane_serve.specs.Plans.{IsEditionOfItem, IsGoodBuilding, ItemData};
@@ -209,6 +209,47 @@ fn told_as(cause: LinesFault) -> LiveFault
     }
 }
 
+// Ends a list of editions, where there is one.
+fn end_all<P: Publishes, R: Wait>(rt: &R, published: Result<P, Memory>) {
+    match published {
+        Ok(publisher) => publisher.end(rt),
+        Err(Memory) => {}
+    }
+}
+
+// Writes the rest of the news, once both sides are at their ends.
+fn write_rest<J: Naming, K: Naming, L: Naming, O: Sink, R: Wait>(
+    rt: &R,
+    alloc: Global,
+    json: bool,
+    publisher: Publisher<J>,
+    items: &Taker<PlanItem, K>,
+    tells: Giver<News, L>,
+    seat: Seat<J>,
+    given: Given<PlanItem, K>,
+    news: Taker<News, L>,
+    sink: &mut O,
+) -> Result<(), LiveFault>
+    requires { O.faults sink.old < 2 ^ 64 - 1 }
+    ensures written { OnOk result (TellsRest json publisher seat items.now given tells news
+        (O.written sink.old) (O.written sink.new)) }
+    ensures failed { IfErr result (FailsToTellRest json publisher seat items.now given tells news
+        (O.written sink.old) (O.written sink.new)) }
+    ensures write { result ≡ Err LiveFault.WriteFault → O.faults sink.old < O.faults sink.new }
+    ensures sink { (result ≡ Err LiveFault.WriteFault)
+        ⊎ (O.faults sink.new ≡ O.faults sink.old) }
+{
+    match closing_note(
+        rt, alloc, json, publisher, items, tells, seat, given, news,
+    ) {
+        Ok(note) => match put_all(sink, note.as_slice()) {
+            Ok(()) => Ok(()),
+            Err(Put::WriteFault) => Err(LiveFault::WriteFault),
+        },
+        Err(Memory) => Err(LiveFault::Memory),
+    }
+}
+
 // The run behind the first news, which are written: the sides, and the rest of the news.
 fn run_sides<
     J: Naming + Send + Sync,
@@ -275,28 +316,17 @@ fn run_sides<
         given,
         news,
     } = end;
-    match published {
-        Ok(publisher) => match ended {
-            Ok(()) => {
-                match closing_note(
-                    rt, alloc, mode.json, publisher, &items, tells, seat, given, news,
-                ) {
-                    Ok(note) => match put_all(sink, note.as_slice()) {
-                        Ok(()) => Ok(()),
-                        Err(Put::WriteFault) => Err(LiveFault::WriteFault),
-                    },
-                    Err(Memory) => Err(LiveFault::Memory),
-                }
-            }
-            Err(cause) => {
-                publisher.end(rt);
-                Err(told_as(cause))
-            }
+    match ended {
+        Ok(()) => match published {
+            Ok(publisher) => write_rest(
+                rt, alloc, mode.json, publisher, &items, tells, seat, given, news, sink,
+            ),
+            Err(Memory) => Err(LiveFault::Memory),
         },
-        Err(Memory) => match ended {
-            Ok(()) => Err(LiveFault::Memory),
-            Err(cause) => Err(told_as(cause)),
-        },
+        Err(cause) => {
+            end_all(rt, published);
+            Err(told_as(cause))
+        }
     }
 }
 
