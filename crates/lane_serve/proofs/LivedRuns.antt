@@ -314,22 +314,22 @@ first_published files options mirrored (v ∷ words) w e x one is h =
 
 -- what a run begins with, before its first line
 pub begins_live : (files : Option FileList) (options : Options) (mode : LiveMode) (words : List ItemData) (w : ItemData) (e : EditionData) (x : NewsData) (es : List EditionData)
-    (items given : List ItemData) (news told : List NewsData) (lanes : ℕ) (seat : Shown EditionData) → take 1 words ≡ w ∷ [] → x ≡ record { word = w.word; became = became_of 1 e } →
-    BeginsWithFirst files options mode.mirrored words (e ∷ []) → es ≡ e ∷ [] → items ≡ w ∷ [] → news ≡ x ∷ [] → 0 < lanes → seat ≡ record { list = e ∷ []; closed = false } →
-    given ≡ w ∷ [] → told ≡ x ∷ [] → BeginsLive files options mode words es items news (before_lines mode lanes seat given told)
-begins_live files options mode words w e x es items given news told lanes seat one is good es_is items_is news_is some seat_is given_is told_is =
+    (items : List ItemData) (news : List NewsData) (lanes : ℕ) (side : LineSideData) → take 1 words ≡ w ∷ [] → x ≡ record { word = w.word; became = became_of 1 e } →
+    BeginsWithFirst files options mode.mirrored words (e ∷ []) → es ≡ e ∷ [] → items ≡ w ∷ [] → news ≡ x ∷ [] → 0 < lanes →
+    side ≡ before_lines mode lanes (record { list = e ∷ []; closed = false }) (w ∷ []) (x ∷ []) → BeginsLive files options mode words es items news side
+begins_live files options mode words w e x es items news lanes side one is good es_is items_is news_is some side_is =
     let published = first_published files options mode.mirrored words w e x one is good in
     record {
       one = ap length es_is;
       good = subst (λ l. BeginsWithFirst files options mode.mirrored words l) (sym es_is) good;
       published = subst (λ l. ArePublished files options mode.mirrored (take 1 words) l es) (sym news_is) (subst (λ l. ArePublished files options mode.mirrored (take 1 words) (x ∷ []) l) (sym es_is) published);
       items_are = items_is ∙ sym one;
-      some = some;
-      mode_is = refl;
-      kept_is = ap (λ (s : Shown EditionData). s.list) seat_is ∙ sym es_is;
-      next_is = refl;
-      told_is = told_is ∙ sym news_is;
-      given_is = given_is ∙ sym items_is;
+      some = subst (λ (s : LineSideData). 0 < s.lanes) (sym side_is) some;
+      mode_is = ap (λ (s : LineSideData). s.mode) side_is;
+      kept_is = ap (λ (s : LineSideData). s.live.kept.list) side_is ∙ sym es_is;
+      next_is = ap (λ (s : LineSideData). s.live.next) side_is;
+      told_is = ap (λ (s : LineSideData). s.live.told) side_is ∙ sym news_is;
+      given_is = ap (λ (s : LineSideData). s.given) side_is ∙ sym items_is;
     }
 
 -- the first news tell of no failed read

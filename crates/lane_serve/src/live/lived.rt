@@ -271,10 +271,7 @@ fn run_sides<
     publisher: Publisher<J>,
     items: Taker<PlanItem, K>,
     tells: Giver<News, L>,
-    desks: Vec<Desk>,
-    seat: Seat<J>,
-    giver: Giver<PlanItem, K>,
-    told: Taker<News, L>,
+    side: LineSide<J, K, L>,
     source: &mut S,
     sink: &mut O,
 ) -> Result<(), LiveFault>
@@ -282,8 +279,7 @@ fn run_sides<
     requires mirrored { building.now.mirrored ≡ mode.mirrored }
     requires some { 0 < length words.now }
     requires begins { BeginsLive (F.files folder.old) building.now.options mode words.now
-        publisher items tells
-        (before_lines mode (vec_len desks) seat giver told) }
+        publisher items tells side }
     requires rose { ReadFaultsRose (F.faults folder.old) (F.faults folder.old) tells }
     requires source { S.faults source.old < 2 ^ 64 - 1 }
     requires sink { O.faults sink.old < 2 ^ 64 - 1 }
@@ -305,7 +301,6 @@ fn run_sides<
     turns_are_one_run();
     let mut items = items;
     let mut tells = tells;
-    let side = LineSide::new(alloc, mode, desks, seat, giver, told);
     let (published, end) = both_sides(
         rt, alloc, gate, building, words, folder, publisher, &mut items, &mut tells, side, source,
         sink,
@@ -355,11 +350,11 @@ fn write_news<O: Sink>(
     }
 }
 
-// What a run begins with: a publisher, who takes items, who gives news; desks, a seat, who gives
-// items, and who takes news.
+// What a run begins with: a publisher, who takes items, who gives news; and the side of lines.
 fn begin<J: Naming, K: Naming, L: Naming, R: Wait>(
     rt: &R,
     alloc: Global,
+    mode: LiveMode,
     lanes: u32,
     opened: Opened<Edition>,
     named: Opened<PlanItem>,
@@ -372,10 +367,7 @@ fn begin<J: Naming, K: Naming, L: Naming, R: Wait>(
         Publisher<J>,
         Taker<PlanItem, K>,
         Giver<News, L>,
-        Vec<Desk>,
-        Seat<J>,
-        Giver<PlanItem, K>,
-        Taker<News, L>,
+        LineSide<J, K, L>,
     ),
     Memory,
 >
@@ -385,10 +377,8 @@ fn begin<J: Naming, K: Naming, L: Naming, R: Wait>(
     ensures list { IfOk result (λ t. t.0 ≡ first ∷ []) }
     ensures items { IfOk result (λ t. t.1 ≡ item.now ∷ []) }
     ensures news { IfOk result (λ t. t.2 ≡ news.now ∷ []) }
-    ensures desks { IfOk result (λ t. vec_len t.3 ≡ lanes) }
-    ensures seat { IfOk result (λ t. t.4 ≡ record { list = first ∷ []; closed = false }) }
-    ensures giver { IfOk result (λ t. t.5 ≡ item.now ∷ []) }
-    ensures told { IfOk result (λ t. t.6 ≡ news.now ∷ []) }
+    ensures side { IfOk result (λ t. t.3 ≡ before_lines mode lanes
+        (record { list = first ∷ []; closed = false }) (item.now ∷ []) (news.now ∷ [])) }
 {
     let desks = match desks_for(alloc, lanes) {
         Ok(desks) => desks,
@@ -400,7 +390,10 @@ fn begin<J: Naming, K: Naming, L: Naming, R: Wait>(
     match hand_overs::<K, L>(alloc, named, item, told, news) {
         Ok((giver, items, tells, told)) => {
             match seat_one::<J, R>(rt, alloc, opened, first) {
-                Ok((publisher, seat)) => { Ok((publisher, items, tells, desks, seat, giver, told)) }
+                Ok((publisher, seat)) => {
+                    let side = LineSide::new(alloc, mode, desks, seat, giver, told);
+                    Ok((publisher, items, tells, side))
+                }
                 Err(Memory) => {
                     drop(desks);
                     drop(giver);
@@ -495,25 +488,22 @@ fn live_from<
             return Err(LiveFault::Memory);
         }
     };
-    match begin::<J, K, L, R>(rt, alloc, lanes, opened, named, told, first, item, &news) {
-        Ok((publisher, items, tells, desks, seat, giver, told)) => {
-            match write_news(alloc, mode.json, &news, sink) {
-                Ok(()) => run_sides(
-                    rt, alloc, gate, building, mode, words, folder, publisher, items, tells, desks,
-                    seat, giver, told, source, sink,
-                ),
-                Err(fault) => {
-                    publisher.end(rt);
-                    drop(items);
-                    drop(tells);
-                    drop(desks);
-                    drop(seat);
-                    drop(giver);
-                    drop(told);
-                    Err(fault)
-                }
+    match begin::<J, K, L, R>(
+        rt, alloc, mode, lanes, opened, named, told, first, item, &news,
+    ) {
+        Ok((publisher, items, tells, side)) => match write_news(alloc, mode.json, &news, sink) {
+            Ok(()) => run_sides(
+                rt, alloc, gate, building, mode, words, folder, publisher, items, tells, side,
+                source, sink,
+            ),
+            Err(fault) => {
+                publisher.end(rt);
+                drop(items);
+                drop(tells);
+                drop(side);
+                Err(fault)
             }
-        }
+        },
         Err(Memory) => Err(LiveFault::Memory),
     }
 }
