@@ -23,109 +23,122 @@ use std::thread::{Threads, join_mut};
 use tb_base::{Gate, Memory};
 use tb_io::{Folder, Sink, Source};
 
-/// How the side of lines ended: its seat, the items that it gave, and who takes news.
+/// How the lines of a source ended, and what is left of the side that answered them.
+pub(crate) struct Ran<E> {
+    pub ended: Result<(), LinesFault>,
+    pub end: E,
+}
+
+/// What is left of a side of lines: its seat, the items that it gave, and who takes news.
 #[derive(Drop)]
 pub(crate) struct LinesEnd<J: Naming, K: Naming, L: Naming> {
-    pub ended: Result<(), LinesFault>,
     pub seat: Seat<J>,
     pub given: Given<PlanItem, K>,
     pub news: Taker<News, L>,
 }
 
-/// What becomes a side of lines. The proof of a closure goes through each part of what it captures,
-/// so the sides are proved for any such type.
-pub(crate) trait IntoSide<J: Naming, K: Naming, L: Naming> {
+/// A side that answers lines, of which an `E` is left. The proof of a closure goes through each part
+/// of what it captures, gives or calls, so the sides are proved for any such type.
+pub(crate) trait RunsLines<E> {
+    ghost use Rattle.std.specs.Prelude.{◌≡◌, ◌⊎◌, ◌<◌, ◌-◌, ◌^◌, ℕ, List, Err, IfErr, OnOk};
+    ghost use Rattle.std.specs.Io.KnownBytes.{Consumes};
+    ghost use Rattle.std.specs.Thread.{IsSync};
+    ghost use Rattle.edition_store.specs.Editions.{EditionData};
+    ghost use Rattle.history.specs.Lists.{Shown};
+    ghost use Rattle.lane_serve.specs.LiveSides.{HasCutLines, HasRunLines};
+    ghost use Rattle.lane_serve.specs.LiveTexts.{NewsData};
     ghost use Rattle.lane_serve.specs.LiveTurns.{LineSideData};
+    ghost use Rattle.lane_serve.specs.Plans.{ItemData};
+    ghost use Rattle.lane_serve.specs.declared.live.running.LinesFault.TheVariants as fault;
 
     ghost state: { Self → LineSideData };
 
-    /// The side of lines.
-    fn into_side(self) -> LineSide<J, K, L>
-        ensures { result ≡ state self };
+    ghost kept: { E → Shown EditionData };
+
+    ghost given: { E → List ItemData };
+
+    ghost told: { E → List NewsData };
+
+    /// Answers the lines of a source. The side's items end with it.
+    fn run_lines<G: Gate, S: Source, O: Sink, R: Threads + Wait + Sync>(
+        self,
+        rt: &R,
+        alloc: Global,
+        gate: &G,
+        source: &mut S,
+        sink: &mut O,
+    ) -> Ran<E>
+        requires threads { IsSync R.row × IsSync G.row }
+        requires lanes { 0 < LineSideData.lanes (state self) }
+        requires source { S.faults source.old < 2 ^ 64 - 1 }
+        requires sink { O.faults sink.old < 2 ^ 64 - 1 }
+        ensures whole { OnOk result.ended (HasRunLines (LineSideData.mode (state self))
+            (S.left source.old) (O.written sink.old) (O.written sink.new) (state self)
+            (kept result.end) (given result.end) (told result.end)) }
+        ensures cut { IfErr result.ended (λ cause. HasCutLines cause
+            (LineSideData.mode (state self)) (S.left source.old) (S.left source.new)
+            (O.written sink.old) (O.written sink.new) (state self) (kept result.end)) }
+        ensures bytes { (bytes : List ℕ)
+            × Consumes (S.left source.old) (S.left source.new) bytes }
+        ensures read { result.ended ≡ Err fault.ReadFault →
+            S.faults source.old < S.faults source.new }
+        ensures source { (result.ended ≡ Err fault.ReadFault)
+            ⊎ (S.faults source.new ≡ S.faults source.old) }
+        ensures write { result.ended ≡ Err fault.WriteFault →
+            O.faults sink.old < O.faults sink.new }
+        ensures sink { (result.ended ≡ Err fault.WriteFault)
+            ⊎ (O.faults sink.new ≡ O.faults sink.old) };
 }
 
-impl<J: Naming, K: Naming, L: Naming> IntoSide<J, K, L> for LineSide<J, K, L> {
+impl<J: Naming, K: Naming, L: Naming> RunsLines<LinesEnd<J, K, L>> for LineSide<J, K, L> {
     ghost state = { λ s. s };
 
-    fn into_side(self) -> LineSide<J, K, L> {
-        self
-    }
-}
+    ghost kept = { λ e. e.seat };
 
-// Answers the lines of a source. The side's items end with it.
-fn run_lines<
-    J: Naming,
-    K: Naming,
-    L: Naming,
-    G: Gate,
-    S: Source,
-    O: Sink,
-    R: Threads + Wait + Sync,
->(
-    rt: &R,
-    alloc: Global,
-    gate: &G,
-    side: LineSide<J, K, L>,
-    source: &mut S,
-    sink: &mut O,
-) -> LinesEnd<J, K, L>
-    requires lanes { 0 < side.lanes }
-    requires source { S.faults source.old < 2 ^ 64 - 1 }
-    requires sink { O.faults sink.old < 2 ^ 64 - 1 }
-    ensures whole { OnOk result.ended (HasRunLines side.mode (S.left source.old)
-        (O.written sink.old) (O.written sink.new) side result.seat result.given
-        result.news) }
-    ensures cut { IfErr result.ended (λ cause. HasCutLines cause side.mode
-        (S.left source.old) (S.left source.new) (O.written sink.old) (O.written sink.new)
-        side result.seat) }
-    ensures bytes { (bytes : List ℕ) × Consumes (S.left source.old) (S.left source.new) bytes }
-    ensures read { result.ended ≡ Err fault.ReadFault →
-        S.faults source.old < S.faults source.new }
-    ensures source { (result.ended ≡ Err fault.ReadFault)
-        ⊎ (S.faults source.new ≡ S.faults source.old) }
-    ensures write { result.ended ≡ Err fault.WriteFault → O.faults sink.old < O.faults sink.new }
-    ensures sink { (result.ended ≡ Err fault.WriteFault)
-        ⊎ (O.faults sink.new ≡ O.faults sink.old) }
-{
-    let mut side = side;
-    let ended = run_turns(rt, alloc, gate, &mut side, source, sink);
-    let (seat, giver, news) = side.into_parts();
-    LinesEnd {
-        ended,
-        seat,
-        given: giver.end(),
-        news,
+    ghost given = { λ e. e.given };
+
+    ghost told = { λ e. e.news };
+
+    fn run_lines<G: Gate, S: Source, O: Sink, R: Threads + Wait + Sync>(
+        self,
+        rt: &R,
+        alloc: Global,
+        gate: &G,
+        source: &mut S,
+        sink: &mut O,
+    ) -> Ran<LinesEnd<J, K, L>> {
+        let mut side = self;
+        let ended = run_turns(rt, alloc, gate, &mut side, source, sink);
+        let (seat, giver, news) = side.into_parts();
+        let end = LinesEnd {
+            seat,
+            given: giver.end(),
+            news,
+        };
+        Ran { ended, end }
     }
 }
 
 // Takes the side of lines out of its place, and has it answer the lines of a source.
-fn line_side<
-    X: IntoSide<J, K, L>,
-    J: Naming,
-    K: Naming,
-    L: Naming,
-    G: Gate,
-    S: Source,
-    O: Sink,
-    R: Threads + Wait + Sync,
->(
+fn line_side<X: RunsLines<E>, E, G: Gate, S: Source, O: Sink, R: Threads + Wait + Sync>(
     rt: &R,
     alloc: Global,
     gate: &G,
     slot: &mut Option<X>,
     source: &mut S,
     sink: &mut O,
-) -> LinesEnd<J, K, L>
+) -> Ran<E>
     requires some { IsSome slot.old }
     requires lanes { IfSome slot.old (λ s. 0 < LineSideData.lanes (X.state s)) }
     requires source { S.faults source.old < 2 ^ 64 - 1 }
     requires sink { O.faults sink.old < 2 ^ 64 - 1 }
     ensures whole { OnOk result.ended (IfSome slot.old (λ s. HasRunLines
         (LineSideData.mode (X.state s)) (S.left source.old) (O.written sink.old)
-        (O.written sink.new) (X.state s) result.seat result.given result.news)) }
+        (O.written sink.new) (X.state s) (X.kept result.end) (X.given result.end)
+        (X.told result.end))) }
     ensures cut { IfErr result.ended (λ cause. IfSome slot.old (λ s. HasCutLines cause
         (LineSideData.mode (X.state s)) (S.left source.old) (S.left source.new)
-        (O.written sink.old) (O.written sink.new) (X.state s) result.seat)) }
+        (O.written sink.old) (O.written sink.new) (X.state s) (X.kept result.end))) }
     ensures bytes { (bytes : List ℕ) × Consumes (S.left source.old) (S.left source.new) bytes }
     ensures read { result.ended ≡ Err fault.ReadFault →
         S.faults source.old < S.faults source.new }
@@ -138,7 +151,7 @@ fn line_side<
     let Some(side) = slot.take() else {
         unreachable!()
     };
-    run_lines(rt, alloc, gate, side.into_side(), source, sink)
+    side.run_lines(rt, alloc, gate, source, sink)
 }
 
 // Takes the publisher out of its place, which is empty afterwards, and publishes.
@@ -254,8 +267,8 @@ fn let_lines_go<X: Drop>(lines: Option<X>) {
 /// The two sides, at once where a thread can be started; else the publisher comes behind the lines.
 pub(crate) fn both_sides<
     P: Publishes + Send,
-    X: IntoSide<J, K, L> + Drop,
-    J: Naming,
+    X: RunsLines<E> + Drop,
+    E,
     K: Naming + Send + Sync,
     L: Naming + Send + Sync,
     F: Folder + Send,
@@ -276,7 +289,7 @@ pub(crate) fn both_sides<
     side: X,
     source: &mut S,
     sink: &mut O,
-) -> (Result<P, Memory>, LinesEnd<J, K, L>)
+) -> (Result<P, Memory>, Ran<E>)
     requires building { IsGoodBuilding building.now }
     requires some { 0 < length words.now }
     requires one { length items.old ≡ 1 }
@@ -292,15 +305,12 @@ pub(crate) fn both_sides<
         (P.list p)) }
     ensures rose { OnOk result.0
         (ReadFaultsRose (F.faults folder.old) (F.faults folder.new) news.new) }
-    ensures whole { OnOk result.1.ended (HasRunLines (LineSideData.mode (X.state side)) (S.left source.old)
-        (O.written sink.old) (O.written sink.new)
-        (X.state side)
-        result.1.seat result.1.given result.1.news) }
+    ensures whole { OnOk result.1.ended (HasRunLines (LineSideData.mode (X.state side))
+        (S.left source.old) (O.written sink.old) (O.written sink.new) (X.state side)
+        (X.kept result.1.end) (X.given result.1.end) (X.told result.1.end)) }
     ensures cut { IfErr result.1.ended (λ cause. HasCutLines cause
-        (LineSideData.mode (X.state side))
-        (S.left source.old) (S.left source.new) (O.written sink.old) (O.written sink.new)
-        (X.state side)
-        result.1.seat) }
+        (LineSideData.mode (X.state side)) (S.left source.old) (S.left source.new)
+        (O.written sink.old) (O.written sink.new) (X.state side) (X.kept result.1.end)) }
     ensures bytes { (bytes : List ℕ) × Consumes (S.left source.old) (S.left source.new) bytes }
     ensures read { result.1.ended ≡ Err fault.ReadFault →
         S.faults source.old < S.faults source.new }
@@ -323,18 +333,18 @@ pub(crate) fn both_sides<
         &mut slot,
         items,
         news,
-        &mut || -> LinesEnd<J, K, L>
+        &mut || -> Ran<E>
             requires { IsSync R.row × IsSome lines
                 × IfSome lines (λ s. 0 < LineSideData.lanes (X.state s))
                 × (S.faults source.now < 2 ^ 64 - 1) × (O.faults sink.now < 2 ^ 64 - 1) }
             ensures { OnOk result.ended (IfSome lines.entry (λ s. HasRunLines
                 (LineSideData.mode (X.state s)) (S.left source.entry.now)
-                (O.written sink.entry.now) (O.written sink.exit.now) (X.state s) result.seat
-                result.given result.news))
+                (O.written sink.entry.now) (O.written sink.exit.now) (X.state s)
+                (X.kept result.end) (X.given result.end) (X.told result.end)))
                 × IfErr result.ended (λ cause. IfSome lines.entry (λ s. HasCutLines cause
                 (LineSideData.mode (X.state s)) (S.left source.entry.now)
                 (S.left source.exit.now) (O.written sink.entry.now)
-                (O.written sink.exit.now) (X.state s) result.seat))
+                (O.written sink.exit.now) (X.state s) (X.kept result.end)))
                 × ((bytes : List ℕ) × Consumes (S.left source.entry.now)
                 (S.left source.exit.now) bytes)
                 × (result.ended ≡ Err fault.ReadFault →
