@@ -17,7 +17,7 @@ use crate::live::news::{News, news_shown, tell_news};
 use crate::live::publisher::became_of;
 use crate::live::running::LinesFault;
 use crate::live::saying::LiveMode;
-use crate::live::sides::{LinesEnd, Ran, both_sides};
+use crate::live::sides::{LinesEnd, both_sides};
 use crate::live::turn::{LineSide, desks_for};
 use crate::plan::{Building, Built, PlanEnd, PlanItem, build_item};
 use crate::publishing::Publishes;
@@ -301,12 +301,16 @@ fn run_sides<
     turns_are_one_run();
     let mut items = items;
     let mut tells = tells;
-    let (published, ran) = both_sides(
+    let (published, end) = both_sides(
         rt, alloc, gate, building, words, folder, publisher, &mut items, &mut tells, side, source,
         sink,
     );
-    let Ran { ended, end } = ran;
-    let LinesEnd { seat, given, news } = end;
+    let LinesEnd {
+        ended,
+        seat,
+        given,
+        news,
+    } = end;
     match ended {
         Ok(()) => match published {
             Ok(publisher) => write_rest(
