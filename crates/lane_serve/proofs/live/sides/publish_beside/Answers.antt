@@ -8,7 +8,7 @@ use Rattle.lane_serve.proofs.LiveSent.{building_sync, item_send, item_sync, news
 use Rattle.lane_serve.proofs.Sent.{quiet_either}
 use Rattle.lane_serve.specs.contracts.live.news.News as news
 use Rattle.lane_serve.specs.contracts.plan.PlanItem as item
-use Rattle.lane_serve.proofs.live.sides.beside.Goals as goal
+use Rattle.lane_serve.proofs.live.sides.publish_beside.Goals as goal
 
 pub join_mut-requires-send-F : goal.join_mut-requires-send-F
 join_mut-requires-send-F g c κs within = record {
