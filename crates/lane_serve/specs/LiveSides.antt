@@ -14,7 +14,7 @@ use Rattle.lane_serve.specs.declared.live.running.LinesFault.TheVariants as line
 use Rattle.lane_serve.specs.declared.live.saying.LiveMode.{LiveMode}
 use Rattle.lane_serve.specs.Live.{ArePublished, BeginsWithFirst}
 use Rattle.lane_serve.specs.LiveTexts.{NewsData, news_shown}
-use Rattle.lane_serve.specs.LiveTurns.{IsCutBy, IsLiveTurn, LineSideData}
+use Rattle.lane_serve.specs.LiveTurns.{IsCutBy, IsLiveTurn, LineSideData, side_of}
 use Rattle.lane_serve.specs.Plans.{ItemData}
 
 -- the lines of a source are all answered, by a side that ends with these editions known, these
@@ -37,11 +37,15 @@ pub record HasCutLines (cause : LinesFault) (mode : LiveMode)
   pub later : Extends kept a.live.kept
   pub kept_is : end.live.kept ≡ kept
 
--- what holds of four things that are there
-abbrev pub EachSome : {A B C D : Type 0} → Option A → Option B → Option C → Option D →
-    (A → B → C → D → Type 0) → Type 0
-EachSome a b c d P =
-    IfSome a (λ x. IfSome b (λ y. IfSome c (λ z. IfSome d (λ w. P x y z w))))
+-- what holds of the side that parts make, and of what it ends with, where all these are there
+abbrev pub OfParts : LiveMode → ℕ → ℕ → Option (Shown EditionData) → Option (List ItemData) →
+    Option (List NewsData) → Option (Shown EditionData) → Option (List ItemData) →
+    Option (List NewsData) →
+    (LineSideData → Shown EditionData → List ItemData → List NewsData → Type 0) → Type 0
+OfParts mode lanes next seat giver news seated given told P =
+    IfSome seat (λ k. IfSome giver (λ g. IfSome news (λ t.
+    IfSome seated (λ e. IfSome given (λ h. IfSome told (λ n.
+    P (side_of mode lanes next k g t) e h n))))))
 
 -- the fault that a cause is told as
 abbrev pub told_as : LinesFault → LiveFault

@@ -36,6 +36,16 @@ before_lines mode lanes kept given told = record {
   given = given;
 }
 
+-- the side that these parts make: the number of the next line stands behind that of the lanes
+abbrev pub side_of : LiveMode → ℕ → ℕ → Shown EditionData → List ItemData → List NewsData →
+    LineSideData
+side_of mode lanes next kept given told = record {
+  mode = mode;
+  lanes = lanes;
+  live = record { kept = kept; next = next; told = told };
+  given = given;
+}
+
 -- One turn: news are told; then each line has its right reply by the last edition that is known
 -- then, the same for all; and the items that lines name are given to the publisher.
 pub record IsLiveTurn (mode : LiveMode) (a : LineSideData) (lines : List (List ℕ))
