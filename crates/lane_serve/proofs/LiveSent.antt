@@ -1,12 +1,26 @@
 -- What goes to the publisher's thread of a process that lives.
 use mathlib.Core.List.{List, [], ◌∷◌}
+use mir.Syntax.{Dict}
 use denote.RattleType.{RattleType}
 use denote.Struct.Field.{row_field}
 use denote.Struct.Tuple.{TupleAt, type_at}
 use denote.Param.Send.{IsSend, IsSync, sendable}
 use denote.Param.SendFields.{FieldsHave, as_row_send, declared_send}
 use Rattle.std.proofs.Crossing.{crosses}
+use Rattle.std.specs.contracts.alloc.Global as global
+use Rattle.std.specs.contracts.impls.GlobalAllocator.TheImpl as allocates
 use Rattle.std.specs.contracts.option.Option as option
+use Rattle.history.specs.declared.law.Naming.{Ghosts}
+use Rattle.left_right.proofs.writer.Writer.TheSendSync as writers
+use Rattle.left_right.specs.contracts.writer.Writer as writer
+use Rattle.edition_store.proofs.Sent.{content_send, content_sync, publishing_send}
+use Rattle.edition_store.specs.contracts.content.Content as content
+use Rattle.edition_store.specs.contracts.content.ContentAbsorb.TheImpl as absorbs
+use Rattle.edition_store.specs.contracts.publisher.Publishing as publishing
+use Rattle.edition_store.specs.contracts.publisher.WriterContentContentViewKeptShows.TheImpl as shows
+use Rattle.edition_store.specs.contracts.rule.Kept as kept
+use Rattle.edition_store.specs.contracts.rule.KeptProtocolContentView.TheImpl as keeps
+use Rattle.edition_store.specs.contracts.rule.View as view
 use Rattle.lane_serve.specs.contracts.live.news.Became as became
 use Rattle.lane_serve.specs.contracts.live.news.News as news
 use Rattle.lane_serve.specs.contracts.live.news.News.TheInside as news_inside
@@ -45,3 +59,14 @@ pub nine_send : (A B C D E F G H I : RattleType) → IsSend A → IsSend B → I
 nine_send A B C D E F G H I a b c d e f g h i =
     declared_send (type_at [] (A ∷ B ∷ C ∷ D ∷ E ∷ F ∷ G ∷ H ∷ I ∷ []))
     (as_row_send (row_field A) a, (as_row_send (row_field B) b, (as_row_send (row_field C) c, (as_row_send (row_field D) d, (as_row_send (row_field E) e, (as_row_send (row_field F) f, (as_row_send (row_field G) g, (as_row_send (row_field H) h, (as_row_send (row_field I) i, tt)))))))))
+
+-- the publisher of a list of editions: the search does not find its row by itself
+module _ (A : RattleType) (g : Ghosts A.Denot) (d : Dict) where
+  abbrev pub writing : RattleType
+  writing = writer.the_row (content.the_row A g) (content.the_row A g) view.the_row kept.the_row global.the_row (content.the_row A g) (absorbs.ghosts A g d) (keeps.ghosts A g d) allocates.ghosts
+
+  writing_send : IsSend writing
+  writing_send = search (writers.the_send, content_send, content_sync, sendable, crosses) depth 40 fits 100000
+
+  pub publisher_send : IsSend (publishing.the_row A writing g (shows.ghosts A g d))
+  publisher_send = publishing_send A g writing (shows.ghosts A g d) writing_send

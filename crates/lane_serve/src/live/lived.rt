@@ -239,9 +239,7 @@ fn write_rest<J: Naming, K: Naming, L: Naming, O: Sink, R: Wait>(
     ensures sink { (result ≡ Err LiveFault.WriteFault)
         ⊎ (O.faults sink.new ≡ O.faults sink.old) }
 {
-    match closing_note(
-        rt, alloc, json, publisher, items, tells, seat, given, news,
-    ) {
+    match closing_note(rt, alloc, json, publisher, items, tells, seat, given, news) {
         Ok(note) => match put_all(sink, note.as_slice()) {
             Ok(()) => Ok(()),
             Err(Put::WriteFault) => Err(LiveFault::WriteFault),

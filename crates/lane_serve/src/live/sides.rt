@@ -429,15 +429,9 @@ pub(crate) fn both_sides<
     drop(desks);
     let Hands { giver, given, news } = hands;
     drop(giver);
-    let Some(seat) = seat else {
-        unreachable!()
-    };
-    let Some(given) = given else {
-        unreachable!()
-    };
-    let Some(news) = news else {
-        unreachable!()
-    };
+    let Some(seat) = seat else { unreachable!() };
+    let Some(given) = given else { unreachable!() };
+    let Some(news) = news else { unreachable!() };
     let end = LinesEnd {
         ended,
         seat,

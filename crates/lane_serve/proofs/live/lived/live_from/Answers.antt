@@ -25,8 +25,8 @@ returns-in-Ok-write_news-clause-whole g c =
     let told = c.in-Ok-begin.tells in
     let one : told ≡ x ∷ [] = search rules in
     on_ok_weaker c.run_sides.result (lived_behind (g.F.Folder.files c.args.folder.now) c.args.building.now.options c.args.mode c.args.words.now x (g.S.Source.left c.args.source.now)
-        (g.O.Sink.written c.args.sink.now) (g.O.Sink.written c.write_news.new.sink) (news_shown c.args.mode.json x) refl c.in-Ok-write_news.ensures.written told one
-        (g.O.Sink.written c.run_sides.new.sink) (g.F.Folder.faults c.args.folder.now) (g.F.Folder.faults c.run_sides.new.folder)) c.run_sides.ensures.whole
+    (g.O.Sink.written c.args.sink.now) (g.O.Sink.written c.write_news.new.sink) (news_shown c.args.mode.json x) refl c.in-Ok-write_news.ensures.written told one
+    (g.O.Sink.written c.run_sides.new.sink) (g.F.Folder.faults c.args.folder.now) (g.F.Folder.faults c.run_sides.new.folder)) c.run_sides.ensures.whole
 
 pub returns-in-Ok-write_news-clause-failed : goal.returns-in-Ok-write_news-clause-failed
 returns-in-Ok-write_news-clause-failed g c =
@@ -34,8 +34,8 @@ returns-in-Ok-write_news-clause-failed g c =
     let told = c.in-Ok-begin.tells in
     let one : told ≡ x ∷ [] = search rules in
     IfErr-weaker c.run_sides.result _ _ (failed_behind (g.F.Folder.files c.args.folder.now) c.args.building.now.options c.args.mode c.args.words.now x (g.S.Source.left c.args.source.now)
-        (g.O.Sink.written c.args.sink.now) (g.O.Sink.written c.write_news.new.sink) (news_shown c.args.mode.json x) refl c.in-Ok-write_news.ensures.written told one
-        (g.O.Sink.written c.run_sides.new.sink) (g.S.Source.left c.run_sides.new.source)) c.run_sides.ensures.failed
+    (g.O.Sink.written c.args.sink.now) (g.O.Sink.written c.write_news.new.sink) (news_shown c.args.mode.json x) refl c.in-Ok-write_news.ensures.written told one
+    (g.O.Sink.written c.run_sides.new.sink) (g.S.Source.left c.run_sides.new.source)) c.run_sides.ensures.failed
 
 pub returns-in-Ok-write_news-clause-later : goal.returns-in-Ok-write_news-clause-later
 returns-in-Ok-write_news-clause-later g c e =
@@ -50,7 +50,7 @@ returns-in-Ok-write_news-clause-later g c e =
     let told = c.in-Ok-begin.tells in
     let one : told ≡ x ∷ [] = search rules in
     read_behind files options c.args.mode words x left (g.O.Sink.written c.args.sink.now) mid (news_shown c.args.mode.json x) refl c.in-Ok-write_news.ensures.written told one now rest
-        (IfErr-at_err (λ y. HasFailedBehind files options c.args.mode words told left rest mid now y) e c.run_sides.ensures.failed)
+    (IfErr-at_err (λ y. HasFailedBehind files options c.args.mode words told left rest mid now y) e c.run_sides.ensures.failed)
 
 pub returns-in-Ok-begin-clause-failed : goal.returns-in-Ok-begin-clause-failed
 returns-in-Ok-begin-clause-failed g c =

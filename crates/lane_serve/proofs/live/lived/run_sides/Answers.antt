@@ -1,17 +1,15 @@
 use denote.Param.Send.{sendable}
 use Rattle.std.proofs.Common.{refl, sym, subst, rules}
-use Rattle.std.proofs.Crossing.{crosses}
-use Rattle.std.proofs.lemmas.Result.{IfErr-at_err, IfErr-weaker, on_ok_weaker}
-use Rattle.edition_store.proofs.Sent.{content_send, content_sync, publishing_send}
-use Rattle.left_right.proofs.writer.Writer.TheSendSync as writers
-use Rattle.lane_serve.specs.Live.{ArePublished, HasFailedBehind}
+use Rattle.std.proofs.lemmas.Result.{IfErr-weaker, IfOk-at_ok, on_ok_weaker}
+use Rattle.lane_serve.specs.Live.{ArePublished, HasFailedBehind, ReadFaultsRose}
 use Rattle.lane_serve.specs.LivePublisher.{items_taken}
 use Rattle.lane_serve.specs.LiveSides.{HasCutLines, HasRunLines}
+use Rattle.lane_serve.proofs.LiveSent.{publisher_send}
 use Rattle.lane_serve.proofs.LivedRuns.{cut_lines, failed_as, failed_rest, short_run, whole_rest}
 use Rattle.lane_serve.proofs.live.lived.run_sides.Goals as goal
 
 pub both_sides-published-requires-send-P : goal.both_sides-published-requires-send-P
-both_sides-published-requires-send-P g c κs within = ?
+both_sides-published-requires-send-P g c κs within = search (publisher_send, sendable) depth 6 fits 100000
 
 pub returns-in-Ok-published-clause-whole : goal.returns-in-Ok-published-clause-whole
 returns-in-Ok-published-clause-whole g c =
@@ -27,12 +25,15 @@ returns-in-Ok-published-clause-whole g c =
     let end = both.result.1 in
     let es = c.in-Ok-published.publisher in
     let r : HasRunLines side.mode left before mid side end.seat end.given end.news = search rules in
-    let p : ArePublished files options c.args.building.now.mirrored (items_taken words both.new.items) both.new.news es = search rules in
-    let rose = c.in-Ok-published.ensures.rose in
+    let p : ArePublished files options c.args.building.now.mirrored (items_taken words both.new.items) both.new.news es =
+    IfOk-at_ok (λ x. ArePublished files options c.args.building.now.mirrored (items_taken words both.new.items) both.new.news x) c.in-Ok-published.is both.ensures.published in
+    let start = g.F.Folder.faults c.args.folder.now in
+    let stop = g.F.Folder.faults both.new.folder in
+    let rose : ReadFaultsRose start stop both.new.news = IfOk-at_ok (λ _. ReadFaultsRose start stop both.new.news) c.in-Ok-published.is both.ensures.rose in
     on_ok_weaker c.write_rest.result (whole_rest files options mode words c.args.publisher c.args.items c.args.tells side c.requires.begins left before mid end.seat
-        (c.turns_are_one_run.ensures.whole mode) end.given end.news r (g.O.Sink.written c.write_rest.new.sink) (g.F.Folder.faults c.args.folder.now) (g.F.Folder.faults both.new.folder) es
-        both.new.items both.new.news c.requires.some (subst (λ m. ArePublished files options m (items_taken words both.new.items) both.new.news es) c.requires.mirrored p) rose)
-        c.write_rest.ensures.written
+    (c.turns_are_one_run.ensures.whole mode) end.given end.news r (g.O.Sink.written c.write_rest.new.sink) start stop es
+    both.new.items both.new.news c.requires.some (subst (λ m. ArePublished files options m (items_taken words both.new.items) both.new.news es) c.requires.mirrored p) rose)
+    c.write_rest.ensures.written
 
 pub returns-in-Ok-published-clause-failed : goal.returns-in-Ok-published-clause-failed
 returns-in-Ok-published-clause-failed g c =
@@ -44,8 +45,8 @@ returns-in-Ok-published-clause-failed g c =
     let end = both.result.1 in
     let r : HasRunLines side.mode left before mid side end.seat end.given end.news = search rules in
     IfErr-weaker c.write_rest.result _ _ (failed_rest (g.F.Folder.files c.args.folder.now) c.args.building.now.options c.args.mode c.args.words.now c.args.publisher c.args.items c.args.tells side
-        c.requires.begins left before mid end.seat (c.turns_are_one_run.ensures.whole c.args.mode) end.given end.news r (g.S.Source.left both.new.source)
-        (g.O.Sink.written c.write_rest.new.sink) c.in-Ok-published.publisher both.new.items both.new.news) c.write_rest.ensures.failed
+    c.requires.begins left before mid end.seat (c.turns_are_one_run.ensures.whole c.args.mode) end.given end.news r (g.S.Source.left both.new.source)
+    (g.O.Sink.written c.write_rest.new.sink) c.in-Ok-published.publisher both.new.items both.new.news) c.write_rest.ensures.failed
 
 pub returns-in-Ok-clause-failed : goal.returns-in-Ok-clause-failed
 returns-in-Ok-clause-failed g c =
@@ -76,4 +77,4 @@ returns-clause-failed g c =
     let h : HasCutLines cause side.mode left rest before mid side end.seat = search rules in
     subst (λ f. HasFailedBehind files options mode words c.args.tells left rest before mid f) (sym c.told_as.ensures)
     (failed_as files options mode words c.args.tells left rest before mid cause
-        (cut_lines files options mode words c.args.publisher c.args.items c.args.tells side c.requires.begins left before mid end.seat (c.turns_are_one_run.ensures.cut mode) rest cause h))
+    (cut_lines files options mode words c.args.publisher c.args.items c.args.tells side c.requires.begins left before mid end.seat (c.turns_are_one_run.ensures.cut mode) rest cause h))
