@@ -48,7 +48,7 @@ city_ending r status.Memory before now out write = inr refl
 
 pub completed : IsDetermined → (asked : Option Request) (files : Option FileList) (told left : Option (List ℕ)) (s : Status) (before now : Option (List ℕ))
     (reads reads_now takes takes_now writes writes_now : ℕ) →
-    IfSome asked (λ r. IsRequestOutcome files told left r s before now) →
+    IfSome asked (λ r. IsRequestOutcome files reads reads_now told left r s before now) →
     (s ≡ status.ReadFault → (reads < reads_now) ⊎ (takes < takes_now)) → (s ≡ status.WriteFault → writes < writes_now) →
     IfSome asked (λ r. IsSome files → reads_now ≡ reads → takes_now ≡ takes → writes_now ≡ writes → IsRequestEnding files told r s)
 completed determined None files told left s before now a b c d e f promise read write = tt
@@ -68,7 +68,7 @@ completed determined (Some (request.Late r)) files told left s before now a b c 
     (λ h. none_rose a b c d (read h) read_still take_still) (λ h. not_risen e f (write h) write_still) day is
 completed determined (Some (request.Live r)) files told left s before now a b c d e f promise read write =
     λ shown read_still take_still write_still day is.
-    live_completed determined files shown told left r s before now promise
+    live_completed determined files shown a b told left r s before now promise
     (λ h. none_rose a b c d (read h) read_still take_still) (λ h. not_risen e f (write h) write_still) day is
 completed determined (Some (request.Serve r)) files None left s before now a b c d e f promise read write =
     λ shown read_still take_still write_still. tt

@@ -7,7 +7,7 @@ use Rattle.command_line.specs.declared.request.Request.{Request}
 use Rattle.command_line.specs.declared.request.Request.TheVariants as request
 use Rattle.lane_serve.specs.declared.script.ScriptFault.{ScriptFault}
 use Rattle.router_cli.specs.Outcome.{IsUnwritten, Writes, WritesText, status_of_text}
-use Rattle.router_cli.specs.Promise.{IsNoRequestAnswer, IsRequestAnswer, IsRequestOutcome, LeavesScript, TellsFirst}
+use Rattle.router_cli.specs.Promise.{HasReadBehind, IsNoRequestAnswer, IsRequestAnswer, IsRequestOutcome, LeavesScript, ReadsBehind, TellsFirst}
 use Rattle.router_cli.specs.declared.status.Status.{Status}
 use Rattle.router_cli.specs.declared.status.Status.TheVariants as status
 
@@ -96,12 +96,12 @@ no_text (Ok v) is refused = absurd is
 no_text (Err why) is refused = absurd refused
 
 -- the outcome of a request by its text
-pub promised : (files : Option FileList) (told left : Option (List ℕ)) (r : Request) (text : Text) (s : Status) (before now : Option (List ℕ)) →
+pub promised : (files : Option FileList) (faults risen : ℕ) (told left : Option (List ℕ)) (r : Request) (text : Text) (s : Status) (before now : Option (List ℕ)) →
     IfOk text (λ v. IsRequestAnswer files told r v.items) → IfErr text (IsNoRequestAnswer files told r) → IsWritten text s before now →
-    IsRequestOutcome files told left r s before now
-promised files told left r text s before now is refused written = by r (none_written files told r text refused) is refused where
+    IsRequestOutcome files faults risen told left r s before now
+promised files faults risen told left r text s before now is refused written = by r (none_written files told r text refused) is refused where
   by : (q : Request) → IfErr text IsUnwritten → IfOk text (λ v. IsRequestAnswer files told q v.items) → IfErr text (IsNoRequestAnswer files told q) →
-      IsRequestOutcome files told left q s before now
+      IsRequestOutcome files faults risen told left q s before now
   by (request.Live q) none is refused = no_text text is refused
   by (request.Day q) none is refused = promised_by (IsRequestAnswer files told (request.Day q)) (IsNoRequestAnswer files told (request.Day q)) text s before now none is refused written
   by (request.Serve q) none is refused = promised_by (IsRequestAnswer files told (request.Serve q)) (IsNoRequestAnswer files told (request.Serve q)) text s before now none is refused written
@@ -180,3 +180,13 @@ read_or_kept text s before now written (inr kept) = inr kept
 pub or_live : {A B Live : Type 0} → A ⊎ B → A ⊎ B ⊎ Live
 or_live (inl a) = inl a
 or_live (inr b) = inr (inl b)
+
+-- what holds where a source failed, of a request whose text is gathered
+pub read_behind : (files : Option FileList) (told left : Option (List ℕ)) (r : Request) (text : Text) (before now : Option (List ℕ)) →
+    IfOk text (λ v. IsRequestAnswer files told r v.items) → IfErr text (IsNoRequestAnswer files told r) → ReadsBehind files r → HasReadBehind files told left r before now
+read_behind files told left (request.Live q) text before now is refused h = no_text text is refused
+read_behind files told left (request.Day q) text before now is refused h = h
+read_behind files told left (request.Serve q) text before now is refused h = h
+read_behind files told left (request.City q) text before now is refused h = h
+read_behind files told left (request.Verify q) text before now is refused h = h
+read_behind files told left (request.Late q) text before now is refused h = h

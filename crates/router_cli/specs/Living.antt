@@ -19,20 +19,21 @@ first_items r = map item_of r.plan
 abbrev pub mode_of : LiveRequestData → LiveMode
 mode_of r = record { json = r.json; mirrored = r.mirror }
 
--- What a status says of the bytes of a source before and now, where it tells them, and of the bytes
--- that a sink held before and holds now. Done: each line of the source was answered, and all was
--- written. FeedRefused: the first day is refused, and nothing was written. Any other one: it ended
--- early, and what was written is that of some first lines, or a first part of it.
-abbrev pub IsLiveOutcome : Option FileList → Options → LiveMode → List ItemData → Option (List ℕ)
-    → Option (List ℕ) → Status → Option (List ℕ) → Option (List ℕ) → Type 0
-IsLiveOutcome files options mode plan left rest status.Done before now =
-    HasLived files options mode plan [] left before now
-IsLiveOutcome files options mode plan left rest (status.FeedRefused f) before now =
+-- What a status says of a folder's count of faults before and now, of the bytes of a source before
+-- and now, where it tells them, and of the bytes that a sink held before and holds now. Done: each
+-- line of the source was answered, and all was written. FeedRefused: the first day is refused, and
+-- nothing was read or written. Any other one: it ended early, and what was written is that of some
+-- first lines, or a first part of it.
+abbrev pub IsLiveOutcome : Option FileList → Options → LiveMode → List ItemData → ℕ → ℕ →
+    Option (List ℕ) → Option (List ℕ) → Status → Option (List ℕ) → Option (List ℕ) → Type 0
+IsLiveOutcome files options mode plan faults risen left rest status.Done before now =
+    HasLived files options mode plan [] faults risen left before now
+IsLiveOutcome files options mode plan faults risen left rest (status.FeedRefused f) before now =
     HasFailed files options mode plan left rest before now (fault.Feed f)
-IsLiveOutcome files options mode plan left rest status.ReadFault before now =
+IsLiveOutcome files options mode plan faults risen left rest status.ReadFault before now =
     HasFailed files options mode plan left rest before now fault.ReadFault
-IsLiveOutcome files options mode plan left rest status.WriteFault before now =
+IsLiveOutcome files options mode plan faults risen left rest status.WriteFault before now =
     HasFailed files options mode plan left rest before now fault.WriteFault
-IsLiveOutcome files options mode plan left rest status.Memory before now =
+IsLiveOutcome files options mode plan faults risen left rest status.Memory before now =
     HasFailed files options mode plan left rest before now fault.Memory
-IsLiveOutcome files options mode plan left rest s before now = ⊥
+IsLiveOutcome files options mode plan faults risen left rest s before now = ⊥

@@ -1,11 +1,13 @@
 -- What the program promises of a request.
-use Rattle.std.specs.Prelude.{◌≡◌, ℕ, List, Option, Some, IfSome, Result, Ok, ⊤}
+use Rattle.std.specs.Prelude.{◌≡◌, ℕ, List, [], Option, Some, IfSome, Result, ⊤}
 use Rattle.std.specs.Io.KnownBytes.{Consumes}
 use Rattle.tb_base.specs.TimetableData.{TimetableData}
 use Rattle.gtfs_rows.specs.declared.fault.FeedFault.{FeedFault}
 use Rattle.tb_io.specs.Files.{FileList}
 use Rattle.command_line.specs.declared.request.Request.{Request}
 use Rattle.command_line.specs.declared.request.Request.TheVariants as request
+use Rattle.lane_serve.specs.Live.{HasLivedUntil}
+use Rattle.lane_serve.specs.declared.live.lived.LiveFault.TheVariants as live
 use Rattle.lane_serve.specs.Script.{script_of}
 use Rattle.lane_serve.specs.Served.{FirstGives}
 use Rattle.router_cli.specs.Cities.{IsCityText, IsNoCityText}
@@ -47,14 +49,14 @@ IsNoRequestAnswer files told (request.City r) = IsNoCityText
 IsNoRequestAnswer files told (request.Verify r) = IsNoVerifyAnswer files told r
 IsNoRequestAnswer files told (request.Late r) = IsNoLateAnswer files r
 
--- What a status says of a request, of the files of a folder, where it tells them, of the bytes of a
--- script, and what is left of them, where its source tells them, and of the bytes that a sink held
--- before and holds now.
-abbrev pub IsRequestOutcome : Option FileList → Option (List ℕ) → Option (List ℕ) → Request → Status
-    → Option (List ℕ) → Option (List ℕ) → Type 0
-IsRequestOutcome files told left (request.Live r) =
-    IsLiveOutcome files r.options (mode_of r) (first_items r) told left
-IsRequestOutcome files told left r =
+-- What a status says of a request, of the files of a folder, where it tells them, and its count of
+-- faults before and now, of the bytes of a script, and what is left of them, where its source tells
+-- them, and of the bytes that a sink held before and holds now.
+abbrev pub IsRequestOutcome : Option FileList → ℕ → ℕ → Option (List ℕ) → Option (List ℕ) → Request
+    → Status → Option (List ℕ) → Option (List ℕ) → Type 0
+IsRequestOutcome files faults risen told left (request.Live r) =
+    IsLiveOutcome files r.options (mode_of r) (first_items r) faults risen told left
+IsRequestOutcome files faults risen told left r =
     Writes (IsRequestAnswer files told r) (IsNoRequestAnswer files told r)
 
 -- how a request may end where nothing fails outside, by what its day or its first day gives
@@ -81,13 +83,19 @@ abbrev pub TellsFirst : Option (List ℕ) → Request → Status → Type 0
 TellsFirst told (request.Serve r) s = TellsScript r.json told s
 TellsFirst told r s = ⊤
 
--- what holds where a source failed: a claim is read only once the day has a timetable, and the
--- lines of a process that lives once the first day has one
+-- what holds where a source failed: a claim is read only once the day has a timetable
 abbrev pub ReadsBehind : Option FileList → Request → Type 0
 ReadsBehind files (request.Verify r) = HasDay files r
-ReadsBehind files (request.Live r) =
-    (T : TimetableData) × FirstGives files r.options (first_items r) (Ok T)
 ReadsBehind files r = ⊤
+
+-- The same by the bytes of the source before and now, and those that a sink held before and holds
+-- now: lines of a process that lives are read only once the first day is published, and what was
+-- written is that of the lines before the fault.
+abbrev pub HasReadBehind : Option FileList → Option (List ℕ) → Option (List ℕ) → Request →
+    Option (List ℕ) → Option (List ℕ) → Type 0
+HasReadBehind files told left (request.Live r) before now =
+    HasLivedUntil live.ReadFault files r.options (mode_of r) (first_items r) [] told left before now
+HasReadBehind files told left r before now = ReadsBehind files r
 
 -- What is left of a source, and its count of faults, before and now: only a run, a process that
 -- lives and a claim take bytes of it, or meet its faults.

@@ -1,10 +1,9 @@
 //! What the program does as a process that lives.
-ghost use Rattle.std.specs.Prelude.{◌≡◌, ◌⊎◌, ◌<◌, ◌-◌, ◌^◌, List, Ok, length, ℕ};
+ghost use Rattle.std.specs.Prelude.{◌≡◌, ◌⊎◌, ◌<◌, ◌-◌, ◌^◌, [], List, length, ℕ};
 ghost use Rattle.std.specs.Io.KnownBytes.{Consumes};
 ghost use Rattle.footpaths.specs.Limits.{AreWithinADay};
-ghost use Rattle.tb_base.specs.TimetableData.{TimetableData};
 ghost use Rattle.tb_base.specs.Workers.{AreWorkers};
-ghost use Rattle.lane_serve.specs.Served.{FirstGives};
+ghost use Rattle.lane_serve.specs.Live.{HasLivedUntil};
 ghost use Rattle.router_cli.specs.Living.{IsLiveOutcome, first_items, mode_of};
 
 use crate::serving::items_of;
@@ -40,9 +39,11 @@ fn lived<R: Threads + Wait + Sync, F: Folder + Send, S: Source, K: Sink, G: Gate
     requires source { S.faults source.old < 2 ^ 64 - 1 }
     requires out { K.faults out.old < 2 ^ 64 - 1 }
     ensures outcome { IsLiveOutcome (F.files folder.old) options.now mode plan.now
-        (S.left source.old) (S.left source.new) result (K.written out.old) (K.written out.new) }
+        (F.faults folder.old) (F.faults folder.new) (S.left source.old) (S.left source.new) result
+        (K.written out.old) (K.written out.new) }
     ensures later { result ≡ Status.ReadFault → F.faults folder.new ≡ F.faults folder.old →
-        (T : TimetableData) × FirstGives (F.files folder.old) options.now plan.now (Ok T) }
+        HasLivedUntil LiveFault.ReadFault (F.files folder.old) options.now mode plan.now []
+        (S.left source.old) (S.left source.new) (K.written out.old) (K.written out.new) }
     ensures read { result ≡ Status.ReadFault → (F.faults folder.old < F.faults folder.new)
         ⊎ (S.faults source.old < S.faults source.new) }
     ensures write { result ≡ Status.WriteFault → K.faults out.old < K.faults out.new }
@@ -78,11 +79,13 @@ pub(crate) fn live_status<R: Threads + Wait + Sync, F: Folder + Send, S: Source,
     requires source { S.faults source.old < 2 ^ 64 - 1 }
     requires out { K.faults out.old < 2 ^ 64 - 1 }
     ensures outcome { IsLiveOutcome (F.files folder.old) request.entry.options
-        (mode_of request.entry) (first_items request.entry) (S.left source.old)
-        (S.left source.new) result (K.written out.old) (K.written out.new) }
+        (mode_of request.entry) (first_items request.entry) (F.faults folder.old)
+        (F.faults folder.new) (S.left source.old) (S.left source.new) result
+        (K.written out.old) (K.written out.new) }
     ensures later { result ≡ Status.ReadFault → F.faults folder.new ≡ F.faults folder.old →
-        (T : TimetableData) × FirstGives (F.files folder.old) request.entry.options
-        (first_items request.entry) (Ok T) }
+        HasLivedUntil LiveFault.ReadFault (F.files folder.old) request.entry.options
+        (mode_of request.entry) (first_items request.entry) [] (S.left source.old)
+        (S.left source.new) (K.written out.old) (K.written out.new) }
     ensures read { result ≡ Status.ReadFault → (F.faults folder.old < F.faults folder.new)
         ⊎ (S.faults source.old < S.faults source.new) }
     ensures write { result ≡ Status.WriteFault → K.faults out.old < K.faults out.new }

@@ -2,7 +2,7 @@
 ghost use Rattle.std.specs.Prelude.{◌≡◌, ◌⊎◌, ◌<◌, ◌-◌, ◌^◌, Err, IfErr, IfOk, IfSome, IsSome, None, Some, map, string_bytes};
 ghost use Rattle.command_line.specs.Requests.{request_of};
 ghost use Rattle.router_cli.specs.Outcome.{LeavesOutside, status_of_text};
-ghost use Rattle.router_cli.specs.Promise.{AskLive, IsGathered, IsNoRequestAnswer, IsRequestAnswer, IsRequestEnding, IsRequestOutcome, LeavesScript, ReadsBehind, TellsFirst};
+ghost use Rattle.router_cli.specs.Promise.{AskLive, HasReadBehind, IsGathered, IsNoRequestAnswer, IsRequestAnswer, IsRequestEnding, IsRequestOutcome, LeavesScript, ReadsBehind, TellsFirst};
 
 use crate::day::day_text;
 use crate::late_trips::late_text;
@@ -90,13 +90,14 @@ fn request_text<R: Threads + Wait + Sync, F: Folder + Send, S: Source, G: Gate>(
 /// For `live`, where the script tells its bytes, what is written with `Done` is for each of its lines
 /// in order the text of the right reply by the edition of which it is, and these never go back; the
 /// list of editions is that of the lawful days in order, those of the words first, then those that
-/// lines name; and of each day it is told what became of it. With `FeedRefused`, which tells of the
-/// first day, nothing is written. With `ReadFault` what is written is that of the lines before the
-/// fault, or nothing, where the folder failed before the first day was published; with `Memory` that
-/// of some first lines, or nothing; with `WriteFault` a first part of such. Of the editions of a run
-/// that ends so it is said that the first one is that of the first day. A day behind the first one
-/// that can't be read, or for which there is no memory, ends nothing: so the folder's count of faults
-/// may rise there with any status.
+/// lines name; and of each day it is told what became of it, that it can't be read only where the
+/// folder's count of faults rose. With `FeedRefused`, which tells of the first day, nothing is
+/// written, and nothing read of the script. With `ReadFault` neither, where the folder failed before
+/// the first day was published; else what is written is that of the lines before the fault. With
+/// `Memory` neither, or what is written is that of some first lines; with `WriteFault` a first part
+/// of such. Of the editions of a run that ends so it is said that the first one is that of the first
+/// day. A day behind the first one that can't be read, or for which there is no memory, ends nothing:
+/// so the folder's count of faults may rise there with any status.
 ///
 /// That the gate is told of the pieces that workers reduce, and of the publications and requests of
 /// a run, is tested and in no clause. Its own work ends; it joins the workers that it starts. A
@@ -117,13 +118,15 @@ pub fn route<R: Threads + Wait + Sync, F: Folder + Send, S: Source, K: Sink, G: 
     ensures wrong_words { request_of (map string_bytes words.now) ≡ None →
         (result ≡ Status.Usage) ⊎ (result ≡ Status.Memory) }
     ensures promise { IfSome (request_of (map string_bytes words.now)) (λ r.
-        IsRequestOutcome (F.files folder.old) (S.left script.old) (S.left script.new) r result
-        (K.written out.old) (K.written out.new)) }
+        IsRequestOutcome (F.files folder.old) (F.faults folder.old) (F.faults folder.new)
+        (S.left script.old) (S.left script.new) r result (K.written out.old)
+        (K.written out.new)) }
     ensures script { IfSome (request_of (map string_bytes words.now)) (λ r.
         S.faults script.new ≡ S.faults script.old → TellsFirst (S.left script.old) r result) }
     ensures later { IfSome (request_of (map string_bytes words.now)) (λ r.
         result ≡ Status.ReadFault → F.faults folder.new ≡ F.faults folder.old →
-        ReadsBehind (F.files folder.old) r) }
+        HasReadBehind (F.files folder.old) (S.left script.old) (S.left script.new) r
+        (K.written out.old) (K.written out.new)) }
     ensures quiet { (result ≡ Status.Done) ⊎ (result ≡ Status.WriteFault)
         ⊎ (K.written out.new ≡ K.written out.old)
         ⊎ AskLive (request_of (map string_bytes words.now)) }

@@ -5,7 +5,7 @@ use Rattle.command_line.specs.declared.request.Request.TheVariants as request
 use Rattle.router_cli.specs.Promise.{TellsFirst}
 use Rattle.router_cli.specs.declared.status.Status.TheVariants as status
 use Rattle.router_cli.proofs.Completed.{completed, unread}
-use Rattle.router_cli.proofs.Written.{at_end, first_in_part, has_meaning, left_at_end, none_written, or_live, promised, read_or_kept, unread_text}
+use Rattle.router_cli.proofs.Written.{at_end, first_in_part, has_meaning, left_at_end, none_written, or_live, promised, read_behind, read_or_kept, unread_text}
 use Rattle.router_cli.proofs.program.route.Goals as goal
 
 pub returns-in-Err-clause-left : goal.returns-in-Err-clause-left
@@ -24,7 +24,7 @@ pub returns-in-Ok-Some-clause-promise : goal.returns-in-Ok-Some-clause-promise
 returns-in-Ok-Some-clause-promise g c =
     let at = c.in-Ok-Some in
     rw (sym at.ensures, at.field-0-is)
-    (promised _ _ _ at.request c.request_text-text.result c.write.result _ _ c.request_text-text.ensures.text c.request_text-text.ensures.refused c.write.ensures.writes)
+    (promised _ _ _ _ _ at.request c.request_text-text.result c.write.result _ _ c.request_text-text.ensures.text c.request_text-text.ensures.refused c.write.ensures.writes)
 
 pub returns-in-Ok-Some-clause-script : goal.returns-in-Ok-Some-clause-script
 returns-in-Ok-Some-clause-script g c =
@@ -38,7 +38,8 @@ pub returns-in-Ok-Some-clause-later : goal.returns-in-Ok-Some-clause-later
 returns-in-Ok-Some-clause-later g c =
     let at = c.in-Ok-Some in
     rw (sym at.ensures, at.field-0-is)
-    (λ is still. c.request_text-text.ensures.later (unread_text c.request_text-text.result c.write.result _ _ c.write.ensures.writes is) still)
+    (λ is still. read_behind _ _ _ at.request c.request_text-text.result _ _ c.request_text-text.ensures.text c.request_text-text.ensures.refused
+    (c.request_text-text.ensures.later (unread_text c.request_text-text.result c.write.result _ _ c.write.ensures.writes is) still))
 
 pub returns-in-Ok-Some-clause-read : goal.returns-in-Ok-Some-clause-read
 returns-in-Ok-Some-clause-read g c =
@@ -69,7 +70,7 @@ returns-in-Ok-Some-clause-complete g c =
     let at = c.in-Ok-Some in
     rw (sym at.ensures, at.field-0-is)
     (completed c.timetable_determined.ensures (Some at.request) _ _ (g.S.Source.left c.args.script.now) c.write.result _ _ _ _ _ _ _ _
-    (promised _ _ _ at.request c.request_text-text.result c.write.result _ _ c.request_text-text.ensures.text c.request_text-text.ensures.refused c.write.ensures.writes)
+    (promised _ _ _ _ _ at.request c.request_text-text.result c.write.result _ _ c.request_text-text.ensures.text c.request_text-text.ensures.refused c.write.ensures.writes)
     (λ is. c.request_text-text.ensures.leaves.read (unread_text c.request_text-text.result c.write.result _ _ c.write.ensures.writes is)) c.write.ensures.write)
 
 pub returns-in-Ok-Some-Live-clause-complete : goal.returns-in-Ok-Some-Live-clause-complete
