@@ -78,7 +78,7 @@ class Tab:
 
     def value(self, script: str) -> Any:
         """The value of an expression in the page."""
-        said = self.call("Runtime.evaluate", expression=script, returnByValue=True, awaitPromise=True)
+        said = self.call("Runtime.evaluate", expression=script, returnByValue=True)
         if "exceptionDetails" in said:
             raise RuntimeError(said["exceptionDetails"]["text"])
         return said["result"].get("value")

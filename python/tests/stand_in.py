@@ -5,8 +5,8 @@ edition's number, by a ride on the trip `ORIGIN>DESTINATION`.
 
 A day whose folder is named `broken` is refused, one named `unread` can't be read, and one named
 `slow` takes a while. Some origins
-have it do what a process shouldn't: `die`, `hang`, `babble` and `skip`. `reach many` tells of 20,000
-stops.
+have it do what a process shouldn't: `die`, `hang`, `babble` and `skip`. `reach many` tells of
+20,000 stops.
 """
 import json
 import os

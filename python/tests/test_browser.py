@@ -32,7 +32,7 @@ class Pages(unittest.TestCase):
         self.assertEqual("", self.tab.text("#journeys"))
         self.tab.click("[data-at='1']")
         self.assertIn("08:00:00 Central – 08:01:00 One on C>stop 1", self.tab.text("#journeys"))
-        drawn = "document.getElementById('route').getAttribute('points').split(' ').length"
+        drawn = "document.querySelector('.route').getAttribute('points').split(' ').length"
         self.assertEqual(4, self.tab.value(drawn))
         self.tab.click("[data-at='2']")
         self.assertEqual("Two\nno journey", self.tab.text("#journeys").replace("\n\n", "\n"))

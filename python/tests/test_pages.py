@@ -202,7 +202,8 @@ class Boards(unittest.TestCase):
         self.assertEqual(200, status)
         labels = [option["value"] for option in page.tags("option")]
         self.assertEqual(["Two [stop 2]", "Two [Z]", "Central"], labels)
-        self.assertEqual(3, len(page.tags("circle")))
+        stops = [circle for circle in page.tags("circle") if circle.get("class") == "stop"]
+        self.assertEqual(3, len(stops))
 
     def test_journeys(self):
         status, page = self.get(**{"from": "Central", "to": "Two [Z]", "time": "08:00:00"})

@@ -117,7 +117,7 @@ class Publications(unittest.TestCase):
                 publication.wait(0)
             self.assertEqual(1, it.ask("A", "D", 0).edition)
             self.assertEqual(Edition(2, 3, 3, 1), publication.wait(LONG))
-            self.assertTrue(publication.done())
+            self.assertEqual(Edition(2, 3, 3, 1), publication.wait(0))
             self.assertEqual(2, it.ask("A", "D", 0).edition)
 
     def test_what_becomes_of_each(self):

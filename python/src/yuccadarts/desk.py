@@ -72,8 +72,8 @@ class Desk:
         for name, text in FIELDS.items():
             value = asked.get(name) or (DEPARTURE if name == "time" else "")
             names = None if name == "time" else "places"
-            label = add(form, "label", text)
-            add(label, "input", name=name, value=value, list=names, autocomplete="off")
+            field = add(form, "label", text)
+            add(field, "input", name=name, value=value, list=names, autocomplete="off")
         add(form, "button", "Show")
         places = add(form, "datalist", id="places")
         for label in self._ids:
@@ -103,8 +103,7 @@ class Desk:
         add(side, "p", f"by edition {answer.edition}", class_="note")
         drawing = self._add_plain_map(figure, "the journey that arrives first")
         if answer.values:
-            way = [*self._stops_of(answer.values[-1].legs)]
-            add_route(drawing, self._projection, way)
+            add_route(drawing, self._projection, self._stops_of(answer.values[-1].legs))
 
     def _add_choice(self, side: Element, choice: Choice, is_open: bool) -> None:
         details = add(side, "details", open="" if is_open else None)
@@ -139,7 +138,7 @@ class Desk:
     def _add_plain_map(self, figure: Element, title: str) -> Element:
         drawing = add_map(figure, self._projection, title)
         platforms = [stop for stop in self._stops.values() if not stop.is_station]
-        radius = radius_of(len(platforms))
+        radius = radius_of(platforms)
         for stop in platforms:
             add_stop(drawing, self._projection, stop, radius, UNREACHED, stop.name)
         return drawing

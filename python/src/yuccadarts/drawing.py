@@ -43,12 +43,16 @@ def add_map(parent: Element, projection: Projection, title: str) -> Element:
     """Adds an empty map."""
     box = f"0 0 {projection.width} {projection.height}"
     drawing = add(parent, "svg", viewBox=box, role="img", aria_label=title)
+    # what stands at both ends of each leg of a journey
+    marker = add(add(drawing, "defs"), "marker", id="end", viewBox="-5 -5 10 10")
+    add(marker, "circle", r=3.5)
     return drawing
 
 
-def radius_of(count: int) -> float:
-    """The radius of a stop where there are so many."""
-    return round(min(9.0, max(1.5, 140 / math.sqrt(count + 1))), 1)
+def radius_of(stops: Iterable[Stop]) -> float:
+    """The radius of stops, of which there are so many: platforms often share a place."""
+    count = len({(stop.longitude, stop.latitude) for stop in stops})
+    return round(min(9.0, max(1.5, 240 / math.sqrt(count + 1))), 1)
 
 
 def add_stops(
@@ -61,7 +65,7 @@ def add_stops(
     """Adds the stops of an isochrone, the nearest on top, each by its place in it; with a link they
     lead somewhere.
     """
-    radius = radius_of(len(found.places))
+    radius = radius_of(place.stop for place in found.places)
     numbered = list(enumerate(found.places))
     numbered.sort(key=lambda it: -travel_time(found, it[1]))
     for number, place in numbered:
@@ -93,19 +97,18 @@ def add_stop(
 ) -> None:
     at = projection.at(stop)
     if at:
-        place = {"cx": at[0], "cy": at[1], "r": radius}
-        circle = add(parent, "circle", class_="stop", fill=color, data_at=number, **place)
+        x, y = at
+        circle = add(
+            parent, "circle", class_="stop", cx=x, cy=y, r=radius, fill=color, data_at=number
+        )
         add(circle, "title", text)
 
 
-def add_route(drawing: Element, projection: Projection, stops: Sequence[Stop]) -> None:
+def add_route(drawing: Element, projection: Projection, stops: Iterable[Stop] = ()) -> None:
     """Adds the way of a journey over these stops, as far as they have coordinates."""
     points = [at for stop in stops if (at := projection.at(stop))]
-    if points:
-        line = " ".join(f"{x},{y}" for x, y in points)
-        add(drawing, "polyline", points=line, class_="route")
-        for x, y in (points[0], points[-1]):
-            add(drawing, "circle", cx=x, cy=y, r=8, class_="end")
+    line = " ".join(f"{x},{y}" for x, y in points)
+    add(drawing, "polyline", points=line, class_="route")
 
 
 def add_legend(parent: Element, found: Isochrone, bands: Sequence[Band]) -> None:

@@ -1,5 +1,5 @@
-"""Elements of HTML and SVG. Whatever stands in them is escaped as it is written, so a name of a feed
-is never more than text.
+"""Elements of HTML and SVG. Whatever stands in them is escaped as it is written, so a name of a
+feed is never more than text.
 """
 import base64
 import hashlib

@@ -1,7 +1,8 @@
 """When one is where: the stops of a feed with their best values from one origin."""
 import math
-from collections.abc import Iterable, Iterator
+from collections.abc import Iterable, Iterator, Sequence
 from dataclasses import dataclass
+from operator import attrgetter
 
 from .answers import Choice, Value
 from .questions import Ask
@@ -28,7 +29,7 @@ class Place:
 
     @property
     def earliest(self) -> Value | None:
-        return min(self.values, key=lambda value: value.arrival, default=None)
+        return min(self.values, key=attrgetter("arrival")) if self.values else None
 
 
 @dataclass(frozen=True, slots=True)
@@ -44,7 +45,8 @@ class Isochrone:
 
     def travel_time(self, place: Place) -> int | None:
         """The seconds from the departure to the earliest arrival."""
-        return place.earliest.arrival - self.departure if place.earliest else None
+        earliest = place.earliest
+        return earliest.arrival - self.departure if earliest else None
 
 
 @dataclass(frozen=True, slots=True)
@@ -101,5 +103,5 @@ def bands_of(found: Isochrone) -> list[Band]:
     return [Band(step * at, end, color) for at, (end, color) in enumerate(zip(ends, COLORS))]
 
 
-def band_of(bands: list[Band], seconds: int) -> Band:
+def band_of(bands: Sequence[Band], seconds: int) -> Band:
     return next(band for band in bands if band.end is None or seconds < band.end * 60)

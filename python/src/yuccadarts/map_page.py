@@ -4,7 +4,7 @@ from typing import Any
 from xml.etree.ElementTree import Element
 
 from .answers import Choice, Leg, Ride
-from .drawing import Projection, add_legend, add_map, add_stops
+from .drawing import Projection, add_legend, add_map, add_route, add_stops
 from .elements import add, add_data, digest, page, written
 from .isochrone import Isochrone, bands_of
 from .stops import Stop, name_of
@@ -24,7 +24,7 @@ def map_page(found: Isochrone, stops: dict[str, Stop]) -> str:
     main = add(body, "main")
     drawing = add_map(add(main, "figure"), projection, title)
     add_stops(drawing, projection, found, bands)
-    add(drawing, "polyline", points="", class_="route", id="route")
+    add_route(drawing, projection)
     side = add(main, "aside")
     add_legend(side, found, bands)
     if found.left_out:

@@ -4,7 +4,8 @@ Two threads stand beside the callers: one writes the lines that wait, all that t
 the process takes as one turn, and one reads whatever comes. Neither ever waits for a caller, so no
 pipe stays full whatever the callers do.
 """
-import io
+import contextlib
+import functools
 import json
 import subprocess
 import tempfile
@@ -39,8 +40,10 @@ class Asked(Generic[T]):
     def answer(self, reply: Json) -> None:
         try:
             value = self.read(reply)
-        except Exception as error:
+        except RouterError as error:
             self.result.set_exception(error)
+        except Exception as error:
+            self.result.set_exception(ProcessConfused(f"a reply of another form: {error!r}"))
         else:
             self.result.set_result(value)
 
@@ -59,7 +62,7 @@ class Process:
                 stdin=subprocess.PIPE,
                 stdout=subprocess.PIPE,
                 stderr=self._errors,
-                bufsize=0,
+                bufsize=TURN,
             )
         except OSError as error:
             self._errors.close()
@@ -124,15 +127,11 @@ class Process:
     def _write(self) -> None:
         stdin = self._child.stdin
         assert stdin
-        try:
+        # where it can't be written the process has ended, and the thread that reads sees why
+        with contextlib.suppress(OSError), stdin:
             while turn := self._next_turn():
-                left = memoryview(turn)
-                while left:
-                    left = left[stdin.write(left) :]
-            stdin.close()
-        except OSError:
-            # the process has ended, or will: the thread that reads sees why
-            stdin.close()
+                stdin.write(turn)
+                stdin.flush()
 
     def _next_turn(self) -> bytes:
         """The lines that wait, as soon as there are some; nothing when there will be no more."""
@@ -157,8 +156,8 @@ class Process:
         assert stdout
         confused = None
         try:
-            with io.BufferedReader(stdout, TURN) as lines:
-                for line in lines:
+            with stdout:
+                for line in stdout:
                     self._take(json.loads(line))
         except Exception as error:
             # nobody may be left waiting, whatever it is
@@ -203,20 +202,19 @@ class Process:
     def _reason(self, confused: str | None, status: int, errors: str) -> Callable[[], RouterError]:
         """What makes the exception for one who waits: each gets one of his own."""
         if confused:
-            return lambda: ProcessConfused(confused)
+            return functools.partial(ProcessConfused, confused)
         if self._closing:
             return Closed
         fault = fault_of(errors) if status == FEED_REFUSED else None
         if fault:
-            return lambda: FeedRefused(fault)
-        return lambda: ProcessEnded(status, errors)
+            return functools.partial(FeedRefused, fault)
+        return functools.partial(ProcessEnded, status, errors)
 
 
 def fault_of(errors: str) -> Json | None:
     """The fault that a line of standard error names."""
     for line in reversed(errors.splitlines()):
-        try:
-            return json.loads(line)["fault"]
-        except (ValueError, LookupError, TypeError):
-            continue
+        with contextlib.suppress(ValueError, LookupError, TypeError):
+            fault: Json = json.loads(line)["fault"]
+            return fault
     return None

@@ -1,6 +1,7 @@
 """A router over one process of `router live --json`."""
 import datetime
 import functools
+import math
 import os
 import shutil
 import time
@@ -48,21 +49,18 @@ class Publication:
         self._nudge = nudge
         self._edition: Future[Edition] = Future()
 
-    def done(self) -> bool:
-        """Whether it is known what became of the day."""
-        return self._edition.done()
-
     def wait(self, timeout: float | None = None) -> Edition:
         """The edition of the day, once it is there: what is asked from then on is answered by it or
         a later one. FeedRefused or NotPublished where there is none; TimeoutError after so many
         seconds.
         """
-        end = None if timeout is None else time.monotonic() + timeout
+        end = time.monotonic() + (math.inf if timeout is None else timeout)
         while not self._edition.done():
-            if end is not None and time.monotonic() >= end:
-                raise TimeoutError(f"{self.day} isn't published after {timeout} seconds")
             self._nudge()
-            wait([self._edition], NUDGE)
+            left = end - time.monotonic()
+            if left <= 0:
+                raise TimeoutError(f"{self.day} isn't published after {timeout} seconds")
+            wait([self._edition], min(left, NUDGE))
         return self._edition.result()
 
     def tell(self, said: Json) -> None:
@@ -114,9 +112,9 @@ class Router:
         day = day_of(feed, date)
         self._mirror = mirror
         self._ahead = AHEAD * lanes
-        self._process = Process([found(program), "--json", *options, "live", day], self._tell)
-        first = Publication(day, self._process.nudge)
+        first = Publication(day, self._nudge)
         self._publications = deque([first])
+        self._process = Process([found(program), "--json", *options, "live", day], self._tell)
         try:
             self.first_edition = first.wait()
         except BaseException:
@@ -170,8 +168,8 @@ class Router:
         return self._in_order(map(self._ask, questions))
 
     def travel_times(self, origins: Iterable[str], departure: Time) -> Iterator[TravelTimes]:
-        """For each origin, in order, the travel times to all stops. Each is a one-to-all search, and
-        a reply with a value for every stop.
+        """For each origin, in order, the travel times to all stops: by a one-to-all search and a
+        reply with a value for every stop.
         """
         asked = (Reach(origin, departure) for origin in origins)
         return self._in_order(
@@ -207,14 +205,17 @@ class Router:
     def _queue(self, day: str) -> Callable[[Json], Publication]:
         def queue(said: Json) -> Publication:
             """Replies come in the order of the lines, so days queue up in that order too."""
-            publication = Publication(day, self._process.nudge)
+            publication = Publication(day, self._nudge)
             self._publications.append(publication)
             return publication
 
-        return functools.partial(read_reply, queue)
+        return lambda said: read_reply(queue, said)
 
     def _tell(self, said: Json) -> None:
         self._publications.popleft().tell(said)
+
+    def _nudge(self) -> None:
+        self._process.nudge()
 
 
 def read_reply(read: Callable[[Json], T], said: Json) -> T:

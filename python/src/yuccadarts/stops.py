@@ -31,7 +31,7 @@ def read_stops(feed: str | os.PathLike[str]) -> dict[str, Stop]:
     path = os.path.join(feed, "stops.txt")
     with open(path, encoding="utf-8-sig", newline="") as file:
         rows = ([field.strip(" \t") for field in row] for row in csv.reader(file))
-        names = next(rows, [])
+        names: list[str] = next(rows, [])
         # of two columns of one name the first counts
         stops = (stop_of(dict(reversed([*zip(names, row)]))) for row in rows if any(row))
         return {stop.id: stop for stop in stops if stop}

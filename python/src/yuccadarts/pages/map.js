@@ -2,7 +2,7 @@
 // Shows the journeys to the stop on which one clicks. What stands in the page comes as text only.
 const said = JSON.parse(document.getElementById("said").textContent);
 const panel = document.getElementById("journeys");
-const route = document.getElementById("route");
+const route = document.querySelector(".route");
 const finder = document.getElementById("find");
 const [NAME, AT] = [1, 2];
 
