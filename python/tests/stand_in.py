@@ -4,9 +4,8 @@ from an answer which question it answers: one arrives as many minutes after the 
 edition's number, by a ride on the trip `ORIGIN>DESTINATION`.
 
 A day whose folder is named `broken` is refused, one named `unread` can't be read, and one named
-`slow` takes a while. Some origins
-have it do what a process shouldn't: `die`, `hang`, `babble` and `skip`. `reach many` tells of
-20,000 stops.
+`slow` takes a while. Some origins have it do what a process shouldn't: `pause`, `hang`, `die`,
+`babble` and `skip`. `reach many` tells of 20,000 stops, and `reach turn` of the turn's number.
 """
 import json
 import os
@@ -25,6 +24,7 @@ FAULT = {
     "row": 5,
     "column": "trip_id",
 }
+PAUSES = {"pause": 0.5, "hang": 3_600}
 OUTCOMES = {"broken": {"fault": FAULT}, "unread": {"message": "read fault"}}
 FORMS = {"ask": 3, "profile": 4, "latest": 3, "reach": 2, "publish": 1}
 
@@ -66,7 +66,7 @@ def values(edition, name, words):
 
 class StandIn:
     def __init__(self):
-        self.number = self.edition = 0
+        self.number = self.edition = self.turn = 0
         self.days, self.news = queue.Queue(), queue.Queue()
 
     def publish(self):
@@ -84,6 +84,7 @@ class StandIn:
 
     def take_turn(self, lines):
         out = []
+        self.turn += 1
         while not self.news.empty():
             told = self.news.get()
             self.edition = told.get("edition", self.edition)
@@ -110,6 +111,8 @@ class StandIn:
         if words[0] == "nowhere":
             return {"edition": self.edition, "unknown_stop": words[0]}
         self.misbehave(words[0])
+        if words[0] == "turn":
+            return {"edition": self.edition, "values": [["turn", [["", self.turn, 0]]]]}
         return {"edition": self.edition, "values": values(self.edition, name, words)}
 
     def misbehave(self, word):
@@ -117,8 +120,8 @@ class StandIn:
             sys.stderr.write('{"status":6,"message":"out of memory"}\n')
             sys.stderr.flush()
             os._exit(6)
-        if word == "hang":
-            time.sleep(3600)
+        if word in PAUSES:
+            time.sleep(PAUSES[word])
         if word == "babble":
             os.write(1, b"what?\n")
         if word == "skip":

@@ -89,7 +89,7 @@ class Answers(unittest.TestCase):
 
         with router(lanes=2) as it:
             next(it.travel_times(origins(), 0))
-        self.assertEqual(8, len(drawn))
+        self.assertEqual(16, len(drawn))
 
     def test_what_is_refused(self):
         with router() as it:
@@ -164,6 +164,14 @@ class Threads(unittest.TestCase):
         with router() as it, ThreadPoolExecutor(8) as threads:
             for done in [threads.submit(ask, thread) for thread in range(8)]:
                 done.result(LONG)
+
+    def test_what_is_asked_at_a_time_is_one_turn(self):
+        with router() as it, ThreadPoolExecutor(9) as threads:
+            threads.submit(it.ask, "pause", "D", 0)
+            time.sleep(0.2)
+            asked = [threads.submit(it.reach, "turn", 0) for _ in range(8)]
+            turns = {future.result(LONG).values[0].values[0].arrival for future in asked}
+        self.assertEqual(1, len(turns))
 
     def test_no_pipe_stays_full(self):
         """Lines and replies of many megabytes each way, before the first reply is looked at."""

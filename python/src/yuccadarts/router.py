@@ -35,7 +35,7 @@ Date = str | datetime.date
 
 PROGRAM = "ROUTER"
 """The variable of the environment that names the program."""
-AHEAD = 4
+AHEAD = 8
 """How many questions a lane are on their way when several are asked at once."""
 NUDGE = 0.05
 """The seconds between two looks at whether a day is published."""
