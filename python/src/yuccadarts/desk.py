@@ -9,7 +9,7 @@ from xml.etree.ElementTree import Element
 
 from .answers import Choice, Leg, Ride
 from .drawing import (
-    UNREACHED,
+    PLAIN,
     Projection,
     add_legend,
     add_map,
@@ -27,7 +27,7 @@ from .times import clock, seconds
 
 POLICY = "default-src 'none'; style-src 'unsafe-inline'; form-action 'self'"
 DEPARTURE = "08:00:00"
-FIELDS = {"from": "From", "to": "To", "time": "At"}
+FIELDS = {"from": "From", "to": "To, or nothing for a map of arrivals", "time": "At"}
 """The fields of the form, and their labels."""
 
 
@@ -140,7 +140,7 @@ class Desk:
         platforms = [stop for stop in self._stops.values() if not stop.is_station]
         radius = radius_of(platforms)
         for stop in platforms:
-            add_stop(drawing, self._projection, stop, radius, UNREACHED, stop.name)
+            add_stop(drawing, self._projection, stop, radius, PLAIN, stop.name)
         return drawing
 
     def _stops_of(self, legs: Sequence[Leg]) -> Iterator[Stop]:

@@ -11,6 +11,8 @@ from .times import clock
 SIZE = 1000
 MARGIN = 30
 UNREACHED = "#b0b4b8"
+PLAIN = "#d5d8db"
+"""The colour of stops of which nothing is told."""
 
 
 class Projection:
