@@ -19,7 +19,7 @@ from .drawing import (
     radius_of,
 )
 from .elements import add, page, written
-from .faults import RouterError, UnknownStop
+from .faults import LineRefused, RouterError, UnknownStop
 from .isochrone import bands_of, isochrone
 from .router import Router
 from .stops import Stop, name_of
@@ -61,7 +61,7 @@ class Desk:
         try:
             self._add_answer(side, figure, asked)
         except (RouterError, ValueError) as error:
-            is_asked_wrongly = isinstance(error, (UnknownStop, ValueError))
+            is_asked_wrongly = isinstance(error, (UnknownStop, LineRefused, ValueError))
             status = HTTPStatus.BAD_REQUEST if is_asked_wrongly else HTTPStatus.SERVICE_UNAVAILABLE
             add(side, "p", str(error), class_="fault")
             self._add_plain_map(figure, "the stops")
