@@ -5,7 +5,7 @@ edition's number, by a ride on the trip `ORIGIN>DESTINATION`.
 
 A day whose folder is named `broken` is refused, one named `unread` can't be read, and one named
 `slow` takes a while. Some origins have it do what a process shouldn't: `pause`, `hang`, `die`,
-`babble` and `skip`. `reach many` tells of 20,000 stops, and `reach turn` of the turn's number.
+`cut`, `babble` and `skip`. `reach many` tells of 20,000 stops, and `reach turn` of the turn's number.
 """
 import json
 import os
@@ -122,6 +122,9 @@ class StandIn:
             os._exit(6)
         if word in PAUSES:
             time.sleep(PAUSES[word])
+        if word == "cut":
+            os.write(1, b'{"request":')
+            os._exit(5)
         if word == "babble":
             os.write(1, b"what?\n")
         if word == "skip":

@@ -195,6 +195,11 @@ class Ends(unittest.TestCase):
             with self.assertRaises(ProcessEnded):
                 it.publish("feed", "20260303")
 
+    def test_a_process_that_dies_in_the_middle_of_a_line(self):
+        with router() as it, self.assertRaises(ProcessEnded) as ended:
+            it.ask("cut", "D", 0)
+        self.assertEqual(5, ended.exception.status)
+
     def test_a_process_that_is_killed_under_load(self):
         """Each thread gets an exception of its own, and none hangs."""
 

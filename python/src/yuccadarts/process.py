@@ -158,7 +158,9 @@ class Process:
         try:
             with stdout:
                 for line in stdout:
-                    self._take(json.loads(line))
+                    # only the last line of a process that died is cut off
+                    if line.endswith(b"\n"):
+                        self._take(json.loads(line))
         except Exception as error:
             # nobody may be left waiting, whatever it is
             confused = f"the process wrote what is no reply: {error!r}"
