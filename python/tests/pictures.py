@@ -21,7 +21,7 @@ PICTURES = TOP / "docs" / "pictures"
 PATTERNS = 240
 ORIGIN, TARGET, PLATFORM = "S860", "S1405", "S1405:1"
 DEPARTURE = 8 * 3_600
-WIDTH, HEIGHT = 1_100, 760
+WIDTH, HEIGHT = 1_100, 840
 
 
 def take_picture(tab: Tab, name: str) -> None:
