@@ -1,6 +1,8 @@
 """Tests over the proved program, where it is there: answers that are worked out by hand, and what
 the commands find in processes of their own.
 """
+import csv
+import itertools
 import random
 import sys
 import tempfile
@@ -89,6 +91,30 @@ class Examples(unittest.TestCase):
             with self.assertRaises(FeedRefused):
                 it.publish(EXAMPLES, DAY).wait(20)
             self.assertEqual(2, it.ask("Mill", "Pier", "08:00:00").edition)
+
+
+    def test_names_that_need_quotes(self):
+        names = ['a "b"', "# c", "t\tab", "\u00e9\\n", "-x", "it's", "x,y", "--close", '""']
+        calls = [(name, f"08:{at:02}:00", at) for at, name in enumerate(names)]
+        with tempfile.TemporaryDirectory() as folder:
+            write_rows(folder, "stops.txt", ["stop_id"], *([name] for name in names))
+            write_rows(folder, "trips.txt", ["service_id", "trip_id"], ["S", 'T "1"'])
+            columns = ["service_id", "date", "exception_type"]
+            write_rows(folder, "calendar_dates.txt", columns, ["S", DAY, "1"])
+            columns = ["trip_id", "stop_id", "arrival_time", "departure_time", "stop_sequence"]
+            rows = (['T "1"', name, time, time, at] for name, time, at in calls)
+            write_rows(folder, "stop_times.txt", columns, *rows)
+            with router(folder) as it:
+                for origin, destination in itertools.combinations(calls, 2):
+                    (choice,) = it.ask(origin[0], destination[0], "08:00:00").values
+                    leave, arrive = 8 * HOUR + 60 * origin[2], 8 * HOUR + 60 * destination[2]
+                    ride = Ride('T "1"', origin[0], leave, destination[0], arrive, False)
+                    self.assertEqual(Choice(arrive, 1, (ride,)), choice)
+
+
+def write_rows(folder, name, *rows):
+    with open(Path(folder, name), "w", encoding="utf-8", newline="") as file:
+        csv.writer(file).writerows(rows)
 
 
 def reached(answer, stop):
