@@ -2,6 +2,7 @@
 comes of a process that doesn't do what it should.
 """
 import os
+import shutil
 import signal
 import tempfile
 import threading
@@ -9,7 +10,7 @@ import time
 import unittest
 from concurrent.futures import ThreadPoolExecutor
 
-from . import STAND_IN
+from . import STAND_IN, TOP
 from yuccadarts import (
     Answer,
     Ask,
@@ -259,3 +260,9 @@ class Ends(unittest.TestCase):
             file.write(b"no program")
             file.file.close()
             Router("feed", "20260302", program=file.name)
+
+    def test_the_launcher_without_a_proved_program(self):
+        with tempfile.TemporaryDirectory() as folder:
+            launcher = shutil.copy(TOP / "router", folder)
+            with self.assertRaisesRegex(ProcessEnded, "for it: .*/router --build"):
+                Router("feed", "20260302", program=launcher)

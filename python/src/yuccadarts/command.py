@@ -86,7 +86,7 @@ def main() -> int:
     words = parser().parse_args()
     try:
         words.run(words)
-    except (RouterError, OSError) as error:
+    except (RouterError, OSError, ValueError) as error:
         print(f"yuccadarts: {error}", file=sys.stderr)
         return 1
     except KeyboardInterrupt:

@@ -7,6 +7,7 @@ pipe stays full whatever the callers do.
 import contextlib
 import functools
 import json
+import os
 import subprocess
 import tempfile
 import threading
@@ -25,6 +26,10 @@ TURN = 65_536
 """The bytes of lines after which no further line is written at the same time."""
 PATIENCE = 5.0
 """The seconds that a process has to end in once it has closed its output."""
+ONLY_PROVED = {"ROUTER_ONLY_PROVED": "1"}
+"""Without a proved program the launcher ends: the quick build answers nothing before all lines are
+there.
+"""
 FEED_REFUSED = 3
 """The status with which the program ends if the first day is refused."""
 
@@ -63,6 +68,7 @@ class Process:
                 stdout=subprocess.PIPE,
                 stderr=self._errors,
                 bufsize=TURN,
+                env=os.environ | ONLY_PROVED,
             )
         except OSError as error:
             self._errors.close()

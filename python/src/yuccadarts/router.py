@@ -164,7 +164,9 @@ class Router:
         return self._ask(Reach(origin, departure)).result()
 
     def answers(self, questions: Iterable[Question]) -> Iterator[Answer[Any]]:
-        """The answers to questions, in order. Some are asked ahead, so that all lanes have work."""
+        """The answers to questions, in order. Some are asked ahead, so that all lanes have work. An
+        exception in place of an answer is the last.
+        """
         return self._in_order(map(self._ask, questions))
 
     def travel_times(self, origins: Iterable[str], departure: Time) -> Iterator[TravelTimes]:
