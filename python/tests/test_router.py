@@ -1,6 +1,7 @@
 """Tests of the router over a process that makes its answers up: whose answer is whose, and what
 comes of a process that doesn't do what it should.
 """
+import multiprocessing
 import os
 import shutil
 import signal
@@ -18,6 +19,7 @@ from yuccadarts import (
     Closed,
     Departure,
     Edition,
+    Elsewhere,
     FeedRefused,
     LineRefused,
     NoProgram,
@@ -251,6 +253,28 @@ class Ends(unittest.TestCase):
                 router("broken")
         after = threading.active_count(), len(os.listdir("/proc/self/fd"))
         self.assertEqual(before, after)
+
+    def test_a_fork_has_no_router(self):
+        def in_fork(pipe):
+            try:
+                it.ask("A", "D", 0)
+            except Elsewhere as error:
+                it.close()
+                pipe.send(str(error))
+
+        fork = multiprocessing.get_context("fork")
+        with router() as it:
+            here, there = fork.Pipe(duplex=False)
+            forked = fork.Process(target=in_fork, args=(there,))
+            forked.start()
+            forked.join(LONG)
+            self.assertEqual(0, forked.exitcode)
+            self.assertIn("forked", here.recv())
+            self.assertEqual(60, it.ask("A", "D", 0).values[0].arrival)
+
+    def test_an_interrupt_of_the_terminal_is_not_for_the_process(self):
+        with router() as it:
+            self.assertEqual(it.pid, os.getpgid(it.pid))
 
     def test_no_program(self):
         with self.assertRaises(NoProgram):

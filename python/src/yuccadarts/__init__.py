@@ -22,6 +22,7 @@ from .answers import (
 )
 from .faults import (
     Closed,
+    Elsewhere,
     FeedRefused,
     LineRefused,
     NoProgram,
@@ -43,6 +44,7 @@ __all__ = [
     "Closed",
     "Departure",
     "Edition",
+    "Elsewhere",
     "FeedRefused",
     "Latest",
     "Leg",

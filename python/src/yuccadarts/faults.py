@@ -87,6 +87,13 @@ class Closed(RouterError):
         super().__init__("the router is closed")
 
 
+class Elsewhere(RouterError):
+    """The router is another process's, from which this one was forked: it needs one of its own."""
+
+    def __init__(self) -> None:
+        super().__init__("the router is another process's, from which this one was forked")
+
+
 def shown(fault: dict[str, Any]) -> str:
     """A fault as the program's texts show it."""
     words = [fault.get("number"), fault["name"], fault.get("file"), fault.get("quantity")]

@@ -17,7 +17,15 @@ from concurrent.futures import Future
 from dataclasses import dataclass, field
 from typing import Any, Generic, TypeVar
 
-from .faults import Closed, FeedRefused, NoProgram, ProcessConfused, ProcessEnded, RouterError
+from .faults import (
+    Closed,
+    Elsewhere,
+    FeedRefused,
+    NoProgram,
+    ProcessConfused,
+    ProcessEnded,
+    RouterError,
+)
 
 Json = dict[str, Any]
 T = TypeVar("T")
@@ -69,10 +77,13 @@ class Process:
                 stderr=self._errors,
                 bufsize=TURN,
                 env=os.environ | ONLY_PROVED,
+                # so that Ctrl-C interrupts whoever waits, and not the process
+                process_group=0,
             )
         except OSError as error:
             self._errors.close()
             raise NoProgram(f"{command[0]} can't be started: {error.strerror}") from error
+        self._owner = os.getpid()
         # guards the following; whoever changes one of them says so
         self._changed = threading.Condition()
         self._waiting: deque[Asked[Any]] = deque()
@@ -95,6 +106,7 @@ class Process:
     def ask(self, line: str, read: Callable[[Json], T]) -> Future[T]:
         """Has a line written, and gives what will be read from its reply, or why there is none."""
         asked = Asked(line.encode() + b"\n", read)
+        self._refuse_elsewhere()
         with self._changed:
             self._refuse_if_over()
             self._waiting.append(asked)
@@ -105,6 +117,7 @@ class Process:
         """Has an empty line written, which has no reply: the process begins a turn, and tells what
         news there is.
         """
+        self._refuse_elsewhere()
         with self._changed:
             self._refuse_if_over()
             self._nudged = True
@@ -112,6 +125,8 @@ class Process:
 
     def close(self, patience: float) -> None:
         """Lets the process answer what was asked, and end; ends it after so many seconds."""
+        if os.getpid() != self._owner:
+            return
         with self._changed:
             self._closing = True
             self._changed.notify()
@@ -121,6 +136,11 @@ class Process:
             self._child.kill()
         for thread in self._threads:
             thread.join()
+
+    def _refuse_elsewhere(self) -> None:
+        """A fork has no threads that write and read, and the lock may be held for ever there."""
+        if os.getpid() != self._owner:
+            raise Elsewhere
 
     def _refuse_if_over(self) -> None:
         if self._end:
