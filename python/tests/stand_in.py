@@ -26,7 +26,14 @@ FAULT = {
 }
 PAUSES = {"pause": 0.5, "hang": 3_600}
 OUTCOMES = {"broken": {"fault": FAULT}, "unread": {"message": "read fault"}}
-FORMS = {"ask": 3, "profile": 4, "latest": 3, "reach": 2, "publish": 1}
+FORMS = {
+    "ask": (3,),
+    "profile": (4,),
+    "latest": (3,),
+    "reach": (2,),
+    "times": (4, 6),
+    "publish": (1,),
+}
 
 
 def words_of(line):
@@ -48,6 +55,11 @@ def timed(name, secs):
 
 def values(edition, name, words):
     """The made up values of a question."""
+    if name == "times":
+        first, last, step = seconds(words[1]), seconds(words[2]), int(words[3])
+        count = (last - first) // step + 1
+        times = [60 * edition, *([int(words[5]) if words[5:] else None] * 6)]
+        return [["stop", count, count, times], ["Z", 0, count, [None] * 7]]
     departure = seconds(words[-1] if name != "profile" else words[-2])
     arrival = departure + 60 * edition
     if name == "latest":
@@ -103,7 +115,7 @@ class StandIn:
             out = out[os.write(1, out) :]
 
     def reply(self, name, *words):
-        if len(words) != FORMS.get(name) or len(" ".join(words)) > 1_000:
+        if len(words) not in FORMS.get(name, ()) or len(" ".join(words)) > 1_000:
             return {"fault": {"number": 1, "name": "BadLine"}}
         if name == "publish":
             self.days.put(words[0])

@@ -15,6 +15,7 @@ from . import STAND_IN, TOP
 from yuccadarts import (
     Answer,
     Ask,
+    Cell,
     Choice,
     Closed,
     Departure,
@@ -33,6 +34,7 @@ from yuccadarts import (
     Ride,
     Router,
     RouterError,
+    Spread,
     TravelTimes,
     UnknownStop,
     Value,
@@ -81,6 +83,18 @@ class Answers(unittest.TestCase):
             rows = [*it.travel_times(["A", "B"], "08:00:00")]
         seconds = {f"stop {number}": 60 for number in range(3)}
         self.assertEqual([TravelTimes("A", 1, seconds), TravelTimes("B", 1, seconds)], rows)
+
+    def test_times(self):
+        with router() as it:
+            one = it.times("A", "08:00:00", "09:00:00", 300)
+            self.assertEqual(Spread("stop", 13, 13, 60, *[None] * 6), one.values[0])
+            self.assertEqual(Spread("Z", 0, 13, *[None] * 7), one.values[1])
+            two = it.times("A", 0, 10, 3, rides=2)
+            self.assertEqual(Spread("stop", 4, 4, 60, *[2] * 6), two.values[0])
+            cells = [*it.matrix(["A", "B b"], "08:00:00", "09:00:00", 300)]
+        ends = [("A", "stop"), ("A", "Z"), ("B b", "stop"), ("B b", "Z")]
+        self.assertEqual(ends, [(cell.origin, cell.stop) for cell in cells])
+        self.assertEqual(Cell("A", 1, "stop", 13, 13, 60, *[None] * 6), cells[0])
 
     def test_only_so_many_are_asked_ahead(self):
         drawn = []

@@ -9,6 +9,7 @@ change; where one is asked for it may also be a text as `08:00:00`.
 """
 from .answers import (
     Answer,
+    Cell,
     Choice,
     Departure,
     Edition,
@@ -16,6 +17,7 @@ from .answers import (
     Offer,
     Reached,
     Ride,
+    Spread,
     TravelTimes,
     Value,
     Walk,
@@ -33,13 +35,14 @@ from .faults import (
     RouterError,
     UnknownStop,
 )
-from .questions import Ask, Latest, Profile, Question, Reach
+from .questions import Ask, Latest, Profile, Question, Reach, Times
 from .router import Publication, Router
 from .times import Time, clock, seconds
 
 __all__ = [
     "Answer",
     "Ask",
+    "Cell",
     "Choice",
     "Closed",
     "Departure",
@@ -63,7 +66,9 @@ __all__ = [
     "Ride",
     "Router",
     "RouterError",
+    "Spread",
     "Time",
+    "Times",
     "TravelTimes",
     "UnknownStop",
     "Value",

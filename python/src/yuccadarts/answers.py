@@ -6,7 +6,7 @@ from collections.abc import Callable, Iterator
 from dataclasses import dataclass
 from typing import Any, Generic, TypeVar
 
-from .questions import Ask, Latest, Profile, Question, Reach
+from .questions import Ask, Latest, Profile, Question, Reach, Times
 
 Json = dict[str, Any]
 
@@ -81,6 +81,42 @@ class Reached:
     values: tuple[Value, ...]
 
 
+@dataclass(frozen=True, slots=True)
+class Spread:
+    """How many of some departures reach a stop, and its travel times over all of them, in seconds,
+    by nearest rank: None where the departure of the rank doesn't reach it.
+    """
+
+    stop: str
+    reached: int
+    departures: int
+    least: int | None
+    percentile_5: int | None
+    percentile_25: int | None
+    percentile_50: int | None
+    percentile_75: int | None
+    percentile_95: int | None
+    greatest: int | None
+
+
+@dataclass(frozen=True, slots=True)
+class Cell:
+    """A cell of a matrix: what `Spread` has of a stop, from an origin, by an edition."""
+
+    origin: str
+    edition: int
+    stop: str
+    reached: int
+    departures: int
+    least: int | None
+    percentile_5: int | None
+    percentile_25: int | None
+    percentile_50: int | None
+    percentile_75: int | None
+    percentile_95: int | None
+    greatest: int | None
+
+
 V = TypeVar("V")
 
 
@@ -151,11 +187,17 @@ def read_reached(said: list[Any]) -> Reached:
     return Reached(stop, tuple(Value(arrival, rides) for _, arrival, rides in values))
 
 
+def read_spread(said: list[Any]) -> Spread:
+    stop, reached, departures, times = said
+    return Spread(stop, reached, departures, *times)
+
+
 READERS: dict[type[Question], Callable[[Any], Any]] = {
     Ask: read_choice,
     Profile: read_offer,
     Latest: read_departure,
     Reach: read_reached,
+    Times: read_spread,
 }
 
 
@@ -172,6 +214,13 @@ def read_travel_times(question: Reach, departure: int, said: Json) -> TravelTime
         if values
     }
     return TravelTimes(question.origin, said["edition"], seconds)
+
+
+def read_cells(question: Times, said: Json) -> list[Cell]:
+    return [
+        Cell(question.origin, said["edition"], stop, reached, departures, *times)
+        for stop, reached, departures, times in said["values"]
+    ]
 
 
 def read_edition(said: Json) -> Edition:

@@ -76,4 +76,22 @@ class Reach:
         return line("reach", self.origin, clock(self.departure))
 
 
-Question = Ask | Profile | Latest | Reach
+@dataclass(frozen=True, slots=True)
+class Times:
+    """Travel times to each stop over departures from the first to the last, one each so many
+    seconds; with no more rides than so many, if they are given.
+    """
+
+    origin: str
+    first: Time
+    last: Time
+    step: int
+    rides: int | None = None
+
+    def line(self) -> str:
+        words = clock(self.first), clock(self.last), str(self.step)
+        limit = () if self.rides is None else ("rides", str(self.rides))
+        return line("times", self.origin, *words, *limit)
+
+
+Question = Ask | Profile | Latest | Reach | Times

@@ -1,6 +1,7 @@
 """A router over one process of `router live --json`."""
 import datetime
 import functools
+import itertools
 import math
 import os
 import shutil
@@ -13,20 +14,23 @@ from typing import Any, Self, TypeVar
 
 from .answers import (
     Answer,
+    Cell,
     Choice,
     Departure,
     Edition,
     Json,
     Offer,
     Reached,
+    Spread,
     TravelTimes,
     read_answer,
+    read_cells,
     read_edition,
     read_travel_times,
 )
 from .faults import FeedRefused, LineRefused, NoProgram, NotPublished, UnknownStop
 from .process import Process
-from .questions import Ask, Latest, Profile, Question, Reach, line
+from .questions import Ask, Latest, Profile, Question, Reach, Times, line
 from .times import Time, seconds
 
 T = TypeVar("T")
@@ -162,6 +166,31 @@ class Router:
     def reach(self, origin: str, departure: Time) -> Answer[Reached]:
         """The best values to each stop, in the order of stops.txt, without journeys."""
         return self._ask(Reach(origin, departure)).result()
+
+    def times(
+        self, origin: str, first: Time, last: Time, step: int, rides: int | None = None
+    ) -> Answer[Spread]:
+        """Travel times to each stop, in the order of stops.txt, over departures from the first to
+        the last, one each so many seconds, with at most so many rides.
+        """
+        return self._ask(Times(origin, first, last, step, rides)).result()
+
+    def matrix(
+        self,
+        origins: Iterable[str],
+        first: Time,
+        last: Time,
+        step: int,
+        rides: int | None = None,
+    ) -> Iterator[Cell]:
+        """The same from many origins: a cell for each origin and each stop, in order. `pandas` makes
+        a table of them: `DataFrame(router.matrix(..))`.
+        """
+        asked = (Times(origin, first, last, step, rides) for origin in origins)
+        rows = self._in_order(
+            self._send(it, functools.partial(read_cells, it)) for it in asked
+        )
+        return itertools.chain.from_iterable(rows)
 
     def answers(self, questions: Iterable[Question]) -> Iterator[Answer[Any]]:
         """The answers to questions, in order. Some are asked ahead, so that all lanes have work. An
