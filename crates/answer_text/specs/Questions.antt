@@ -115,7 +115,7 @@ pub record AreDepartureTimes (first last : ℤ) (step : ℕ) : Type 0 where
   pub not_before : pos 0 ≤ℤ first
   pub some : first ≤ℤ last
   pub not_after : last ≤ℤ pos 359999
-  pub step : IsStep step
+  pub each_step : IsStep step
 
 -- its times are those that can be asked for
 abbrev pub HasTimes : Question → Type 0
