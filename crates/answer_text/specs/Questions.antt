@@ -63,11 +63,15 @@ known_rides (Some rides) = Ok (Some rides)
 abbrev pub most_rides : List ℕ → Result (Option ℕ) QuestionFault
 most_rides word = known_rides (number_of word)
 
+-- `rides N`
+abbrev pub limit_of : List ℕ → List ℕ → Result (Option ℕ) QuestionFault
+limit_of word number =
+    if bytes_eq word (codes "rides") then most_rides number else Err fault.BadForm
+
 -- any number of rides, or `rides N`
 abbrev pub rides_of : List (List ℕ) → Result (Option ℕ) QuestionFault
 rides_of [] = Ok None
-rides_of (word ∷ number ∷ []) =
-    if bytes_eq word (codes "rides") then most_rides number else Err fault.BadForm
+rides_of (word ∷ number ∷ []) = limit_of word number
 rides_of words = Err fault.BadForm
 
 -- the last departure: no earlier than the first, and at most 1,439 steps after it

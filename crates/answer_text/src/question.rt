@@ -2,7 +2,7 @@
 ghost use Rattle.std.specs.Prelude.{◌≡◌, ◌≤◌, ◌≤ℤ◌, IfOk, pos};
 ghost use Rattle.gtfs_rows.specs.Numbers.{IsFileTime};
 ghost use Rattle.tb_base.specs.Refusals.{Yields};
-ghost use Rattle.answer_text.specs.Questions.{HasTimes, IsArrivalTime, IsStep, arrival_time, ask_of, last_departure, latest_of, most_rides, needs_mirror, profile_of, question_of, reach_of, rides_of, step_of, times_of, word_time};
+ghost use Rattle.answer_text.specs.Questions.{HasTimes, IsArrivalTime, IsStep, arrival_time, ask_of, last_departure, latest_of, limit_of, most_rides, needs_mirror, profile_of, question_of, reach_of, rides_of, step_of, times_of, word_time};
 
 use gtfs_rows::{number_of, time_of};
 use std::alloc::Global;
@@ -13,7 +13,7 @@ const LAST_ARRIVAL: Sec = 273_599;
 
 // The most seconds from one departure to the next, and the most departures behind the first.
 const MOST_STEP: u32 = 3600;
-const MOST_LATER: i32 = 1439;
+const MOST_LATER: u32 = 1439;
 
 /// A question about the network of a day. The names are those of stops or stations; times are in
 /// seconds since noon minus twelve hours.
@@ -186,13 +186,24 @@ fn most_rides(word: &Name) -> Result<Option<u32>, Refused<QuestionFault>>
     }
 }
 
+// `rides N`.
+fn limit_of(word: &Name, number: &Name) -> Result<Option<u32>, Refused<QuestionFault>>
+    ensures { Yields result (λ rides. rides) (limit_of word.now number.now) }
+{
+    if word.bytes() == b"rides".as_slice() {
+        most_rides(number)
+    } else {
+        Err(Refused::Fault(QuestionFault::BadForm))
+    }
+}
+
 // No words, or `rides N`.
 fn rides_of(words: &[Name]) -> Result<Option<u32>, Refused<QuestionFault>>
     ensures { Yields result (λ rides. rides) (rides_of words.now) }
 {
     match words {
         [] => Ok(None),
-        [word, number] if word.bytes() == b"rides".as_slice() => most_rides(number),
+        [word, number] => limit_of(word, number),
         _ => Err(Refused::Fault(QuestionFault::BadForm)),
     }
 }
@@ -205,7 +216,8 @@ fn last_departure(first: Sec, step: u32, last: Sec) -> Result<Sec, Refused<Quest
     ensures some { IfOk result (λ time. first ≤ℤ time) }
     ensures same { IfOk result (λ time. time ≡ last) }
 {
-    if first <= last && last <= first + MOST_LATER * step as i32 {
+    let latest = first + (MOST_LATER * step) as i32;
+    if first <= last && last <= latest {
         Ok(last)
     } else {
         Err(Refused::Fault(QuestionFault::BadTime))
