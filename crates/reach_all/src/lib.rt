@@ -19,7 +19,7 @@ mod offers;
 mod query;
 mod sweeping;
 mod text;
-mod times_text;
+mod travel_text;
 mod travelling;
 mod walking;
 
@@ -27,5 +27,5 @@ pub use departures::Departures;
 pub use figures::Figures;
 pub use query::reach_all;
 pub use text::reach_text;
-pub use times_text::times_text;
+pub use travel_text::times_text;
 pub use travelling::{TravelTimes, travel_times};

@@ -26,7 +26,7 @@ returns-clause-figures g c =
     let made = c.in_ok-lists.ensures in record {
       times = times;
       departures = c.in_ok-times.ensures.times;
-      counted = ?;
+      counted = c.len.ensures ∙ c.in_ok-times.times.ok.0;
       have = have_figures (λ list. list.items) T c.args.from.now c.args.rides times lists figures (made.each_departure ∙ ap length c.as_slice.ensures.value)
           (subst (λ (ds : List ℤ). (k : ℕ) (t : ℤ) (o : List (Option ℤ)) → k < length ds → AreTimesAt T c.args.from.now c.args.rides (get_or ds k t) (get_or (map (λ list. list.items) lists) k o)) c.as_slice.ensures.value made.times)
           (c.in_ok-figures.ensures.each_stop ∙ c.shape.ensures.stops)

@@ -62,6 +62,23 @@ fn add_line(
     text.add(b"\n")
 }
 
+// The lines of all stops.
+fn lines_text(
+    alloc: Global,
+    table: &Timetable,
+    figures: &[Figures],
+    departures: u32,
+) -> Result<Vec<u8>, Memory>
+    requires { length figures.now ≡ length table.now.stops }
+    ensures { IfOk result (λ text. text.items ≡ times_text table.now departures figures.now) }
+{
+    let mut text = Text::new(alloc);
+    for stop in 0..table.stop_count() {
+        add_line(&mut text, table, figures, departures, StopNo(stop))?;
+    }
+    Ok(text.into_bytes())
+}
+
 /// One line for each stop, by its number: its name, ` N/M`, where N of M departures reach it, and
 /// then the least, the 5th, 25th, 50th, 75th and 95th percentile and the greatest of its travel
 /// times, each after a space, as hours, minutes and seconds, or `-` where there is none. There are
@@ -75,15 +92,5 @@ pub fn times_text(
     ensures { IfOk result (λ text. text.items
         ≡ times_text table.now travel.now.departures travel.now.figures.items) }
 {
-    let mut text = Text::new(alloc);
-    for stop in 0..table.stop_count() {
-        add_line(
-            &mut text,
-            table,
-            travel.figures.as_slice(),
-            travel.departures,
-            StopNo(stop),
-        )?;
-    }
-    Ok(text.into_bytes())
+    lines_text(alloc, table, travel.figures.as_slice(), travel.departures)
 }
