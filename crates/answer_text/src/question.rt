@@ -13,6 +13,7 @@ const LAST_ARRIVAL: Sec = 273_599;
 
 // The most seconds from one departure to the next, and the most departures behind the first.
 const MOST_STEP: u32 = 3600;
+
 const MOST_LATER: u32 = 1439;
 
 /// A question about the network of a day. The names are those of stops or stations; times are in

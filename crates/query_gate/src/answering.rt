@@ -239,7 +239,15 @@ pub fn answer(
                 last: *last,
                 step: *step,
             };
-            times_from::<Brand>(alloc, network, desk, from, &departures, *rides, Blank::new(1))
+            times_from::<Brand>(
+                alloc,
+                network,
+                desk,
+                from,
+                &departures,
+                *rides,
+                Blank::new(1),
+            )
         }
     }
 }

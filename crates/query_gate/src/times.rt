@@ -102,5 +102,11 @@ pub(crate) fn add_times(
     ensures { OnOk result (text.new
         ≡ text.old ++ times_json frame table.now travel.now.departures travel.now.figures.items) }
 {
-    add_stops(text, frame, table, travel.departures, travel.figures.as_slice())
+    add_stops(
+        text,
+        frame,
+        table,
+        travel.departures,
+        travel.figures.as_slice(),
+    )
 }

@@ -83,11 +83,7 @@ fn lines_text(
 /// then the least, the 5th, 25th, 50th, 75th and 95th percentile and the greatest of its travel
 /// times, each after a space, as hours, minutes and seconds, or `-` where there is none. There are
 /// figures for each stop.
-pub fn times_text(
-    alloc: Global,
-    table: &Timetable,
-    travel: &TravelTimes,
-) -> Result<Vec<u8>, Memory>
+pub fn times_text(alloc: Global, table: &Timetable, travel: &TravelTimes) -> Result<Vec<u8>, Memory>
     requires { length travel.now.figures.items ≡ length table.now.stops }
     ensures { IfOk result (λ text. text.items
         ≡ times_text table.now travel.now.departures travel.now.figures.items) }
