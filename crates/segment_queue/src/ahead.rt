@@ -71,23 +71,34 @@ impl Desk {
         ahead
     }
 
+    // Reads a stretch of segments ahead, from one number on: what clips each, and the first event
+    // that it covers, up to number `to`.
+    #[inline(never)]
+    fn read_stretch_ahead<S: Scan>(&mut self, scan: &S, from: u32, to: u32)
+        requires step { IsInStep (S.net scan.now) self.old }
+        requires to { to ≤ length self.old.segments }
+        ensures { self.new ≡ self.old }
+    {
+        let end = to.min(from.saturating_add(STRETCH));
+        let clips = self.read_clips(scan, from, end);
+        self.ahead.join(clips);
+        let events = self.read_events(scan, from, end);
+        self.ahead.join(events);
+    }
+
     /// Before segment `n` of a round is looked at: at the first segment of each stretch of 128,
     /// counted from where the round begins, reads ahead what clips each segment of the stretch and
     /// the first event that it covers, up to number `to`. At any other segment it does nothing.
+    #[inline(always)]
     pub fn read_segments_ahead<S: Scan>(&mut self, scan: &S, begin: u32, n: u32, to: u32)
         requires step { IsInStep (S.net scan.now) self.old }
         requires begin { begin ≤ n }
         requires to { to ≤ length self.old.segments }
         ensures { self.new ≡ self.old }
     {
-        if (n - begin) % STRETCH != 0 {
-            return;
+        if (n - begin) % STRETCH == 0 {
+            self.read_stretch_ahead(scan, n, to);
         }
-        let end = to.min(n.saturating_add(STRETCH));
-        let clips = self.read_clips(scan, n, end);
-        self.ahead.join(clips);
-        let events = self.read_events(scan, n, end);
-        self.ahead.join(events);
     }
 
     /// Before note `k` is followed: at the first note of each stretch of 128 reads ahead the first
