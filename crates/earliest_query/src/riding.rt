@@ -123,48 +123,47 @@ impl<S: Scan> Search<'_, S> {
         }
     }
 
-    // The best hit so far, or to alight at an event of a segment, where one may, and walk on to the
-    // nearest target where that is earlier. Few events come here.
+    // Weighs to alight at an event of a segment, where one may, and to walk on to the nearest target:
+    // it is the best hit where that is earlier. Few events come here.
     #[inline(never)]
     fn weigh_near(
         &self,
-        best: Option<Hit>,
+        best: &mut Option<Hit>,
         visit: &Visit,
         entry: u32,
         at: u32,
         round: u32,
-    ) -> Option<Hit>
+    )
         requires stop { visit.now.stop < length (S.net self.now.scan.now).table.stops }
         requires arr { visit.now.arr ≤ℤ pos 359999 }
         requires alight { IsTrue visit.now.alight }
         ensures { IsWeighed (S.net self.now.scan.now).table self.now.query.now visit.now.stop
-            visit.now.arr visit.now.alight entry at round best result }
+            visit.now.arr visit.now.alight entry at round best.old best.new }
     {
-        match nearest(self.scan, visit.stop, targets(self.query)) {
-            Some(path) => earlier(best, alighting(visit, path, entry, at, round)),
-            None => best,
+        if let Some(path) = nearest(self.scan, visit.stop, targets(self.query)) {
+            *best = earlier(*best, alighting(visit, path, entry, at, round));
         }
     }
 
-    // The best hit so far, or to alight at an event of a segment where that is earlier.
+    // Weighs to alight at an event of a segment: it is the best hit where that is earlier. The best
+    // hit stays where it is, so at most events nothing is copied.
     #[inline(always)]
     pub(crate) fn weigh(
         &self,
-        best: Option<Hit>,
+        best: &mut Option<Hit>,
         visit: &Visit,
         entry: u32,
         at: u32,
         round: u32,
-    ) -> Option<Hit>
+    )
         requires stop { visit.now.stop < length (S.net self.now.scan.now).table.stops }
         requires arr { visit.now.arr ≤ℤ pos 359999 }
         ensures { IsWeighed (S.net self.now.scan.now).table self.now.query.now visit.now.stop
-            visit.now.arr visit.now.alight entry at round best result }
+            visit.now.arr visit.now.alight entry at round best.old best.new }
     {
-        if !may_improve(&best, visit) || !self.may_be_near(visit.stop) {
-            return best;
+        if may_improve(best, visit) && self.may_be_near(visit.stop) {
+            self.weigh_near(best, visit, entry, at, round);
         }
-        self.weigh_near(best, visit, entry, at, round)
     }
 
     // Looks at the indices that a segment covers one by one, and weighs to alight there. It ends
@@ -216,7 +215,7 @@ impl<S: Scan> Search<'_, S> {
             let at = before + 1;
             let visit = scan.visit(segment.trip, at, steps);
             also.meet(self, &segment, at, round, &visit);
-            best = self.weigh(best, &visit, n, at, round);
+            self.weigh(&mut best, &visit, n, at, round);
             if is_late(&best, &visit) {
                 return (best, seen);
             }

@@ -144,7 +144,7 @@ impl<S: Scan> Search<'_, S> {
         for before in segment.board..segment.end {
             let at = before + 1;
             let visit = scan.visit(segment.trip, at, steps);
-            best = self.weigh(best, &visit, n, at, round);
+            self.weigh(&mut best, &visit, n, at, round);
             if is_late(&best, &visit) {
                 return Ok(best);
             }

@@ -38,15 +38,15 @@ visit-visit-requires-clause-at g c =
     let sound = subst (IsSoundSegment (g.S.Scan.net c.args.self.now.scan.now).table) same (c.requires.queue.sound c.args.n no_segment c.requires.segment) in
     omega (arith, sound.within, c.loop-before-test.true)
 
-pub weigh-best-requires-clause-stop : goal.weigh-best-requires-clause-stop
-weigh-best-requires-clause-stop g c =
+pub weigh-requires-clause-stop : goal.weigh-requires-clause-stop
+weigh-requires-clause-stop g c =
     let same : segment_of c.args.desk.now.segments c.args.n ≡ c.in-Some.segment = get_or_from_slice_get c.args.desk.now.segments c.args.n c.in-Some.segment no_segment (sym c.in-Some.ensures) in
     let sound = subst (IsSoundSegment (g.S.Scan.net c.args.self.now.scan.now).table) same (c.requires.queue.sound c.args.n no_segment c.requires.segment) in
     let event = sound_event (g.S.Scan.net c.args.self.now.scan.now).table c.in-Some.segment.trip (c.loop-before.before + 1) c.soundness.ensures.sound sound.trip (omega (arith, sound.within, c.loop-before-test.true)) in
     omega (arith, c.visit-visit.ensures.stop, event.stop)
 
-pub weigh-best-requires-clause-arr : goal.weigh-best-requires-clause-arr
-weigh-best-requires-clause-arr g c =
+pub weigh-requires-clause-arr : goal.weigh-requires-clause-arr
+weigh-requires-clause-arr g c =
     let same : segment_of c.args.desk.now.segments c.args.n ≡ c.in-Some.segment = get_or_from_slice_get c.args.desk.now.segments c.args.n c.in-Some.segment no_segment (sym c.in-Some.ensures) in
     let sound = subst (IsSoundSegment (g.S.Scan.net c.args.self.now.scan.now).table) same (c.requires.queue.sound c.args.n no_segment c.requires.segment) in
     let event = sound_event (g.S.Scan.net c.args.self.now.scan.now).table c.in-Some.segment.trip (c.loop-before.before + 1) c.soundness.ensures.sound sound.trip (omega (arith, sound.within, c.loop-before-test.true)) in
@@ -97,7 +97,7 @@ loop-before-preserved g c =
     let n : ℕ = c.args.n in
     let at : ℕ = c.loop-before.before + 1 in
     let F : DeskData = c.follow_level.new.desk in
-    let looked : IsLookedAt N Q D E n at c.args.round c.args.so_far c.loop-before.best c.weigh-best.result
+    let looked : IsLookedAt N Q D E n at c.args.round c.args.so_far c.loop-before.best c.weigh.new.best
     = record {
       segment = c.in-Some.segment;
       is = get_or_from_slice_get D.segments n c.in-Some.segment no_segment (sym c.in-Some.ensures);
@@ -112,7 +112,7 @@ loop-before-preserved g c =
       stop_is = c.visit-visit.ensures.stop;
       arr_is = c.visit-visit.ensures.arr;
       alight_is = c.visit-visit.ensures.alight;
-      weighed = c.weigh-best.ensures;
+      weighed = c.weigh.ensures;
       followed = λ i above below. c.loop-before.invariant.followed i above (omega (arith, below));
       bounded = λ i above below. c.loop-before.invariant.bounded i above (omega (arith, below));
       improved = c.loop-before.invariant.improved;
@@ -120,10 +120,10 @@ loop-before-preserved g c =
     record {
       queue = c.in_ok-follow_level.ensures.queue;
       levels = c.in_ok-follow_level.ensures.levels ∙ c.loop-before.invariant.levels;
-      extends = extends_on N Q D E n at c.args.round c.args.so_far c.loop-before.best c.weigh-best.result looked F c.in_ok-follow_level.ensures.extends c.in_ok-follow_level.ensures.followed;
-      followed = followed_on N Q D E n at c.args.round c.args.so_far c.loop-before.best c.weigh-best.result looked F c.in_ok-follow_level.ensures.extends c.in_ok-follow_level.ensures.followed;
-      bounded = bounded_on N Q D E n at c.args.round c.args.so_far c.loop-before.best c.weigh-best.result looked F c.in_ok-follow_level.ensures.extends c.in_ok-follow_level.ensures.followed;
-      improved = improved_on N Q D E n at c.args.round c.args.so_far c.loop-before.best c.weigh-best.result looked F c.in_ok-follow_level.ensures.extends c.in_ok-follow_level.ensures.followed;
+      extends = extends_on N Q D E n at c.args.round c.args.so_far c.loop-before.best c.weigh.new.best looked F c.in_ok-follow_level.ensures.extends c.in_ok-follow_level.ensures.followed;
+      followed = followed_on N Q D E n at c.args.round c.args.so_far c.loop-before.best c.weigh.new.best looked F c.in_ok-follow_level.ensures.extends c.in_ok-follow_level.ensures.followed;
+      bounded = bounded_on N Q D E n at c.args.round c.args.so_far c.loop-before.best c.weigh.new.best looked F c.in_ok-follow_level.ensures.extends c.in_ok-follow_level.ensures.followed;
+      improved = improved_on N Q D E n at c.args.round c.args.so_far c.loop-before.best c.weigh.new.best looked F c.in_ok-follow_level.ensures.extends c.in_ok-follow_level.ensures.followed;
       still = λ fits. c.follow_level.ensures.still (c.loop-before.invariant.still fits);
     }
 
@@ -135,7 +135,7 @@ returns-then-is_late g c =
     let E : DeskData = c.loop-before.desk in
     let n : ℕ = c.args.n in
     let at : ℕ = c.loop-before.before + 1 in
-    let looked : IsLookedAt N Q D E n at c.args.round c.args.so_far c.loop-before.best c.weigh-best.result
+    let looked : IsLookedAt N Q D E n at c.args.round c.args.so_far c.loop-before.best c.weigh.new.best
     = record {
       segment = c.in-Some.segment;
       is = get_or_from_slice_get D.segments n c.in-Some.segment no_segment (sym c.in-Some.ensures);
@@ -150,7 +150,7 @@ returns-then-is_late g c =
       stop_is = c.visit-visit.ensures.stop;
       arr_is = c.visit-visit.ensures.arr;
       alight_is = c.visit-visit.ensures.alight;
-      weighed = c.weigh-best.ensures;
+      weighed = c.weigh.ensures;
       followed = λ i above below. c.loop-before.invariant.followed i above (omega (arith, below));
       bounded = λ i above below. c.loop-before.invariant.bounded i above (omega (arith, below));
       improved = c.loop-before.invariant.improved;
@@ -159,9 +159,9 @@ returns-then-is_late g c =
       queue = c.loop-before.invariant.queue;
       levels = c.loop-before.invariant.levels;
       extends = c.loop-before.invariant.extends;
-      followed = followed_late N Q D E n at c.args.round c.args.so_far c.loop-before.best c.weigh-best.result looked c.soundness.ensures.sound (c.requires.queue.sound n no_segment c.requires.segment) (c.if-is_late.ensures.0 refl);
-      bounded = bounded_late N Q D E n at c.args.round c.args.so_far c.loop-before.best c.weigh-best.result looked c.soundness.ensures.sound (c.requires.queue.sound n no_segment c.requires.segment) (c.if-is_late.ensures.0 refl);
-      improved = improved_late N Q D E n at c.args.round c.args.so_far c.loop-before.best c.weigh-best.result looked c.soundness.ensures.sound (c.requires.queue.sound n no_segment c.requires.segment) (c.if-is_late.ensures.0 refl);
+      followed = followed_late N Q D E n at c.args.round c.args.so_far c.loop-before.best c.weigh.new.best looked c.soundness.ensures.sound (c.requires.queue.sound n no_segment c.requires.segment) (c.if-is_late.ensures.0 refl);
+      bounded = bounded_late N Q D E n at c.args.round c.args.so_far c.loop-before.best c.weigh.new.best looked c.soundness.ensures.sound (c.requires.queue.sound n no_segment c.requires.segment) (c.if-is_late.ensures.0 refl);
+      improved = improved_late N Q D E n at c.args.round c.args.so_far c.loop-before.best c.weigh.new.best looked c.soundness.ensures.sound (c.requires.queue.sound n no_segment c.requires.segment) (c.if-is_late.ensures.0 refl);
       still = c.loop-before.invariant.still;
     }
 
