@@ -1,13 +1,13 @@
 -- A reader that leaves bad rows out: where it stands, and how it goes on.
-use Rattle.std.proofs.Common.{◌≡◌, ◌≢◌, ◌∙◌, sym, ap, refl, subst, ℕ, zero, suc, ◌+◌, ◌-◌, List, [], ◌∷◌, ◌++◌, Bool, true, arith, append_assoc, append-nil}
+use Rattle.std.proofs.Common.{◌≡◌, ◌≢◌, ◌⊎◌, ◌∙◌, sym, ap, refl, subst, inl, inr, ℕ, ◌-◌, List, [], ◌∷◌, ◌++◌, Bool, append_assoc, append-nil}
 use Rattle.std.specs.Prelude.{Option, None, Result, Ok, Err, option_to_list}
 use Rattle.gtfs_rows.specs.Columns.{row_limit, rows_of_file}
 use Rattle.gtfs_rows.specs.Steps.{prepend}
 use Rattle.gtfs_rows.specs.RawRows.{RawRow, shape, table}
 use Rattle.gtfs_rows.specs.EachFault.{LeadTo, leave_if}
 use Rattle.gtfs_rows.specs.LeftOut.{leave_row}
-use Rattle.gtfs_rows.specs.Refused.{IsRefusedBy}
-use Rattle.gtfs_rows.specs.Sifted.{AreShaped, AreFileFaults, TellsFaults, IsGoodRow, IsBadRow, IsRowRefused}
+use Rattle.gtfs_rows.specs.Refused.{IsRefused, IsRefusedBy}
+use Rattle.gtfs_rows.specs.Sifted.{AreShaped, AreFileFaults, TellsFaults, IsGoodRow, IsBadRow, EndsAt, IsRowRefused}
 use Rattle.gtfs_rows.specs.declared.fault.FeedFile.{FeedFile}
 use Rattle.gtfs_rows.specs.declared.fault.FeedFault.{FeedFault}
 use Rattle.gtfs_rows.specs.declared.fault.FeedFault.TheVariants as fault
@@ -49,22 +49,22 @@ module _ {A : Type 0} (lenient : Bool) (file : FeedFile) (read : RawRow → Resu
     path = refl;
   }
 
-  module _ (rows : List A) (room : ℕ) (left rest : List RawRow) (raw : RawRow) (told : List FeedFault) (next : left ≡ raw ∷ rest) (s : Stands lenient file read bytes before rows room left told) where
+  module _ (rows : List A) (room : ℕ) (left rest : List RawRow) (raw : RawRow) (told : List FeedFault) (here : left ≡ raw ∷ rest) (s : Stands lenient file read bytes before rows room left told) where
     rising : Rise 2 (s.kept ++ raw ∷ rest)
-    rising = subst (λ xs. Rise 2 (s.kept ++ xs)) next s.rise
+    rising = subst (λ xs. Rise 2 (s.kept ++ xs)) here s.rise
 
     leading : LeadTo (AreShaped file read) (leave_if lenient leave_row) s.all s.faults (s.kept ++ raw ∷ rest)
-    leading = subst (λ xs. LeadTo (AreShaped file read) (leave_if lenient leave_row) s.all s.faults (s.kept ++ xs)) next s.path
+    leading = subst (λ xs. LeadTo (AreShaped file read) (leave_if lenient leave_row) s.all s.faults (s.kept ++ xs)) here s.path
 
-    pub next_good : (now : List A) (told_now : List FeedFault) → room ≢ 0 → IsGoodRow (read raw) rows now told told_now → Stands lenient file read bytes before now (room - 1) rest told_now
-    next_good now told_now some g = record {
+    next_good : (more : ℕ) (now : List A) (told_now : List FeedFault) → IsGoodRow (read raw) room more rows now told told_now → Stands lenient file read bytes before now more rest told_now
+    next_good more now told_now g = record {
       all = s.all;
       opened = s.opened;
       kept = s.kept ++ raw ∷ [];
       rise = subst (Rise 2) (sym (one_behind s.kept rest raw)) rising;
-      good = λ more.
-          ap (shape file read (row_limit file)) (one_behind s.kept more raw) ∙ s.good (raw ∷ more) ∙ shape_more file read rows room (raw ∷ more) more raw g.row some refl g.read
-          ∙ ap (λ xs. prepend xs (shape file read (room - 1) more)) (sym g.rows);
+      good = λ others.
+          ap (shape file read (row_limit file)) (one_behind s.kept others raw) ∙ s.good (raw ∷ others) ∙ shape_more file read rows room (raw ∷ others) others raw g.row g.some refl g.read
+          ∙ ap (λ xs. prepend xs (shape file read (room - 1) others)) (sym g.rows) ∙ ap (λ n. prepend now (shape file read n others)) (sym g.room);
       faults = s.faults;
       behind = g.told ∙ s.behind;
       path = subst (LeadTo (AreShaped file read) (leave_if lenient leave_row) s.all s.faults) (sym (one_behind s.kept rest raw)) leading;
@@ -74,18 +74,23 @@ module _ {A : Type 0} (lenient : Bool) (file : FeedFile) (read : RawRow → Resu
     first : (f : FeedFault) → room ≢ 0 → read raw ≡ Err f → AreShaped file read (s.kept ++ raw ∷ rest) (Err f)
     first f some e = sym (s.good (raw ∷ rest) ∙ shape_refused file read rows room (raw ∷ rest) rest raw f some refl e)
 
-    pub next_bad : (now : List A) (told_now : List FeedFault) → room ≢ 0 → IsBadRow lenient (read raw) raw.row rows now told told_now → Stands lenient file read bytes before now room rest told_now
-    next_bad now told_now some b = record {
+    next_bad : (more : ℕ) (now : List A) (told_now : List FeedFault) → IsBadRow lenient (read raw) raw.row room more rows now told told_now → Stands lenient file read bytes before now more rest told_now
+    next_bad more now told_now b = record {
       all = s.all;
       opened = s.opened;
       kept = s.kept;
       rise = rise_without 2 s.kept raw rest rising;
-      good = λ more. s.good more ∙ ap (λ xs. prepend xs (shape file read room more)) (sym b.rows);
+      good = λ others. s.good others ∙ ap (λ xs. prepend xs (shape file read room others)) (sym b.rows) ∙ ap (λ n. prepend now (shape file read n others)) (sym b.room);
       faults = s.faults ++ b.fault ∷ [];
       behind = b.told ∙ ap (λ xs. xs ++ b.fault ∷ []) s.behind ∙ append_assoc before s.faults (b.fault ∷ []);
-      path = told_more (AreShaped file read) (leave_if lenient leave_row) s.faults s.all (s.kept ++ raw ∷ rest) (s.kept ++ rest) b.fault leading (first b.fault some b.read)
+      path = told_more (AreShaped file read) (leave_if lenient leave_row) s.faults s.all (s.kept ++ raw ∷ rest) (s.kept ++ rest) b.fault leading (first b.fault b.some b.read)
           (leave_allowed lenient (s.kept ++ raw ∷ rest) (s.kept ++ rest) raw.row b.fault b.allowed b.borne (without_behind 2 s.kept raw rest rising));
     }
+
+    pub next : (more : ℕ) (now : List A) (told_now : List FeedFault)
+        → IsGoodRow (read raw) room more rows now told told_now ⊎ IsBadRow lenient (read raw) raw.row room more rows now told told_now → Stands lenient file read bytes before now more rest told_now
+    next more now told_now (inl g) = next_good more now told_now g
+    next more now told_now (inr b) = next_bad more now told_now b
 
     -- a fault that nothing is left out for ends it
     ends : (f : FeedFault) (told_now : List FeedFault) → told_now ≡ told → AreShaped file read (s.kept ++ raw ∷ rest) (Err f) → leave_if lenient leave_row (s.kept ++ raw ∷ rest) f ≡ None
@@ -96,14 +101,16 @@ module _ {A : Type 0} (lenient : Bool) (file : FeedFile) (read : RawRow → Resu
       subst (λ o. AreFileFaults lenient file read o s.faults (Err f)) (sym s.opened) (s.kept ++ raw ∷ rest, record { told = leading; given = e; last = none }),
     )
 
-    pub at_refusal : (told_now : List FeedFault) (f : RowsFault) → room ≢ 0 → IsRowRefused lenient (read raw) told told_now f → IsRefusedBy (TellsFaults lenient file read (table file bytes) before told_now) f
-    at_refusal told_now (why.Feed f) some r = ends f told_now r.2 (first f some r.0) (leave_refused lenient (s.kept ++ raw ∷ rest) f r.1)
-    at_refusal told_now why.Memory some r = tt
+    ending : (f : FeedFault) (told_now : List FeedFault) → told_now ≡ told → EndsAt lenient file (read raw) raw.row room f → TellsFaults lenient file read (table file bytes) before told_now (Err f)
+    ending f told_now same (inl full) =
+        let none : shape file read room (raw ∷ rest) ≡ Err (fault.TooMany (rows_of_file file) raw.row) = rw full.0 refl in
+        let too_many = ends (fault.TooMany (rows_of_file file) raw.row) told_now same (sym (s.good (raw ∷ rest) ∙ ap (prepend rows) none)) (leave_too_many lenient (s.kept ++ raw ∷ rest) (rows_of_file file) raw.row) in
+        subst (λ (g : FeedFault). TellsFaults lenient file read (table file bytes) before told_now (Err g)) (sym full.1) too_many
+    ending f told_now same (inr bad) = ends f told_now same (first f bad.0 bad.1) (leave_refused lenient (s.kept ++ raw ∷ rest) f bad.2)
 
-    pub at_limit : room ≡ 0 → TellsFaults lenient file read (table file bytes) before told (Err (fault.TooMany (rows_of_file file) raw.row))
-    at_limit none =
-        let full : shape file read room (raw ∷ rest) ≡ Err (fault.TooMany (rows_of_file file) raw.row) = rw none refl in
-        ends (fault.TooMany (rows_of_file file) raw.row) told refl (sym (s.good (raw ∷ rest) ∙ ap (prepend rows) full)) (leave_too_many lenient (s.kept ++ raw ∷ rest) (rows_of_file file) raw.row)
+    pub at_refusal : (told_now : List FeedFault) (f : RowsFault) → IsRowRefused lenient file (read raw) raw.row room told told_now f → IsRefusedBy (TellsFaults lenient file read (table file bytes) before told_now) f
+    at_refusal told_now (why.Feed f) r = ending f told_now r.1 r.0
+    at_refusal told_now why.Memory r = tt
 
   pub at_end : (rows : List A) (room : ℕ) (left : List RawRow) (told : List FeedFault) → left ≡ [] → Stands lenient file read bytes before rows room left told → TellsFaults lenient file read (table file bytes) before told (Ok rows)
   at_end rows room left told none s =
@@ -113,3 +120,8 @@ module _ {A : Type 0} (lenient : Bool) (file : FeedFile) (read : RawRow → Resu
         s.behind,
         subst (λ o. AreFileFaults lenient file read o s.faults (Ok rows)) (sym s.opened) (s.kept ++ [], record { told = path; given = sym (s.good [] ∙ same); last = tt }),
       )
+
+  -- what is wrong with the file as a whole ends it, before anything is told
+  pub at_opening : (f : RowsFault) → IsRefused (table file bytes) f → IsRefusedBy (TellsFaults {A} lenient file read (table file bytes) before before) f
+  at_opening (why.Feed f) wrong = ([], sym (append-nil before), subst (λ o. AreFileFaults lenient file read o [] (Err f)) (sym wrong) (refl, refl))
+  at_opening why.Memory wrong = tt

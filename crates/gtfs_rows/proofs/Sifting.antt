@@ -18,8 +18,7 @@ use Rattle.gtfs_rows.specs.declared.fault.Spot.{Spot}
 pub told_more : {S T : Type 0} (Gives : S → Result T FeedFault → Type 0) (leave : S → FeedFault → Option S) (faults : List FeedFault) (state middle left : S) (f : FeedFault)
     → LeadTo Gives leave state faults middle → Gives middle (Err f) → leave middle f ≡ Some left → LeadTo Gives leave state (faults ++ f ∷ []) left
 told_more Gives leave [] state middle left f told first out =
-    let P : _ → Type 0 = λ s. LeadTo Gives leave s (f ∷ []) left in
-    subst P told (left, first, out, refl)
+    subst (λ s. LeadTo Gives leave s (f ∷ []) left) told (left, first, out, refl)
 told_more Gives leave (g ∷ rest) state middle left f told first out =
     (told.0, told.1, told.2, told_more Gives leave rest told.0 middle left f told.3 first out)
 
@@ -30,7 +29,10 @@ Rise n (raw ∷ rest) = n ≤ raw.row × Rise (raw.row + 1) rest
 
 pub rise_from : (m n : ℕ) (rows : List RawRow) → m ≤ n → Rise n rows → Rise m rows
 rise_from m n [] h r = tt
-rise_from m n (raw ∷ rest) h r = (let k = r.0 in omega (arith, h, k), r.1)
+rise_from m n (raw ∷ rest) h r =
+    let k = r.0 in
+    let low : m ≤ raw.row = omega (arith, h, k) in
+    (low, r.1)
 
 -- the row that stands behind others
 pub behind : (n : ℕ) (kept : List RawRow) (raw : RawRow) (rest : List RawRow) → Rise n (kept ++ raw ∷ rest) → n ≤ raw.row
@@ -47,7 +49,7 @@ others : (n m : ℕ) (rows : List RawRow) → n < m → Rise m rows → without_
 others n m [] h r = refl
 others n m (raw ∷ rest) h r =
     let k = r.0 in
-    let e : (raw.row == n) ≡ false = grind (arith, nat_tests) in
+    let e : (raw.row == n) ≡ false = grind (arith, nat_tests, h, k) in
     rw (e, others n (raw.row + 1) rest (omega (arith, h, k)) r.1) refl
 
 -- rows without the one that stands behind some of them
@@ -57,7 +59,7 @@ without_behind n [] raw rest r =
     rw e (others raw.row (raw.row + 1) rest (omega arith) r.1)
 without_behind n (k ∷ kept) raw rest r =
     let h = behind (k.row + 1) kept raw rest r.1 in
-    let e : (k.row == raw.row) ≡ false = grind (arith, nat_tests) in
+    let e : (k.row == raw.row) ≡ false = grind (arith, nat_tests, h) in
     rw (e, without_behind (k.row + 1) kept raw rest r.1) refl
 
 -- the numbers of a file's rows rise

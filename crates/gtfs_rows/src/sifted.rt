@@ -1,5 +1,5 @@
 //! Typed rows of any file, with bad rows left out.
-ghost use Rattle.std.specs.Prelude.{◌≤◌, MatchBool, MatchResult, IfOk, length};
+ghost use Rattle.std.specs.Prelude.{◌⊎◌, ◌≤◌, ◌+◌, MatchResult, IfOk, OnOk, length};
 ghost use Rattle.gtfs_rows.specs.Columns.{row_limit};
 ghost use Rattle.gtfs_rows.specs.RawRows.{table};
 ghost use Rattle.gtfs_rows.specs.Refused.{GivesOne};
@@ -8,37 +8,49 @@ ghost use Rattle.gtfs_rows.specs.Sifted.{TellsFaults, IsGoodRow, IsBadRow, IsRow
 use crate::{FeedFault, RowCursor, RowReader, RowsFault, ToldFaults};
 use std::alloc::Global;
 
-// Takes what the row at hand gives, where it isn't passed over, and answers `true`. If it is bad
-// and one is lenient, it is told and left out, and `false` is answered.
+// Takes what the row at hand gives, where it isn't passed over. If it is bad and one is lenient, it
+// is told and left out, and takes no room.
 fn sift_row<R: RowReader>(
     alloc: Global,
     reader: &R,
     cursor: &RowCursor,
     lenient: bool,
+    room: &mut u32,
     rows: &mut Vec<R::Row>,
     told: &mut ToldFaults,
-) -> Result<bool, RowsFault>
-    ensures { MatchResult result
-        (λ good. MatchBool good
-        (IsGoodRow (R.reading reader.now cursor.now.current) rows.old.items rows.new.items told.old
-        told.new)
-        (IsBadRow lenient (R.reading reader.now cursor.now.current) cursor.now.current.row
-        rows.old.items rows.new.items told.old told.new))
-        (IsRowRefused lenient (R.reading reader.now cursor.now.current) told.old told.new) }
+) -> Result<(), RowsFault>
+    ensures row { MatchResult result
+        (λ _.
+        IsGoodRow (R.reading reader.now cursor.now.current) room.old room.new rows.old.items
+        rows.new.items told.old told.new
+        ⊎ IsBadRow lenient (R.reading reader.now cursor.now.current) cursor.now.current.row room.old
+        room.new rows.old.items rows.new.items told.old told.new)
+        (IsRowRefused lenient R.file (R.reading reader.now cursor.now.current)
+        cursor.now.current.row room.old told.old told.new) }
+    ensures few { OnOk result
+        (length rows.new.items + room.new ≤ length rows.old.items + room.old) }
 {
+    if *room == 0 {
+        let file = reader.file();
+        return Err(RowsFault::Feed(FeedFault::TooMany(file.rows(), cursor.row())));
+    }
     match reader.read(alloc, cursor) {
         Ok(Some(row)) => {
             rows.push(row)?;
-            Ok(true)
+            *room -= 1;
+            Ok(())
         }
-        Ok(None) => Ok(true),
+        Ok(None) => {
+            *room -= 1;
+            Ok(())
+        }
         Err(RowsFault::Memory) => Err(RowsFault::Memory),
         Err(RowsFault::Feed(fault)) => {
             if !lenient {
                 return Err(RowsFault::Feed(fault));
             }
             told.tell(fault)?;
-            Ok(false)
+            Ok(())
         }
     }
 }
@@ -60,17 +72,14 @@ pub fn sifted_rows<R: RowReader>(
         result (λ v. v.items) }
     ensures few { IfOk result (λ v. length v.items ≤ row_limit R.file) }
 {
-    let file = reader.file();
-    let mut cursor = RowCursor::open(alloc, file, bytes)?;
+    let mut cursor = RowCursor::open(alloc, reader.file(), bytes)?;
     let mut rows = Vec::new(alloc);
-    let mut room = file.row_limit();
-    while cursor.advance()? {
-        if room == 0 {
-            return Err(RowsFault::Feed(FeedFault::TooMany(file.rows(), cursor.row())));
-        }
-        match sift_row(alloc, reader, &cursor, lenient, &mut rows, told) {
-            Ok(true) => room -= 1,
-            Ok(false) => {}
+    let mut room = reader.file().row_limit();
+    'sifting: while cursor.advance()? {
+        match sift_row(
+            alloc, reader, &cursor, lenient, &mut room, &mut rows, told,
+        ) {
+            Ok(()) => {}
             Err(fault) => return Err(fault),
         }
     }
