@@ -6,7 +6,7 @@ use Rattle.gtfs_rows.specs.Steps.{prepend}
 use Rattle.gtfs_rows.specs.RawRows.{RawRow, shape, table}
 use Rattle.gtfs_rows.specs.EachFault.{LeadTo, leave_if}
 use Rattle.gtfs_rows.specs.LeftOut.{leave_row}
-use Rattle.gtfs_rows.specs.Refused.{IsRefused, IsRefusedBy}
+use Rattle.gtfs_rows.specs.Refused.{IsRefusedBy}
 use Rattle.gtfs_rows.specs.Sifted.{AreShaped, AreFileFaults, TellsFaults, IsGoodRow, IsBadRow, EndsAt, IsRowRefused}
 use Rattle.gtfs_rows.specs.declared.fault.FeedFile.{FeedFile}
 use Rattle.gtfs_rows.specs.declared.fault.FeedFault.{FeedFault}
@@ -37,13 +37,13 @@ pub record Stands {A : Type 0} (lenient : Bool) (file : FeedFile) (read : RawRow
   pub path : LeadTo (AreShaped file read) (leave_if lenient leave_row) all faults (kept ++ left)
 
 module _ {A : Type 0} (lenient : Bool) (file : FeedFile) (read : RawRow → Result (Option A) FeedFault) (bytes : List ℕ) (before : List FeedFault) where
-  pub begin : (left : List RawRow) → table file bytes ≡ Ok left → Stands lenient file read bytes before [] (row_limit file) left before
-  begin left opened = record {
+  pub begin : (rows : List A) (room : ℕ) (left : List RawRow) → rows ≡ [] → room ≡ row_limit file → table file bytes ≡ Ok left → Stands lenient file read bytes before rows room left before
+  begin rows room left none full opened = record {
     all = left;
     opened = opened;
     kept = [];
     rise = table_rises file bytes left opened;
-    good = λ rest. prepend_none (shape file read (row_limit file) rest);
+    good = λ rest. prepend_none (shape file read (row_limit file) rest) ∙ ap (λ xs. prepend xs (shape file read (row_limit file) rest)) (sym none) ∙ ap (λ n. prepend rows (shape file read n rest)) (sym full);
     faults = [];
     behind = sym (append-nil before);
     path = refl;
@@ -120,8 +120,3 @@ module _ {A : Type 0} (lenient : Bool) (file : FeedFile) (read : RawRow → Resu
         s.behind,
         subst (λ o. AreFileFaults lenient file read o s.faults (Ok rows)) (sym s.opened) (s.kept ++ [], record { told = path; given = sym (s.good [] ∙ same); last = tt }),
       )
-
-  -- what is wrong with the file as a whole ends it, before anything is told
-  pub at_opening : (f : RowsFault) → IsRefused (table file bytes) f → IsRefusedBy (TellsFaults {A} lenient file read (table file bytes) before before) f
-  at_opening (why.Feed f) wrong = ([], sym (append-nil before), subst (λ o. AreFileFaults lenient file read o [] (Err f)) (sym wrong) (refl, refl))
-  at_opening why.Memory wrong = tt

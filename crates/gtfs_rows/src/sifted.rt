@@ -1,5 +1,5 @@
 //! Typed rows of any file, with bad rows left out.
-ghost use Rattle.std.specs.Prelude.{◌⊎◌, ◌≤◌, ◌+◌, MatchResult, IfOk, OnOk, length};
+ghost use Rattle.std.specs.Prelude.{◌≡◌, ◌⊎◌, ◌≤◌, ◌+◌, MatchResult, IfOk, OnOk, length};
 ghost use Rattle.gtfs_rows.specs.Columns.{row_limit};
 ghost use Rattle.gtfs_rows.specs.RawRows.{table};
 ghost use Rattle.gtfs_rows.specs.Refused.{GivesOne};
@@ -55,6 +55,13 @@ fn sift_row<R: RowReader>(
     }
 }
 
+// How many rows the file may have.
+fn limit_of<R: RowReader>(reader: &R) -> u32
+    ensures { result ≡ row_limit R.file }
+{
+    reader.file().row_limit()
+}
+
 /// The typed rows of a file in file order, without its bad rows, whose faults are told in order; or
 /// the fault that ends it, which no row bears: of the file as a whole, or that there are too many
 /// rows that aren't left out. If one isn't lenient the first fault ends it, and none is told.
@@ -74,7 +81,7 @@ pub fn sifted_rows<R: RowReader>(
 {
     let mut cursor = RowCursor::open(alloc, reader.file(), bytes)?;
     let mut rows = Vec::new(alloc);
-    let mut room = reader.file().row_limit();
+    let mut room = limit_of(reader);
     'sifting: while cursor.advance()? {
         match sift_row(
             alloc, reader, &cursor, lenient, &mut room, &mut rows, told,

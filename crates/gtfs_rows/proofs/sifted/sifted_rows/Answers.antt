@@ -1,5 +1,5 @@
-use Rattle.std.proofs.Common.{arith}
-use Rattle.gtfs_rows.proofs.SiftedRows.{begin, next, at_refusal, at_end, at_opening}
+use Rattle.std.proofs.Common.{ap, length, arith}
+use Rattle.gtfs_rows.proofs.SiftedRows.{begin, next, at_refusal, at_end}
 use Rattle.gtfs_rows.proofs.sifted.sifted_rows.Goals as goal
 
 pub sifting-preserved : goal.sifting-preserved
@@ -12,8 +12,8 @@ sifting-preserved g c =
 
 pub sifting-init : goal.sifting-init
 sifting-init g c = record {
-  stands = begin c.args.lenient g.R.RowReader.file (g.R.RowReader.reading c.args.reader.now) c.args.bytes.now c.args.told.now _ c.in_ok-cursor.ensures;
-  few = omega arith;
+  stands = begin c.args.lenient g.R.RowReader.file (g.R.RowReader.reading c.args.reader.now) c.args.bytes.now c.args.told.now _ _ _ c.new-rows.ensures.items c.limit_of-room.ensures (rw c.file.ensures at c.in_ok-cursor.ensures);
+  few = let none = ap length c.new-rows.ensures.items in let full = c.limit_of-room.ensures in omega (arith, none, full);
 }
 
 pub returns-in-Err-clause-rows : goal.returns-in-Err-clause-rows
