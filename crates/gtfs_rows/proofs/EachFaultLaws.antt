@@ -62,5 +62,5 @@ module _ {S T : Type 0} (Gives : S → Result T FeedFault → Type 0) (leave : S
         let next : Some first.0 ≡ Some second.0 = sym first.2 ∙ ap (leave state) fault ∙ second.2 in
         let meet : first.0 ≡ second.0 = cc in
         let rest = determined faults others first.0 left other_left end other_end (record { told = first.3; given = a.given; last = a.last })
-            (record { told = subst (λ s. LeadTo Gives leave s others other_left) (sym meet) second.3; given = b.given; last = b.last }) in
+        (record { told = subst (λ s. LeadTo Gives leave s others other_left) (sym meet) second.3; given = b.given; last = b.last }) in
         (rw (fault, rest.0) refl, rest.1, rest.2)

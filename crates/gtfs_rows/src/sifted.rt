@@ -83,9 +83,7 @@ pub fn sifted_rows<R: RowReader>(
     let mut rows = Vec::new(alloc);
     let mut room = limit_of(reader);
     'sifting: while cursor.advance()? {
-        match sift_row(
-            alloc, reader, &cursor, lenient, &mut room, &mut rows, told,
-        ) {
+        match sift_row(alloc, reader, &cursor, lenient, &mut room, &mut rows, told) {
             Ok(()) => {}
             Err(fault) => return Err(fault),
         }
