@@ -34,10 +34,10 @@ module _ {S T : Type 0} (Gives : S → Result T FeedFault → Type 0) (leave : S
   -- there is one list of faults, one state that is left, and one end, where a state gives one thing
   module _ (one : (state : S) (a b : Result T FeedFault) → Gives state a → Gives state b → a ≡ b) where
     -- whoever stops before a fault is told would have had to leave something out
-    stops_early : (state : S) (end : Result T FeedFault) (f : FeedFault) (next : S) → Gives state end → IsLast leave state end → Gives state (Err f) → leave state f ≡ Some next → (end ≡ Err f) × (None {S} ≡ Some next)
+    stops_early : (state : S) (end : Result T FeedFault) (f : FeedFault) (next : S) → Gives state end → IsLast leave state end → Gives state (Err f) → leave state f ≡ Some next → (end ≡ Err f) × (Some next ≡ None)
     stops_early state end f next given last first out =
         let same = one state end (Err f) given first in
-        (same, sym (subst (IsLast leave state) same last) ∙ out)
+        (same, sym out ∙ subst (IsLast leave state) same last)
 
     pub determined : (faults others : List FeedFault) (state left other_left : S) (end other_end : Result T FeedFault) → AreFaults Gives leave state faults left end → AreFaults Gives leave state others other_left other_end
         → (faults ≡ others) × (left ≡ other_left) × (end ≡ other_end)

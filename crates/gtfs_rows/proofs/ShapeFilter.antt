@@ -30,7 +30,7 @@ module _ {A : Type 0} (file : FeedFile) (read : RawRow → Result (Option A) Fee
   left_out raw (Some x) rest e t = let s : same x ≡ false = agree raw x e ∙ t in rw s refl
 
   pub shape_fewer : (rows : List RawRow) (room more : ℕ) (all : List A) → room ≤ more → shape file read room rows ≡ Ok all → shape file read more (filter test rows) ≡ Ok (filter same all)
-  shape_fewer [] room more all h e = let none : [] ≡ all = cc in rw none refl
+  shape_fewer [] room more all h e = let none : [] ≡ all = cc in ap (λ (xs : List A). Ok (filter same xs)) none
   shape_fewer (raw ∷ rest) zero more all h e = absurd (cc)
   shape_fewer (raw ∷ rest) (suc room) zero all h e = absurd (omega (arith, h))
   shape_fewer (raw ∷ rest) (suc room) (suc more) all h e =
