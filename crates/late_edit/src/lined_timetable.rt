@@ -62,6 +62,16 @@ impl<'a> LinedTimetable<'a> {
         table.trip(trip).events.as_slice()
     }
 
+    // How many events a trip has.
+    pub(crate) fn event_count(&self, trip: TripNo) -> u32
+        requires { trip < length self.now.table.trips }
+        ensures { result ≡ length (events_of self.now.table trip) }
+    {
+        let table = self.table;
+        table.soundness();
+        table.events(trip).len() as u32
+    }
+
     // The candidates of an event of a trip, in order.
     pub(crate) fn candidates_at(
         &self,
