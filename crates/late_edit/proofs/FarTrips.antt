@@ -1,6 +1,6 @@
 -- A trip with the same events that calls nowhere near one with other events is not touched.
-use Rattle.std.proofs.Common.{◌≡◌, ◌∙◌, sym, ap, subst, refl, ℕ, ◌+◌, ◌-◌, ◌<◌, ◌≤◌, ◌⊎◌, inl, inr, Bool, true, false, cond, ◌==◌, ◌&&◌, ◌||◌, not, List, [], ◌∷◌, length, map, get_or, Option, Some, None, ℤ, pos, ◌+ℤ◌, arith}
-use Rattle.std.specs.Prelude.{filter, filter_map, flat_map, nat_lt, int_le, All, AllPairs}
+use Rattle.std.proofs.Common.{◌≡◌, ◌∙◌, sym, ap, subst, refl, ℕ, ◌+◌, ◌-◌, ◌<◌, ◌≤◌, ◌⊎◌, inl, inr, Bool, true, false, cond, ◌==◌, ◌&&◌, not, List, [], ◌∷◌, length, map, get_or, Option, Some, None, ℤ, pos, ◌+ℤ◌, arith}
+use Rattle.std.specs.Prelude.{filter, filter_map, flat_map, nat_lt, int_le, AllPairs}
 use Rattle.std.specs.List.{list_any}
 use Rattle.std.specs.Option.{option_and_then}
 use Rattle.std.proofs.lemmas.Bool.{and_parts, cases_lt, eq-eqb, eqb-true, false_from_ne_true, false≢true, or_from, not_from_true}
@@ -13,9 +13,8 @@ use Rattle.tb_base.specs.declared.table.Stop.{Stop}
 use Rattle.tb_base.specs.declared.transfer.Hop.{Hop}
 use Rattle.tb_base.specs.declared.transfer.Transfer.{Transfer}
 use Rattle.tb_base.specs.Lines.{AreDividedInto, AreLines, last_trip}
-use Rattle.tb_base.specs.Soundness.{IsSoundEvent}
 use Rattle.tb_base.specs.TimetableData.{TimetableData, TripData, no_event, no_trip, events_of, event_at, stop_at, arrival_at, departure_at}
-use Rattle.tb_base.specs.Transfers.{boarding_indexes, candidates, earliest_trip, hop_onto, is_own_line_onward, may_be_boarded, numbers_below, numbers_down}
+use Rattle.tb_base.specs.Transfers.{boarding_indexes, candidates, earliest_trip, hop_onto, is_own_line_onward, may_be_boarded, numbers_below}
 use Rattle.tb_base.specs.Walking.{change, change_between}
 use Rattle.tb_base.proofs.LineFacts.{IsTripNoLater, MayFollow, first_no_later}
 use Rattle.tb_base.proofs.Members.{All-from_Member, find_found, Member-filter, Member-filter_back, Member-filter_map_back, Member-flat_map_back, Member-map_back, Member-numbers_below_back}
@@ -27,10 +26,9 @@ use Rattle.line_split.specs.LinesData.{LinesData}
 use Rattle.late_edit.specs.Near.{MarksNear}
 use Rattle.late_edit.specs.Updated.{IsUpdated}
 use Rattle.late_edit.specs.Touched.{TellsOtherEvents, candidates_at, has_other_events, is_touched_at, same_transfer}
-use Rattle.late_edit.proofs.ListFacts.{filter-none, filter_map-none, find-same, flat_map-filter, flat_map-none, flat_map-same, list_any-by, list_any-found, list_any-none, Member-get_or, Member-numbers_down_back}
+use Rattle.late_edit.proofs.ListFacts.{filter-none, filter_map-none, find-same, flat_map-filter, flat_map-none, flat_map-same, list_any-by, list_any-found, Member-get_or}
 use Rattle.late_edit.proofs.SameEvents.{same_rows, same_trip}
 use Rattle.late_edit.proofs.SameLines.{IsCalm, calls, line_calls, lines-same}
-use Rattle.late_edit.proofs.Untouched.{rows_at}
 
 -- the hops from t@i onto the line where it calls at stop q
 abbrev hops_onto : TimetableData → ℕ → ℕ → ℕ → List ℕ → List Hop

@@ -1,17 +1,17 @@
 -- A trip with the same events is touched exactly where one of its events touches it.
-use Rattle.std.proofs.Common.{◌≡◌, ◌∙◌, sym, ap, subst, refl, ℕ, ◌<◌, Bool, true, false, ◌||◌, not, List, length, map, arith}
+use Rattle.std.proofs.Common.{◌≡◌, ◌∙◌, sym, ap, subst, refl, ℕ, ◌<◌, Bool, true, false, ◌||◌, not, List, length, map}
 use Rattle.std.specs.Prelude.{filter_map, flat_map}
 use Rattle.std.specs.List.{list_any}
 use Rattle.std.proofs.lemmas.Bool.{false≢true, not-false, not_from_true, or_from, or_parts}
 use Rattle.std.proofs.lemmas.List.Folds.{list_any_none}
 use lib.Pointwise.{pointwise}
 use Rattle.tb_base.specs.declared.table.Event.{Event}
-use Rattle.tb_base.specs.declared.transfer.Hop.{Hop}
 use Rattle.tb_base.specs.declared.transfer.Transfer.{Transfer}
 use Rattle.tb_base.specs.TimetableData.{events_of}
 use Rattle.tb_base.specs.Transfers.{candidates, numbers_down}
 use Rattle.tb_base.proofs.Members.{All-from_Member, Member-flat_map, Member-flat_map_back}
 use Rattle.tb_base.proofs.Ordered.{Member}
+use Rattle.tb_laws.specs.Rows.{row_of}
 use Rattle.line_split.specs.LinesData.{LinesData}
 use Rattle.late_edit.specs.Touched.{candidates_at, candidates_of, has_other_events, is_touched, is_touched_at, same_transfer}
 use Rattle.late_edit.proofs.ListFacts.{flat_map-same, list_any-none, Member-numbers_down, Member-numbers_down_back}
