@@ -116,12 +116,19 @@ pub fn some_departures(draw: &mut Draw, table: &Timetable) -> Departures
 {
     let step = draw.below(900) + 1;
     let seconds = draw.below(15) * step + draw.below(step);
-    let last = some_time(draw, table).saturating_add(300).max(0).min(LAST);
-    Departures {
-        first: last.saturating_sub(seconds as i32).max(0).min(last),
-        last,
-        step,
-    }
+    let late = some_time(draw, table).saturating_add(300);
+    let last = if 0 <= late && late <= LAST {
+        late
+    } else {
+        LAST
+    };
+    let early = last.saturating_sub(seconds as i32);
+    let first = if 0 <= early && early <= last {
+        early
+    } else {
+        last
+    };
+    Departures { first, last, step }
 }
 
 /// A limit on rides, or none.

@@ -73,7 +73,12 @@ fn times_of(
 {
     let mut lists = Vec::new(alloc);
     for turn in 0..MOST {
-        let after = turn.saturating_mul(departures.step) as i32;
+        let seconds = turn.saturating_mul(departures.step);
+        let after = if seconds <= 360_000 {
+            seconds as i32
+        } else {
+            360_000
+        };
         let leave = departures.first.saturating_add(after);
         if leave <= departures.last && leave <= LAST {
             lists.push(times_at(alloc, edition, desk, from, rides, leave)?)?;
