@@ -1,8 +1,8 @@
-"""Queries, profiles, latest departures and best values to every stop.
+"""Queries, profiles, latest departures, best values and travel times to every stop.
 
 Asks each feed 1,000 random queries by the search and round by round, 50 random profiles of 24
-hours, 1,000 random latest departures, and the best values from 20 random stops to every stop, each
-within one process. Prints milliseconds of processor time each, of the asking alone: the least and
+hours, 1,000 random latest departures, the best values from 20 random stops to every stop, and the
+travel times from 5 over sixty departures of an hour, each within one process. Prints milliseconds of processor time each, of the asking alone: the least and
 the most of all runs. With another build of the program that asks both are measured by turns.
 """
 import os
@@ -10,7 +10,7 @@ import os
 from feeds import add_feed_argument, feed_of
 from harness import BenchError, Table, asking, asking_words, commit_of, count, done
 
-COUNTS = {"search": 1000, "plain": 1000, "profile": 50, "latest": 1000, "reach": 20}
+COUNTS = {"search": 1000, "plain": 1000, "profile": 50, "latest": 1000, "reach": 20, "times": 5}
 
 
 def add_arguments(parser):

@@ -111,7 +111,7 @@ def more(folder):
     quoted = NAMED.replace('"', '""')
     script = (
         f'lane "l \\ 1"\nask "{quoted}" C {late}\nsince 2 reach "{quoted}" {late}\n'
-        f'ask X C {late}\nreach "{quoted}" {late}\nprofile "{quoted}" C {late} 26:00:00\n'
+        f'ask X C {late}\nreach "{quoted}" {late}\ntimes C {late} {late} 1\nprofile "{quoted}" C {late} 26:00:00\n'
     )
     updates = os.path.join(folder, "updates")
     with open(updates, "w", encoding="utf-8") as file:
@@ -126,6 +126,7 @@ def more(folder):
     yield ["profile", feed, day, *ends, late, "26:00:00"], ""
     yield ["latest", feed, day, *ends, "26:00:00"], ""
     yield ["reach", feed, day, NAMED, late], ""
+    yield ["times", feed, day, NAMED, late, "00:20:00", "300", "rides", "1"], ""
     yield ["build", feed, day, "list"], ""
     yield ["serve", f"{feed}@{day}", f"{feed}-none@{day}"], script
     yield ["city", "4"], ""

@@ -5,11 +5,23 @@ import random
 
 from fuzzing import changes, made
 from harness import DAY, FEEDS, TOP
+from said.words import time_of
 
 EXAMPLES = os.path.join(TOP, "examples")
 EXAMPLE_FEEDS = [os.path.join(EXAMPLES, name) for name in ("f1", "town", "valley")]
 CASE_FEEDS = [os.path.join(FEEDS, name) for name in ("ring", "village")]
-COMMANDS = ("direct", "ask", "profile", "latest", "reach", "verify", "late", "build", "serve")
+COMMANDS = (
+    "direct",
+    "ask",
+    "profile",
+    "latest",
+    "reach",
+    "times",
+    "verify",
+    "late",
+    "build",
+    "serve",
+)
 TIMES = ("0:00:00", "06:55:00", "08:00:00", "08:05:00", "8:30:00", "24:10:00", "75:59:59")
 DATES = (DAY, DAY, DAY, DAY, DAY, "20260303", "20260307", "20260406", "20270101", "00010101")
 # A folder in place of a file.
@@ -106,9 +118,18 @@ class Draw:
         return {
             "profile": [*day, *ends, time, later],
             "reach": [*day, ends[0], time],
+            "times": [*day, ends[0], *self.departures()],
             "late": [*day, "late", *ends, time],
             "build": [*day, *(["list"] if self.often(0.5) else [])],
         }.get(command, [*day, *ends, time])
+
+    def departures(self):
+        """FIRST, LAST, a step by which there are some dozens, and at times a limit on rides."""
+        first, last = self.two_times()
+        between = (time_of(last) or 0) - (time_of(first) or 0)
+        step = self.drawn.choice((300, 3600, between // 20 + 1, between // 4 + 1))
+        limit = ["rides", self.drawn.choice("0123")] if self.often(0.3) else []
+        return [first, last, str(self.drawn.choice((0, 3601)) if self.often(0.03) else step), *limit]
 
     def two_times(self):
         return sorted((self.drawn.choice(self.times) for _ in "12"), key=lambda it: it.zfill(8))
@@ -218,6 +239,7 @@ class Draw:
                     f"profile {ends} {first} {last}",
                     f"latest {ends} {last}",
                     f"reach {ends.split()[0]} {first}",
+                    f"times {ends.split()[0]} {' '.join(self.departures())}",
                     "lane b",
                     "# remark",
                 )

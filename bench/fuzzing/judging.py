@@ -83,7 +83,7 @@ class Judge:
         if self.command not in answers.PLACES:
             return None
         asked = self.rest[3 if self.command == "late" else 2 :]
-        ends = asked[: 1 if self.command == "reach" else 2]
+        ends = asked[: 1 if self.command in ("reach", "times") else 2]
         unknown = next((name for name in ends if not is_place(self.feed, name)), None)
         if unknown is not None:
             right = out.endswith(f"unknown stop {unknown}\n")

@@ -23,8 +23,9 @@ RULES = (
 )
 COUNTS = r"trips \d+ lines \d+ kept \d+\n"
 REACHED = rf"(?:.+(?: -|(?: {TIME}/\d+)+)\n)*"
+TRAVEL = rf"(?:.+ \d+/\d+(?: -| {TIME}){{7}}\n)*"
 DEPARTURES = rf"(?:{NO_JOURNEY}|(?:leave {TIME} rides \d+\n(?:{LEG})*)+)"
-ANSWER = rf"{CHOICES}|{OFFERS}|{DEPARTURES}|unknown stop .*\n|{REACHED}"
+ANSWER = rf"{CHOICES}|{OFFERS}|{DEPARTURES}|unknown stop .*\n|{REACHED}|{TRAVEL}"
 REPLY = rf"\d+ edition \d+\n(?:deferred \d+\n|{ANSWER})"
 LANES = rf"(?:lane .*\n(?:{REPLY})*)*"
 # What each command may write.
@@ -34,6 +35,7 @@ FORMS = {
     "profile": OFFERS,
     "latest": DEPARTURES,
     "reach": REACHED,
+    "times": TRAVEL,
     "verify": rf"yes\n|no (?:{RULES}) leg \d+\n|no value arrive {TIME} rides \d+\n",
     "late": rf"edition 2 redone \d+ kept \d+\n{CHOICES}",
     "build": rf"{SIZES}(?:{END} {END}\n)*",
@@ -41,7 +43,7 @@ FORMS = {
     "city": rf"{SIZES}{CHOICES}",
 }
 # Commands about places may have met a name that no stop and no station has.
-PLACES = ("direct", "ask", "profile", "latest", "reach", "verify", "late")
+PLACES = ("direct", "ask", "profile", "latest", "reach", "times", "verify", "late")
 OWN_VALUE = re.compile(rf"^no value arrive ({TIME}) rides (\d+)$", re.M)
 VALUE = re.compile(rf"^arrive ({TIME}) rides (\d+)$", re.M)
 

@@ -1,4 +1,5 @@
 """What a command over a day has to tell, in numbers, and what a text tells."""
+import math
 import re
 
 from said.answers import TIME, VALUE, seconds_of
@@ -17,18 +18,28 @@ def numbers_of(found):
 
 
 def told(command, text):
-    """What a text tells: values, slots, or departures; of `reach` the values of each stop."""
+    """What a text tells: values, slots, or departures; of `reach` the values of each stop, of
+    `times` how many departures reach it and the percentiles.
+    """
     if command == "direct":
         return [seconds_of(time) for time in re.findall(rf"^arrive ({TIME})$", text, re.M)]
     if command == "reach":
         return [
             numbers_of(re.findall(rf" ({TIME})/(\d+)", line)) for line in text.splitlines()
         ]
+    if command == "times":
+        found = re.findall(rf" (\d+)/(\d+)((?: -| {TIME}){{7}})$", text, re.M)
+        return [
+            (int(n), int(m), [None if it == "-" else seconds_of(it) for it in times.split()])
+            for n, m, times in found
+        ]
     return numbers_of({"profile": SLOT, "latest": DEPARTURE}.get(command, VALUE).findall(text))
 
 
 def wanted(command, words, timetable):
     """The same of a timetable, for the words behind the date."""
+    if command == "times":
+        return travel_times(words, timetable)
     times = [time_of(word) for word in words]
     if command == "reach":
         origins = timetable.place(words[0])
@@ -39,6 +50,35 @@ def wanted(command, words, timetable):
         return [] if arrival is None else [arrival]
     ask = {"profile": timetable.slots, "latest": timetable.latest}.get(command, timetable.values)
     return ask(*ends, *times[2:])
+
+
+def travel_times(words, timetable):
+    """Of each stop how many departures reach it, how many there are, and percentiles of the travel
+    times, for the words FROM FIRST LAST STEP and perhaps `rides N`.
+    """
+    origins, step = timetable.place(words[0]), int(words[3])
+    departures = range(time_of(words[1]), time_of(words[2]) + 1, step)
+    most = int(words[5]) if words[4:] else math.inf
+    return [
+        figures([travel_time(timetable, origins, stop, time, most) for time in departures])
+        for stop in timetable.stops
+    ]
+
+
+def travel_time(timetable, origins, stop, time, most):
+    """The seconds from a departure to the least arrival with no more rides than the limit."""
+    values = timetable.values(origins, [stop], time)
+    return min((arrival - time for arrival, rides in values if rides <= most), default=None)
+
+
+def figures(times):
+    """How many of the times there are, of how many, and their percentiles by nearest rank, one that
+    is none being the greatest.
+    """
+    count = len(times)
+    found = sorted(time for time in times if time is not None)
+    ranks = [1, *(-(-percent * count // 100) for percent in (5, 25, 50, 75, 95)), count]
+    return len(found), count, [found[rank - 1] if rank <= len(found) else None for rank in ranks]
 
 
 def amend(trips, text):

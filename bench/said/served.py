@@ -88,7 +88,7 @@ class Reader:
         if since > edition:
             self.take(f"deferred {since}")
             return
-        ends = words[1:2] if words[0] == "reach" else words[1:3]
+        ends = words[1:2] if words[0] in ("reach", "times") else words[1:3]
         unknown = next((it for it in ends if not self.is_place(edition, it)), None)
         if unknown is not None:
             self.take(re.escape(f"unknown stop {unknown}"))

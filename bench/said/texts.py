@@ -4,7 +4,7 @@ that takes no timetable.
 import re
 import typing
 
-from said.words import is_latest_time, is_time, number_of
+from said.words import is_latest_time, is_time, number_of, times_fault
 
 LONGEST_LINE = 1024
 MOST_BYTES = 33_554_432
@@ -73,6 +73,8 @@ def line_fault(words, lanes):
         if len(words) < 2 or number_of(words[1]) is None:
             return "1 BadLine"
         words = words[2:]
+    if words and words[0] == "times" and lanes:
+        return {"BadLine": "1 BadLine", "BadTime": "4 BadTime"}.get(times_fault(words[1:]))
     form = (words[0] if words else "", len(words))
     times = {("ask", 4): 1, ("profile", 5): 2, ("latest", 4): 1, ("reach", 3): 1}.get(form)
     if times is None or not lanes:

@@ -4,6 +4,7 @@ import re
 VALUES = {"--change": (0, 86_400), "--station": (0, 86_400), "--workers": (1, 64)}
 FLAGS = ("--close", "--plain")
 LATEST = 273_599
+MOST_STEP, MOST_LATER = 3_600, 1_439
 DAYS_OF_MONTH = (31, 28, 31, 30, 31, 30, 31, 31, 30, 31, 30, 31)
 
 
@@ -83,6 +84,20 @@ def is_day(word):
     return bool(at and folder) and is_date(date)
 
 
+def times_fault(words):
+    """What is wrong with the words FROM FIRST LAST STEP, and perhaps `rides N`: the name of the
+    fault, or None.
+    """
+    step = number_of(words[3]) if len(words) in (4, 6) else None
+    limit = words[4:5] in ([], ["rides"]) and all(number_of(word) is not None for word in words[5:])
+    if not limit or not 1 <= (step or 0) <= MOST_STEP:
+        return "BadLine"
+    first, last = map(time_of, words[1:3])
+    if first is None or last is None or not first <= last <= first + MOST_LATER * step:
+        return "BadTime"
+    return None
+
+
 ENDS = (anything, anything)
 CHECKS = {
     "direct": (*ENDS, is_time),
@@ -107,6 +122,8 @@ def are_valid(words):
         return are_of_day(rest[:2], rest[2:], *CHECKS[name])
     if name == "late":
         return are_of_day(rest[:2], rest[2:], anything, *CHECKS["ask"])
+    if name == "times":
+        return are_of_day(rest[:2], []) and times_fault(rest[2:]) is None
     if name == "build":
         return are_of_day(rest[:2], [], *()) and rest[2:] in ([], ["list"])
     if name == "serve":

@@ -2,3 +2,4 @@ pub mod ReadBack
 pub mod Numbers
 pub mod Framed
 pub mod Plain
+pub mod Digits

@@ -16,7 +16,7 @@ use std::alloc::Global;
 use tb_base::{Choice, Leg, Memory, Offer, Sec, Slot, StopNo, Timetable, TripNo, Value};
 
 // The name of a stop.
-fn stop_name(table: &Timetable, p: StopNo) -> &[u8]
+pub(crate) fn stop_name(table: &Timetable, p: StopNo) -> &[u8]
     requires { p < length table.now.stops }
     ensures { result.now ≡ stop_name table.now p }
 {

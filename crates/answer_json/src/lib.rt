@@ -15,6 +15,7 @@ mod journeys;
 mod reached;
 mod shown;
 mod strings;
+mod travel;
 
 pub use builds::{build_json, build_list_json};
 pub use faults::{add_fault, add_line_fault};
@@ -25,3 +26,4 @@ pub use journeys::{
 pub use reached::{add_reach, add_value};
 pub use shown::{shown_arrival, shown_build, shown_build_list, shown_choices, shown_unknown};
 pub use strings::{add_count, add_member, add_string, add_total, read_back};
+pub use travel::add_travel;

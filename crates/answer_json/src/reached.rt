@@ -1,14 +1,14 @@
 //! The best values to every stop as JSON.
-ghost use Rattle.std.specs.Prelude.{◌≡◌, ◌++◌, ◌<◌, ◌≤◌, ◌∷◌, [], OnOk, drop, length, map, slice_index_or};
-ghost use Rattle.std.specs.Fmt.{decimal};
+ghost use Rattle.std.specs.Prelude.{◌≡◌, ◌++◌, ◌<◌, ◌≤◌, ◌∷◌, [], OnOk, codes, drop, length, map, slice_index_or};
+ghost use Rattle.std.specs.Fmt.{decimal, signed_decimal};
 ghost use Rattle.tb_base.specs.Transfers.{numbers_below};
-ghost use Rattle.answer_json.specs.Frames.{followers, framed};
+ghost use Rattle.answer_json.specs.Frames.{followers, framed, string_json};
 ghost use Rattle.answer_json.specs.Reached.{reach_json, stop_json, time_json, triple_json, value_json};
 ghost use Rattle.answer_json.specs.declared.frame.Frame.TheVariants as frame;
 
 use crate::frame::{Frame, add_moment};
-use crate::journeys::add_stop;
-use crate::strings::add_count;
+use crate::journeys::stop_name;
+use crate::strings::{add_content, add_count, add_string};
 use answer_text::Text;
 use tb_base::{Memory, Sec, StopNo, Timetable, Value};
 
@@ -33,6 +33,36 @@ fn add_rides(text: &mut Text, rides: u32) -> Result<(), Memory>
     }
 }
 
+// The digits of a number that has five.
+#[tactic(auto, using(crate::proofs::Digits::decimal_of_five))]
+fn five_digits(n: u32) -> [u8; 5]
+    requires least { 10000 ≤ n }
+    requires most { n < 100000 }
+    ensures { result ≡ decimal n }
+{
+    let tens = n / 10;
+    let hundreds = tens / 10;
+    let thousands = hundreds / 10;
+    [
+        b'0' + (thousands / 10) as u8,
+        b'0' + (thousands % 10) as u8,
+        b'0' + (hundreds % 10) as u8,
+        b'0' + (tens % 10) as u8,
+        b'0' + (n % 10) as u8,
+    ]
+}
+
+// Adds seconds, which most times of a day have in five digits.
+fn add_seconds(text: &mut Text, time: Sec) -> Result<(), Memory>
+    ensures { OnOk result (text.new ≡ text.old ++ signed_decimal time) }
+{
+    if time < 10_000 || time >= 100_000 {
+        return text.seconds(time);
+    }
+    let digits = five_digits(time.unsigned_abs());
+    text.add(&digits)
+}
+
 // Adds a time as `"HH:MM:SS",SECONDS`.
 fn add_time(text: &mut Text, time: Sec) -> Result<(), Memory>
     ensures { OnOk result (text.new ≡ text.old ++ time_json time) }
@@ -40,7 +70,7 @@ fn add_time(text: &mut Text, time: Sec) -> Result<(), Memory>
     text.add(b"\"")?;
     text.time(time)?;
     text.add(b"\",")?;
-    text.seconds(time)
+    add_seconds(text, time)
 }
 
 // Adds a value as `["HH:MM:SS",SECONDS,RIDES]`.
@@ -88,6 +118,16 @@ fn values_of(lists: &[Vec<Value>], stop: StopNo) -> &[Value]
     lists[stop.index()].as_slice()
 }
 
+// Adds a stop that has no values.
+fn add_unreached(text: &mut Text, name: &[u8]) -> Result<(), Memory>
+    ensures { OnOk result (text.new
+        ≡ text.old ++ (codes "[" ++ string_json name.now ++ codes ",[]]")) }
+{
+    text.add(b"[\"")?;
+    add_content(text, name)?;
+    text.add(b"\",[]]")
+}
+
 // Adds a stop with its values.
 fn add_reached(
     text: &mut Text,
@@ -100,10 +140,14 @@ fn add_reached(
     ensures { OnOk result (text.new
         ≡ text.old ++ stop_json table.now (map (λ list. list.items) lists.now) stop) }
 {
+    let values = values_of(lists, stop);
+    if values.is_empty() {
+        return add_unreached(text, stop_name(table, stop));
+    }
     text.add(b"[")?;
-    add_stop(text, table, stop)?;
+    add_string(text, stop_name(table, stop))?;
     text.add(b",")?;
-    add_values(text, values_of(lists, stop))?;
+    add_values(text, values)?;
     text.add(b"]")
 }
 

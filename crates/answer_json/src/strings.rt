@@ -1,5 +1,5 @@
 //! Strings in JSON.
-ghost use Rattle.std.specs.Prelude.{◌≡◌, ◌<◌, ◌++◌, ◌∷◌, List, OnOk, Some, ℕ};
+ghost use Rattle.std.specs.Prelude.{◌≡◌, ◌<◌, ◌++◌, ◌∷◌, [], List, OnOk, Some, ℕ};
 ghost use Rattle.std.specs.Bool.{OnTrue};
 ghost use Rattle.std.specs.Char.{digit_char};
 ghost use Rattle.json.specs.Json.{document, string};
@@ -63,20 +63,32 @@ fn add_escaped(text: &mut Text, byte: u8) -> Result<(), Memory>
     text.add(&[byte])
 }
 
-// Whether each byte stands for itself in a string, as in most names.
-fn is_plain(bytes: &[u8]) -> bool
-    ensures { OnTrue result (escape bytes.now ≡ bytes.now) }
+// Whether a byte stands for itself in a string.
+fn stands_for_itself(byte: u8) -> bool
+    ensures { OnTrue result (escape_byte byte ≡ byte ∷ []) }
 {
-    for byte in bytes {
-        if *byte < 0x20 || *byte == b'"' || *byte == b'\\' {
-            return false;
-        }
+    if byte < 0x20 || byte == b'"' || byte == b'\\' {
+        return false;
     }
     true
 }
 
+// Whether each byte stands for itself in a string, as in most names. It looks at all of them, since
+// a loop that may end early takes one byte at a time.
+fn is_plain(bytes: &[u8]) -> bool
+    ensures { OnTrue result (escape bytes.now ≡ bytes.now) }
+{
+    let mut plain = true;
+    for byte in bytes {
+        if !stands_for_itself(*byte) {
+            plain = false;
+        }
+    }
+    plain
+}
+
 // Adds what stands in a string for some bytes.
-fn add_content(text: &mut Text, bytes: &[u8]) -> Result<(), Memory>
+pub(crate) fn add_content(text: &mut Text, bytes: &[u8]) -> Result<(), Memory>
     ensures { OnOk result (text.new ≡ text.old ++ escape bytes.now) }
 {
     if is_plain(bytes) {

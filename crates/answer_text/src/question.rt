@@ -1,15 +1,20 @@
 //! Questions about the network of a day.
-ghost use Rattle.std.specs.Prelude.{◌≡◌, ◌≤ℤ◌, IfOk, pos};
+ghost use Rattle.std.specs.Prelude.{◌≡◌, ◌≤◌, ◌≤ℤ◌, IfOk, pos};
 ghost use Rattle.gtfs_rows.specs.Numbers.{IsFileTime};
 ghost use Rattle.tb_base.specs.Refusals.{Yields};
-ghost use Rattle.answer_text.specs.Questions.{HasTimes, IsArrivalTime, arrival_time, ask_of, latest_of, needs_mirror, profile_of, question_of, reach_of, word_time};
+ghost use Rattle.answer_text.specs.Questions.{HasTimes, IsArrivalTime, IsStep, arrival_time, ask_of, last_departure, latest_of, limit_of, most_rides, needs_mirror, profile_of, question_of, reach_of, rides_of, step_of, times_of, word_time};
 
-use gtfs_rows::time_of;
+use gtfs_rows::{number_of, time_of};
 use std::alloc::Global;
 use tb_base::{Name, Refused, Sec};
 
 // The latest time by which one can be asked to arrive: 75:59:59.
 const LAST_ARRIVAL: Sec = 273_599;
+
+// The most seconds from one departure to the next, and the most departures behind the first.
+const MOST_STEP: u32 = 3600;
+
+const MOST_LATER: u32 = 1439;
 
 /// A question about the network of a day. The names are those of stops or stations; times are in
 /// seconds since noon minus twelve hours.
@@ -39,6 +44,15 @@ pub enum Question {
         from: Name,
         leave: Sec,
     },
+    /// For how long it takes to every stop at each of several departures: the first, and one every
+    /// `step` seconds from it on, up to the last; with at most `rides` rides if that is given.
+    Times {
+        from: Name,
+        first: Sec,
+        last: Sec,
+        step: u32,
+        rides: Option<u32>,
+    },
 }
 
 impl Question {
@@ -48,7 +62,10 @@ impl Question {
     {
         match self {
             Question::Latest { .. } => true,
-            Question::Ask { .. } | Question::Profile { .. } | Question::Reach { .. } => false,
+            Question::Ask { .. }
+            | Question::Profile { .. }
+            | Question::Reach { .. }
+            | Question::Times { .. } => false,
         }
     }
 }
@@ -56,9 +73,11 @@ impl Question {
 /// Why words are no question.
 #[derive(Debug, Clone, Copy, PartialEq, Eq)]
 pub enum QuestionFault {
-    /// The first word names no kind of question, or the number of words is another one.
+    /// The first word names no kind of question, the number of words is another one, or a word that
+    /// is no name and no time isn't what belongs in its place.
     BadForm,
-    /// A time isn't one, or is a later one than can be asked for.
+    /// A time isn't one, or is a later one than can be asked for; or the last of several departures
+    /// is before the first.
     BadTime,
 }
 
@@ -147,9 +166,91 @@ fn reach_of(alloc: Global, words: &[Name]) -> Result<Question, Refused<QuestionF
     Ok(Question::Reach { from, leave })
 }
 
+// The seconds from one departure to the next that a word writes.
+fn step_of(word: &Name) -> Result<u32, Refused<QuestionFault>>
+    ensures reads { Yields result (λ step. step) (step_of word.now) }
+    ensures step { IfOk result IsStep }
+{
+    match number_of(word.bytes()) {
+        Some(step) if 1 <= step && step <= MOST_STEP => Ok(step),
+        _ => Err(Refused::Fault(QuestionFault::BadForm)),
+    }
+}
+
+// The most rides that a word writes.
+fn most_rides(word: &Name) -> Result<Option<u32>, Refused<QuestionFault>>
+    ensures { Yields result (λ rides. rides) (most_rides word.now) }
+{
+    match number_of(word.bytes()) {
+        Some(rides) => Ok(Some(rides)),
+        None => Err(Refused::Fault(QuestionFault::BadForm)),
+    }
+}
+
+// `rides N`.
+fn limit_of(word: &Name, number: &Name) -> Result<Option<u32>, Refused<QuestionFault>>
+    ensures { Yields result (λ rides. rides) (limit_of word.now number.now) }
+{
+    if word.bytes() == b"rides".as_slice() {
+        most_rides(number)
+    } else {
+        Err(Refused::Fault(QuestionFault::BadForm))
+    }
+}
+
+// No words, or `rides N`.
+fn rides_of(words: &[Name]) -> Result<Option<u32>, Refused<QuestionFault>>
+    ensures { Yields result (λ rides. rides) (rides_of words.now) }
+{
+    match words {
+        [] => Ok(None),
+        [word, number] => limit_of(word, number),
+        _ => Err(Refused::Fault(QuestionFault::BadForm)),
+    }
+}
+
+// A last departure, where it isn't before the first one and there aren't too many.
+fn last_departure(first: Sec, step: u32, last: Sec) -> Result<Sec, Refused<QuestionFault>>
+    requires first { IsFileTime first }
+    requires step { step ≤ 3600 }
+    ensures reads { Yields result (λ time. time) (last_departure first step last) }
+    ensures some { IfOk result (λ time. first ≤ℤ time) }
+    ensures same { IfOk result (λ time. time ≡ last) }
+{
+    let latest = first + (MOST_LATER * step) as i32;
+    if first <= last && last <= latest {
+        Ok(last)
+    } else {
+        Err(Refused::Fault(QuestionFault::BadTime))
+    }
+}
+
+// FROM FIRST LAST STEP, and nothing or `rides N`.
+fn times_of(alloc: Global, words: &[Name]) -> Result<Question, Refused<QuestionFault>>
+    ensures reads { Yields result (λ question. question) (times_of words.now) }
+    ensures times { IfOk result HasTimes }
+{
+    let [from, first, last, step, rest @ ..] = words else {
+        return Err(Refused::Fault(QuestionFault::BadForm));
+    };
+    let rides = rides_of(rest)?;
+    let step = step_of(step)?;
+    let first = word_time(first)?;
+    let last = last_departure(first, step, word_time(last)?)?;
+    let from = Name::new(alloc, from.bytes())?;
+    Ok(Question::Times {
+        from,
+        first,
+        last,
+        step,
+        rides,
+    })
+}
+
 /// What words ask, or exactly why they ask nothing: `ask FROM TO TIME`, `profile FROM TO FIRST
-/// LAST`, `latest FROM TO TIME` or `reach FROM TIME`, the first of them being `kind`. A time is
-/// read by `time_of`; one by which to arrive is at most 75:59:59.
+/// LAST`, `latest FROM TO TIME`, `reach FROM TIME`, or `times FROM FIRST LAST STEP` with or without
+/// `rides N`, the first of them being `kind`. A time is read by `time_of`; one by which to arrive is
+/// at most 75:59:59. A step is 1 to 3,600 seconds, and there are at most 1,440 departures.
 pub fn question_of(
     alloc: Global,
     kind: &[u8],
@@ -166,6 +267,8 @@ pub fn question_of(
         latest_of(alloc, words)
     } else if kind == b"reach".as_slice() {
         reach_of(alloc, words)
+    } else if kind == b"times".as_slice() {
+        times_of(alloc, words)
     } else {
         Err(Refused::Fault(QuestionFault::BadForm))
     }

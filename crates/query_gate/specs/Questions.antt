@@ -11,6 +11,7 @@ use Rattle.answer_text.specs.declared.question.Question.{Question}
 use Rattle.answer_text.specs.declared.question.Question.TheVariants as question
 use Rattle.edition_store.specs.Departures.{ArrivalData}
 use Rattle.edition_store.specs.Mirror.{IsMirror}
+use Rattle.reach_all.specs.declared.departures.Departures.{Departures}
 
 -- from which edition on, from which place to which, and how early one can leave
 pub record AskData : Type 0 where
@@ -77,3 +78,7 @@ arrival_by ends arrive = record { from = ends.from; to = ends.to; by = arrive }
 -- the stops of the place with a name
 abbrev pub stops_named : TimetableData → List ℕ → Option (List ℕ)
 stops_named T name = option_map (stops_of T) (place_named T name)
+
+-- the departures of a question for travel times
+abbrev pub departures_at : ℤ → ℤ → ℕ → Departures
+departures_at first last step = record { first = first; last = last; step = step }

@@ -15,7 +15,8 @@ use Rattle.answer_text.specs.declared.question.Question.{Question}
 use Rattle.answer_text.specs.declared.question.Question.TheVariants as question
 use Rattle.arrive_by.specs.Latest.{AreLatestDepartures, DepartureData}
 use Rattle.reach_all.specs.Reach.{IsReach}
-use Rattle.query_gate.specs.Questions.{Ends, arrival_by, ends_between, query_at, stops_named, window_at}
+use Rattle.reach_all.specs.TravelTimes.{AreFiguresOver}
+use Rattle.query_gate.specs.Questions.{Ends, arrival_by, departures_at, ends_between, query_at, stops_named, window_at}
 use Rattle.query_gate.specs.declared.between.Between.{Between}
 use Rattle.query_gate.specs.declared.between.Between.TheVariants as between
 use Rattle.query_gate.specs.declared.reply.Reply.{Reply}
@@ -57,6 +58,8 @@ NamesNoPlace T (question.Ask from to leave) name = ends_between T from to ≡ Er
 NamesNoPlace T (question.Profile from to first last) name = ends_between T from to ≡ Err name
 NamesNoPlace T (question.Latest from to arrive) name = ends_between T from to ≡ Err name
 NamesNoPlace T (question.Reach from leave) name = (stops_named T from ≡ None) × (name ≡ from)
+NamesNoPlace T (question.Times from first last step rides) name =
+    (stops_named T from ≡ None) × (name ≡ from)
 
 -- the right reply to a question over a network
 abbrev pub IsReply : NetData → Question → Reply → Type 0
@@ -70,6 +73,10 @@ IsReply N (question.Latest from to arrive) (reply.Departures ds) =
 IsReply N (question.Reach from leave) (reply.Reached lists) =
     (stops : List ℕ) × (stops_named N.table from ≡ Some stops)
     × IsReach N.table stops leave (map (λ list. list.items) lists.items)
+IsReply N (question.Times from first last step rides) (reply.Times travel) =
+    (stops : List ℕ) × (stops_named N.table from ≡ Some stops)
+    × AreFiguresOver N.table stops rides (departures_at first last step) travel.departures
+    travel.figures.items
 IsReply N q r = ⊥
 
 -- What a reply leaves in the desk: with values the answer to the query, whose hits have these
@@ -80,13 +87,15 @@ LeavesAnswered N (question.Ask from to leave) (reply.Values choices) D =
     × (map ChoiceData.value choices.items ≡ map (λ (h : Hit). h.value) D.hits))
 LeavesAnswered N q r D = ⊤
 
--- the trips, stops and indices in all its legs exist, and there is a list of values a stop
+-- the trips, stops and indices in all its legs exist, and there is a list of values, or figures, a
+-- stop
 abbrev pub HaveNumbers : TimetableData → Reply → Type 0
 HaveNumbers T (reply.Values choices) =
     All (λ c. All (HasNumbers T) (ChoiceData.legs c)) choices.items
 HaveNumbers T (reply.Slots offers) = All (λ o. All (HasNumbers T) (OfferData.legs o)) offers.items
 HaveNumbers T (reply.Departures ds) = All (λ d. All (HasNumbers T) (DepartureData.legs d)) ds.items
 HaveNumbers T (reply.Reached lists) = length lists.items ≡ length T.stops
+HaveNumbers T (reply.Times travel) = length travel.figures.items ≡ length T.stops
 HaveNumbers T (reply.UnknownStop name) = ⊤
 HaveNumbers T (reply.Deferred number) = ⊤
 HaveNumbers T reply.NoMirror = ⊤

@@ -1,6 +1,6 @@
 //! Answers to questions about the network of a day.
 ghost use Rattle.std.specs.Prelude.{◌≡◌, ◌<◌, ◌≤ℤ◌, IfOk, pos};
-ghost use Rattle.answer_text.specs.Questions.{HasTimes, IsArrivalTime};
+ghost use Rattle.answer_text.specs.Questions.{AreDepartureTimes, HasTimes, IsArrivalTime};
 ghost use Rattle.answer_text.specs.declared.question.Question.TheVariants as question;
 ghost use Rattle.edition_store.specs.Editions.{net_of};
 ghost use Rattle.edition_store.specs.Mirror.{IsMirror};
@@ -15,7 +15,7 @@ use arrive_by::{Arrival, latest};
 use earliest_query::earliest;
 use edition_store::Network;
 use journey_unfold::choices;
-use reach_all::reach_all;
+use reach_all::{Departures, reach_all, travel_times};
 use segment_queue::{Desk, Steps};
 use std::alloc::Global;
 use std::marker::Brand;
@@ -153,6 +153,45 @@ fn values_from<L: Ledger>(
     Ok(Reply::Reached(lists))
 }
 
+// The reply to a question for travel times, on a ledger that nobody else counts in.
+fn times_from<L: Ledger>(
+    alloc: Global,
+    network: &Network,
+    desk: &mut Desk,
+    from: &Name,
+    departures: &Departures,
+    rides: Option<u32>,
+    blank: Blank,
+) -> Result<Reply, Memory>
+    requires name { blank.name ≡ L.name }
+    requires parts { blank.parts ≡ L.parts }
+    requires some { 0 < L.parts }
+    requires times { AreDepartureTimes departures.now.first departures.now.last
+        departures.now.step }
+    ensures reply { IfOk result (IsReply (net_of network.now) (question.Times from.now
+        departures.now.first departures.now.last departures.now.step rides)) }
+    ensures numbers { IfOk result (HaveNumbers network.now.table) }
+{
+    network.soundness();
+    let table = network.table();
+    let Some(origin) = table.place(from.bytes()) else {
+        return Ok(Reply::UnknownStop(Name::new(alloc, from.bytes())?));
+    };
+    let origins = table.place_stops(alloc, origin)?;
+    desk.make_room(network)?;
+    let mut steps = Steps::<L>::new(blank);
+    let travel = travel_times(
+        alloc,
+        network,
+        origins.as_slice(),
+        departures,
+        rides,
+        desk,
+        &mut steps,
+    )?;
+    Ok(Reply::Times(travel))
+}
+
 /// Answers a question about a timetable by a network that serves it: that of the timetable, or for
 /// the latest departures that of its mirror. `UnknownStop` comes exactly where no stop and no
 /// station has a name of the question, the origin's tried first; `Deferred` and `NoMirror` never.
@@ -187,6 +226,28 @@ pub fn answer(
         }
         Question::Reach { from, leave } => {
             values_from::<Brand>(alloc, network, desk, from, *leave, Blank::new(1))
+        }
+        Question::Times {
+            from,
+            first,
+            last,
+            step,
+            rides,
+        } => {
+            let departures = Departures {
+                first: *first,
+                last: *last,
+                step: *step,
+            };
+            times_from::<Brand>(
+                alloc,
+                network,
+                desk,
+                from,
+                &departures,
+                *rides,
+                Blank::new(1),
+            )
         }
     }
 }

@@ -8,6 +8,7 @@ ghost use Rattle.query_gate.specs.Json.{before_values, deferred_member, departur
 ghost use Rattle.query_gate.specs.Replies.{HaveNumbers};
 
 use crate::reply::{Reply, reply_text};
+use crate::times::add_times;
 use answer_json::{Frame, add_choices, add_departure, add_offers, add_reach, add_unknown};
 use answer_text::Text;
 use arrive_by::Departure;
@@ -144,6 +145,10 @@ fn add_reply(text: &mut Text, frame: Frame, table: &Timetable, reply: &Reply) ->
         Reply::Reached(lists) => {
             add_before(text, frame)?;
             add_reach(text, frame, table, lists.as_slice())
+        }
+        Reply::Times(travel) => {
+            add_before(text, frame)?;
+            add_times(text, frame, table, travel)
         }
         Reply::UnknownStop(name) => add_no_place(text, frame, name.bytes()),
         Reply::Deferred(number) => add_deferred(text, frame, *number),

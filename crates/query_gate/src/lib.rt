@@ -1,8 +1,8 @@
 //! The one door for questions about the network of a day.
 //!
 //! `answer` answers a `Question`: every best trade-off between early arrival and few rides between
-//! two named places, or to every stop; every best departure within a window; or the latest
-//! departures that arrive by a time. Each journey that is shown attains what it is shown for, and
+//! two named places, or to every stop; every best departure within a window; the latest departures
+//! that arrive by a time; or travel times to every stop over several departures. Each journey that is shown attains what it is shown for, and
 //! a name that is none is answered as such; `reply_text` shows a reply. The search is that of
 //! Trip-Based Public Transit Routing (Witt, ESA 2015). `best_choices` and `best_offers` search over
 //! any network whose hops suffice. `best_offers` sweeps the window from its last second to its
@@ -26,6 +26,7 @@ mod offers;
 mod reply;
 mod searching;
 mod slots;
+mod times;
 
 pub use answering::answer;
 pub use asking::{AskText, ProfileText};

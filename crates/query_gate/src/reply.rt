@@ -5,7 +5,7 @@ ghost use Rattle.query_gate.specs.Texts.{deferred_text, reply_text};
 
 use answer_text::{choices_text, offers_text, unknown_text};
 use arrive_by::{Departure, departures_text};
-use reach_all::reach_text;
+use reach_all::{TravelTimes, reach_text, times_text};
 use std::alloc::Global;
 use tb_base::{Choice, Memory, Name, Offer, Timetable, Value};
 
@@ -20,6 +20,8 @@ pub enum Reply {
     Departures(Vec<Departure>),
     /// The best values to each stop, by its number.
     Reached(Vec<Vec<Value>>),
+    /// What the travel times to each stop are.
+    Times(TravelTimes),
     /// The first name that no stop and no station has.
     UnknownStop(Name),
     /// The edition with this number or a later one was asked for, and isn't there yet.
@@ -56,6 +58,7 @@ pub fn reply_text(alloc: Global, table: &Timetable, reply: &Reply) -> Result<Vec
         Reply::Slots(offers) => offers_text(alloc, table, offers.as_slice()),
         Reply::Departures(departures) => departures_text(alloc, table, departures.as_slice()),
         Reply::Reached(lists) => reach_text(alloc, table, lists.as_slice()),
+        Reply::Times(travel) => times_text(alloc, table, travel),
         Reply::UnknownStop(name) => unknown_text(alloc, name.bytes()),
         Reply::Deferred(number) => deferred_text(alloc, *number),
         Reply::NoMirror => no_mirror_text(alloc),

@@ -6,3 +6,4 @@ pub mod Ranking
 pub mod BestTimes
 pub mod Ridden
 pub mod SweptDown
+pub mod Lines

@@ -1,5 +1,6 @@
 pub mod Reach
 pub mod Text
+pub mod TimesText
 pub mod Arriving
 pub mod Spreading
 pub mod TravelTimes

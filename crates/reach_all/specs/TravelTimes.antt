@@ -69,3 +69,11 @@ pub record HaveFigures (T : TimetableData) (from : List ℕ) (most : Option ℕ)
   pub stop : (p : ℕ) (f : Figures) → p < length T.stops → (times : List (Option ℤ))
       × AreTravelTimes T from most departures p times
       × AreFigures times (slice_index_or figures p f)
+
+-- So many departures there are, and the figures are those of their travel times.
+pub record AreFiguresOver (T : TimetableData) (from : List ℕ) (most : Option ℕ) (d : Departures)
+    (count : ℕ) (figures : List Figures) : Type 0 where
+  pub times : List ℤ
+  pub departures : AreDepartures d times
+  pub counted : count ≡ length times
+  pub have : HaveFigures T from most times figures

@@ -3,6 +3,7 @@ ghost use Rattle.std.specs.Prelude.{◌≡◌, ◌-◌, ◌<◌, ◌≤◌, ◌/
 ghost use Rattle.std.specs.List.Sorted.{IsPermutation};
 ghost use Rattle.reach_all.specs.TravelTimes.{AreFigures};
 ghost use Rattle.reach_all.specs.Ranks.{figures_in_order, reached_times};
+ghost use Rattle.reach_all.specs.TimesText.{figure_times};
 
 use std::alloc::Global;
 use tb_base::{Memory, Sec};
@@ -20,6 +21,23 @@ pub struct Figures {
     pub percentile_75: Option<Sec>,
     pub percentile_95: Option<Sec>,
     pub greatest: Option<Sec>,
+}
+
+impl Figures {
+    /// Its times: the least, the 5th, 25th, 50th, 75th and 95th percentile, and the greatest.
+    pub fn times(&self) -> [Option<Sec>; 7]
+        ensures { result ≡ figure_times self.now }
+    {
+        [
+            self.least,
+            self.percentile_5,
+            self.percentile_25,
+            self.percentile_50,
+            self.percentile_75,
+            self.percentile_95,
+            self.greatest,
+        ]
+    }
 }
 
 // The time of this rank, counted from 1, of times in order.

@@ -7,8 +7,8 @@
 //! origin, line indices. `reach_text` shows the answer, one line a stop. `travel_times` asks for the
 //! departures of a window, and tells of each stop how many reach it and percentiles of the travel
 //! time, as accessibility studies want them (R5 answers such); it promises them exactly, and
-//! no command uses it yet. Times are those of the service day, as the GTFS Schedule Reference counts
-//! them.
+//! `times_text` shows them. Times are those of the service day, as the GTFS Schedule Reference
+//! counts them.
 #![tactic(auto)]
 
 mod arrivals;
@@ -19,6 +19,7 @@ mod offers;
 mod query;
 mod sweeping;
 mod text;
+mod travel_text;
 mod travelling;
 mod walking;
 
@@ -26,4 +27,5 @@ pub use departures::Departures;
 pub use figures::Figures;
 pub use query::reach_all;
 pub use text::reach_text;
-pub use travelling::travel_times;
+pub use travel_text::times_text;
+pub use travelling::{TravelTimes, travel_times};

@@ -32,7 +32,7 @@ fn add_values(text: &mut Text, values: &[Value]) -> Result<(), Memory>
 }
 
 // The name of a stop.
-fn name_of(table: &Timetable, stop: StopNo) -> &[u8]
+pub(crate) fn name_of(table: &Timetable, stop: StopNo) -> &[u8]
     requires { stop < length table.now.stops }
     ensures { result.now ≡ stop_name table.now stop }
 {

@@ -69,26 +69,37 @@ by_kept N sound (question.Ask from to leave) (reply.Values choices) (ends, is, b
 by_kept N sound (question.Ask from to leave) (reply.Slots offers) h = h
 by_kept N sound (question.Ask from to leave) (reply.Departures ds) h = h
 by_kept N sound (question.Ask from to leave) (reply.Reached lists) h = h
+by_kept N sound (question.Ask from to leave) (reply.Times travel) h = h
 by_kept N sound (question.Ask from to leave) (reply.Deferred number) h = h
 by_kept N sound (question.Ask from to leave) reply.NoMirror h = h
 by_kept N sound (question.Profile from to first last) (reply.Values choices) h = h
 by_kept N sound (question.Profile from to first last) (reply.Slots offers) (ends, is, best) = (ends, is, kept_offers N sound _ offers.items best)
 by_kept N sound (question.Profile from to first last) (reply.Departures ds) h = h
 by_kept N sound (question.Profile from to first last) (reply.Reached lists) h = h
+by_kept N sound (question.Profile from to first last) (reply.Times travel) h = h
 by_kept N sound (question.Profile from to first last) (reply.Deferred number) h = h
 by_kept N sound (question.Profile from to first last) reply.NoMirror h = h
 by_kept N sound (question.Latest from to arrive) (reply.Values choices) h = h
 by_kept N sound (question.Latest from to arrive) (reply.Slots offers) h = h
 by_kept N sound (question.Latest from to arrive) (reply.Departures ds) h = h
 by_kept N sound (question.Latest from to arrive) (reply.Reached lists) h = h
+by_kept N sound (question.Latest from to arrive) (reply.Times travel) h = h
 by_kept N sound (question.Latest from to arrive) (reply.Deferred number) h = h
 by_kept N sound (question.Latest from to arrive) reply.NoMirror h = h
 by_kept N sound (question.Reach from leave) (reply.Values choices) h = h
 by_kept N sound (question.Reach from leave) (reply.Slots offers) h = h
 by_kept N sound (question.Reach from leave) (reply.Departures ds) h = h
 by_kept N sound (question.Reach from leave) (reply.Reached lists) h = h
+by_kept N sound (question.Reach from leave) (reply.Times travel) h = h
 by_kept N sound (question.Reach from leave) (reply.Deferred number) h = h
 by_kept N sound (question.Reach from leave) reply.NoMirror h = h
+by_kept N sound (question.Times from first last step rides) (reply.Values choices) h = h
+by_kept N sound (question.Times from first last step rides) (reply.Slots offers) h = h
+by_kept N sound (question.Times from first last step rides) (reply.Departures ds) h = h
+by_kept N sound (question.Times from first last step rides) (reply.Reached lists) h = h
+by_kept N sound (question.Times from first last step rides) (reply.Times travel) h = h
+by_kept N sound (question.Times from first last step rides) (reply.Deferred number) h = h
+by_kept N sound (question.Times from first last step rides) reply.NoMirror h = h
 
 -- one to a question that needs the mirror says nothing of lines and hops
 by_mirror : (T : TimetableData) (N : NetworkData) (from to : List ℕ) (arrive : ℤ) (r : Reply) → IsReply (over T N) (question.Latest from to arrive) r → IsReply (kept_network T []) (question.Latest from to arrive) r
@@ -97,6 +108,7 @@ by_mirror T N from to arrive (reply.Values choices) h = h
 by_mirror T N from to arrive (reply.Slots offers) h = h
 by_mirror T N from to arrive (reply.Departures ds) h = h
 by_mirror T N from to arrive (reply.Reached lists) h = h
+by_mirror T N from to arrive (reply.Times travel) h = h
 by_mirror T N from to arrive (reply.Deferred number) h = h
 by_mirror T N from to arrive reply.NoMirror h = h
 
@@ -113,6 +125,7 @@ kept_reply T N sound (question.Profile from to first last) r same h = by_itself 
 kept_reply T N sound (question.Latest from to arrive) r mirror h =
     record { lines = []; are_lines = λ own. absurd (let no : true ≡ false = own in cc); right = by_mirror T N from to arrive r h }
 kept_reply T N sound (question.Reach from leave) r same h = by_itself T N sound (question.Reach from leave) r same h
+kept_reply T N sound (question.Times from first last step rides) r same h = by_itself T N sound (question.Times from first last step rides) r same h
 
 -- it is right where no other way was asked for
 pub right_reply : (T : TimetableData) (q : Question) (r : Reply) → IsKeptReply T q r → IsRightReply T false q r
@@ -120,6 +133,7 @@ right_reply T (question.Ask from to leave) r h = h
 right_reply T (question.Profile from to first last) r h = h
 right_reply T (question.Latest from to arrive) r h = h
 right_reply T (question.Reach from leave) r h = h
+right_reply T (question.Times from first last step rides) r h = h
 
 -- and where it was, since journeys by kept transfers are journeys
 any_reply : (T : TimetableData) (from to : List ℕ) (leave : ℤ) (r : Reply) → IsKeptReply T (question.Ask from to leave) r → IsRoundsReply T from to leave r
@@ -129,6 +143,7 @@ any_reply T from to leave (reply.UnknownStop name) h = h.right
 any_reply T from to leave (reply.Slots offers) h = absurd h.right
 any_reply T from to leave (reply.Departures ds) h = absurd h.right
 any_reply T from to leave (reply.Reached lists) h = absurd h.right
+any_reply T from to leave (reply.Times travel) h = absurd h.right
 any_reply T from to leave (reply.Deferred number) h = absurd h.right
 any_reply T from to leave reply.NoMirror h = absurd h.right
 
@@ -138,6 +153,7 @@ either_reply T true (question.Ask from to leave) r h = any_reply T from to leave
 either_reply T true (question.Profile from to first last) r h = h
 either_reply T true (question.Latest from to arrive) r h = h
 either_reply T true (question.Reach from leave) r h = h
+either_reply T true (question.Times from first last step rides) r h = h
 
 -- the text of a right reply by a network that serves a timetable
 pub reply_shown : (json : Bool) (T : TimetableData) (N : NetworkData) → IsNetwork N → (q : Question) (r : Reply) → Serves T N.table q → IsReply (over T N) q r → (bytes : List ℕ) → bytes ≡ shown_reply json frame.Lines T r →

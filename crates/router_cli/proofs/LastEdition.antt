@@ -8,7 +8,7 @@ use Rattle.answer_text.specs.declared.question.Question.{Question}
 use Rattle.query_gate.specs.Callers.{Answers, IsAnsweredBy}
 use Rattle.query_gate.specs.Replies.{IsReply}
 use Rattle.query_gate.specs.declared.reply.Reply.{Reply}
-use Rattle.query_gate.specs.declared.reply.Reply.TheVariants.{Values, Slots, Departures, Reached, UnknownStop, Deferred, NoMirror}
+use Rattle.query_gate.specs.declared.reply.Reply.TheVariants.{Values, Slots, Departures, Reached, Times, UnknownStop, Deferred, NoMirror}
 use Rattle.lane_serve.proofs.Answering.{same_edition}
 
 -- it pins the whole list
@@ -25,6 +25,7 @@ by_answer n e q (Values choices) own h = h.1
 by_answer n e q (Slots offers) own h = h.1
 by_answer n e q (Departures ds) own h = h.1
 by_answer n e q (Reached lists) own h = h.1
+by_answer n e q (Times travel) own h = h.1
 by_answer n e q (UnknownStop name) own h = h.1
 by_answer n e q (Deferred number) own h = absurd (let late = h.0 in omega (arith, late))
 by_answer n e q NoMirror own h = absurd (let no : true ≡ false = sym h.1.0 ∙ own in cc)

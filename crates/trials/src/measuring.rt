@@ -4,7 +4,9 @@
 //! fixed seed, at random times of the day, by a search over the kept transfers; `plain` asks the
 //! same round by round. It is written how many choices were found, and the sum of their arrivals,
 //! so both can be compared. `profile` asks for profiles of 24 hours instead, and the same is
-//! written of their slots; `reach` for the best values from a stop to every stop; `latest` for the
+//! written of their slots; `reach` for the best values from a stop to every stop; `times` for the
+//! travel times from a stop to every stop over sixty departures of an hour, of which the sum of the
+//! least ones is written; `latest` for the
 //! latest departures by a time of the day, of which the sum of the departures is written. By `pin`
 //! one seat of a store pins the day's edition so often, by `publish` so many stores of one seat are
 //! given 99 more shares of it each; it is written how often, and the sum of the numbers. The
@@ -18,6 +20,7 @@ pub mod method;
 mod queries;
 mod reaches;
 mod stores;
+mod travels;
 mod watch;
 
 use crate::building::{built, mirror_built};

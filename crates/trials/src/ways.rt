@@ -1,13 +1,13 @@
 //! Ways to an answer. Each is called in one function alone, since whatever calls it is proved over
 //! all that its contract names.
-ghost use Rattle.std.specs.Prelude.{◌≡◌, ◌<◌, ◌≤ℤ◌, All, length, pos};
+ghost use Rattle.std.specs.Prelude.{◌≡◌, ◌<◌, ◌≤◌, ◌≤ℤ◌, All, length, pos};
 ghost use Rattle.edition_store.specs.Mirror.{IsMirror};
 
 use arrive_by::{Arrival, Departure, latest};
 use edition_store::{Edition, Network};
 use plain_rounds::plain_ask;
 use query_gate::{best_choices, best_offers};
-use reach_all::reach_all;
+use reach_all::{Departures, TravelTimes, reach_all, travel_times};
 use segment_queue::{Desk, Steps};
 use std::alloc::Global;
 use std::marker::Brand;
@@ -147,4 +147,57 @@ pub fn reached(
     requires leave { leave ≤ℤ pos 359999 }
 {
     reached_on::<Brand>(alloc, edition.network(), desk, from, leave, Blank::new(1))
+}
+
+// The travel times to every stop, on a ledger that nobody else counts in.
+fn travelled_on<L: Ledger>(
+    alloc: Global,
+    network: &Network,
+    desk: &mut Desk,
+    from: &[StopNo],
+    departures: &Departures,
+    rides: Option<u32>,
+    blank: Blank,
+) -> Result<TravelTimes, Memory>
+    requires name { blank.name ≡ L.name }
+    requires parts { blank.parts ≡ L.parts }
+    requires some { 0 < L.parts }
+    requires origins { All (λ p. p < length network.now.table.stops) from.now }
+    requires first { pos 0 ≤ℤ departures.now.first }
+    requires order { departures.now.first ≤ℤ departures.now.last }
+    requires last { departures.now.last ≤ℤ pos 359999 }
+    requires step { 1 ≤ departures.now.step }
+    requires most_step { departures.now.step ≤ 3600 }
+{
+    network.soundness();
+    desk.make_room(network)?;
+    let mut steps = Steps::<L>::new(blank);
+    travel_times(alloc, network, from, departures, rides, desk, &mut steps)
+}
+
+/// The travel times to every stop over several departures.
+pub fn travelled(
+    alloc: Global,
+    edition: &Edition,
+    desk: &mut Desk,
+    from: &[StopNo],
+    departures: &Departures,
+    rides: Option<u32>,
+) -> Result<TravelTimes, Memory>
+    requires origins { All (λ p. p < length edition.now.table.stops) from.now }
+    requires first { pos 0 ≤ℤ departures.now.first }
+    requires order { departures.now.first ≤ℤ departures.now.last }
+    requires last { departures.now.last ≤ℤ pos 359999 }
+    requires step { 1 ≤ departures.now.step }
+    requires most_step { departures.now.step ≤ 3600 }
+{
+    travelled_on::<Brand>(
+        alloc,
+        edition.network(),
+        desk,
+        from,
+        departures,
+        rides,
+        Blank::new(1),
+    )
 }

@@ -3,7 +3,8 @@
 //! The packed set of hops is held against the plain one; the search over kept transfers against the
 //! plain rounds; the profile of a window against asking at each of its seconds; the latest
 //! departures by a time against the profile of all times before; the best values to every stop
-//! against asking for each alone: over the two feeds of `made_feeds` that are made by hand, between
+//! against asking for each alone; travel times over several departures against asking at each:
+//! over the two feeds of `made_feeds` that are made by hand, between
 //! all of their stops, and over feeds that look random. Beside each of these is another with trips
 //! by frequency and trips of the day before; the same is compared over it, and best values and
 //! profiles between all of its stops are held against those over the same trips written out a day
@@ -18,6 +19,7 @@ mod profiles;
 pub mod queries;
 mod reaching;
 mod tally;
+mod travelling;
 mod trial;
 mod twins;
 

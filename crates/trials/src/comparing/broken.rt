@@ -5,7 +5,7 @@
 //! the best values by both ways, the latest departures, the best values to every stop, and the kept
 //! transfers. Each ends with an answer, or with a status that names a fault of the feed and nothing
 //! written; all with the same one; both ways show the same best values, and the order of rows
-//! changes none.
+//! changes none. Each best value that is written as JSON is a true claim when it is read again.
 mod asking;
 pub mod breaks;
 pub mod trial;

@@ -20,6 +20,8 @@ pub enum Difference {
     Departures,
     /// The best values to a stop.
     Reach,
+    /// The travel times to a stop.
+    Times,
     /// The best values or slots over trips that are written out.
     WrittenOut,
     /// The first fault of a list of lates, or that it has one.

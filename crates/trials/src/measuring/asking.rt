@@ -5,6 +5,7 @@ use super::found::Found;
 use super::method::Asking;
 use super::queries::{by_profile, by_search};
 use super::reaches::by_reach;
+use super::travels::by_travel_times;
 use edition_store::Edition;
 use made_feeds::Draw;
 use segment_queue::Desk;
@@ -25,6 +26,7 @@ fn asked(
         Asking::Search => by_search(alloc, edition, desk, draw),
         Asking::Profile => by_profile(alloc, edition, desk, draw),
         Asking::Reach => by_reach(alloc, edition, desk, draw),
+        Asking::Times => by_travel_times(alloc, edition, desk, draw),
     }
 }
 

@@ -8,6 +8,7 @@ pub enum Asking {
     Search,
     Profile,
     Reach,
+    Times,
 }
 
 /// What is done with a store of editions.
@@ -43,6 +44,7 @@ pub fn method_named(name: &str) -> Option<Method> {
         "search" => Some(Method::OverEdition(Asking::Search)),
         "profile" => Some(Method::OverEdition(Asking::Profile)),
         "reach" => Some(Method::OverEdition(Asking::Reach)),
+        "times" => Some(Method::OverEdition(Asking::Times)),
         "pin" => Some(Method::OverStore(Storing::Pin)),
         "publish" => Some(Method::OverStore(Storing::Publish)),
         _ => None,

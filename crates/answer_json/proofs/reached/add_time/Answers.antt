@@ -14,9 +14,9 @@ returns c =
     let time = c.args.time in
     let same = to_z-of_z w32 time c.ranges.time in
     let shown = subst (λ t. c.time.new.self ≡ c.add.new.self ++ time_text t) same c.in_ok-time.ensures in
-    let counted = subst (λ t. OnOk c.seconds.result (c.seconds.new.self ≡ c.add-2.new.self ++ signed_decimal t)) same c.seconds.ensures in
+    let counted = subst (λ t. OnOk c.add_seconds.result (c.add_seconds.new.text ≡ c.add-2.new.self ++ signed_decimal t)) same c.add_seconds.ensures in
     let a = codes "\"" in
     let b = a ++ time_text time in
     let two = joined s c.add.new.self c.time.new.self a (time_text time) c.in_ok-add.ensures.added shown in
     let three = joined s c.time.new.self c.add-2.new.self b (codes "\",") two c.in_ok-add-2.ensures.added in
-    last_joined c.seconds.result s c.add-2.new.self c.seconds.new.self (b ++ codes "\",") (signed_decimal time) three counted
+    last_joined c.add_seconds.result s c.add-2.new.self c.add_seconds.new.text (b ++ codes "\",") (signed_decimal time) three counted

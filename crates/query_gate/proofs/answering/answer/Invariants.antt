@@ -8,3 +8,6 @@ ghosts-slots_between a = record { name = a.blank.name; parts = a.blank.parts }
 
 abbrev pub ghosts-values_from : goal.ghosts-values_from
 ghosts-values_from a = record { name = a.blank.name; parts = a.blank.parts }
+
+abbrev pub ghosts-times_from : goal.ghosts-times_from
+ghosts-times_from a = record { name = a.blank.name; parts = a.blank.parts }

@@ -23,11 +23,12 @@ returns-clause-figures g c =
     let times : List ℤ = c.in_ok-times.times.items in
     let lists = c.in_ok-lists.lists.items in
     let figures : List Figures = c.in_ok-figures.figures.items in
-    let made = c.in_ok-lists.ensures in (
-      times,
-      c.in_ok-times.ensures.times,
-      have_figures (λ list. list.items) T c.args.from.now c.args.rides times lists figures (made.each_departure ∙ ap length c.as_slice.ensures.value)
+    let made = c.in_ok-lists.ensures in record {
+      times = times;
+      departures = c.in_ok-times.ensures.times;
+      counted = c.len.ensures ∙ c.in_ok-times.times.ok.0;
+      have = have_figures (λ list. list.items) T c.args.from.now c.args.rides times lists figures (made.each_departure ∙ ap length c.as_slice.ensures.value)
           (subst (λ (ds : List ℤ). (k : ℕ) (t : ℤ) (o : List (Option ℤ)) → k < length ds → AreTimesAt T c.args.from.now c.args.rides (get_or ds k t) (get_or (map (λ list. list.items) lists) k o)) c.as_slice.ensures.value made.times)
           (c.in_ok-figures.ensures.each_stop ∙ c.shape.ensures.stops)
-          (λ p f inside. subst (λ xs. AreFigures (map (λ list. get_or list.items p None) xs) (get_or figures p f)) c.as_slice-2.ensures.value (c.in_ok-figures.ensures.figures p f (subst (λ n. p < n) (sym c.shape.ensures.stops) inside))),
-    )
+          (λ p f inside. subst (λ xs. AreFigures (map (λ list. get_or list.items p None) xs) (get_or figures p f)) c.as_slice-2.ensures.value (c.in_ok-figures.ensures.figures p f (subst (λ n. p < n) (sym c.shape.ensures.stops) inside)));
+    }

@@ -8,11 +8,13 @@ use super::profiles::{SECONDS, compare_slots};
 use super::queries::compare_values;
 use super::reaching::compare_reach;
 use super::tally::AnswersTally;
+use super::travelling::compare_travel;
 use crate::building::{built, mirror_built};
 use crate::comparing::refused::{MadeFeed, Refused};
 use crate::questions::{arrival, one_stop, query, window};
 use edition_store::Edition;
 use made_feeds::{Unread, ring, town};
+use reach_all::Departures;
 use segment_queue::Desk;
 use std::alloc::Global;
 use std::thread::Threads;
@@ -177,6 +179,26 @@ fn try_origin(
     Ok(tally)
 }
 
+// Compares travel times from one stop to all, at departures from some minutes before a time on.
+fn try_travel(
+    alloc: Global,
+    edition: &Edition,
+    desk: &mut Desk,
+    from: u32,
+    start: Sec,
+) -> Result<AnswersTally, Refused>
+    requires { from < length edition.now.table.stops }
+{
+    let origins = one_stop(alloc, edition.table(), from)?;
+    let first = start.saturating_sub(600).max(0).min(350_000);
+    let departures = Departures {
+        first,
+        last: first.saturating_add(3_000),
+        step: 300,
+    };
+    compare_travel(alloc, edition, desk, origins.as_slice(), &departures, None)
+}
+
 // Compares all over an edition and that of the mirror.
 fn try_editions(
     alloc: Global,
@@ -191,6 +213,7 @@ fn try_editions(
     for from in 0..edition.table().stop_count() {
         tally.add(try_from(alloc, edition, mirrored, desk, from, times)?);
         tally.add(try_origin(alloc, edition, desk, from, times.start)?);
+        tally.add(try_travel(alloc, edition, desk, from, times.start)?);
     }
     Ok(tally)
 }

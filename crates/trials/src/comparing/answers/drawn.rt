@@ -6,6 +6,7 @@ ghost use Rattle.edition_store.specs.Departures.{ArrivalData};
 
 use arrive_by::Arrival;
 use made_feeds::Draw;
+use reach_all::Departures;
 use std::alloc::Global;
 use tb_base::{Memory, Query, Sec, StopNo, Timetable, TripNo, Window};
 
@@ -103,4 +104,38 @@ pub fn some_arrival(alloc: Global, draw: &mut Draw, table: &Timetable) -> Result
             .max(0)
             .min(273_599),
     })
+}
+
+/// Up to sixteen departures, the last of them soon after some time.
+pub fn some_departures(draw: &mut Draw, table: &Timetable) -> Departures
+    ensures first { pos 0 ≤ℤ result.first }
+    ensures order { result.first ≤ℤ result.last }
+    ensures last { result.last ≤ℤ pos 359999 }
+    ensures step { 1 ≤ result.step }
+    ensures most_step { result.step ≤ 3600 }
+{
+    let step = draw.below(900) + 1;
+    let seconds = draw.below(15) * step + draw.below(step);
+    let late = some_time(draw, table).saturating_add(300);
+    let last = if 0 <= late && late <= LAST {
+        late
+    } else {
+        LAST
+    };
+    let early = last.saturating_sub(seconds as i32);
+    let first = if 0 <= early && early <= last {
+        early
+    } else {
+        last
+    };
+    Departures { first, last, step }
+}
+
+/// A limit on rides, or none.
+pub fn some_limit(draw: &mut Draw) -> Option<u32> {
+    if draw.one_in(3) {
+        Some(draw.below(4))
+    } else {
+        None
+    }
 }

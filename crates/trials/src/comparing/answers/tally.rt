@@ -57,6 +57,8 @@ pub struct AnswersTally {
     pub departures: u64,
     /// Stops to which all is asked at once.
     pub reached: u64,
+    /// Stops whose travel times are asked at once.
+    pub times: u64,
     /// What is compared over trips that are written out.
     pub twins: TwinTally,
 }
@@ -73,6 +75,7 @@ impl AnswersTally {
         arrivals: 0,
         departures: 0,
         reached: 0,
+        times: 0,
         twins: TwinTally::NOTHING,
     };
 
@@ -93,6 +96,7 @@ impl AnswersTally {
         self.arrivals = self.arrivals.wrapping_add(other.arrivals);
         self.departures = self.departures.wrapping_add(other.departures);
         self.reached = self.reached.wrapping_add(other.reached);
+        self.times = self.times.wrapping_add(other.times);
         self.twins.add(other.twins);
     }
 }
@@ -130,13 +134,14 @@ impl AnswersTally {
             arrivals,
             departures,
             reached,
+            times,
             twins,
         } = self;
         let _ = println!(rt; "feeds {feeds}");
         let _ = println!(rt; "queries {queries} values {values} other claims {claims}");
         let _ = println!(rt; "windows {windows} slots {slots}");
         let _ = println!(rt; "times to arrive by {arrivals} latest departures {departures}");
-        let _ = println!(rt; "stops reached {reached}");
+        let _ = println!(rt; "stops reached {reached} with travel times {times}");
         if twins.feeds > 0 {
             twins.write(rt);
         }

@@ -3,12 +3,15 @@ ghost use Rattle.std.specs.Prelude.{◌<◌, length};
 ghost use Rattle.edition_store.specs.Mirror.{IsMirror};
 
 use super::arriving::compare_departures;
-use super::drawn::{some_arrival, some_query, some_stops, some_time, some_window};
+use super::drawn::{
+    some_arrival, some_departures, some_limit, some_query, some_stops, some_time, some_window,
+};
 use super::hops::compare_hops;
 use super::profiles::compare_slots;
 use super::queries::compare_values;
 use super::reaching::compare_reach;
 use super::tally::AnswersTally;
+use super::travelling::compare_travel;
 use crate::building::mirror_built;
 use crate::comparing::feed::edition_of;
 use crate::comparing::refused::Refused;
@@ -27,6 +30,8 @@ const WINDOWS: u32 = 2;
 const ARRIVALS: u32 = 12;
 
 const ORIGINS: u32 = 6;
+
+const TRAVELS: u32 = 4;
 
 // The seconds of a window are at most as many.
 const WINDOW: u32 = 900;
@@ -154,6 +159,39 @@ fn try_origins(
     Ok(tally)
 }
 
+// Compares travel times from some stops to all.
+fn try_travel(
+    alloc: Global,
+    edition: &Edition,
+    desk: &mut Desk,
+    draw: &mut Draw,
+) -> Result<AnswersTally, Refused>
+    requires { 0 < length edition.now.table.stops }
+{
+    let table = edition.table();
+    let from = some_stops(alloc, draw, table.stop_count())?;
+    let departures = some_departures(draw, table);
+    let rides = some_limit(draw);
+    compare_travel(alloc, edition, desk, from.as_slice(), &departures, rides)
+}
+
+// Compares travel times, some times.
+fn try_travels(
+    alloc: Global,
+    edition: &Edition,
+    desk: &mut Desk,
+    draw: &mut Draw,
+) -> Result<AnswersTally, Refused> {
+    let mut tally = AnswersTally::NOTHING;
+    if edition.table().stop_count() == 0 {
+        return Ok(tally);
+    }
+    for _turn in 0..TRAVELS {
+        tally.add(try_travel(alloc, edition, desk, draw)?);
+    }
+    Ok(tally)
+}
+
 // Compares all but the latest departures over an edition.
 fn try_edition(
     alloc: Global,
@@ -207,6 +245,20 @@ pub fn try_all<R: Threads + Sync>(
     Ok(tally)
 }
 
+// Compares all over an edition, and then travel times, so that these change nothing of what is drawn
+// for the others.
+fn try_also_travels<R: Threads + Sync>(
+    rt: &R,
+    alloc: Global,
+    edition: &Edition,
+    desk: &mut Desk,
+    draw: &mut Draw,
+) -> Result<AnswersTally, Refused> {
+    let mut tally = try_all(rt, alloc, edition, desk, draw)?;
+    tally.add(try_travels(alloc, edition, desk, draw)?);
+    Ok(tally)
+}
+
 /// Compares all over the feed of a seed.
 pub fn try_seed<R: Threads + Sync>(
     rt: &R,
@@ -219,7 +271,7 @@ pub fn try_seed<R: Threads + Sync>(
     let reading = Reading::drawn(&mut draw);
     match edition_of(rt, alloc, files, reading) {
         Ok(edition) => {
-            let compared = try_all(rt, alloc, &edition, desk, &mut draw);
+            let compared = try_also_travels(rt, alloc, &edition, desk, &mut draw);
             drop(edition);
             compared
         }

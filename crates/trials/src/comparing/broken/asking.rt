@@ -35,6 +35,16 @@ impl Ending {
         self.code == 0
     }
 
+    /// The answer.
+    pub fn answer(&self) -> &str {
+        text_of(self.out.as_slice())
+    }
+
+    /// Whether it is an answer with journeys.
+    pub fn has_journeys(&self) -> bool {
+        self.code == 0 && self.answer().starts_with("arrive ")
+    }
+
     /// Whether another one has the same number and the same fault.
     pub fn has_status_of(&self, other: &Ending) -> bool {
         self.code == other.code && self.err.as_slice() == other.err.as_slice()
@@ -56,21 +66,24 @@ fn ending_over_copies<R: Threads + Wait + Sync>(
     alloc: Global,
     words: &[String],
     files: &[(String, Vec<u8>)],
+    script: &str,
 ) -> Result<Ending, Memory> {
     let mut copies = Vec::new(alloc);
     add_copies(alloc, files, &mut copies)?;
-    ending_over_files(rt, alloc, words, copies, b"".as_slice(), ROOMY, &IdleGate)
+    let script = script.as_bytes();
+    ending_over_files(rt, alloc, words, copies, script, ROOMY, &IdleGate)
 }
 
-/// How the program ends over files, with the words of a line and no script.
+/// How the program ends over files, with the words of a line, and a text on standard input.
 pub fn asked<R: Threads + Wait + Sync>(
     rt: &R,
     alloc: Global,
     files: &[(String, Vec<u8>)],
     line: &str,
+    script: &str,
 ) -> Result<Ending, Memory> {
     let words = words_of(alloc, line)?;
-    let ending = ending_over_copies(rt, alloc, words.as_slice(), files);
+    let ending = ending_over_copies(rt, alloc, words.as_slice(), files, script);
     drop(words);
     ending
 }

@@ -22,6 +22,8 @@ pub enum AskedCommand {
     Latest,
     Reach,
     Build,
+    JsonAsk,
+    JsonVerify,
 }
 
 // What is asked after `Ask`, and held against how that ended.
@@ -68,6 +70,8 @@ pub enum Wrong {
     OtherValues,
     /// The order of a file's rows changed the best values.
     OrderMatters,
+    /// A journey that is written as JSON is none when it is read again.
+    NotReadBack,
 }
 
 // Between which platforms, and when, it is asked.
@@ -110,11 +114,30 @@ impl PlatformQuestion {
             AskedCommand::Reach => format!(in alloc;
                 "--close --workers 1 reach made 20260302 P{from} {hour}:{minute:02}:00"
             ),
+            AskedCommand::JsonAsk => format!(in alloc;
+                "--json --close --plain ask made 20260302 P{from} P{to} {hour}:{minute:02}:00"
+            ),
+            AskedCommand::JsonVerify => format!(in alloc;
+                "--json --close verify made 20260302 P{from} P{to} {hour}:{minute:02}:00"
+            ),
             AskedCommand::Build => {
                 String::from_str(alloc, "--close --workers 2 build made 20260302 list")
             }
         }
     }
+}
+
+// How a command ends over files, with a text on standard input.
+fn ending_with<R: Threads + Wait + Sync>(
+    rt: &R,
+    alloc: Global,
+    files: &[(String, Vec<u8>)],
+    question: PlatformQuestion,
+    command: AskedCommand,
+    script: &str,
+) -> Result<Ending, Memory> {
+    let line = question.line(alloc, command)?;
+    asked(rt, alloc, files, line.as_str(), script)
 }
 
 // How a command ends over files.
@@ -125,8 +148,54 @@ fn command_ending<R: Threads + Wait + Sync>(
     question: PlatformQuestion,
     command: AskedCommand,
 ) -> Result<Ending, Memory> {
-    let line = question.line(alloc, command)?;
-    asked(rt, alloc, files, line.as_str())
+    ending_with(rt, alloc, files, question, command, "")
+}
+
+// Whether a line of JSON claims a journey with its value.
+fn is_read_back<R: Threads + Wait + Sync>(
+    rt: &R,
+    alloc: Global,
+    files: &[(String, Vec<u8>)],
+    question: PlatformQuestion,
+    line: &str,
+) -> Result<bool, Memory> {
+    let verdict = ending_with(rt, alloc, files, question, AskedCommand::JsonVerify, line)?;
+    let is_valid = verdict.answer() == "{\"valid\":true}\n";
+    drop(verdict);
+    Ok(is_valid)
+}
+
+// Whether each line of an answer does.
+fn are_read_back<R: Threads + Wait + Sync>(
+    rt: &R,
+    alloc: Global,
+    files: &[(String, Vec<u8>)],
+    question: PlatformQuestion,
+    written: &Ending,
+) -> Result<bool, Memory> {
+    for line in written.answer().lines() {
+        if !is_read_back(rt, alloc, files, question, line)? {
+            return Ok(false);
+        }
+    }
+    Ok(written.is_answer())
+}
+
+// What is wrong with the best values as JSON, where there are some.
+fn wrong_as_json<R: Threads + Wait + Sync>(
+    rt: &R,
+    alloc: Global,
+    files: &[(String, Vec<u8>)],
+    question: PlatformQuestion,
+) -> Result<Option<Wrong>, Memory> {
+    let written = command_ending(rt, alloc, files, question, AskedCommand::JsonAsk)?;
+    let read_back = are_read_back(rt, alloc, files, question, &written);
+    drop(written);
+    Ok(if read_back? {
+        None
+    } else {
+        Some(Wrong::NotReadBack)
+    })
 }
 
 // What is wrong with how a further command ends, beside the first.
@@ -161,6 +230,9 @@ fn wrong_among<R: Threads + Wait + Sync>(
         if wrong.is_some() {
             return Ok(wrong);
         }
+    }
+    if first.has_journeys() {
+        return wrong_as_json(rt, alloc, files, question);
     }
     Ok(None)
 }
