@@ -63,26 +63,21 @@ fn add_escaped(text: &mut Text, byte: u8) -> Result<(), Memory>
     text.add(&[byte])
 }
 
-// Whether a byte stands for itself in a string.
+// Whether a byte stands for itself in a string. Nothing here branches, so that many bytes are tried
+// at once.
 fn stands_for_itself(byte: u8) -> bool
     ensures { OnTrue result (escape_byte byte ≡ byte ∷ []) }
 {
-    if byte < 0x20 || byte == b'"' || byte == b'\\' {
-        return false;
-    }
-    true
+    (byte >= 0x20) & (byte != b'"') & (byte != b'\\')
 }
 
-// Whether each byte stands for itself in a string, as in most names. It looks at all of them, since
-// a loop that may end early takes one byte at a time.
+// Whether each byte stands for itself in a string, as in most names.
 fn is_plain(bytes: &[u8]) -> bool
     ensures { OnTrue result (escape bytes.now ≡ bytes.now) }
 {
     let mut plain = true;
     for byte in bytes {
-        if !stands_for_itself(*byte) {
-            plain = false;
-        }
+        plain &= stands_for_itself(*byte);
     }
     plain
 }
