@@ -159,13 +159,37 @@ fn run_behind<'a>(hops: &'a HopList, spots: &[Spot], k: usize) -> Hops<'a>
     hops.run(spots[k].end as usize, spots[k + 1].end as usize)
 }
 
-// How many of the spots end with no more than so many hops behind `from`.
+// How many spots are few: these are counted one by one.
+const FEW: usize = 16;
+
+// How many of the spots end with no more than so many hops behind `from`, counted without a branch
+// for each.
+fn count_ended(spots: &[Spot], from: usize, count: usize) -> usize
+    requires { IsNonDecreasingBy (λ s. s.end) spots.now }
+    ensures within { result ≤ length spots.now }
+    ensures ended { AllWithin (λ s. s.end - from ≤ count) spots.now 0 result }
+    ensures open { AllWithin (λ s. count < s.end - from) spots.now result (length spots.now) }
+{
+    let mut ended = 0;
+    for spot in spots {
+        let behind = (spot.end as usize).saturating_sub(from);
+        if behind <= count {
+            ended += 1;
+        }
+    }
+    ended
+}
+
+// The same, by halves where there are more than a few.
 fn ended_within(spots: &[Spot], from: usize, count: usize) -> usize
     requires { IsNonDecreasingBy (λ s. s.end) spots.now }
     ensures within { result ≤ length spots.now }
     ensures ended { AllWithin (λ s. s.end - from ≤ count) spots.now 0 result }
     ensures open { AllWithin (λ s. count < s.end - from) spots.now result (length spots.now) }
 {
+    if spots.len() <= FEW {
+        return count_ended(spots, from, count);
+    }
     spots.partition_point(|spot| (spot.end as usize).saturating_sub(from) <= count)
 }
 
