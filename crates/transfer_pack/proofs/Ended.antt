@@ -2,7 +2,7 @@
 use Rattle.std.proofs.Common.{◌≡◌, ◌∙◌, ℕ, zero, suc, ◌+◌, ◌-◌, ◌<◌, ◌≤◌, ◌⊎◌, inl, inr, List, [], length, get_or, take, drop, ap, subst, arith}
 use Rattle.std.specs.List.{AllWithin}
 use Rattle.std.specs.List.Sorted.{IsNonDecreasingBy}
-use Rattle.std.proofs.lemmas.List.{get_or-drop, get_or-take, length-drop, length-take-le}
+use Rattle.std.proofs.lemmas.List.{get_or_default, get_or-drop, get_or-take, length-drop, length-take-le}
 use Rattle.transfer_pack.specs.declared.set.Spot.{Spot}
 use Rattle.transfer_pack.specs.Packed.{AreBounds, PackedHops, begin_of}
 use Rattle.transfer_pack.specs.Spots.{ends_in}
@@ -43,6 +43,67 @@ module _ (spots : List Spot) (from to : ℕ) (part : List Spot) (is : part ≡ t
   part_rise end are long i j d order below =
       let far : j < to - from = omega (arith, below, part_long) in
       omega (arith, part_end i d (omega (arith, order, far)), part_end j d far, rises (ends_in spots) end (from + i) (from + j) are (omega (arith, order)) (omega (arith, far, inside, long)))
+
+-- ---- how many spots end by a place
+
+module _ (spots : List Spot) (from count : ℕ) (up : IsNonDecreasingBy (λ (s : Spot). s.end) spots) where
+  -- up to a spot that ends by the place, all do
+  ended_to : (p n : ℕ) → p < length spots → (get_or spots p no_spot).end - from ≤ count → n ≤ p + 1 → AllWithin (λ (s : Spot). s.end - from ≤ count) spots 0 n
+  ended_to p n inside low most k d zero_k to_n =
+      omega (arith, low, up k p d (omega (arith, to_n, most)) inside, ap (λ (s : Spot). s.end) (get_or_default spots p no_spot d inside))
+
+  -- from one that doesn't on, none does
+  open_from : (p n : ℕ) → p < length spots → count < (get_or spots p no_spot).end - from → p ≤ n → AllWithin (λ (s : Spot). count < s.end - from) spots n (length spots)
+  open_from p n inside high least k d from_n below =
+      omega (arith, high, up p k d (omega (arith, from_n, least)) below, ap (λ (s : Spot). s.end) (get_or_default spots p no_spot d inside))
+
+  -- a part is halved: all of its first half end by the place
+  pub halved_up : (first left half : ℕ) → 0 < half → half ≤ left → first + left ≤ length spots → AllWithin (λ (s : Spot). count < s.end - from) spots (first + left) (length spots) → (get_or spots (first + half - 1) no_spot).end - from ≤ count →
+      (first + half + (left - half) ≤ length spots) × AllWithin (λ (s : Spot). s.end - from ≤ count) spots 0 (first + half) × AllWithin (λ (s : Spot). count < s.end - from) spots (first + half + (left - half)) (length spots)
+  halved_up first left half some most within behind low = (
+    omega (arith, most, within),
+    ended_to (first + half - 1) (first + half) (omega (arith, some, most, within)) low (omega (arith, some)),
+    λ k d from_n below. behind k d (omega (arith, from_n, most)) below,
+  )
+
+  -- or not all of it do
+  pub halved_down : (first left half : ℕ) → 0 < half → half + half ≤ left → first + left ≤ length spots → AllWithin (λ (s : Spot). s.end - from ≤ count) spots 0 first → count < (get_or spots (first + half - 1) no_spot).end - from →
+      (first + (left - half) ≤ length spots) × AllWithin (λ (s : Spot). s.end - from ≤ count) spots 0 first × AllWithin (λ (s : Spot). count < s.end - from) spots (first + (left - half)) (length spots)
+  halved_down first left half some most within before high = (
+    omega (arith, most, within),
+    before,
+    open_from (first + half - 1) (first + (left - half)) (omega (arith, some, most, within)) high (omega (arith, some, most)),
+  )
+
+-- what is told of a part from a place on tells of all
+module _ (spots part : List Spot) (from count first left : ℕ) (is : part ≡ take (first + left - first) (drop first spots)) (within : first + left ≤ length spots) where
+  part_whole : length part ≡ left
+  part_whole = omega (arith, ap length is ∙ length-take-le (first + left - first) (drop first spots) (omega (arith, within, length-drop first spots)))
+
+  spot_in : (k : ℕ) (d : Spot) → k < left → get_or part k d ≡ get_or spots (first + k) d
+  spot_in k d below = ap (λ (xs : List Spot). get_or xs k d) is ∙ get_or-take (first + left - first) (drop first spots) k d (omega (arith, below)) ∙ get_or-drop first spots k d
+
+  -- which of all spots end by the place
+  pub ended_in_all : (n : ℕ) → n ≤ length part → AllWithin (λ (s : Spot). s.end - from ≤ count) spots 0 first → AllWithin (λ (s : Spot). s.end - from ≤ count) part 0 n → AllWithin (λ (s : Spot). s.end - from ≤ count) spots 0 (first + n)
+  ended_in_all n most before here k d zero_k to_n = by_case (grind arith)
+    where
+      by_case : (k < first) ⊎ (first ≤ k) → (get_or spots k d).end - from ≤ count
+      by_case (inl below) = before k d zero_k below
+      by_case (inr above) =
+          let same : first + (k - first) ≡ k = omega (arith, above) in
+          subst (λ m. (get_or spots m d).end - from ≤ count) same
+          (subst (λ (s : Spot). s.end - from ≤ count) (spot_in (k - first) d (omega (arith, above, to_n, most, part_whole))) (here (k - first) d (omega arith) (omega (arith, above, to_n))))
+
+  -- and which don't
+  pub open_in_all : (n : ℕ) → AllWithin (λ (s : Spot). count < s.end - from) spots (first + left) (length spots) → AllWithin (λ (s : Spot). count < s.end - from) part n (length part) → AllWithin (λ (s : Spot). count < s.end - from) spots (first + n) (length spots)
+  open_in_all n behind here k d from_n below = by_case (grind arith)
+    where
+      by_case : (first + left ≤ k) ⊎ (k < first + left) → count < (get_or spots k d).end - from
+      by_case (inl past) = behind k d past below
+      by_case (inr inside) =
+          let same : first + (k - first) ≡ k = omega (arith, from_n) in
+          subst (λ m. count < (get_or spots m d).end - from) same
+          (subst (λ (s : Spot). count < s.end - from) (spot_in (k - first) d (omega (arith, from_n, inside))) (here (k - first) d (omega (arith, from_n)) (omega (arith, from_n, inside, part_whole))))
 
 -- an event that has the hop at a place among those of events that follow one another
 pub record IsAt (S : PackedHops) (t first last place at : ℕ) : Type 0 where

@@ -162,6 +162,29 @@ fn run_behind<'a>(hops: &'a HopList, spots: &[Spot], k: usize) -> Hops<'a>
 // How many spots are few: these are counted one by one.
 const FEW: usize = 16;
 
+// Where a part of the spots begins, and how many they are: all before it end with no more than so
+// many hops behind `from`, and none behind it does. It is halved, without a branch that hangs on a
+// spot, until they are few.
+fn narrowed(spots: &[Spot], from: usize, count: usize) -> (usize, usize)
+    requires { IsNonDecreasingBy (λ s. s.end) spots.now }
+    ensures within { result.0 + result.1 ≤ length spots.now }
+    ensures ended { AllWithin (λ s. s.end - from ≤ count) spots.now 0 result.0 }
+    ensures open { AllWithin (λ s. count < s.end - from) spots.now (result.0 + result.1)
+        (length spots.now) }
+{
+    let mut first = 0;
+    let mut left = spots.len();
+    while left > FEW {
+        let half = left / 2;
+        let middle = (spots[first + half - 1].end as usize).saturating_sub(from);
+        if middle <= count {
+            first += half;
+        }
+        left -= half;
+    }
+    (first, left)
+}
+
 // How many of the spots end with no more than so many hops behind `from`, counted without a branch
 // for each.
 fn count_ended(spots: &[Spot], from: usize, count: usize) -> usize
@@ -180,17 +203,15 @@ fn count_ended(spots: &[Spot], from: usize, count: usize) -> usize
     ended
 }
 
-// The same, by halves where there are more than a few.
+// The same, of any spots: a part of them is counted.
 fn ended_within(spots: &[Spot], from: usize, count: usize) -> usize
     requires { IsNonDecreasingBy (λ s. s.end) spots.now }
     ensures within { result ≤ length spots.now }
     ensures ended { AllWithin (λ s. s.end - from ≤ count) spots.now 0 result }
     ensures open { AllWithin (λ s. count < s.end - from) spots.now result (length spots.now) }
 {
-    if spots.len() <= FEW {
-        return count_ended(spots, from, count);
-    }
-    spots.partition_point(|spot| (spot.end as usize).saturating_sub(from) <= count)
+    let (first, left) = narrowed(spots, from, count);
+    first + count_ended(part(spots, first, first + left), from, count)
 }
 
 impl Set {

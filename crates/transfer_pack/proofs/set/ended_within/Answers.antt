@@ -1,19 +1,12 @@
-use Rattle.std.proofs.Common.{◌-◌, arith, rules}
-use Rattle.std.proofs.Math.Dec.{leb}
-use Rattle.std.proofs.lemmas.Bool.{leb-true, leb-false}
-use Rattle.std.proofs.lemmas.Fn.{always_returns_same}
-use Rattle.std.proofs.lemmas.List.Sorted.{IsPartitionedBy-leb}
-use Rattle.transfer_pack.specs.declared.set.Spot.{Spot}
+use Rattle.transfer_pack.proofs.Ended.{ended_in_all, open_in_all}
 use Rattle.transfer_pack.proofs.set.ended_within.Goals as goal
 
 pub returns-clause-ended : goal.returns-clause-ended
-returns-clause-ended c = λ k d low below.
-    leb-true _ _
-    ((c.partition_point.ensures.partitioned (λ (s : Spot). leb (s.end - c.args.from) c.args.count) (always_returns_same _ _ _ (λ a r f h. search rules))
-    (IsPartitionedBy-leb (λ (s : Spot). s.end - c.args.from) c.args.spots.now c.args.count (λ i j d order inside. omega (arith, c.requires i j d order inside)))).0 k d low below)
+returns-clause-ended c =
+    ended_in_all c.args.spots.now c.part.result.now c.args.from c.args.count c.narrowed-first.result.0 c.narrowed-first.result.1 c.part.ensures c.narrowed-first.ensures.within
+    c.count_ended.result c.count_ended.ensures.within c.narrowed-first.ensures.ended c.count_ended.ensures.ended
 
 pub returns-clause-open : goal.returns-clause-open
-returns-clause-open c = λ k d low below.
-    leb-false _ _
-    ((c.partition_point.ensures.partitioned (λ (s : Spot). leb (s.end - c.args.from) c.args.count) (always_returns_same _ _ _ (λ a r f h. search rules))
-    (IsPartitionedBy-leb (λ (s : Spot). s.end - c.args.from) c.args.spots.now c.args.count (λ i j d order inside. omega (arith, c.requires i j d order inside)))).1 k d low below)
+returns-clause-open c =
+    open_in_all c.args.spots.now c.part.result.now c.args.from c.args.count c.narrowed-first.result.0 c.narrowed-first.result.1 c.part.ensures c.narrowed-first.ensures.within
+    c.count_ended.result c.narrowed-first.ensures.open c.count_ended.ensures.open
