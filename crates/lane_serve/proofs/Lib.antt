@@ -10,3 +10,5 @@ mod LastAt
 pub mod LiveRuns
 pub mod LiveFirst
 mod LivePublisher
+mod LivedRuns
+mod LiveSent

@@ -9,8 +9,8 @@ use Rattle.footpaths.specs.declared.paths.Options.{Options}
 use Rattle.edition_store.specs.Editions.{EditionData}
 use Rattle.lane_serve.specs.declared.live.news.Became.{Became}
 use Rattle.lane_serve.specs.declared.live.news.Became.TheVariants as became
-use Rattle.lane_serve.specs.Live.{AreNews, ArePublished, BeginsWithEdition, HasBecome, became_of}
-use Rattle.lane_serve.specs.LivePublisher.{IsNextEdition, IsNextItem, ReadFaultsRose, TakesItem, items_taken}
+use Rattle.lane_serve.specs.Live.{AreNews, ArePublished, BeginsWithEdition, HasBecome, ReadFaultsRose, became_of}
+use Rattle.lane_serve.specs.LivePublisher.{IsNextEdition, IsNextItem, TakesItem, items_taken}
 use Rattle.lane_serve.specs.LiveTexts.{NewsData}
 use Rattle.lane_serve.specs.Plans.{IsEditionOfItem, ItemData}
 

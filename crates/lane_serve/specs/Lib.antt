@@ -13,3 +13,4 @@ pub mod LiveTurns
 pub mod Lending
 pub mod Live
 pub mod LivePublisher
+pub mod LiveSides

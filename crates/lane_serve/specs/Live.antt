@@ -1,6 +1,7 @@
 -- What a process that lives has published and written.
 use Rattle.std.specs.Prelude.{◌≡◌, ◌⊎◌, ℕ, ◌+◌, List, [], ◌∷◌, ◌++◌, length, map, take, flat_map, Bool, Option, IfSome, Err, ⊤}
 use Rattle.std.specs.Io.KnownBytes.{Appends, Consumes}
+use Rattle.tb_io.specs.Causes.{Rose}
 use Rattle.tb_io.specs.Files.{FileList}
 use Rattle.footpaths.specs.declared.paths.Options.{Options}
 use Rattle.edition_store.specs.Editions.{EditionData}
@@ -74,12 +75,18 @@ IsTextOf mode es told lines text news =
     TextRunsFrom (LiveReplies mode) (live_counts mode) (news_shown mode.json) es 1 1 told lines text
     news
 
+-- a read failed only where the folder's count rose, or stands at its last value
+abbrev pub ReadFaultsRose : ℕ → ℕ → List NewsData → Type 0
+ReadFaultsRose start end [] = ⊤
+ReadFaultsRose start end (x ∷ news) =
+    (x.became ≡ became.ReadFault → Rose start end) × ReadFaultsRose start end news
+
 -- The items of the words, then those that lines name, were taken in order, and the text for all
 -- lines of the source was written, over the editions of the lawful ones, with all news but those
--- that were told before.
+-- that were told before. The folder's count of faults went from start to end.
 pub record HasLived (files : Option FileList) (options : Options) (mode : LiveMode)
-    (words : List ItemData) (told : List NewsData) (left before now : Option (List ℕ))
-    : Type 0 where
+    (words : List ItemData) (told : List NewsData) (start end : ℕ)
+    (left before now : Option (List ℕ)) : Type 0 where
   pub lines : List (List ℕ)
   pub news : List NewsData
   pub editions : List EditionData
@@ -87,6 +94,7 @@ pub record HasLived (files : Option FileList) (options : Options) (mode : LiveMo
   pub all : IfSome left (λ bytes. lines ≡ lines_of bytes)
   pub published : ArePublished files options mode.mirrored
       (words ++ flat_map (live_gives mode) lines) news editions
+  pub rose : ReadFaultsRose start end news
   pub right : IsTextOf mode editions told lines text news
   pub written : Appends before now text
 
@@ -117,19 +125,21 @@ pub record HasLivedUntil (cause : LiveFault) (files : Option FileList) (options 
   pub whole : (cause ≡ fault.WriteFault) ⊎ (count ≡ length text)
   pub written : Appends before now (take count text)
 
--- Why a run ended early, and what was written then: the first item's first fault, and nothing; or
--- the folder or memory failed before the first item was published, and nothing; or what was
--- written before a fault.
+-- Why a run ended early, and what was written then: the first item's first fault; or the folder or
+-- memory failed before the first item's news were told: then nothing was written, and nothing read
+-- of the source; or what was written before a fault.
 abbrev pub HasFailed : Option FileList → Options → LiveMode → List ItemData →
     Option (List ℕ) → Option (List ℕ) → Option (List ℕ) → Option (List ℕ) → LiveFault → Type 0
 HasFailed files options mode words left rest before now (fault.Feed f) =
-    FirstGives files options words (Err f) × (now ≡ before)
+    FirstGives files options words (Err f) × (now ≡ before) × (rest ≡ left)
 HasFailed files options mode words left rest before now fault.ReadFault =
-    (now ≡ before) ⊎ HasLivedUntil fault.ReadFault files options mode words [] left rest before now
+    ((now ≡ before) × (rest ≡ left))
+    ⊎ HasLivedUntil fault.ReadFault files options mode words [] left rest before now
 HasFailed files options mode words left rest before now fault.WriteFault =
     HasLivedUntil fault.WriteFault files options mode words [] left rest before now
 HasFailed files options mode words left rest before now fault.Memory =
-    (now ≡ before) ⊎ HasLivedUntil fault.Memory files options mode words [] left rest before now
+    ((now ≡ before) × (rest ≡ left))
+    ⊎ HasLivedUntil fault.Memory files options mode words [] left rest before now
 
 -- Why a run ends early behind its first edition, and what was written behind the first news.
 abbrev pub HasFailedBehind : Option FileList → Options → LiveMode → List ItemData →

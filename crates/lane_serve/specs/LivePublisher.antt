@@ -1,5 +1,5 @@
 -- The publisher of a process that lives, item by item.
-use Rattle.std.specs.Prelude.{◌≡◌, ◌⊎◌, ℕ, ◌+◌, List, [], ◌∷◌, ◌++◌, drop, length, Bool, Option, ⊤}
+use Rattle.std.specs.Prelude.{◌≡◌, ◌⊎◌, ℕ, ◌+◌, List, [], ◌∷◌, ◌++◌, drop, length, Bool, Option}
 use Rattle.tb_io.specs.Causes.{Rose}
 use Rattle.tb_io.specs.Files.{FileList}
 use Rattle.footpaths.specs.declared.paths.Options.{Options}
@@ -31,12 +31,6 @@ abbrev pub TakesItem : Option FileList → Options → Bool → ItemData → ℕ
 TakesItem files options mirrored item before after es now told news =
     (b : Became) × IsNextItem files options mirrored item before after es now b
     × (news ≡ told ++ record { word = item.word; became = b } ∷ [])
-
--- a read failed only where the folder's count rose, or stands at its last value
-abbrev pub ReadFaultsRose : ℕ → ℕ → List NewsData → Type 0
-ReadFaultsRose before after [] = ⊤
-ReadFaultsRose before after (x ∷ news) =
-    (x.became ≡ became.ReadFault → Rose before after) × ReadFaultsRose before after news
 
 -- the items that a publisher takes: those of the words, and those that were handed over behind the
 -- first one, which is the first word's

@@ -3,7 +3,7 @@ use Rattle.std.specs.Prelude.{◌≡◌, ◌⊎◌, ℕ, List, [], ◌++◌, Opt
 use Rattle.std.specs.declared.alloc.Global.{Global}
 use Rattle.std.specs.Io.KnownBytes.{Appends, Consumes}
 use Rattle.edition_store.specs.Editions.{EditionData}
-use Rattle.history.specs.Lists.{Extends, StartsWith}
+use Rattle.history.specs.Lists.{Extends, Shown, StartsWith}
 use Rattle.live_turns.specs.Runs.{Gives, IsTurn, LiveData, TextRunsFrom}
 use Rattle.live_turns.specs.Intakes.{IntakeData}
 use Rattle.live_turns.specs.Coming.{ended}
@@ -25,6 +25,26 @@ pub record LineSideData : Type 0 where
   pub lanes : ℕ
   pub live : LiveData EditionData NewsData
   pub given : List ItemData
+
+-- a side before its first line
+abbrev pub before_lines : LiveMode → ℕ → Shown EditionData → List ItemData → List NewsData →
+    LineSideData
+before_lines mode lanes kept given told = record {
+  mode = mode;
+  lanes = lanes;
+  live = record { kept = kept; next = 1; told = told };
+  given = given;
+}
+
+-- the side that these parts make: the number of the next line stands behind that of the lanes
+abbrev pub side_of : LiveMode → ℕ → ℕ → Shown EditionData → List ItemData → List NewsData →
+    LineSideData
+side_of mode lanes next kept given told = record {
+  mode = mode;
+  lanes = lanes;
+  live = record { kept = kept; next = next; told = told };
+  given = given;
+}
 
 -- One turn: news are told; then each line has its right reply by the last edition that is known
 -- then, the same for all; and the items that lines name are given to the publisher.

@@ -23,7 +23,7 @@ mod texts;
 
 pub use json::served_shown;
 pub use lane::{LaneReport, ReplyText, close_lane, run_lane};
-pub use live::{LiveFault, LiveMode};
+pub use live::{LiveFault, LiveMode, run_live};
 pub use plan::{Outcome, PlanItem};
 pub use run::{ServeFault, Served, serve};
 pub use script::{Lane, Line, Script, ScriptFault, read_script};

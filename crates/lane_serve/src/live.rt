@@ -12,10 +12,11 @@ mod office;
 mod publisher;
 mod running;
 mod saying;
+mod sides;
 mod telling;
 mod turn;
 
-pub use lived::LiveFault;
+pub use lived::{LiveFault, run_live};
 pub(crate) use news::{Became, News, news_shown, tell_news};
 pub(crate) use running::{LinesFault, run_turns};
 pub use saying::LiveMode;

@@ -1,5 +1,38 @@
-//! How a process that lives ends.
+//! A process that lives, from its first edition to the end of its lines.
+ghost use Rattle.std.specs.Prelude.{◌≡◌, ◌≢◌, ◌⊎◌, ◌<◌, ◌≤◌, ◌-◌, ◌^◌, ◌∷◌, [], ℕ, List, Err, IfErr, IfOk, IsSome, OnErr, OnOk, Ok, false, true, length, slice_get, take, vec_len};
+ghost use Rattle.std.specs.Io.KnownBytes.{Appends, Consumes};
+ghost use Rattle.footpaths.specs.Limits.{AreWithinADay};
+ghost use Rattle.gtfs_rows.specs.declared.fault.FeedFault.{FeedFault};
+ghost use Rattle.history.specs.Lists.{StartsWith};
+ghost use Rattle.tb_base.specs.Workers.{AreWorkers};
+ghost use Rattle.live_turns.specs.Runs.{Tells};
+ghost use Rattle.lane_serve.specs.Live.{BeginsWithFirst, HasFailed, HasFailedBehind, HasLived, HasLivedUntil, ReadFaultsRose, became_of};
+ghost use Rattle.lane_serve.specs.LiveSides.{BeginsLive, FailsToTellFirst, FailsToTellRest, HaveClosed, TellsRest, told_as};
+ghost use Rattle.lane_serve.specs.LiveTexts.{news_shown};
+ghost use Rattle.lane_serve.specs.LiveTurns.{before_lines};
+ghost use Rattle.lane_serve.specs.Plans.{IsEditionOfItem, IsGoodBuilding, ItemData};
+
+use crate::live::laws::turns_are_one_run;
+use crate::live::news::{News, news_shown, tell_news};
+use crate::live::publisher::became_of;
+use crate::live::running::LinesFault;
+use crate::live::saying::LiveMode;
+use crate::live::sides::{LinesEnd, both_sides};
+use crate::live::turn::{LineSide, desks_for};
+use crate::plan::{Building, Built, PlanEnd, PlanItem, build_item};
+use crate::publishing::Publishes;
+use answer_text::Text;
+use edition_store::{Edition, Naming, Opened, Publisher, Seat, Shared, Store};
+use footpaths::Options;
 use gtfs_rows::FeedFault;
+use live_turns::{Given, Giver, Taker, open};
+use segment_queue::Desk;
+use std::alloc::Global;
+use std::marker::Brand;
+use std::sync::Wait;
+use std::thread::Threads;
+use tb_base::{Gate, Memory};
+use tb_io::{Folder, Put, Sink, Source, put_all};
 
 /// Why a process that lives ends before its lines do.
 #[derive(Drop)]
@@ -12,4 +45,537 @@ pub enum LiveFault {
     WriteFault,
     /// Want of memory.
     Memory,
+}
+
+// The last of some things; the others are dropped.
+fn last_of<T: Drop>(things: Vec<T>) -> Option<T>
+    ensures { result ≡ slice_get things.items (vec_len things - 1) }
+{
+    let mut things = things;
+    let last = things.pop();
+    drop(things);
+    last
+}
+
+// A publisher whose list is this edition alone, and a seat.
+fn seat_one<J: Naming, R: Wait>(
+    rt: &R,
+    alloc: Global,
+    opened: Opened<Edition>,
+    first: Shared,
+) -> Result<(Publisher<J>, Seat<J>), Memory>
+    requires book { opened.seen.book ≡ J.book }
+    ensures list { IfOk result (λ t. t.0 ≡ first ∷ []) }
+    ensures seat { IfOk result (λ t. t.1 ≡ record { list = first ∷ []; closed = false }) }
+{
+    match Store::new::<J>(alloc, opened, first, 1) {
+        Ok((publisher, seats)) => match last_of(seats) {
+            Some(seat) => Ok((publisher, seat)),
+            None => {
+                publisher.end(rt);
+                Err(Memory)
+            }
+        },
+        Err(Memory) => Err(Memory),
+    }
+}
+
+// Who gives items and who takes them, and who gives news and who takes them, with the first of each.
+fn hand_overs<K: Naming, L: Naming>(
+    alloc: Global,
+    named: Opened<PlanItem>,
+    item: &PlanItem,
+    told: Opened<News>,
+    news: &News,
+) -> Result<
+    (
+        Giver<PlanItem, K>,
+        Taker<PlanItem, K>,
+        Giver<News, L>,
+        Taker<News, L>,
+    ),
+    Memory,
+>
+    requires items { named.seen.book ≡ K.book }
+    requires news { told.seen.book ≡ L.book }
+    ensures giver { IfOk result (λ t. t.0 ≡ item.now ∷ []) }
+    ensures items { IfOk result (λ t. t.1 ≡ item.now ∷ []) }
+    ensures tells { IfOk result (λ t. t.2 ≡ news.now ∷ []) }
+    ensures told { IfOk result (λ t. t.3 ≡ news.now ∷ []) }
+{
+    match open::<PlanItem, K>(alloc, named, item) {
+        Ok((giver, items)) => match open::<News, L>(alloc, told, news) {
+            Ok((tells, told)) => Ok((giver, items, tells, told)),
+            Err(Memory) => {
+                drop(giver);
+                drop(items);
+                Err(Memory)
+            }
+        },
+        Err(Memory) => Err(Memory),
+    }
+}
+
+// The list of a publisher begins with what a seat keeps. Refused only for want of memory.
+fn cover<J: Naming>(publisher: &mut Publisher<J>, seat: Seat<J>) -> Result<(), Memory>
+    ensures starts { OnOk result (StartsWith publisher.old seat.list) }
+    ensures same { publisher.new ≡ publisher.old }
+{
+    let mut seat = seat;
+    let pinned = seat.pin();
+    drop(seat);
+    match pinned {
+        Ok(pinned) => {
+            publisher.covers(&pinned);
+            drop(pinned);
+            Ok(())
+        }
+        Err(Memory) => Err(Memory),
+    }
+}
+
+// Whether all that was given was taken.
+fn all_taken<K: Naming>(given: Given<PlanItem, K>, items: &Taker<PlanItem, K>) -> bool
+    ensures { result ≡ true → items.now ≡ given }
+{
+    let mut given = given;
+    let all = given.were_taken(items);
+    drop(given);
+    all
+}
+
+// The lines of the news that aren't told yet, once no more is given. Refused only for want of
+// memory, or where a piece of news is lost, of which there is none.
+fn rest_of_news<L: Naming, R: Wait>(
+    rt: &R,
+    alloc: Global,
+    json: bool,
+    tells: Giver<News, L>,
+    news: Taker<News, L>,
+) -> Result<Vec<u8>, Memory>
+    ensures { IfOk result (λ v. Tells (news_shown json) news tells v.items) }
+{
+    let mut told = tells.end();
+    let mut news = news;
+    let mut text = Text::new(alloc);
+    let polled = tell_news(rt, alloc, json, &mut news, &mut text);
+    let all = told.were_taken(&news);
+    drop(told);
+    drop(news);
+    if all && polled.is_ok() {
+        Ok(text.into_bytes())
+    } else {
+        drop(text);
+        Err(Memory)
+    }
+}
+
+// The rest of the news, once both sides are at their ends, and no list is published any more.
+fn closing_note<J: Naming, K: Naming, L: Naming, R: Wait>(
+    rt: &R,
+    alloc: Global,
+    json: bool,
+    publisher: Publisher<J>,
+    items: &Taker<PlanItem, K>,
+    tells: Giver<News, L>,
+    seat: Seat<J>,
+    given: Given<PlanItem, K>,
+    news: Taker<News, L>,
+) -> Result<Vec<u8>, Memory>
+    ensures { IfOk result (λ v.
+        HaveClosed json publisher seat items.now given tells news v.items) }
+{
+    let mut publisher = publisher;
+    let covered = cover(&mut publisher, seat);
+    publisher.end(rt);
+    let taken = all_taken(given, items);
+    let note = rest_of_news(rt, alloc, json, tells, news);
+    if taken && covered.is_ok() {
+        note
+    } else {
+        drop(note);
+        Err(Memory)
+    }
+}
+
+// The fault that a cause is told as.
+fn told_as(cause: LinesFault) -> LiveFault
+    ensures { result ≡ told_as cause }
+{
+    match cause {
+        LinesFault::ReadFault => LiveFault::ReadFault,
+        LinesFault::WriteFault => LiveFault::WriteFault,
+        LinesFault::Memory => LiveFault::Memory,
+    }
+}
+
+// Ends a list of editions, where there is one.
+fn end_all<P: Publishes, R: Wait>(rt: &R, published: Result<P, Memory>) {
+    match published {
+        Ok(publisher) => publisher.end(rt),
+        Err(Memory) => {}
+    }
+}
+
+// Writes the rest of the news, once both sides are at their ends.
+fn write_rest<J: Naming, K: Naming, L: Naming, O: Sink, R: Wait>(
+    rt: &R,
+    alloc: Global,
+    json: bool,
+    publisher: Publisher<J>,
+    items: &Taker<PlanItem, K>,
+    tells: Giver<News, L>,
+    seat: Seat<J>,
+    given: Given<PlanItem, K>,
+    news: Taker<News, L>,
+    sink: &mut O,
+) -> Result<(), LiveFault>
+    requires { O.faults sink.old < 2 ^ 64 - 1 }
+    ensures written { OnOk result (TellsRest json publisher seat items.now given tells news
+        (O.written sink.old) (O.written sink.new)) }
+    ensures failed { IfErr result (FailsToTellRest json publisher seat items.now given tells news
+        (O.written sink.old) (O.written sink.new)) }
+    ensures write { result ≡ Err LiveFault.WriteFault → O.faults sink.old < O.faults sink.new }
+    ensures sink { (result ≡ Err LiveFault.WriteFault)
+        ⊎ (O.faults sink.new ≡ O.faults sink.old) }
+{
+    match closing_note(rt, alloc, json, publisher, items, tells, seat, given, news) {
+        Ok(note) => match put_all(sink, note.as_slice()) {
+            Ok(()) => Ok(()),
+            Err(Put::WriteFault) => Err(LiveFault::WriteFault),
+        },
+        Err(Memory) => Err(LiveFault::Memory),
+    }
+}
+
+// The run behind the first news, which are written: the sides, and the rest of the news.
+fn run_sides<
+    J: Naming + Send + Sync,
+    K: Naming + Send + Sync,
+    L: Naming + Send + Sync,
+    F: Folder + Send,
+    G: Gate,
+    S: Source,
+    O: Sink,
+    R: Threads + Wait + Sync,
+>(
+    rt: &R,
+    alloc: Global,
+    gate: &G,
+    building: &Building,
+    mode: LiveMode,
+    words: &[PlanItem],
+    folder: &mut F,
+    publisher: Publisher<J>,
+    items: Taker<PlanItem, K>,
+    tells: Giver<News, L>,
+    side: LineSide<J, K, L>,
+    source: &mut S,
+    sink: &mut O,
+) -> Result<(), LiveFault>
+    requires building { IsGoodBuilding building.now }
+    requires mirrored { building.now.mirrored ≡ mode.mirrored }
+    requires some { 0 < length words.now }
+    requires begins { BeginsLive (F.files folder.old) building.now.options mode words.now
+        publisher items tells side }
+    requires rose { ReadFaultsRose (F.faults folder.old) (F.faults folder.old) tells }
+    requires source { S.faults source.old < 2 ^ 64 - 1 }
+    requires sink { O.faults sink.old < 2 ^ 64 - 1 }
+    ensures files { F.files folder.new ≡ F.files folder.old }
+    ensures whole { OnOk result (HasLived (F.files folder.old) building.now.options mode
+        words.now tells (F.faults folder.old) (F.faults folder.new) (S.left source.old)
+        (O.written sink.old) (O.written sink.new)) }
+    ensures failed { IfErr result (HasFailedBehind (F.files folder.old) building.now.options mode
+        words.now tells (S.left source.old) (S.left source.new) (O.written sink.old)
+        (O.written sink.new)) }
+    ensures bytes { (bytes : List ℕ) × Consumes (S.left source.old) (S.left source.new) bytes }
+    ensures read { result ≡ Err LiveFault.ReadFault → S.faults source.old < S.faults source.new }
+    ensures source { (result ≡ Err LiveFault.ReadFault)
+        ⊎ (S.faults source.new ≡ S.faults source.old) }
+    ensures write { result ≡ Err LiveFault.WriteFault → O.faults sink.old < O.faults sink.new }
+    ensures sink { (result ≡ Err LiveFault.WriteFault)
+        ⊎ (O.faults sink.new ≡ O.faults sink.old) }
+{
+    turns_are_one_run();
+    let mut items = items;
+    let mut tells = tells;
+    let (published, end) = both_sides(
+        rt, alloc, gate, building, words, folder, publisher, &mut items, &mut tells, side, source,
+        sink,
+    );
+    let LinesEnd {
+        ended,
+        seat,
+        given,
+        news,
+    } = end;
+    match ended {
+        Ok(()) => match published {
+            Ok(publisher) => write_rest(
+                rt, alloc, mode.json, publisher, &items, tells, seat, given, news, sink,
+            ),
+            Err(Memory) => Err(LiveFault::Memory),
+        },
+        Err(cause) => {
+            end_all(rt, published);
+            Err(told_as(cause))
+        }
+    }
+}
+
+// Writes the line of a piece of news.
+fn write_news<O: Sink>(
+    alloc: Global,
+    json: bool,
+    news: &News,
+    sink: &mut O,
+) -> Result<(), LiveFault>
+    requires { O.faults sink.old < 2 ^ 64 - 1 }
+    ensures written { OnOk result (Appends (O.written sink.old) (O.written sink.new)
+        (news_shown json news.now)) }
+    ensures failed { IfErr result (FailsToTellFirst (news_shown json news.now)
+        (O.written sink.old) (O.written sink.new)) }
+    ensures write { result ≡ Err LiveFault.WriteFault → O.faults sink.old < O.faults sink.new }
+    ensures sink { (result ≡ Err LiveFault.WriteFault)
+        ⊎ (O.faults sink.new ≡ O.faults sink.old) }
+{
+    match news_shown(alloc, json, news) {
+        Ok(line) => match put_all(sink, line.as_slice()) {
+            Ok(()) => Ok(()),
+            Err(Put::WriteFault) => Err(LiveFault::WriteFault),
+        },
+        Err(Memory) => Err(LiveFault::Memory),
+    }
+}
+
+// What a run begins with: a publisher, who takes items, who gives news; and the side of lines.
+fn begin<J: Naming, K: Naming, L: Naming, R: Wait>(
+    rt: &R,
+    alloc: Global,
+    mode: LiveMode,
+    lanes: u32,
+    opened: Opened<Edition>,
+    named: Opened<PlanItem>,
+    told: Opened<News>,
+    first: Shared,
+    item: &PlanItem,
+    news: &News,
+) -> Result<
+    (
+        Publisher<J>,
+        Taker<PlanItem, K>,
+        Giver<News, L>,
+        LineSide<J, K, L>,
+    ),
+    Memory,
+>
+    requires editions { opened.seen.book ≡ J.book }
+    requires items { named.seen.book ≡ K.book }
+    requires news { told.seen.book ≡ L.book }
+    ensures list { IfOk result (λ t. t.0 ≡ first ∷ []) }
+    ensures items { IfOk result (λ t. t.1 ≡ item.now ∷ []) }
+    ensures news { IfOk result (λ t. t.2 ≡ news.now ∷ []) }
+    ensures side { IfOk result (λ t. t.3 ≡ before_lines mode lanes
+        (record { list = first ∷ []; closed = false }) (item.now ∷ []) (news.now ∷ [])) }
+{
+    let desks = match desks_for(alloc, lanes) {
+        Ok(desks) => desks,
+        Err(Memory) => {
+            drop(first);
+            return Err(Memory);
+        }
+    };
+    match hand_overs::<K, L>(alloc, named, item, told, news) {
+        Ok((giver, items, tells, told)) => {
+            match seat_one::<J, R>(rt, alloc, opened, first) {
+                Ok((publisher, seat)) => {
+                    let side = LineSide::new(alloc, mode, desks, seat, giver, told);
+                    Ok((publisher, items, tells, side))
+                }
+                Err(Memory) => {
+                    drop(desks);
+                    drop(giver);
+                    drop(items);
+                    drop(tells);
+                    drop(told);
+                    Err(Memory)
+                }
+            }
+        }
+        Err(Memory) => {
+            drop(desks);
+            drop(first);
+            Err(Memory)
+        }
+    }
+}
+
+// The news of the first item, which is published.
+fn first_news(alloc: Global, item: &PlanItem, first: &Edition) -> Result<News, Memory>
+    ensures { IfOk result (λ n.
+        n ≡ record { word = item.now.word; became = became_of 1 first.now }) }
+{
+    let word = String::from_str(alloc, item.word.as_str())?;
+    Ok(News {
+        word,
+        became: became_of(1, first),
+    })
+}
+
+// The run, where the first item's edition is built. `opened`, `named` and `told` have the names of
+// the list of editions and of the two hand-overs.
+fn live_from<
+    J: Naming + Send + Sync,
+    K: Naming + Send + Sync,
+    L: Naming + Send + Sync,
+    F: Folder + Send,
+    G: Gate,
+    S: Source,
+    O: Sink,
+    R: Threads + Wait + Sync,
+>(
+    rt: &R,
+    alloc: Global,
+    gate: &G,
+    building: &Building,
+    mode: LiveMode,
+    lanes: u32,
+    words: &[PlanItem],
+    folder: &mut F,
+    opened: Opened<Edition>,
+    named: Opened<PlanItem>,
+    told: Opened<News>,
+    first: Shared,
+    source: &mut S,
+    sink: &mut O,
+) -> Result<(), LiveFault>
+    requires editions { opened.seen.book ≡ J.book }
+    requires items { named.seen.book ≡ K.book }
+    requires news { told.seen.book ≡ L.book }
+    requires building { IsGoodBuilding building.now }
+    requires mirrored { building.now.mirrored ≡ mode.mirrored }
+    requires some { 0 < length words.now }
+    requires lanes { 0 < lanes }
+    requires first { BeginsWithFirst (F.files folder.old) building.now.options
+        building.now.mirrored words.now (first ∷ []) }
+    requires source { S.faults source.old < 2 ^ 64 - 1 }
+    requires sink { O.faults sink.old < 2 ^ 64 - 1 }
+    ensures files { F.files folder.new ≡ F.files folder.old }
+    ensures whole { OnOk result (HasLived (F.files folder.old) building.now.options mode
+        words.now [] (F.faults folder.old) (F.faults folder.new) (S.left source.old)
+        (O.written sink.old) (O.written sink.new)) }
+    ensures failed { IfErr result (HasFailed (F.files folder.old) building.now.options mode
+        words.now (S.left source.old) (S.left source.new) (O.written sink.old)
+        (O.written sink.new)) }
+    ensures later { result ≡ Err LiveFault.ReadFault → HasLivedUntil LiveFault.ReadFault
+        (F.files folder.old) building.now.options mode words.now [] (S.left source.old)
+        (S.left source.new) (O.written sink.old) (O.written sink.new) }
+    ensures bytes { (bytes : List ℕ) × Consumes (S.left source.old) (S.left source.new) bytes }
+    ensures read { result ≡ Err LiveFault.ReadFault → S.faults source.old < S.faults source.new }
+    ensures source { (result ≡ Err LiveFault.ReadFault)
+        ⊎ (S.faults source.new ≡ S.faults source.old) }
+    ensures write { result ≡ Err LiveFault.WriteFault → O.faults sink.old < O.faults sink.new }
+    ensures sink { (result ≡ Err LiveFault.WriteFault)
+        ⊎ (O.faults sink.new ≡ O.faults sink.old) }
+{
+    let item = &words[0];
+    let news = match first_news(alloc, item, first.edition()) {
+        Ok(news) => news,
+        Err(Memory) => {
+            drop(first);
+            return Err(LiveFault::Memory);
+        }
+    };
+    match begin::<J, K, L, R>(
+        rt, alloc, mode, lanes, opened, named, told, first, item, &news,
+    ) {
+        Ok((publisher, items, tells, side)) => match write_news(alloc, mode.json, &news, sink) {
+            Ok(()) => run_sides(
+                rt, alloc, gate, building, mode, words, folder, publisher, items, tells, side,
+                source, sink,
+            ),
+            Err(fault) => {
+                publisher.end(rt);
+                drop(items);
+                drop(tells);
+                drop(side);
+                Err(fault)
+            }
+        },
+        Err(Memory) => Err(LiveFault::Memory),
+    }
+}
+
+/// Publishes the plan's items, and then those that lines name, each as it is read and built, while
+/// the lines of a source are answered as they come, by so many lanes: 1 to 64. News of each item are
+/// told, first of all that of the first one, which is published before a line is read. `workers`
+/// workers reduce the transfers of an item: 1 to 64. `Feed` comes only where the first item's feed
+/// is refused; what becomes of further items ends nothing. It may wait. That lines are answered
+/// while an item is built is tested and in no clause.
+pub fn run_live<F: Folder + Send, S: Source, O: Sink, G: Gate, R: Threads + Wait + Sync>(
+    rt: &R,
+    alloc: Global,
+    plan: &[PlanItem],
+    options: &Options,
+    workers: u32,
+    lanes: u32,
+    mode: LiveMode,
+    folder: &mut F,
+    source: &mut S,
+    sink: &mut O,
+    gate: &G,
+) -> Result<(), LiveFault>
+    requires plan { 0 < length plan.now }
+    requires options { AreWithinADay options.now }
+    requires workers { AreWorkers workers }
+    requires lanes { 0 < lanes }
+    requires folder { F.faults folder.old < 2 ^ 64 - 1 }
+    requires source { S.faults source.old < 2 ^ 64 - 1 }
+    requires sink { O.faults sink.old < 2 ^ 64 - 1 }
+    ensures whole { OnOk result (HasLived (F.files folder.old) options.now mode plan.now []
+        (F.faults folder.old) (F.faults folder.new) (S.left source.old) (O.written sink.old)
+        (O.written sink.new)) }
+    ensures failed { IfErr result (HasFailed (F.files folder.old) options.now mode plan.now
+        (S.left source.old) (S.left source.new) (O.written sink.old) (O.written sink.new)) }
+    ensures files { F.files folder.new ≡ F.files folder.old }
+    ensures taken { (bytes : List ℕ) × Consumes (S.left source.old) (S.left source.new) bytes }
+    ensures read { result ≡ Err LiveFault.ReadFault →
+        (F.faults folder.old < F.faults folder.new)
+        ⊎ (S.faults source.old < S.faults source.new) }
+    ensures source { (result ≡ Err LiveFault.ReadFault)
+        ⊎ (S.faults source.new ≡ S.faults source.old) }
+    ensures later { result ≡ Err LiveFault.ReadFault →
+        F.faults folder.new ≡ F.faults folder.old → HasLivedUntil LiveFault.ReadFault
+        (F.files folder.old) options.now mode plan.now [] (S.left source.old)
+        (S.left source.new) (O.written sink.old) (O.written sink.new) }
+    ensures write { result ≡ Err LiveFault.WriteFault → O.faults sink.old < O.faults sink.new }
+    ensures sink { (result ≡ Err LiveFault.WriteFault)
+        ⊎ (O.faults sink.new ≡ O.faults sink.old) }
+{
+    let building = Building {
+        options: *options,
+        workers,
+        mirrored: mode.mirrored,
+    };
+    match build_item(rt, alloc, gate, building, folder, &plan[0]) {
+        Ok(Built::Edition(edition)) => live_from::<Brand, Brand, Brand, F, G, S, O, R>(
+            rt,
+            alloc,
+            gate,
+            &building,
+            mode,
+            lanes,
+            plan,
+            folder,
+            Opened::new(),
+            Opened::new(),
+            Opened::new(),
+            edition,
+            source,
+            sink,
+        ),
+        Ok(Built::Refused(fault)) => Err(LiveFault::Feed(fault)),
+        Err(PlanEnd::ReadFault) => Err(LiveFault::ReadFault),
+        Err(PlanEnd::Memory) => Err(LiveFault::Memory),
+    }
 }

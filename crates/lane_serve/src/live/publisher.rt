@@ -1,8 +1,8 @@
 //! The publisher of a process that lives: items as they are named, and news of each.
 ghost use Rattle.std.specs.Prelude.{ℕ, ◌≡◌, ◌<◌, ◌≤◌, ◌-◌, ◌^◌, ◌∷◌, [], ◌++◌, ◌+◌, IfOk, OnOk, drop, length, take, string_bytes};
 ghost use Rattle.edition_store.specs.Editions.{EditionData};
-ghost use Rattle.lane_serve.specs.Live.{ArePublished, became_of};
-ghost use Rattle.lane_serve.specs.LivePublisher.{IsNextEdition, IsNextItem, ReadFaultsRose, TakesItem, items_taken};
+ghost use Rattle.lane_serve.specs.Live.{ArePublished, ReadFaultsRose, became_of};
+ghost use Rattle.lane_serve.specs.LivePublisher.{IsNextEdition, IsNextItem, TakesItem, items_taken};
 ghost use Rattle.lane_serve.specs.Plans.{IsGoodBuilding};
 
 use crate::live::lending::build_anyway;

@@ -1,9 +1,9 @@
 //! One turn of lines.
-ghost use Rattle.std.specs.Prelude.{◌≡◌, ◌<◌, ◌+◌, ◌++◌, ◌∷◌, [], All, IfOk, OnOk, flat_map, length, sum_by, vec_len};
+ghost use Rattle.std.specs.Prelude.{◌≡◌, ◌<◌, ◌+◌, ◌++◌, ◌∷◌, [], All, Some, IfOk, OnOk, flat_map, length, sum_by, vec_len};
 ghost use Rattle.edition_store.specs.Editions.{EditionData};
 ghost use Rattle.history.specs.Lists.{Extends};
 ghost use Rattle.lane_serve.specs.LiveLines.{HasSaidTimes, HasWantedTimes, asked_from, item_said, live_counts, live_gives, live_said, wanted};
-ghost use Rattle.lane_serve.specs.LiveTurns.{IsLiveTurn, LineSideData, joined_texts};
+ghost use Rattle.lane_serve.specs.LiveTurns.{before_lines, IsLiveTurn, LineSideData, joined_texts, side_of};
 
 use crate::live::news::{News, tell_news};
 use crate::live::office::answer_asked;
@@ -11,7 +11,7 @@ use crate::live::saying::{Asked, LiveMode, Saying, Wanted, live_said};
 use crate::plan::PlanItem;
 use answer_text::Text;
 use edition_store::{Naming, Seat};
-use live_turns::{Giver, Taker};
+use live_turns::{Given, Giver, Taker};
 use segment_queue::Desk;
 use std::alloc::Global;
 use std::marker::Model;
@@ -32,6 +32,23 @@ pub(crate) struct LineSide<J: Naming, K: Naming, L: Naming> {
     news: Taker<News, L>,
 }
 
+/// A side of lines without its hand-overs. Its seat has a place, which may be empty.
+#[derive(Drop)]
+pub(crate) struct Bench<J: Naming> {
+    pub mode: LiveMode,
+    pub desks: Vec<Desk>,
+    pub next: u64,
+    pub seat: Option<Seat<J>>,
+}
+
+/// The hand-overs of a side of lines: who gives items, or what was given; and who takes news.
+#[derive(Drop)]
+pub(crate) struct Hands<K: Naming, L: Naming> {
+    pub giver: Option<Giver<PlanItem, K>>,
+    pub given: Option<Given<PlanItem, K>>,
+    pub news: Option<Taker<News, L>>,
+}
+
 impl<J: Naming, K: Naming, L: Naming> Model for LineSide<J, K, L> {
     ghost use Rattle.std.specs.Prelude.{vec_len};
     ghost use Rattle.lane_serve.specs.LiveTurns.{LineSideData};
@@ -46,8 +63,8 @@ impl<J: Naming, K: Naming, L: Naming> Model for LineSide<J, K, L> {
     } };
 }
 
-// So many desks.
-fn desks_for(alloc: Global, lanes: u32) -> Result<Vec<Desk>, Memory>
+/// So many desks.
+pub(crate) fn desks_for(alloc: Global, lanes: u32) -> Result<Vec<Desk>, Memory>
     ensures { IfOk result (λ v. vec_len v ≡ lanes) }
 {
     let mut desks = Vec::new(alloc);
@@ -60,39 +77,81 @@ fn desks_for(alloc: Global, lanes: u32) -> Result<Vec<Desk>, Memory>
 }
 
 impl<J: Naming, K: Naming, L: Naming> LineSide<J, K, L> {
-    /// A side before its first line, with so many lanes. Refused only for want of memory.
+    /// A side before its first line, with a lane at each desk.
     pub(crate) fn new(
         alloc: Global,
         mode: LiveMode,
-        lanes: u32,
+        desks: Vec<Desk>,
         seat: Seat<J>,
         giver: Giver<PlanItem, K>,
         news: Taker<News, L>,
-    ) -> Result<LineSide<J, K, L>, Memory>
-        ensures { IfOk result (λ s. s ≡ record {
-          mode = mode;
-          lanes = lanes;
-          live = record { kept = seat; next = 1; told = news };
-          given = giver;
-        }) }
+    ) -> LineSide<J, K, L>
+        ensures { result ≡ before_lines mode (vec_len desks) seat giver news }
     {
-        match desks_for(alloc, lanes) {
-            Ok(desks) => Ok(LineSide {
-                alloc,
-                mode,
-                seat,
-                desks,
-                next: 1,
-                giver,
-                news,
-            }),
-            Err(Memory) => {
-                drop(seat);
-                drop(giver);
-                drop(news);
-                Err(Memory)
-            }
+        LineSide {
+            alloc,
+            mode,
+            seat,
+            desks,
+            next: 1,
+            giver,
+            news,
         }
+    }
+
+    /// The side that these parts make.
+    pub(crate) fn of_parts(
+        alloc: Global,
+        mode: LiveMode,
+        desks: Vec<Desk>,
+        next: u64,
+        seat: Seat<J>,
+        giver: Giver<PlanItem, K>,
+        news: Taker<News, L>,
+    ) -> LineSide<J, K, L>
+        ensures { result ≡ side_of mode (vec_len desks) next seat giver news }
+    {
+        LineSide {
+            alloc,
+            mode,
+            seat,
+            desks,
+            next,
+            giver,
+            news,
+        }
+    }
+
+    /// Its parts, each in its place.
+    pub(crate) fn split(self) -> (Bench<J>, Hands<K, L>)
+        ensures mode { result.0.mode ≡ self.mode }
+        ensures lanes { vec_len result.0.desks ≡ self.lanes }
+        ensures next { result.0.next ≡ self.live.next }
+        ensures seat { result.0.seat ≡ Some self.live.kept }
+        ensures giver { result.1.giver ≡ Some self.given }
+        ensures news { result.1.news ≡ Some self.live.told }
+    {
+        let LineSide {
+            mode,
+            seat,
+            desks,
+            next,
+            giver,
+            news,
+            ..
+        } = self;
+        let bench = Bench {
+            mode,
+            desks,
+            next,
+            seat: Some(seat),
+        };
+        let hands = Hands {
+            giver: Some(giver),
+            given: None,
+            news: Some(news),
+        };
+        (bench, hands)
     }
 
     /// Its parts, in the end: the seat, who gives items, and who takes news.

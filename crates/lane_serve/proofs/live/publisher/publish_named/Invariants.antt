@@ -1,6 +1,6 @@
 use Rattle.std.proofs.Common.{◌≡◌, ◌<◌, ◌≤◌, ℕ, length}
-use Rattle.lane_serve.specs.Live.{ArePublished}
-use Rattle.lane_serve.specs.LivePublisher.{ReadFaultsRose, items_taken}
+use Rattle.lane_serve.specs.Live.{ArePublished, ReadFaultsRose}
+use Rattle.lane_serve.specs.LivePublisher.{items_taken}
 use Rattle.lane_serve.proofs.live.publisher.publish_named.Given as goal
 
 abbrev pub invariant-loop-turn : goal.invariant-loop-turn

@@ -1,6 +1,5 @@
 use Rattle.std.proofs.Common.{◌≡◌, ◌≤◌, take}
-use Rattle.lane_serve.specs.Live.{ArePublished}
-use Rattle.lane_serve.specs.LivePublisher.{ReadFaultsRose}
+use Rattle.lane_serve.specs.Live.{ArePublished, ReadFaultsRose}
 use Rattle.lane_serve.proofs.live.publisher.publish_words.Given as goal
 
 abbrev pub invariant-loop-i : goal.invariant-loop-i

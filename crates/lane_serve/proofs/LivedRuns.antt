@@ -1,0 +1,349 @@
+-- The run of a process that lives, from its sides.
+use Rattle.std.proofs.Common.{◌≡◌, ◌⊎◌, inl, inr, ℕ, suc, ◌+◌, ◌<◌, ◌≤◌, List, [], ◌∷◌, ◌++◌, drop, take, length, refl, sym, ap, subst, ◌∙◌, Option, Some, None, Result, Ok, Err, Bool, false, get_or, arith, append_assoc}
+use Rattle.std.specs.Prelude.{IfSome, flat_map}
+use Rattle.std.proofs.lemmas.List.{append-nil, length-append, take_all}
+use Rattle.std.proofs.Math.Seq.{take-append-add}
+use Rattle.std.specs.Io.KnownBytes.{Appends, Consumes}
+use Rattle.tb_io.proofs.Pieces.{appends_more}
+use Rattle.tb_io.specs.Files.{FileList}
+use Rattle.footpaths.specs.declared.paths.Options.{Options}
+use Rattle.edition_store.specs.Editions.{EditionData}
+use Rattle.history.specs.Lists.{Extends, Shown, StartsWith}
+use Rattle.history.proofs.Lists.{starts_self}
+use Rattle.live_turns.specs.Runs.{Tells, TextRunsFrom}
+use Rattle.live_turns.specs.Turns.{IsWholeRun}
+use Rattle.live_turns.proofs.Joined.{lowered, told_last}
+use Rattle.text_lines.specs.Lines.{lines_of}
+use Rattle.lane_serve.specs.declared.live.lived.LiveFault.{LiveFault}
+use Rattle.lane_serve.specs.declared.live.lived.LiveFault.TheVariants as fault
+use Rattle.lane_serve.specs.declared.live.running.LinesFault.{LinesFault}
+use Rattle.lane_serve.specs.declared.live.running.LinesFault.TheVariants as cut
+use Rattle.lane_serve.specs.declared.live.saying.LiveMode.{LiveMode}
+use Rattle.lane_serve.specs.Live.{ArePublished, BeginsWithFirst, HasFailed, HasFailedBehind, HasBecome, HasLived, HasLivedUntil, IsPublished, IsTextOf, ReadFaultsRose, became_of}
+use Rattle.lane_serve.specs.LiveLines.{live_counts, live_gives}
+use Rattle.lane_serve.specs.LivePublisher.{items_taken}
+use Rattle.lane_serve.specs.LiveReplies.{LiveReplies}
+use Rattle.lane_serve.specs.LiveSides.{BeginsLive, FailsToTellFirst, FailsToTellRest, HasCutLines, HasRunLines, HaveClosed, TellsRest, told_as}
+use Rattle.lane_serve.specs.LiveTexts.{NewsData, news_shown}
+use Rattle.lane_serve.specs.LiveTurns.{CutTurnsAreOneRun, IsCutBy, IsLiveRun, IsLiveText, IsLiveTurn, LineSideData, TurnsAreOneRun, before_lines}
+use Rattle.lane_serve.specs.Plans.{ItemData}
+
+-- the text of a side that begins with the first news told, at its first line
+begun_text : (mode : LiveMode) (es : List EditionData) (side : LineSideData) (news told : List NewsData) (lines : List (List ℕ)) (text : List ℕ) (first : List EditionData) →
+    length first ≡ 1 → side.live.kept.list ≡ first → side.live.next ≡ 1 → side.live.told ≡ news →
+    IsLiveText mode es side lines text told → IsTextOf mode es news lines text told
+begun_text mode es side news told lines text first one kept next was h =
+    let least : length side.live.kept.list ≡ 1 = ap length kept ∙ one in
+    subst (λ n. TextRunsFrom (LiveReplies mode) (live_counts mode) (news_shown mode.json) es 1 n news lines text told) least
+    (subst (λ k. TextRunsFrom (LiveReplies mode) (live_counts mode) (news_shown mode.json) es k (length side.live.kept.list) news lines text told) next
+    (subst (λ ns. TextRunsFrom (LiveReplies mode) (live_counts mode) (news_shown mode.json) es side.live.next (length side.live.kept.list) ns lines text told) was h))
+
+-- a list that begins with the first edition
+first_is : (files : Option FileList) (options : Options) (mode : LiveMode) (words : List ItemData) (es more : List EditionData) →
+    length es ≡ 1 → BeginsWithFirst files options mode.mirrored words es → StartsWith more es → BeginsWithFirst files options mode.mirrored words more
+first_is files options mode [] es more one good h = absurd good
+first_is files options mode (w ∷ words) [] more one good h = absurd good
+first_is files options mode (w ∷ words) (e ∷ d ∷ es) more one good h = absurd (omega (arith, one))
+first_is files options mode (w ∷ words) (e ∷ []) [] one good h = absurd (cc h)
+first_is files options mode (w ∷ words) (e ∷ []) (f ∷ more) one good h = let same : e ≡ f = cc h in subst (λ d. BeginsWithFirst files options mode.mirrored (w ∷ words) (d ∷ more)) same good
+
+-- the items that were handed over are the first word's and those that lines named
+named_items : (words taken more : List ItemData) → 0 < length words → taken ≡ take 1 words ++ more → items_taken words taken ≡ words ++ more
+named_items [] taken more some is = absurd (omega (arith, some))
+named_items (w ∷ words) taken more some is = ap (λ l. (w ∷ words) ++ drop 1 l) is
+
+mapped : (o : Option (List ℕ)) (P Q : List ℕ → Type 0) → ((x : List ℕ) → P x → Q x) → IfSome o P → IfSome o Q
+mapped None P Q f p = tt
+mapped (Some x) P Q f p = f x p
+
+-- all lines are the first ones
+all_first : (left : Option (List ℕ)) (lines : List (List ℕ)) → IfSome left (λ bytes. lines ≡ lines_of bytes) → IfSome left (λ bytes. (more : List (List ℕ)) × (lines_of bytes ≡ lines ++ more))
+all_first left lines h = mapped left _ _ (λ bytes same. ([], sym same ∙ sym (append-nil lines))) h
+
+none_first : (left : Option (List ℕ)) → IfSome left (λ bytes. (more : List (List ℕ)) × (lines_of bytes ≡ [] ++ more))
+none_first None = tt
+none_first (Some bytes) = (lines_of bytes, refl)
+
+told_once : (a b : LinesFault) → told_as a ≡ told_as b → a ≡ b
+told_once cut.ReadFault cut.ReadFault h = refl
+told_once cut.ReadFault cut.WriteFault h = absurd (cc h)
+told_once cut.ReadFault cut.Memory h = absurd (cc h)
+told_once cut.WriteFault cut.ReadFault h = absurd (cc h)
+told_once cut.WriteFault cut.WriteFault h = refl
+told_once cut.WriteFault cut.Memory h = absurd (cc h)
+told_once cut.Memory cut.ReadFault h = absurd (cc h)
+told_once cut.Memory cut.WriteFault h = absurd (cc h)
+told_once cut.Memory cut.Memory h = refl
+
+whole_as : (cause : LinesFault) (count : ℕ) (text : List ℕ) → (cause ≡ cut.WriteFault) ⊎ (count ≡ length text) → (told_as cause ≡ fault.WriteFault) ⊎ (count ≡ length text)
+whole_as cause count text (inl e) = inl (ap told_as e)
+whole_as cause count text (inr e) = inr e
+
+longer : (cause : LiveFault) (line text : List ℕ) (count : ℕ) → (cause ≡ fault.WriteFault) ⊎ (count ≡ length text) → (cause ≡ fault.WriteFault) ⊎ (length line + count ≡ length (line ++ text))
+longer cause line text count (inl e) = inl e
+longer cause line text count (inr e) = inr (omega (arith, e, length-append line text))
+
+module _ (files : Option FileList) (options : Options) (mode : LiveMode) (words : List ItemData) (es0 : List EditionData) (items0 : List ItemData) (news0 : List NewsData) (side : LineSideData)
+    (b : BeginsLive files options mode words es0 items0 news0 side) (left before mid : Option (List ℕ)) (kept : Shown EditionData) where
+  kept_begins : Extends kept side.live.kept → BeginsWithFirst files options mode.mirrored words kept.list
+  kept_begins later = first_is files options mode words es0 kept.list b.one b.good (subst (λ l. StartsWith kept.list l) b.kept_is later.0)
+
+  module _ (law : TurnsAreOneRun mode) (given : List ItemData) (told : List NewsData) (r : HasRunLines side.mode left before mid side kept given told) where
+    run_over : (es : List EditionData) → StartsWith es kept.list → IsLiveRun mode es left before mid side r.end
+    run_over es s = law es left before mid side r.end (subst (λ m. IsWholeRun (IsLiveTurn m) 1026 left before mid side r.end) b.mode_is r.run)
+        (subst (λ (k : Shown EditionData). StartsWith es k.list) (sym r.kept_is) s)
+
+    right_over : (es : List EditionData) (s : StartsWith es kept.list) → IsTextOf mode es news0 (run_over es s).lines (run_over es s).text told
+    right_over es s = begun_text mode es side news0 told (run_over es s).lines (run_over es s).text es0 b.one b.kept_is b.next_is b.told_is
+        (subst (λ t. IsLiveText mode es side (run_over es s).lines (run_over es s).text t) r.told_is (run_over es s).right)
+
+    -- all lines are answered, and all news are told
+    pub whole_run : (now : Option (List ℕ)) (start end : ℕ) (es : List EditionData) (taken : List ItemData) (news : List NewsData) (note : List ℕ) → 0 < length words →
+        ArePublished files options mode.mirrored (items_taken words taken) news es → ReadFaultsRose start end news → HaveClosed mode.json es kept taken given news told note → Appends mid now note →
+        HasLived files options mode words news0 start end left before now
+    whole_run now start end es taken news note some p rose closed w =
+        let run = run_over es closed.starts in
+        let all : given ≡ take 1 words ++ flat_map (live_gives mode) run.lines = sym r.given_is ∙ run.given ∙ ap (λ l. l ++ flat_map (live_gives mode) run.lines) (b.given_is ∙ b.items_are) in
+        let is = named_items words taken (flat_map (live_gives mode) run.lines) some (closed.items ∙ all) in
+        record {
+          lines = run.lines;
+          news = news;
+          editions = es;
+          text = run.text ++ note;
+          all = run.all;
+          published = subst (λ l. ArePublished files options mode.mirrored l news es) is p;
+          rose = rose;
+          right = told_last (LiveReplies mode) (live_counts mode) (news_shown mode.json) es 1 1 news0 told news run.lines run.text note (right_over es closed.starts) closed.tells;
+          written = appends_more before mid now run.text note run.written w;
+        }
+
+    -- all lines are answered, and memory is wanting then
+    pub short_run : (rest now : Option (List ℕ)) → now ≡ mid → HasLivedUntil fault.Memory files options mode words news0 left rest before now
+    short_run rest now same =
+        let s = starts_self kept.list in
+        let run = run_over kept.list s in
+        record {
+          lines = run.lines;
+          news = told;
+          editions = kept.list;
+          text = run.text;
+          count = length run.text;
+          first = all_first left run.lines run.all;
+          came = λ e. absurd (cc e);
+          begins = kept_begins r.later;
+          right = right_over kept.list s;
+          whole = inr refl;
+          written = subst (λ n. Appends before n (take (length run.text) run.text)) (sym same) (subst (λ t. Appends before mid t) (sym (take_all (length run.text) run.text (omega arith))) run.written);
+        }
+
+    -- all lines are answered, and the sink fails where the rest of the news is written
+    pub cut_note : (rest now : Option (List ℕ)) (es : List EditionData) (taken : List ItemData) (news : List NewsData) (note : List ℕ) (n : ℕ) → HaveClosed mode.json es kept taken given news told note →
+        Appends mid now (take n note) → HasLivedUntil fault.WriteFault files options mode words news0 left rest before now
+    cut_note rest now es taken news note n closed w =
+        let s = starts_self kept.list in
+        let run = run_over kept.list s in
+        record {
+          lines = run.lines;
+          news = news;
+          editions = kept.list;
+          text = run.text ++ note;
+          count = length run.text + n;
+          first = all_first left run.lines run.all;
+          came = λ e. absurd (cc e);
+          begins = kept_begins r.later;
+          right = told_last (LiveReplies mode) (live_counts mode) (news_shown mode.json) kept.list 1 1 news0 told news run.lines run.text note (right_over kept.list s) closed.tells;
+          whole = inl refl;
+          written = subst (λ t. Appends before now t) (sym (take-append-add run.text note n)) (appends_more before mid now run.text (take n note) run.written w);
+        }
+
+    -- all lines are answered, and the rest of the news is told
+    pub whole_rest : (now : Option (List ℕ)) (start end : ℕ) (es : List EditionData) (taken : List ItemData) (news : List NewsData) → 0 < length words →
+        ArePublished files options mode.mirrored (items_taken words taken) news es → ReadFaultsRose start end news → TellsRest mode.json es kept taken given news told mid now →
+        HasLived files options mode words news0 start end left before now
+    whole_rest now start end es taken news some p rose t = whole_run now start end es taken news t.0 some p rose t.1 t.2
+
+    -- all lines are answered, and the rest of the news fails to be told
+    pub failed_rest : (rest now : Option (List ℕ)) (es : List EditionData) (taken : List ItemData) (news : List NewsData) (cause : LiveFault) →
+        FailsToTellRest mode.json es kept taken given news told mid now cause → HasFailedBehind files options mode words news0 left rest before now cause
+    failed_rest rest now es taken news (fault.Feed f) t = absurd t
+    failed_rest rest now es taken news fault.ReadFault t = absurd t
+    failed_rest rest now es taken news fault.WriteFault t = cut_note rest now es taken news t.0 t.1 t.2 t.3
+    failed_rest rest now es taken news fault.Memory t = short_run rest now t
+
+  -- the lines are cut off by a fault
+  pub cut_lines : (law : CutTurnsAreOneRun mode) (rest : Option (List ℕ)) (cause : LinesFault) → HasCutLines cause side.mode left rest before mid side kept →
+      HasLivedUntil (told_as cause) files options mode words news0 left rest before mid
+  cut_lines law rest cause h =
+      let s : StartsWith kept.list h.end.live.kept.list = subst (λ (k : Shown EditionData). StartsWith kept.list k.list) (sym h.kept_is) (starts_self kept.list) in
+      let run = law cause kept.list left rest before mid side h.end (subst (λ m. IsCutBy cause m 1026 left rest before mid side h.end) b.mode_is h.run) s in
+      record {
+        lines = run.lines;
+        news = run.told;
+        editions = kept.list;
+        text = run.text;
+        count = run.count;
+        first = run.first;
+        came = λ e. run.came (told_once cause cut.ReadFault e);
+        begins = kept_begins h.later;
+        right = begun_text mode kept.list side news0 run.told run.lines run.text es0 b.one b.kept_is b.next_is b.told_is run.right;
+        whole = whole_as cause run.count run.text run.whole;
+        written = run.written;
+      }
+
+-- by cases on the fault: a run that is cut off fails so
+pub failed_as : (files : Option FileList) (options : Options) (mode : LiveMode) (words : List ItemData) (told : List NewsData) (left rest before now : Option (List ℕ)) (cause : LinesFault) →
+    HasLivedUntil (told_as cause) files options mode words told left rest before now → HasFailedBehind files options mode words told left rest before now (told_as cause)
+failed_as files options mode words told left rest before now cut.ReadFault h = h
+failed_as files options mode words told left rest before now cut.WriteFault h = h
+failed_as files options mode words told left rest before now cut.Memory h = h
+
+-- a run that ends with a cause of the lines ends with the fault that it is told as
+module _ {A B : Type 0} (ended : Result A LinesFault) (result : Result B LiveFault) (cause : LinesFault) (is : ended ≡ Err cause) (told : result ≡ Err (told_as cause)) where
+  ended_so : (e : LinesFault) → ended ≡ Err e → result ≡ Err (told_as e)
+  ended_so e h = let same : cause ≡ e = cc (sym is ∙ h) in told ∙ ap (λ c. Err (told_as c)) same
+
+  pub kept_as : (e : LinesFault) (P : Type 0) → (ended ≡ Err e) ⊎ P → (result ≡ Err (told_as e)) ⊎ P
+  kept_as e P (inl h) = inl (ended_so e h)
+  kept_as e P (inr h) = inr h
+
+  pub rose_as : (e : LinesFault) (P : Type 0) → (ended ≡ Err e → P) → result ≡ Err (told_as e) → P
+  rose_as e P f h = let same : told_as cause ≡ told_as e = cc (sym told ∙ h) in f (is ∙ ap (λ c. Err c) (told_once cause e same))
+
+-- the first news, and the run behind them
+module _ (files : Option FileList) (options : Options) (mode : LiveMode) (words : List ItemData) (first : NewsData) (left before mid : Option (List ℕ)) (line : List ℕ) (is : line ≡ news_shown mode.json first)
+    (w : Appends before mid line) where
+  told_first : Tells (news_shown mode.json) [] (first ∷ []) line
+  told_first = (first ∷ [], refl, is ∙ sym (append-nil (news_shown mode.json first)))
+
+  right_first : (es : List EditionData) (lines : List (List ℕ)) (text : List ℕ) (news : List NewsData) → IsTextOf mode es (first ∷ []) lines text news → IsTextOf mode es [] lines (line ++ text) news
+  right_first es lines text news h = lowered (LiveReplies mode) (live_counts mode) (news_shown mode.json) es 1 1 1 [] (first ∷ []) news lines line text (omega arith) told_first h
+
+  pub lived_all : (start end : ℕ) (now : Option (List ℕ)) → HasLived files options mode words (first ∷ []) start end left mid now → HasLived files options mode words [] start end left before now
+  lived_all start end now h = record {
+    lines = h.lines;
+    news = h.news;
+    editions = h.editions;
+    text = line ++ h.text;
+    all = h.all;
+    published = h.published;
+    rose = h.rose;
+    right = right_first h.editions h.lines h.text h.news h.right;
+    written = appends_more before mid now line h.text w h.written;
+  }
+
+  pub lived_until : (rest now : Option (List ℕ)) (cause : LiveFault) → HasLivedUntil cause files options mode words (first ∷ []) left rest mid now → HasLivedUntil cause files options mode words [] left rest before now
+  lived_until rest now cause h = record {
+    lines = h.lines;
+    news = h.news;
+    editions = h.editions;
+    text = line ++ h.text;
+    count = length line + h.count;
+    first = h.first;
+    came = h.came;
+    begins = h.begins;
+    right = right_first h.editions h.lines h.text h.news h.right;
+    whole = longer cause line h.text h.count h.whole;
+    written = subst (λ t. Appends before now t) (sym (take-append-add line h.text h.count)) (appends_more before mid now line (take h.count h.text) w h.written);
+  }
+
+  pub failed_all : (rest now : Option (List ℕ)) (cause : LiveFault) → HasFailedBehind files options mode words (first ∷ []) left rest mid now cause → HasFailed files options mode words left rest before now cause
+  failed_all rest now (fault.Feed f) h = absurd h
+  failed_all rest now fault.ReadFault h = inr (lived_until rest now fault.ReadFault h)
+  failed_all rest now fault.WriteFault h = lived_until rest now fault.WriteFault h
+  failed_all rest now fault.Memory h = inr (lived_until rest now fault.Memory h)
+
+  module _ (told : List NewsData) (one : told ≡ first ∷ []) (now : Option (List ℕ)) where
+    -- behind the first news all went well
+    pub lived_behind : (start end : ℕ) → HasLived files options mode words told start end left mid now → HasLived files options mode words [] start end left before now
+    lived_behind start end h = lived_all start end now (subst (λ t. HasLived files options mode words t start end left mid now) one h)
+
+    -- behind the first news the run fails
+    pub failed_behind : (rest : Option (List ℕ)) (cause : LiveFault) → HasFailedBehind files options mode words told left rest mid now cause → HasFailed files options mode words left rest before now cause
+    failed_behind rest cause h = failed_all rest now cause (subst (λ t. HasFailedBehind files options mode words t left rest mid now cause) one h)
+
+    pub read_behind : (rest : Option (List ℕ)) → HasFailedBehind files options mode words told left rest mid now fault.ReadFault → HasLivedUntil fault.ReadFault files options mode words [] left rest before now
+    read_behind rest h = lived_until rest now fault.ReadFault (subst (λ t. HasLivedUntil fault.ReadFault files options mode words t left rest mid now) one h)
+
+-- the first news can't be told
+pub failed_first : (files : Option FileList) (options : Options) (mode : LiveMode) (words : List ItemData) (e : EditionData) (first : NewsData) (left rest before now : Option (List ℕ)) (cause : LiveFault) →
+    BeginsWithFirst files options mode.mirrored words (e ∷ []) → rest ≡ left → FailsToTellFirst (news_shown mode.json first) before now cause → HasFailed files options mode words left rest before now cause
+failed_first files options mode words e first left rest before now (fault.Feed f) good same h = absurd h
+failed_first files options mode words e first left rest before now fault.ReadFault good same h = absurd h
+failed_first files options mode words e first left rest before now fault.WriteFault good same h =
+    record {
+      lines = [];
+      news = first ∷ [];
+      editions = e ∷ [];
+      text = news_shown mode.json first;
+      count = h.0;
+      first = none_first left;
+      came = λ k. absurd (cc k);
+      begins = good;
+      right = (first ∷ [], refl, sym (append-nil (news_shown mode.json first)));
+      whole = inl refl;
+      written = h.1;
+    }
+failed_first files options mode words e first left rest before now fault.Memory good same h = inl (h, same)
+
+-- what fails to be told is no fault of a source
+pub no_read : {A : Type 0} (line : List ℕ) (before now : Option (List ℕ)) (cause : LiveFault) (result : Result A LiveFault) (P : Type 0) → FailsToTellFirst line before now cause → result ≡ Err cause → result ≡ Err fault.ReadFault → P
+no_read line before now (fault.Feed f) result P h is e = absurd h
+no_read line before now fault.ReadFault result P h is e = absurd h
+no_read line before now fault.WriteFault result P h is e = absurd (cc (sym is ∙ e))
+no_read line before now fault.Memory result P h is e = absurd (cc (sym is ∙ e))
+
+-- the first item's edition is published, and its news
+first_published : (files : Option FileList) (options : Options) (mirrored : Bool) (words : List ItemData) (w : ItemData) (e : EditionData) (x : NewsData) →
+    take 1 words ≡ w ∷ [] → x ≡ record { word = w.word; became = became_of 1 e } → BeginsWithFirst files options mirrored words (e ∷ []) →
+    ArePublished files options mirrored (take 1 words) (x ∷ []) (e ∷ [])
+first_published files options mirrored [] w e x one is h = absurd h
+first_published files options mirrored (v ∷ words) w e x one is h =
+    let same : v ≡ w = cc one in
+    let b : x.became ≡ became_of 1 e = ap (λ (n : NewsData). n.became) is in
+    record {
+      outcomes = (
+        e ∷ [],
+        [],
+        refl,
+        ap (λ (n : NewsData). n.word) is ∙ ap (λ (i : ItemData). i.word) (sym same),
+        subst (λ c. HasBecome files options mirrored 0 v c (e ∷ [])) (sym b) (e, refl, h, refl),
+        refl,
+      );
+      first = subst (λ c. IsPublished c) (sym b) tt;
+    }
+
+-- what a run begins with, before its first line
+pub begins_live : (files : Option FileList) (options : Options) (mode : LiveMode) (words : List ItemData) (w : ItemData) (e : EditionData) (x : NewsData) (es : List EditionData)
+    (items : List ItemData) (news : List NewsData) (lanes : ℕ) (side : LineSideData) → take 1 words ≡ w ∷ [] → x ≡ record { word = w.word; became = became_of 1 e } →
+    BeginsWithFirst files options mode.mirrored words (e ∷ []) → es ≡ e ∷ [] → items ≡ w ∷ [] → news ≡ x ∷ [] → 0 < lanes →
+    side ≡ before_lines mode lanes (record { list = e ∷ []; closed = false }) (w ∷ []) (x ∷ []) → BeginsLive files options mode words es items news side
+begins_live files options mode words w e x es items news lanes side one is good es_is items_is news_is some side_is =
+    let published = first_published files options mode.mirrored words w e x one is good in
+    record {
+      one = ap length es_is;
+      good = subst (λ l. BeginsWithFirst files options mode.mirrored words l) (sym es_is) good;
+      published = subst (λ l. ArePublished files options mode.mirrored (take 1 words) l es) (sym news_is) (subst (λ l. ArePublished files options mode.mirrored (take 1 words) (x ∷ []) l) (sym es_is) published);
+      items_are = items_is ∙ sym one;
+      some = subst (λ (s : LineSideData). 0 < s.lanes) (sym side_is) some;
+      mode_is = ap (λ (s : LineSideData). s.mode) side_is;
+      kept_is = ap (λ (s : LineSideData). s.live.kept.list) side_is ∙ sym es_is;
+      next_is = ap (λ (s : LineSideData). s.live.next) side_is;
+      told_is = ap (λ (s : LineSideData). s.live.told) side_is ∙ sym news_is;
+      given_is = ap (λ (s : LineSideData). s.given) side_is ∙ sym items_is;
+    }
+
+-- the first news tell of no failed read
+pub first_rose : (count : ℕ) (w : List ℕ) (e : EditionData) (x : NewsData) (news : List NewsData) → x ≡ record { word = w; became = became_of 1 e } → news ≡ x ∷ [] → ReadFaultsRose count count news
+first_rose count w e x news is news_is =
+    let b : x.became ≡ became_of 1 e = ap (λ (n : NewsData). n.became) is in
+    subst (λ l. ReadFaultsRose count count l) (sym news_is) (λ h. absurd (cc (sym b ∙ h)), tt)
+
+-- the first of some things
+pub take_one : {A : Type 0} (xs : List A) (x y : A) → 0 < length xs → y ≡ get_or xs 0 x → take 1 xs ≡ y ∷ []
+take_one [] x y some is = absurd (omega (arith, some))
+take_one (z ∷ xs) x y some is = ap (λ w. w ∷ []) (sym is)
+
+-- nothing is taken
+pub taken_none : (left : Option (List ℕ)) → (bytes : List ℕ) × Consumes left left bytes
+taken_none None = ([], tt)
+taken_none (Some xs) = ([], refl)
