@@ -11,6 +11,7 @@ COMMANDS = (
     "queries",
     "frequencies",
     "lanes",
+    "live",
     "limits",
     "hostile-shapes",
     "fuzz",

@@ -129,6 +129,13 @@ def more(folder):
     yield ["times", feed, day, NAMED, late, "00:20:00", "300", "rides", "1"], ""
     yield ["build", feed, day, "list"], ""
     yield ["serve", f"{feed}@{day}", f"{feed}-none@{day}"], script
+    lines = (
+        f'# lines\nask "{quoted}" C {late}\nask X C {late}\nask X\nreach X 8\n'
+        f'publish {feed}@{day}\npublish {feed}-none@{day}\nsince 9 reach C {late}\n'
+        f'latest "{quoted}" C 26:00:00\n'
+    )
+    yield ["--mirror", "--lanes", "2", "live", f"{feed}@{day}"], lines
+    yield ["live", f"{feed}-none@{day}"], lines
     yield ["city", "4"], ""
     yield ["ask", f"{feed}-none", day, *ends, late], ""
     yield ["serve", f"{feed}@{day}"], "\n".join(FILES["stops.txt"])
@@ -152,7 +159,7 @@ def faults(validator, text):
 
 def name_of(words):
     """The name of the command among words, which stands behind the options."""
-    takes_one = ("--change", "--station", "--workers")
+    takes_one = ("--change", "--station", "--workers", "--lanes")
     for place, word in enumerate(words):
         if not word.startswith("-") and (place == 0 or words[place - 1] not in takes_one):
             return word

@@ -21,6 +21,7 @@ COMMANDS = (
     "late",
     "build",
     "serve",
+    "live",
 )
 TIMES = ("0:00:00", "06:55:00", "08:00:00", "08:05:00", "8:30:00", "24:10:00", "75:59:59")
 DATES = (DAY, DAY, DAY, DAY, DAY, "20260303", "20260307", "20260406", "20270101", "00010101")
@@ -90,7 +91,7 @@ class Draw:
         if self.often(0.3):
             self.feed["frequencies.txt"] = self.frequencies()
         files = {f"f/{name}": data for name, data in self.changed_feed().items()}
-        if command == "serve":
+        if command in ("serve", "live"):
             files.update((f"g/{name}", data) for name, data in self.feed.items())
         if command == "late":
             files["late"] = self.sometimes_changed(self.lates())
@@ -102,17 +103,18 @@ class Draw:
             ("--change", ("0", "60", "121", "86400"), ("86401", "-1", "")),
             ("--station", ("0", "60", "120", "86400"), ("86401", "99999999", "1.5")),
             ("--workers", ("1", "2", "4", "64"), ("0", "65", "four")),
+            ("--lanes", ("1", "3", "64"), ("0", "65", "")),
         ):
             if self.often(0.2):
                 value = self.drawn.choice(wrong if self.often(0.03) else values)
                 words += [f"{name}={value}"] if self.often(0.3) else [name, value]
-        return words + [word for word in ("--close", "--plain") if self.often(0.25)]
+        return words + [word for word in ("--close", "--plain", "--mirror") if self.often(0.25)]
 
     def words_behind(self, command):
         time, later = self.two_times()
         ends = self.ends()
         day = ["f", self.drawn.choice(DATES)]
-        if command == "serve":
+        if command in ("serve", "live"):
             days = [f"{folder}@{self.drawn.choice(DATES)}" for folder in ("f", "g", "f", "g")]
             return days[: self.drawn.choice((1, 1, 2, 4))]
         return {
@@ -200,6 +202,8 @@ class Draw:
     def given(self, command):
         if command == "serve":
             return self.sometimes_changed(self.script())
+        if command == "live":
+            return self.sometimes_changed(self.lines())
         if command == "verify":
             return self.sometimes_changed(self.claim())
         return b""
@@ -246,6 +250,17 @@ class Draw:
             )
             lines.append(since + line if not line.startswith(("lane", "#")) else line)
         return "\n".join(lines).encode() + b"\n"
+
+    def lines(self):
+        """Lines of `live`: those of a script but for the begin of a lane, and days to publish."""
+        lines = self.script().split(b"\n")
+        if lines[0].startswith(b"lane ") and self.often(0.9):
+            lines = lines[1:]
+        for _ in range(self.drawn.randrange(3)):
+            folder = self.drawn.choice(("f", "g", "g", "h"))
+            line = f"publish {folder}@{self.drawn.choice(DATES)}".encode()
+            lines.insert(self.drawn.randrange(len(lines)), line)
+        return b"\n".join(lines)
 
     def lates(self):
         if self.often(0.2):

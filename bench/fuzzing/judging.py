@@ -1,7 +1,7 @@
 """What a run of a case may come to, by the documents, and whether it did."""
 import os
 
-from said import answers, claims, feeds, replies, served, texts, words as command_lines
+from said import answers, claims, feeds, lived, replies, served, texts, words as command_lines
 from said.journeys import Options, Timetable
 from said.words import time_of
 
@@ -29,13 +29,14 @@ class Judge:
         self.case, self.folder = case, folder
         self.events = 0
         self.is_valid = command_lines.are_valid(case.words)
-        self.command, self.rest, self.options = "", [], Options()
+        self.command, self.rest, self.options, self.is_mirrored = "", [], Options(), False
         self.feed = self.timetable = None
         self.days, self.feeds, self.claim = [], [], None
         if self.is_valid:
             plain = [word.decode() for word in case.words]
             self.command, *self.rest = command_lines.without_options(plain)
             self.options = options_of(plain)
+            self.is_mirrored = "--mirror" in before_rest(plain)
 
     def wrong(self, ended):
         """What is wrong with what came, or None."""
@@ -80,6 +81,8 @@ class Judge:
             return "the answer has another form"
         if self.command == "serve" and self.days:
             return self.wrong_served(out)
+        if self.command == "live" and self.days:
+            return self.wrong_lived(out)
         if self.command not in answers.PLACES:
             return None
         asked = self.rest[3 if self.command == "late" else 2 :]
@@ -99,14 +102,22 @@ class Judge:
             return None if told == wanted else f"the answer isn't {wanted}"
         return None
 
-    def wrong_served(self, out):
-        def is_known(edition, name):
-            return is_place(self.feeds[edition - 1], name)
+    def is_known(self, edition, name):
+        return is_place(self.feeds[edition - 1], name)
 
+    def wrong_served(self, out):
         try:
-            served.Reader(out, self.days, is_known).read(served.lanes_of(self.case.given))
+            served.Reader(out, self.days, self.is_known).read(served.lanes_of(self.case.given))
         except served.Wrong as wrong:
             return f"it served {wrong}"
+        return None
+
+    def wrong_lived(self, out):
+        reader = lived.Reader(out, self.days, self.is_known)
+        try:
+            reader.read_all(lived.lines_of(self.case.given), self.is_mirrored)
+        except served.Wrong as wrong:
+            return f"it wrote {wrong}"
         return None
 
     def allowed(self):
@@ -117,6 +128,8 @@ class Judge:
             return [(0, "")]
         if self.command == "serve":
             return self.allowed_of_serve()
+        if self.command == "live":
+            return self.allowed_of_live()
         found = self.read_feed(self.rest[0])
         if found:
             return [found]
@@ -142,8 +155,20 @@ class Judge:
         allowed = [(7, fault)] if fault else [(0, "")]
         return allowed if found else [*allowed, *self.allowed_of_law()]
 
+    def allowed_of_live(self):
+        lines = lived.lines_of(self.case.given)
+        words = [*self.rest, *filter(None, map(lived.published, lines))]
+        days = [self.read_day(word) for word in words]
+        self.events *= 1 + len(lines)
+        found = days[0]
+        if found and not isinstance(found, Timetable):
+            return [found]
+        if all(days):
+            self.days = [(word, as_shown(day) or "read fault") for word, day in zip(words, days)]
+        return [(0, "")] if found else [(0, ""), *self.allowed_of_law()]
+
     def read_day(self, word):
-        """The timetable of a day of `serve`, if it is small, or how the program ends without it."""
+        """The timetable of a day of `serve` or `live`, if it is small, or how the program ends without it."""
         folder, _, date = word.rpartition("@")
         found = self.read_feed(folder)
         if found or not self.is_small():
@@ -209,9 +234,14 @@ def as_shown(day):
     return day if isinstance(day, Timetable) else day[1]
 
 
+def before_rest(words):
+    """The words before `--`, where options stand."""
+    return words[: words.index("--")] if "--" in words else words
+
+
 def options_of(words):
     """The options of a valid command line."""
-    words = words[: words.index("--")] if "--" in words else words
+    words = before_rest(words)
     values = {"--change": 0, "--station": None}
     for word, after in zip(words, [*words[1:], ""]):
         name, equals, value = word.partition("=")

@@ -6,7 +6,8 @@ import re
 from said import feeds
 
 USAGE = (
-    "usage: router [--change SECS] [--station SECS] [--close] [--workers N] [--plain] COMMAND WORDS"
+    "usage: router [--change SECS] [--station SECS] [--close] [--workers N] [--plain] [--lanes N]"
+    " [--mirror] COMMAND WORDS"
 )
 TIME = r"-?\d{2,3}:[0-5]\d:[0-5]\d"
 LEG = rf"  (?:ride .+ .+ {TIME} .+ {TIME}(?: day-before)?|walk .+ .+ \d+)\n"
@@ -40,6 +41,7 @@ FORMS = {
     "late": rf"edition 2 redone \d+ kept \d+\n{CHOICES}",
     "build": rf"{SIZES}(?:{END} {END}\n)*",
     "serve": rf"(?:edition \d+ .+ {COUNTS}|refused .+\n)+{LANES}closing edition \d+\n{LANES}",
+    "live": rf"edition 1 .+ {COUNTS}(?:.*\n)*",
     "city": rf"{SIZES}{CHOICES}",
 }
 # Commands about places may have met a name that no stop and no station has.

@@ -1,8 +1,13 @@
 """Which words are a command line, as docs/FORMATS.md says."""
 import re
 
-VALUES = {"--change": (0, 86_400), "--station": (0, 86_400), "--workers": (1, 64)}
-FLAGS = ("--close", "--plain")
+VALUES = {
+    "--change": (0, 86_400),
+    "--station": (0, 86_400),
+    "--workers": (1, 64),
+    "--lanes": (1, 64),
+}
+FLAGS = ("--close", "--plain", "--mirror")
 LATEST = 273_599
 MOST_STEP, MOST_LATER = 3_600, 1_439
 DAYS_OF_MONTH = (31, 28, 31, 30, 31, 30, 31, 31, 30, 31, 30, 31)
@@ -126,7 +131,7 @@ def are_valid(words):
         return are_of_day(rest[:2], []) and times_fault(rest[2:]) is None
     if name == "build":
         return are_of_day(rest[:2], [], *()) and rest[2:] in ([], ["list"])
-    if name == "serve":
+    if name in ("serve", "live"):
         return 1 <= len(rest) <= 100 and all(map(is_day, rest))
     if name == "city":
         return len(rest) == 1 and 2 <= (number_of(rest[0]) or 0) <= 40

@@ -29,13 +29,15 @@ no_arguments = without_name (new_app (codes "router"))
 
 abbrev pub with_options : App
 with_options =
-    with_rule (with_rule (with_rule no_arguments
-    (option_rule (codes "change"))) (option_rule (codes "station"))) (option_rule (codes "workers"))
+    with_rule (with_rule (with_rule (with_rule no_arguments
+    (option_rule (codes "change"))) (option_rule (codes "station"))) (option_rule (codes "workers")))
+    (option_rule (codes "lanes"))
 
 abbrev pub with_flags : App
 with_flags =
-    with_rule (with_rule (with_rule with_options
-    (flag_rule (codes "close"))) (flag_rule (codes "plain"))) (flag_rule (codes "json"))
+    with_rule (with_rule (with_rule (with_rule with_options
+    (flag_rule (codes "close"))) (flag_rule (codes "plain"))) (flag_rule (codes "mirror")))
+    (flag_rule (codes "json"))
 
 abbrev pub router_arguments : App
 router_arguments = with_rule with_flags words_rule

@@ -1,4 +1,4 @@
--- What is planned by the words of a run of several days.
+-- What is planned by the words of a run of several days, and of a process that lives.
 use Rattle.std.specs.Prelude.{ℕ, ◌<◌, ◌≤◌, ◌==◌, ◌&&◌, nat_lt, nat_le, List, [], ◌∷◌, length, Bool, Option, Some, None, if◌then◌else◌}
 use Rattle.std.specs.Option.{option_and_then, option_map}
 use Rattle.std.specs.Path.{rsplit_once}
@@ -19,6 +19,16 @@ pub record PlannedDayData : Type 0 where
 pub record ServeRequestData : Type 0 where
   pub options : Options
   pub workers : ℕ
+  pub json : Bool
+  pub plan : List PlannedDayData
+
+-- a request to a process that lives: the same, how many lanes answer what comes, whether each
+-- edition has a mirror, and the first days in order
+pub record LiveRequestData : Type 0 where
+  pub options : Options
+  pub workers : ℕ
+  pub lanes : ℕ
+  pub mirror : Bool
   pub json : Bool
   pub plan : List PlannedDayData
 
@@ -56,6 +66,17 @@ serve_request s words =
     option_map (λ days. record {
       options = s.options;
       workers = s.workers;
+      json = s.json;
+      plan = days;
+    }) (plan_of words)
+
+abbrev pub live_request : Settings → List Text → Option LiveRequestData
+live_request s words =
+    option_map (λ days. record {
+      options = s.options;
+      workers = s.workers;
+      lanes = s.lanes;
+      mirror = s.mirror;
       json = s.json;
       plan = days;
     }) (plan_of words)

@@ -1,5 +1,5 @@
 -- What the options of a command line say.
-use Rattle.std.specs.Prelude.{ℕ, ◌&&◌, nat_lt, nat_le, List, codes, bytes_eq, Bool, false, Option, Some, None, if◌then◌else◌}
+use Rattle.std.specs.Prelude.{ℕ, ◌<◌, ◌≤◌, ◌&&◌, nat_lt, nat_le, List, codes, bytes_eq, Bool, false, Option, Some, None, if◌then◌else◌}
 use Rattle.std.specs.Option.{option_and_then, option_map}
 use Rattle.clap.specs.Words.{Row, Text, first_of}
 use Rattle.footpaths.specs.declared.paths.Options.{Options}
@@ -8,17 +8,23 @@ use Rattle.gtfs_rows.specs.Fields.{secs_of}
 use Rattle.gtfs_rows.specs.Numbers.{number_of}
 use Rattle.tb_base.specs.Workers.{AreWorkers}
 use Rattle.command_line.specs.declared.settings.Settings.{Settings}
-use Rattle.command_line.specs.declared.settings.TheConstants.{DEFAULT_WORKERS}
+use Rattle.command_line.specs.declared.settings.TheConstants.{DEFAULT_LANES, DEFAULT_WORKERS}
+
+-- a number of lanes is from 1 to 64
+pub record AreLanes (n : ℕ) : Type 0 where
+  pub some : 0 < n
+  pub most : n ≤ 64
 
 pub record AreSettings (s : Settings) : Type 0 where
   pub options : AreWithinADay s.options
   pub workers : AreWorkers s.workers
+  pub lanes : AreLanes s.lanes
 
 abbrev pub one_to_64 : ℕ → Option ℕ
 one_to_64 n = if nat_lt 0 n && nat_le n 64 then Some n else None
 
-abbrev pub worker_count : Text → Option ℕ
-worker_count text = option_and_then one_to_64 (number_of text)
+abbrev pub thread_count : Text → Option ℕ
+thread_count text = option_and_then one_to_64 (number_of text)
 
 -- the default change time: 0 seconds without `--change`
 abbrev pub change_given : Option Text → Option ℕ
@@ -33,7 +39,12 @@ station_given (Some text) = option_map Some (secs_of text)
 -- the number of workers, and that without `--workers`
 abbrev pub workers_given : Option Text → Option ℕ
 workers_given None = Some DEFAULT_WORKERS
-workers_given (Some text) = worker_count text
+workers_given (Some text) = thread_count text
+
+-- the number of lanes, and that without `--lanes`
+abbrev pub lanes_given : Option Text → Option ℕ
+lanes_given None = Some DEFAULT_LANES
+lanes_given (Some text) = thread_count text
 
 abbrev pub is_true : Option Text → Bool
 is_true None = false
@@ -56,10 +67,13 @@ options_given rows =
 -- what all options say; none has an effect where the command doesn't use it
 abbrev pub settings_given : List Row → Option Settings
 settings_given rows =
-    option_and_then (λ options. option_map (λ workers. record {
+    option_and_then (λ options. option_and_then (λ workers. option_map (λ lanes. record {
       options = options;
       workers = workers;
+      lanes = lanes;
       plain = is_given (codes "plain") rows;
+      mirror = is_given (codes "mirror") rows;
       json = is_given (codes "json") rows;
-    }) (workers_given (first_of (codes "workers") rows)))
+    }) (lanes_given (first_of (codes "lanes") rows)))
+    (workers_given (first_of (codes "workers") rows)))
     (options_given rows)

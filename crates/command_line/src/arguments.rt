@@ -42,8 +42,10 @@ pub(crate) fn router_arguments<'a>(alloc: Global) -> Result<clap::Command<'a>, A
         .arg(option(alloc, "change"))?
         .arg(option(alloc, "station"))?
         .arg(option(alloc, "workers"))?
+        .arg(option(alloc, "lanes"))?
         .arg(flag(alloc, "close"))?
         .arg(flag(alloc, "plain"))?
+        .arg(flag(alloc, "mirror"))?
         .arg(flag(alloc, "json"))?
         .arg(words(alloc))
 }

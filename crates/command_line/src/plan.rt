@@ -1,9 +1,9 @@
-//! What is planned by the words of a run of several days.
+//! What is planned by the words of a run of several days, and of a process that lives.
 ghost use Rattle.std.specs.Prelude.{◌≡◌, IfOk, IfSome, length, map, option_map};
-ghost use Rattle.command_line.specs.Plans.{planned_day, planned_days, serve_request};
+ghost use Rattle.command_line.specs.Plans.{IsPlan, live_request, plan_of, planned_day, planned_days, serve_request};
 ghost use Rattle.command_line.specs.Settings.{AreSettings};
 
-use crate::request::{PlannedDay, ServeRequest};
+use crate::request::{LiveRequest, PlannedDay, ServeRequest};
 use crate::settings::Settings;
 use service_day::day_of;
 use std::alloc::Global;
@@ -42,6 +42,18 @@ fn planned_days<'a>(alloc: Global, words: &[&'a str]) -> Result<Option<Vec<Plann
     Ok(Some(days))
 }
 
+// The plan of these words: 1 to 100 days.
+fn plan_of<'a>(alloc: Global, words: &[&'a str]) -> Result<Option<Vec<PlannedDay<'a>>>, Memory>
+    ensures days { IfOk result (λ plan. option_map (λ v. v.items) plan
+        ≡ plan_of (map (λ word. word.now) words.now)) }
+    ensures count { IfOk result (λ plan. IfSome plan (λ v. IsPlan v.items)) }
+{
+    if words.is_empty() || words.len() > MOST_DAYS {
+        return Ok(None);
+    }
+    planned_days(alloc, words)
+}
+
 /// A request by the words that name the days of its plan: 1 to 100.
 pub(crate) fn serve_request<'a>(
     alloc: Global,
@@ -52,13 +64,33 @@ pub(crate) fn serve_request<'a>(
     ensures { IfOk result (λ request.
         request ≡ serve_request settings (map (λ word. word.now) words.now)) }
 {
-    if words.is_empty() || words.len() > MOST_DAYS {
-        return Ok(None);
-    }
-    match planned_days(alloc, words)? {
+    match plan_of(alloc, words)? {
         Some(plan) => Ok(Some(ServeRequest {
             options: settings.options,
             workers: settings.workers,
+            json: settings.json,
+            plan,
+        })),
+        None => Ok(None),
+    }
+}
+
+/// A request by the words that name the first days of its plan: 1 to 100.
+pub(crate) fn live_request<'a>(
+    alloc: Global,
+    settings: Settings,
+    words: &[&'a str],
+) -> Result<Option<LiveRequest<'a>>, Memory>
+    requires { AreSettings settings }
+    ensures { IfOk result (λ request.
+        request ≡ live_request settings (map (λ word. word.now) words.now)) }
+{
+    match plan_of(alloc, words)? {
+        Some(plan) => Ok(Some(LiveRequest {
+            options: settings.options,
+            workers: settings.workers,
+            lanes: settings.lanes,
+            mirror: settings.mirror,
             json: settings.json,
             plan,
         })),

@@ -187,6 +187,44 @@ impl<'a> Model for ServeRequest<'a> {
         AreWithinADay r.options × AreWorkers r.workers × IsPlan r.plan.items };
 }
 
+/// A request to answer what comes for as long as it comes, while days are published one after
+/// another.
+#[derive(Drop)]
+pub struct LiveRequest<'a> {
+    pub options: Options,
+    /// How many workers reduce the transfers of a day: 1 to 64.
+    pub workers: u32,
+    /// How many lanes answer what comes at a time: 1 to 64.
+    pub lanes: u32,
+    /// Each edition has a mirror, over which latest departures are asked for.
+    pub mirror: bool,
+    /// As JSON, in place of a text.
+    pub json: bool,
+    /// The first 1 to 100 days, in the order of their publication.
+    pub plan: Vec<PlannedDay<'a>>,
+}
+
+impl<'a> Model for LiveRequest<'a> {
+    ghost use Rattle.command_line.specs.Plans.{IsPlan, LiveRequestData};
+    ghost use Rattle.command_line.specs.Settings.{AreLanes};
+    ghost use Rattle.footpaths.specs.Limits.{AreWithinADay};
+    ghost use Rattle.tb_base.specs.Workers.{AreWorkers};
+
+    ghost Value = { LiveRequestData };
+
+    ghost view = { λ r. record {
+      options = r.options;
+      workers = r.workers;
+      lanes = r.lanes;
+      mirror = r.mirror;
+      json = r.json;
+      plan = r.plan.items;
+    } };
+
+    ghost invariant = { λ r. AreWithinADay r.options × AreWorkers r.workers × AreLanes r.lanes
+        × IsPlan r.plan.items };
+}
+
 /// A request about a made city.
 #[derive(Drop)]
 pub struct CityRequest {
@@ -216,6 +254,8 @@ pub enum Request<'a> {
     Day(DayRequest<'a>),
     /// The replies to a script, while the days of a plan are published.
     Serve(ServeRequest<'a>),
+    /// The replies to what comes, while days are published.
+    Live(LiveRequest<'a>),
     /// What is built of a made city, and the best values between two of its corners.
     City(CityRequest),
     /// Whether the journey that a source claims is one, with its value.

@@ -1,11 +1,11 @@
 //! What the options of a command line say.
-ghost use Rattle.std.specs.Prelude.{◌≡◌, ◌≤◌, IfSome, option_map};
+ghost use Rattle.std.specs.Prelude.{◌≡◌, ◌<◌, ◌≤◌, IfSome, option_map};
 ghost use Rattle.clap.specs.Words.{first_of, found_of, rows_of};
 ghost use Rattle.gtfs_rows.specs.Fields.{secs_of};
 ghost use Rattle.footpaths.specs.Limits.{AreWithinADay};
 ghost use Rattle.tb_base.specs.Workers.{AreWorkers};
 ghost use Rattle.command_line.specs.declared.settings.TheConstants.{LONGEST_WALK};
-ghost use Rattle.command_line.specs.Settings.{AreSettings, change_given, is_given, options_given, settings_given, station_given, worker_count, workers_given};
+ghost use Rattle.command_line.specs.Settings.{AreLanes, AreSettings, change_given, is_given, lanes_given, options_given, settings_given, station_given, thread_count, workers_given};
 
 use clap::ArgMatches;
 use footpaths::Options;
@@ -17,14 +17,21 @@ pub const LONGEST_WALK: u32 = 86_400;
 /// How many workers there are where none are given.
 pub const DEFAULT_WORKERS: u32 = 4;
 
+/// How many lanes there are where none are given.
+pub const DEFAULT_LANES: u32 = 4;
+
 /// What all options say. None has an effect where the command doesn't use it.
 #[derive(Clone, Copy)]
 pub(crate) struct Settings {
     pub options: Options,
     /// How many workers reduce the transfers: 1 to 64.
     pub workers: u32,
+    /// How many lanes answer the requests that come: 1 to 64.
+    pub lanes: u32,
     /// Round by round, in place of the search over the kept transfers.
     pub plain: bool,
+    /// Each edition has a mirror, over which latest departures are asked for.
+    pub mirror: bool,
     /// Answers as JSON, in place of texts.
     pub json: bool,
 }
@@ -40,10 +47,11 @@ fn secs_of(text: &str) -> Option<u32>
     }
 }
 
-// From 1 to 64 workers.
-fn worker_count(text: &str) -> Option<u32>
-    ensures count { result ≡ worker_count text.now }
-    ensures within { IfSome result AreWorkers }
+// From 1 to 64 threads.
+fn thread_count(text: &str) -> Option<u32>
+    ensures count { result ≡ thread_count text.now }
+    ensures some { IfSome result (λ count. 0 < count) }
+    ensures most { IfSome result (λ count. count ≤ 64) }
 {
     match number_of(text.as_bytes()) {
         Some(count) if 0 < count && count <= 64 => Some(count),
@@ -80,7 +88,18 @@ fn workers_given(text: Option<&str>) -> Option<u32>
 {
     match text {
         None => Some(DEFAULT_WORKERS),
-        Some(text) => worker_count(text),
+        Some(text) => thread_count(text),
+    }
+}
+
+// The number of lanes.
+fn lanes_given(text: Option<&str>) -> Option<u32>
+    ensures count { result ≡ lanes_given (option_map (λ t. t.now) text.entry) }
+    ensures within { IfSome result AreLanes }
+{
+    match text {
+        None => Some(DEFAULT_LANES),
+        Some(text) => thread_count(text),
     }
 }
 
@@ -123,10 +142,13 @@ pub(crate) fn settings_given(matches: &ArgMatches<'_>) -> Option<Settings>
 {
     let options = options_given(matches)?;
     let workers = workers_given(value_of(matches, "workers"))?;
+    let lanes = lanes_given(value_of(matches, "lanes"))?;
     Some(Settings {
         options,
         workers,
+        lanes,
         plain: is_given(matches, "plain"),
+        mirror: is_given(matches, "mirror"),
         json: is_given(matches, "json"),
     })
 }

@@ -1,6 +1,7 @@
 pub mod AnswerLemmas
 pub mod Endings
 pub mod Runs
+pub mod Lives
 pub mod Claims
 pub mod LateEndings
 pub mod LastEdition

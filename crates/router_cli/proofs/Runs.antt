@@ -20,7 +20,7 @@ use Rattle.router_cli.specs.Serving.{IsNoRunAnswer, IsRunAnswer, IsRunEnding, it
 use Rattle.router_cli.specs.declared.status.Status.{Status}
 use Rattle.router_cli.specs.declared.status.Status.TheVariants as status
 
-first_day : IsDetermined → (files : Option FileList) → IsSome files → (options : Options) (plan : List ItemData) (a b : Result TimetableData FeedFault) →
+pub first_day : IsDetermined → (files : Option FileList) → IsSome files → (options : Options) (plan : List ItemData) (a b : Result TimetableData FeedFault) →
     FirstGives files options plan a → FirstGives files options plan b → a ≡ b
 first_day same files told options [] a b is other = absurd is
 first_day same files told options (item ∷ items) a b is other =
@@ -42,7 +42,7 @@ for_memory (Err f) day = inr refl
 by_script : (m : Result (List LaneData) ScriptFault) (lanes : List LaneData) (day : Result TimetableData FeedFault) (s : Status) → m ≡ Ok lanes → IsDayEnding day s → IsRunEnding m day s
 by_script m lanes day s is h = subst (λ n. IsRunEnding n day s) (sym is) h
 
-by_day : (day other : Result TimetableData FeedFault) (s : Status) → other ≡ day → IsDayEnding other s → IsDayEnding day s
+pub by_day : (day other : Result TimetableData FeedFault) (s : Status) → other ≡ day → IsDayEnding other s → IsDayEnding day s
 by_day day other s same h = subst (λ d. IsDayEnding d s) same h
 
 pub run_completed : IsDetermined → (files : Option FileList) → IsSome files → (bytes : List ℕ) (r : ServeRequestData) (s : Status) (before now : Option (List ℕ)) →

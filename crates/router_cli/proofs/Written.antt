@@ -1,14 +1,13 @@
 -- What is written of the text for a request, and how the program ends then.
-use Rattle.std.proofs.Common.{◌≡◌, ◌∙◌, ℕ, ◌⊎◌, inl, inr, List, Option, Some, None, Result, Ok, Err, ap, refl, subst, sym}
+use Rattle.std.proofs.Common.{◌≡◌, ◌∙◌, ℕ, ◌⊎◌, inl, inr, List, Option, Some, None, Result, Ok, Err, ap, subst, sym}
 use Rattle.std.specs.Prelude.{IfErr, IfOk, MatchResult, Vec}
 use Rattle.std.specs.Global.{Global}
 use Rattle.tb_io.specs.Files.{FileList}
 use Rattle.command_line.specs.declared.request.Request.{Request}
 use Rattle.command_line.specs.declared.request.Request.TheVariants as request
-use Rattle.lane_serve.specs.Script.{script_of}
 use Rattle.lane_serve.specs.declared.script.ScriptFault.{ScriptFault}
 use Rattle.router_cli.specs.Outcome.{IsUnwritten, Writes, WritesText, status_of_text}
-use Rattle.router_cli.specs.Promise.{IsNoRequestAnswer, IsRequestAnswer, IsRequestOutcome, LeavesScript, TellsFirst}
+use Rattle.router_cli.specs.Promise.{HasReadBehind, IsNoRequestAnswer, IsRequestAnswer, IsRequestOutcome, LeavesScript, ReadsBehind, TellsFirst}
 use Rattle.router_cli.specs.declared.status.Status.{Status}
 use Rattle.router_cli.specs.declared.status.Status.TheVariants as status
 
@@ -24,6 +23,7 @@ IsWritten text s before now = MatchResult text (λ v. WritesText v.items s befor
 no_usage : (files : Option FileList) (told : Option (List ℕ)) (r : Request) → IsNoRequestAnswer files told r status.Usage → ⊥
 no_usage files told (request.Day r) h = h
 no_usage files told (request.Serve r) h = h
+no_usage files told (request.Live r) h = h
 no_usage files told (request.City r) h = h
 no_usage files told (request.Verify r) h = h
 no_usage files told (request.Late r) h = h
@@ -31,6 +31,7 @@ no_usage files told (request.Late r) h = h
 not_done : (files : Option FileList) (told : Option (List ℕ)) (r : Request) → IsNoRequestAnswer files told r status.Done → ⊥
 not_done files told (request.Day r) h = h
 not_done files told (request.Serve r) h = h
+not_done files told (request.Live r) h = h
 not_done files told (request.City r) h = h
 not_done files told (request.Verify r) h = h
 not_done files told (request.Late r) h = h
@@ -38,6 +39,7 @@ not_done files told (request.Late r) h = h
 not_begun : (files : Option FileList) (told : Option (List ℕ)) (r : Request) → IsNoRequestAnswer files told r status.WriteFault → ⊥
 not_begun files told (request.Day r) h = h
 not_begun files told (request.Serve r) h = h
+not_begun files told (request.Live r) h = h
 not_begun files told (request.City r) h = h
 not_begun files told (request.Verify r) h = h
 not_begun files told (request.Late r) h = h
@@ -82,15 +84,30 @@ without_text IsText Comes (status.ScriptRefused f) before now none comes = comes
 without_text IsText Comes (status.LateRefused f) before now none comes = comes
 without_text IsText Comes (status.JourneyRefused f) before now none comes = comes
 
+-- the outcome of a request by its text, by what is said of such a text and of why there is none
+promised_by : (IsText : List ℕ → Type 0) (Comes : Status → Type 0) (text : Text) (s : Status) (before now : Option (List ℕ)) → IfErr text IsUnwritten →
+    IfOk text (λ v. IsText v.items) → IfErr text Comes → IsWritten text s before now → Writes IsText Comes s before now
+promised_by IsText Comes (Ok v) s before now none is refused written = with_text IsText Comes v.items s before now is written
+promised_by IsText Comes (Err why) s before now none is refused same =
+    subst (λ x. Writes IsText Comes x before now) (sym same) (without_text IsText Comes why before now none refused)
+
+no_text : {A : Type 0} (text : Text) → IfOk text (λ v. ⊥) → IfErr text (λ s. ⊥) → A
+no_text (Ok v) is refused = absurd is
+no_text (Err why) is refused = absurd refused
+
 -- the outcome of a request by its text
-pub promised : (files : Option FileList) (told : Option (List ℕ)) (r : Request) (text : Text) (s : Status) (before now : Option (List ℕ)) →
+pub promised : (files : Option FileList) (faults risen : ℕ) (told left : Option (List ℕ)) (r : Request) (text : Text) (s : Status) (before now : Option (List ℕ)) →
     IfOk text (λ v. IsRequestAnswer files told r v.items) → IfErr text (IsNoRequestAnswer files told r) → IsWritten text s before now →
-    IsRequestOutcome files told r s before now
-promised files told r (Ok v) s before now is refused written =
-    with_text (IsRequestAnswer files told r) (IsNoRequestAnswer files told r) v.items s before now is written
-promised files told r (Err why) s before now is refused same =
-    subst (λ x. IsRequestOutcome files told r x before now) (sym same)
-    (without_text (IsRequestAnswer files told r) (IsNoRequestAnswer files told r) why before now (unwritten files told r why refused) refused)
+    IsRequestOutcome files faults risen told left r s before now
+promised files faults risen told left r text s before now is refused written = by r (none_written files told r text refused) is refused where
+  by : (q : Request) → IfErr text IsUnwritten → IfOk text (λ v. IsRequestAnswer files told q v.items) → IfErr text (IsNoRequestAnswer files told q) →
+      IsRequestOutcome files faults risen told left q s before now
+  by (request.Live q) none is refused = no_text text is refused
+  by (request.Day q) none is refused = promised_by (IsRequestAnswer files told (request.Day q)) (IsNoRequestAnswer files told (request.Day q)) text s before now none is refused written
+  by (request.Serve q) none is refused = promised_by (IsRequestAnswer files told (request.Serve q)) (IsNoRequestAnswer files told (request.Serve q)) text s before now none is refused written
+  by (request.City q) none is refused = promised_by (IsRequestAnswer files told (request.City q)) (IsNoRequestAnswer files told (request.City q)) text s before now none is refused written
+  by (request.Verify q) none is refused = promised_by (IsRequestAnswer files told (request.Verify q)) (IsNoRequestAnswer files told (request.Verify q)) text s before now none is refused written
+  by (request.Late q) none is refused = promised_by (IsRequestAnswer files told (request.Late q)) (IsNoRequestAnswer files told (request.Late q)) text s before now none is refused written
 
 -- what is not said of a text and of its first part, is said of why there is none
 why_none : (text : Text) (s why : Status) (before now : Option (List ℕ)) → ((bytes : List ℕ) → WritesText bytes why before now → ⊥) →
@@ -132,6 +149,7 @@ not_refused f (inr is) = cc
 
 pub first_in_part : (told : Option (List ℕ)) (r : Request) → TellsFirst told r status.Done → TellsFirst told r status.WriteFault
 first_in_part told (request.Day r) h = h
+first_in_part told (request.Live r) h = h
 first_in_part told (request.City r) h = h
 first_in_part told (request.Verify r) h = h
 first_in_part told (request.Late r) h = h
@@ -142,6 +160,7 @@ left_in_part : (r : Request) (before now : Option (List ℕ)) (faults risen : �
     LeavesScript (Some r) status.WriteFault before now faults risen
 left_in_part (request.Day r) before now faults risen h = h
 left_in_part (request.Serve r) before now faults risen h = h
+left_in_part (request.Live r) before now faults risen h = h
 left_in_part (request.City r) before now faults risen h = h
 left_in_part (request.Verify r) before now faults risen h = h
 left_in_part (request.Late r) before now faults risen h = h
@@ -156,3 +175,18 @@ pub read_or_kept : {Kept : Type 0} (text : Text) (s : Status) (before now : Opti
     (text ≡ Err status.ReadFault) ⊎ Kept → (s ≡ status.ReadFault) ⊎ Kept
 read_or_kept text s before now written (inl failed) = inl (ends_unread text s before now written failed)
 read_or_kept text s before now written (inr kept) = inr kept
+
+-- what holds of a request whose text is gathered
+pub or_live : {A B Live : Type 0} → A ⊎ B → A ⊎ B ⊎ Live
+or_live (inl a) = inl a
+or_live (inr b) = inr (inl b)
+
+-- what holds where a source failed, of a request whose text is gathered
+pub read_behind : (files : Option FileList) (told left : Option (List ℕ)) (r : Request) (text : Text) (before now : Option (List ℕ)) →
+    IfOk text (λ v. IsRequestAnswer files told r v.items) → IfErr text (IsNoRequestAnswer files told r) → ReadsBehind files r → HasReadBehind files told left r before now
+read_behind files told left (request.Live q) text before now is refused h = no_text text is refused
+read_behind files told left (request.Day q) text before now is refused h = h
+read_behind files told left (request.Serve q) text before now is refused h = h
+read_behind files told left (request.City q) text before now is refused h = h
+read_behind files told left (request.Verify q) text before now is refused h = h
+read_behind files told left (request.Late q) text before now is refused h = h

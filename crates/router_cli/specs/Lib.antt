@@ -2,6 +2,7 @@ pub mod Answers
 pub mod Cities
 pub mod Outcome
 pub mod Serving
+pub mod Living
 pub mod Verifying
 pub mod LateTrips
 pub mod Promise

@@ -1,26 +1,41 @@
 -- What the program promises of a request.
-use Rattle.std.specs.Prelude.{◌≡◌, ℕ, List, Option, Some, IfSome, Result, ⊤}
+use Rattle.std.specs.Prelude.{◌≡◌, ℕ, List, [], Option, Some, IfSome, Result, ⊤}
 use Rattle.std.specs.Io.KnownBytes.{Consumes}
 use Rattle.tb_base.specs.TimetableData.{TimetableData}
 use Rattle.gtfs_rows.specs.declared.fault.FeedFault.{FeedFault}
 use Rattle.tb_io.specs.Files.{FileList}
 use Rattle.command_line.specs.declared.request.Request.{Request}
 use Rattle.command_line.specs.declared.request.Request.TheVariants as request
+use Rattle.lane_serve.specs.Live.{HasLivedUntil}
+use Rattle.lane_serve.specs.declared.live.lived.LiveFault.TheVariants as live
 use Rattle.lane_serve.specs.Script.{script_of}
 use Rattle.lane_serve.specs.Served.{FirstGives}
 use Rattle.router_cli.specs.Cities.{IsCityText, IsNoCityText}
 use Rattle.router_cli.specs.LateTrips.{IsLateAnswer, IsLateEnding, IsNoLateAnswer}
+use Rattle.router_cli.specs.Living.{IsLiveOutcome, first_items, mode_of}
 use Rattle.router_cli.specs.Outcome.{EndsBy, IsDayAnswer, IsDayEnding, IsDayOf, IsNoDayAnswer, Writes}
 use Rattle.router_cli.specs.Serving.{IsNoRunAnswer, IsRunAnswer, IsRunEnding, TellsScript, plan_of}
 use Rattle.router_cli.specs.Verifying.{HasDay, IsNoVerifyAnswer, IsVerifyAnswer, IsVerifyEnding, LeavesClaim}
 use Rattle.router_cli.specs.declared.status.Status.{Status}
 use Rattle.router_cli.specs.declared.status.Status.TheVariants as status
 
--- the bytes are what is written for a request, by the files of a folder, where it tells them, and
--- the bytes of a script, where its source tells them
+-- a request whose text is gathered before its first byte is written: any one but that for a
+-- process that lives, which writes as it goes
+abbrev pub IsGathered : Request → Type 0
+IsGathered (request.Live r) = ⊥
+IsGathered r = ⊤
+
+-- the words ask for a process that lives
+abbrev pub AskLive : Option Request → Type 0
+AskLive (Some (request.Live r)) = ⊤
+AskLive asked = ⊥
+
+-- the bytes are what is written for a request whose text is gathered, by the files of a folder,
+-- where it tells them, and the bytes of a script, where its source tells them
 abbrev pub IsRequestAnswer : Option FileList → Option (List ℕ) → Request → List ℕ → Type 0
 IsRequestAnswer files told (request.Day r) = IsDayAnswer files r
 IsRequestAnswer files told (request.Serve r) = IsRunAnswer files told r
+IsRequestAnswer files told (request.Live r) = λ bytes. ⊥
 IsRequestAnswer files told (request.City r) = IsCityText r.json r.side
 IsRequestAnswer files told (request.Verify r) = IsVerifyAnswer files told r
 IsRequestAnswer files told (request.Late r) = IsLateAnswer files r
@@ -29,15 +44,19 @@ IsRequestAnswer files told (request.Late r) = IsLateAnswer files r
 abbrev pub IsNoRequestAnswer : Option FileList → Option (List ℕ) → Request → Status → Type 0
 IsNoRequestAnswer files told (request.Day r) = IsNoDayAnswer files r
 IsNoRequestAnswer files told (request.Serve r) = IsNoRunAnswer files told r
+IsNoRequestAnswer files told (request.Live r) = λ s. ⊥
 IsNoRequestAnswer files told (request.City r) = IsNoCityText
 IsNoRequestAnswer files told (request.Verify r) = IsNoVerifyAnswer files told r
 IsNoRequestAnswer files told (request.Late r) = IsNoLateAnswer files r
 
--- What a status says of a request, of the files of a folder, where it tells them, of the bytes of a
--- script, where its source tells them, and of the bytes that a sink held before and holds now.
-abbrev pub IsRequestOutcome : Option FileList → Option (List ℕ) → Request → Status
-    → Option (List ℕ) → Option (List ℕ) → Type 0
-IsRequestOutcome files told r =
+-- What a status says of a request, of the files of a folder, where it tells them, and its count of
+-- faults before and now, of the bytes of a script, and what is left of them, where its source tells
+-- them, and of the bytes that a sink held before and holds now.
+abbrev pub IsRequestOutcome : Option FileList → ℕ → ℕ → Option (List ℕ) → Option (List ℕ) → Request
+    → Status → Option (List ℕ) → Option (List ℕ) → Type 0
+IsRequestOutcome files faults risen told left (request.Live r) =
+    IsLiveOutcome files r.options (mode_of r) (first_items r) faults risen told left
+IsRequestOutcome files faults risen told left r =
     Writes (IsRequestAnswer files told r) (IsNoRequestAnswer files told r)
 
 -- how a request may end where nothing fails outside, by what its day or its first day gives
@@ -48,6 +67,9 @@ IsRequestEnding files told (request.Day r) s =
 IsRequestEnding files told (request.Serve r) s = IfSome told (λ bytes.
     (day : Result TimetableData FeedFault) → FirstGives files r.options (plan_of r) day →
     IsRunEnding (script_of r.json bytes) day s)
+IsRequestEnding files told (request.Live r) s =
+    (day : Result TimetableData FeedFault) → FirstGives files r.options (first_items r) day →
+    IsDayEnding day s
 IsRequestEnding files told (request.City r) s = EndsBy status.Done s
 IsRequestEnding files told (request.Verify r) s =
     (day : Result TimetableData FeedFault) → IsDayOf files r.dir r.date r.options day →
@@ -66,11 +88,22 @@ abbrev pub ReadsBehind : Option FileList → Request → Type 0
 ReadsBehind files (request.Verify r) = HasDay files r
 ReadsBehind files r = ⊤
 
--- What is left of a source, and its count of faults, before and now: only a run and a claim take
--- bytes of it, or meet its faults.
+-- The same by the bytes of the source before and now, and those that a sink held before and holds
+-- now: lines of a process that lives are read only once the first day is published, and what was
+-- written is that of the lines before the fault.
+abbrev pub HasReadBehind : Option FileList → Option (List ℕ) → Option (List ℕ) → Request →
+    Option (List ℕ) → Option (List ℕ) → Type 0
+HasReadBehind files told left (request.Live r) before now =
+    HasLivedUntil live.ReadFault files r.options (mode_of r) (first_items r) [] told left before now
+HasReadBehind files told left r before now = ReadsBehind files r
+
+-- What is left of a source, and its count of faults, before and now: only a run, a process that
+-- lives and a claim take bytes of it, or meet its faults.
 abbrev pub LeavesScript : Option Request → Status → Option (List ℕ) → Option (List ℕ) → ℕ → ℕ
     → Type 0
 LeavesScript (Some (request.Serve r)) s before now faults risen =
+    (bs : List ℕ) × Consumes before now bs
+LeavesScript (Some (request.Live r)) s before now faults risen =
     (bs : List ℕ) × Consumes before now bs
 LeavesScript (Some (request.Verify r)) s before now faults risen =
     LeavesClaim s before now faults risen

@@ -2,10 +2,11 @@
 ghost use Rattle.std.specs.Prelude.{◌≡◌, ◌⊎◌, ◌<◌, ◌-◌, ◌^◌, Err, IfErr, IfOk, IfSome, IsSome, None, Some, map, string_bytes};
 ghost use Rattle.command_line.specs.Requests.{request_of};
 ghost use Rattle.router_cli.specs.Outcome.{LeavesOutside, status_of_text};
-ghost use Rattle.router_cli.specs.Promise.{IsNoRequestAnswer, IsRequestAnswer, IsRequestEnding, IsRequestOutcome, LeavesScript, ReadsBehind, TellsFirst};
+ghost use Rattle.router_cli.specs.Promise.{AskLive, HasReadBehind, IsGathered, IsNoRequestAnswer, IsRequestAnswer, IsRequestEnding, IsRequestOutcome, LeavesScript, ReadsBehind, TellsFirst};
 
 use crate::day::day_text;
 use crate::late_trips::late_text;
+use crate::living::live_status;
 use crate::made_city::city_text;
 use crate::serving::run_text;
 use crate::status::Status;
@@ -19,7 +20,7 @@ use tb_base::{Gate, Memory};
 use tb_io::{Folder, Sink, Source};
 use trip_table::laws::timetable_determined;
 
-// What is written for a request, or why nothing is.
+// What is written for a request whose text is gathered first, or why nothing is.
 fn request_text<R: Threads + Wait + Sync, F: Folder + Send, S: Source, G: Gate>(
     rt: &R,
     alloc: Global,
@@ -28,6 +29,7 @@ fn request_text<R: Threads + Wait + Sync, F: Folder + Send, S: Source, G: Gate>(
     source: &mut S,
     gate: &G,
 ) -> Result<Vec<u8>, Status>
+    requires gathered { IsGathered request }
     requires folder { F.faults folder.old < 2 ^ 64 - 1 }
     requires source { S.faults source.old < 2 ^ 64 - 1 }
     ensures text { IfOk result (λ text.
@@ -51,6 +53,7 @@ fn request_text<R: Threads + Wait + Sync, F: Folder + Send, S: Source, G: Gate>(
             text
         }
         Request::Serve(request) => run_text(rt, alloc, request, folder, source, gate),
+        Request::Live(_) => unreachable!(),
         Request::City(request) => {
             let workers = request.workers;
             Ok(city_text(rt, alloc, request.json, request.side, workers, gate)?)
@@ -73,7 +76,8 @@ fn request_text<R: Threads + Wait + Sync, F: Folder + Send, S: Source, G: Gate>(
 ///
 /// `Usage` comes only where the words have no meaning, and there nothing comes but it and `Memory`.
 /// With any status but `Done` and `WriteFault` nothing is written, since the whole text is gathered
-/// before its first byte is written; with `WriteFault` a first part of it. It is JSON where the
+/// before its first byte is written; with `WriteFault` a first part of it. `live` alone writes as it
+/// goes, as the lines of the script come. It is JSON where the
 /// words ask for that. Whatever the folder is, what is written is the answer over sound timetables;
 /// where it tells its contents, over those of the days. A script is read by a run of several days
 /// alone; its first fault comes before what the feeds give. A claim is read from the same source,
@@ -82,6 +86,18 @@ fn request_text<R: Threads + Wait + Sync, F: Folder + Send, S: Source, G: Gate>(
 /// never of both. `Memory` may come at any time, and no fault in another status tells of it. Where
 /// contents are told and no count of faults rises, the end is the first fault, or `Done` where
 /// there is none; or `Memory`.
+///
+/// For `live`, where the script tells its bytes, what is written with `Done` is for each of its lines
+/// in order the text of the right reply by the edition of which it is, and these never go back; the
+/// list of editions is that of the lawful days in order, those of the words first, then those that
+/// lines name; and of each day it is told what became of it, that it can't be read only where the
+/// folder's count of faults rose. With `FeedRefused`, which tells of the first day, nothing is
+/// written, and nothing read of the script. With `ReadFault` neither, where the folder failed before
+/// the first day was published; else what is written is that of the lines before the fault. With
+/// `Memory` neither, or what is written is that of some first lines; with `WriteFault` a first part
+/// of such. Of the editions of a run that ends so it is said that the first one is that of the first
+/// day. A day behind the first one that can't be read, or for which there is no memory, ends nothing:
+/// so the folder's count of faults may rise there with any status.
 ///
 /// That the gate is told of the pieces that workers reduce, and of the publications and requests of
 /// a run, is tested and in no clause. Its own work ends; it joins the workers that it starts. A
@@ -102,22 +118,27 @@ pub fn route<R: Threads + Wait + Sync, F: Folder + Send, S: Source, K: Sink, G: 
     ensures wrong_words { request_of (map string_bytes words.now) ≡ None →
         (result ≡ Status.Usage) ⊎ (result ≡ Status.Memory) }
     ensures promise { IfSome (request_of (map string_bytes words.now)) (λ r.
-        IsRequestOutcome (F.files folder.old) (S.left script.old) r result (K.written out.old)
+        IsRequestOutcome (F.files folder.old) (F.faults folder.old) (F.faults folder.new)
+        (S.left script.old) (S.left script.new) r result (K.written out.old)
         (K.written out.new)) }
     ensures script { IfSome (request_of (map string_bytes words.now)) (λ r.
         S.faults script.new ≡ S.faults script.old → TellsFirst (S.left script.old) r result) }
     ensures later { IfSome (request_of (map string_bytes words.now)) (λ r.
         result ≡ Status.ReadFault → F.faults folder.new ≡ F.faults folder.old →
-        ReadsBehind (F.files folder.old) r) }
+        HasReadBehind (F.files folder.old) (S.left script.old) (S.left script.new) r
+        (K.written out.old) (K.written out.new)) }
     ensures quiet { (result ≡ Status.Done) ⊎ (result ≡ Status.WriteFault)
-        ⊎ (K.written out.new ≡ K.written out.old) }
+        ⊎ (K.written out.new ≡ K.written out.old)
+        ⊎ AskLive (request_of (map string_bytes words.now)) }
     ensures read { result ≡ Status.ReadFault → (F.faults folder.old < F.faults folder.new)
         ⊎ (S.faults script.old < S.faults script.new) }
     ensures alone { (F.faults folder.new ≡ F.faults folder.old)
-        ⊎ (S.faults script.new ≡ S.faults script.old) }
+        ⊎ (S.faults script.new ≡ S.faults script.old)
+        ⊎ AskLive (request_of (map string_bytes words.now)) }
     ensures write { result ≡ Status.WriteFault → K.faults out.old < K.faults out.new }
     ensures folder_kept { (result ≡ Status.ReadFault)
-        ⊎ (F.faults folder.new ≡ F.faults folder.old) }
+        ⊎ (F.faults folder.new ≡ F.faults folder.old)
+        ⊎ AskLive (request_of (map string_bytes words.now)) }
     ensures script_kept { (result ≡ Status.ReadFault)
         ⊎ (S.faults script.new ≡ S.faults script.old) }
     ensures out_kept { (result ≡ Status.WriteFault) ⊎ (K.faults out.new ≡ K.faults out.old) }
@@ -131,6 +152,9 @@ pub fn route<R: Threads + Wait + Sync, F: Folder + Send, S: Source, K: Sink, G: 
 {
     timetable_determined();
     match request_of(alloc, words) {
+        Ok(Some(Request::Live(request))) => {
+            live_status(rt, alloc, request, folder, script, out, gate)
+        }
         Ok(Some(request)) => {
             let text = request_text(rt, alloc, request, folder, script, gate);
             write(out, text)

@@ -53,8 +53,8 @@ fn item_of(alloc: Global, day: PlannedDay) -> Result<PlanItem, Memory>
     })
 }
 
-// The items of a plan.
-fn items_of(alloc: Global, days: Vec<PlannedDay>) -> Result<Vec<PlanItem>, Memory>
+/// The items of a plan.
+pub(crate) fn items_of(alloc: Global, days: Vec<PlannedDay>) -> Result<Vec<PlanItem>, Memory>
     ensures { IfOk result (λ items. items.items ≡ map item_of days.entry.items) }
 {
     let mut items = Vec::new(alloc);

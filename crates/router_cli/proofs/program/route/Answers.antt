@@ -1,10 +1,11 @@
 use Rattle.std.proofs.Common.{Some, map, sym}
 use Rattle.std.specs.Prelude.{string_bytes}
 use Rattle.command_line.specs.Requests.{request_of}
+use Rattle.command_line.specs.declared.request.Request.TheVariants as request
 use Rattle.router_cli.specs.Promise.{TellsFirst}
 use Rattle.router_cli.specs.declared.status.Status.TheVariants as status
 use Rattle.router_cli.proofs.Completed.{completed, unread}
-use Rattle.router_cli.proofs.Written.{at_end, ends_unread, first_in_part, has_meaning, left_at_end, none_written, promised, read_or_kept, unread_text}
+use Rattle.router_cli.proofs.Written.{at_end, first_in_part, has_meaning, left_at_end, none_written, or_live, promised, read_behind, read_or_kept, unread_text}
 use Rattle.router_cli.proofs.program.route.Goals as goal
 
 pub returns-in-Err-clause-left : goal.returns-in-Err-clause-left
@@ -23,7 +24,7 @@ pub returns-in-Ok-Some-clause-promise : goal.returns-in-Ok-Some-clause-promise
 returns-in-Ok-Some-clause-promise g c =
     let at = c.in-Ok-Some in
     rw (sym at.ensures, at.field-0-is)
-    (promised _ _ at.request c.request_text-text.result c.write.result _ _ c.request_text-text.ensures.text c.request_text-text.ensures.refused c.write.ensures.writes)
+    (promised _ _ _ _ _ at.request c.request_text-text.result c.write.result _ _ c.request_text-text.ensures.text c.request_text-text.ensures.refused c.write.ensures.writes)
 
 pub returns-in-Ok-Some-clause-script : goal.returns-in-Ok-Some-clause-script
 returns-in-Ok-Some-clause-script g c =
@@ -37,18 +38,19 @@ pub returns-in-Ok-Some-clause-later : goal.returns-in-Ok-Some-clause-later
 returns-in-Ok-Some-clause-later g c =
     let at = c.in-Ok-Some in
     rw (sym at.ensures, at.field-0-is)
-    (λ is still. c.request_text-text.ensures.later (unread_text c.request_text-text.result c.write.result _ _ c.write.ensures.writes is) still)
+    (λ is still. read_behind _ _ _ at.request c.request_text-text.result _ _ c.request_text-text.ensures.text c.request_text-text.ensures.refused
+    (c.request_text-text.ensures.later (unread_text c.request_text-text.result c.write.result _ _ c.write.ensures.writes is) still))
 
 pub returns-in-Ok-Some-clause-read : goal.returns-in-Ok-Some-clause-read
 returns-in-Ok-Some-clause-read g c =
     λ is. c.request_text-text.ensures.leaves.read (unread_text c.request_text-text.result c.write.result _ _ c.write.ensures.writes is)
 
 pub returns-in-Ok-Some-clause-alone : goal.returns-in-Ok-Some-clause-alone
-returns-in-Ok-Some-clause-alone g c = c.request_text-text.ensures.leaves.alone
+returns-in-Ok-Some-clause-alone g c = or_live c.request_text-text.ensures.leaves.alone
 
 pub returns-in-Ok-Some-clause-folder_kept : goal.returns-in-Ok-Some-clause-folder_kept
 returns-in-Ok-Some-clause-folder_kept g c =
-    read_or_kept c.request_text-text.result c.write.result _ _ c.write.ensures.writes c.request_text-text.ensures.leaves.folder_kept
+    or_live (read_or_kept c.request_text-text.result c.write.result _ _ c.write.ensures.writes c.request_text-text.ensures.leaves.folder_kept)
 
 pub returns-in-Ok-Some-clause-script_kept : goal.returns-in-Ok-Some-clause-script_kept
 returns-in-Ok-Some-clause-script_kept g c =
@@ -67,6 +69,13 @@ pub returns-in-Ok-Some-clause-complete : goal.returns-in-Ok-Some-clause-complete
 returns-in-Ok-Some-clause-complete g c =
     let at = c.in-Ok-Some in
     rw (sym at.ensures, at.field-0-is)
-    (completed c.timetable_determined.ensures (Some at.request) _ _ c.write.result _ _ _ _ _ _ _ _
-    (promised _ _ at.request c.request_text-text.result c.write.result _ _ c.request_text-text.ensures.text c.request_text-text.ensures.refused c.write.ensures.writes)
+    (completed c.timetable_determined.ensures (Some at.request) _ _ (g.S.Source.left c.args.script.now) c.write.result _ _ _ _ _ _ _ _
+    (promised _ _ _ _ _ at.request c.request_text-text.result c.write.result _ _ c.request_text-text.ensures.text c.request_text-text.ensures.refused c.write.ensures.writes)
     (λ is. c.request_text-text.ensures.leaves.read (unread_text c.request_text-text.result c.write.result _ _ c.write.ensures.writes is)) c.write.ensures.write)
+
+pub returns-in-Ok-Some-Live-clause-complete : goal.returns-in-Ok-Some-Live-clause-complete
+returns-in-Ok-Some-Live-clause-complete g c =
+    let at = c.in-Ok-Some-Live in
+    let done = c.live_status.ensures in
+    rw (sym at.ensures, at.field-0-is, at.field-0-0-is)
+    (completed c.timetable_determined.ensures (Some (request.Live at.request)) _ _ _ c.live_status.result _ _ _ _ _ _ _ _ done.outcome done.read done.write)
