@@ -1,0 +1,134 @@
+"""Asks the proved program from several threads while days are published, and holds a sample of the
+answers against the commands, each by its edition; then has it killed while they ask.
+
+python3 -m tests.stress [--threads 8] [--requests 100000] [--patterns 300] [--publications 6]
+"""
+import argparse
+import collections
+import os
+import random
+import signal
+import tempfile
+import threading
+import time
+from concurrent.futures import ThreadPoolExecutor
+
+from .proved import DAY, PROGRAM, commanded, make_network
+from yuccadarts import Answer, Ask, Latest, ProcessEnded, Profile, Question, Reach, Router
+from yuccadarts.stops import read_stops
+
+DATES = (DAY, "20260303", "20260307", "20260308")
+OPTIONS = ("--close", "--change=120")
+HOUR = 3_600
+LONG = 60.0
+"""The seconds after which something hangs."""
+Sample = tuple[Question, Answer]
+
+
+def drawn_question(drawn: random.Random, stops: list[str]) -> Question:
+    ends = drawn.sample(stops, 2)
+    at = drawn.randrange(6 * HOUR, 22 * HOUR)
+    match drawn.randrange(100):
+        case 0:
+            return Reach(ends[0], at)
+        case 1 | 2:
+            return Profile(*ends, at, at + HOUR // 4)
+        case 3 | 4 | 5:
+            return Latest(*ends, at)
+    return Ask(*ends, at)
+
+
+def ask_many(
+    router: Router, stops: list[str], seed: int, count: int, samples: int
+) -> tuple[collections.Counter[int], list[Sample]]:
+    """Asks one after another; how many answers each edition gave, and a sample of them."""
+    drawn = random.Random(seed)
+    kept = set(drawn.sample(range(count), min(samples, count)))
+    editions: collections.Counter[int] = collections.Counter()
+    sample, last = [], 1
+    for number in range(count):
+        question = drawn_question(drawn, stops)
+        (answer,) = router.answers([question])
+        assert answer.edition >= last, f"edition {answer.edition} after {last}"
+        last = answer.edition
+        editions[last] += 1
+        if number in kept:
+            sample.append((question, answer))
+    return editions, sample
+
+
+def publish(
+    router: Router, feed: str, dates: list[str], is_over: threading.Event
+) -> dict[int, str]:
+    """Publishes days one after another, while the others ask; the date of each edition."""
+    found = {1: DAY}
+    for date in dates:
+        if is_over.wait(0.5):
+            break
+        found[router.publish(feed, date).wait(LONG).number] = date
+    return found
+
+
+def run_right(words: argparse.Namespace, feed: str, stops: list[str]) -> None:
+    dates = [DATES[number % len(DATES)] for number in range(1, words.publications + 1)]
+    each = words.requests // words.threads
+    is_over = threading.Event()
+    with Router(feed, DAY, mirror=True, program=PROGRAM) as router:
+        with ThreadPoolExecutor(words.threads + 1) as threads:
+            publishing = threads.submit(publish, router, feed, dates, is_over)
+            begin = time.monotonic()
+            asking = [
+                threads.submit(ask_many, router, stops, seed, each, words.samples)
+                for seed in range(words.threads)
+            ]
+            results = [future.result() for future in asking]
+            took = time.monotonic() - begin
+            is_over.set()
+            date_of = publishing.result()
+    editions: collections.Counter[int] = collections.Counter()
+    for counted, _ in results:
+        editions += counted
+    total = each * words.threads
+    rate = total / took
+    print(f"{total} answers to {words.threads} threads in {took:.1f} s, {rate:.0f} a second")
+    print(f"by edition: {dict(sorted(editions.items()))}")
+    held = [pair for _, sample in results for pair in sample]
+    for question, answer in held:
+        wanted = commanded(feed, question, *OPTIONS, date=date_of[answer.edition])
+        assert answer.values == wanted, f"{question}: {answer} in place of {wanted}"
+    print(f"{len(held)} answers are those of the commands")
+
+
+def run_killed(words: argparse.Namespace, feed: str, stops: list[str]) -> None:
+    def ask_on(seed: int) -> None:
+        drawn = random.Random(seed)
+        while True:
+            (_,) = router.answers([drawn_question(drawn, stops)])
+
+    with Router(feed, DAY, mirror=True, program=PROGRAM) as router:
+        with ThreadPoolExecutor(words.threads) as threads:
+            asking = [threads.submit(ask_on, seed) for seed in range(words.threads)]
+            time.sleep(1)
+            os.kill(router.pid, signal.SIGKILL)
+            ends = [future.exception(LONG) for future in asking]
+    assert {type(end) for end in ends} == {ProcessEnded}, ends
+    print(f"killed: {len({id(end) for end in ends})} threads got an exception each: {ends[0]}")
+
+
+def main() -> None:
+    parser = argparse.ArgumentParser(description=__doc__.partition("\n\n")[0])
+    parser.add_argument("--threads", type=int, default=8)
+    parser.add_argument("--requests", type=int, default=100_000)
+    parser.add_argument("--patterns", type=int, default=300, help="of the made network")
+    parser.add_argument("--publications", type=int, default=6)
+    parser.add_argument("--samples", type=int, default=15, help="of each thread")
+    words = parser.parse_args()
+    with tempfile.TemporaryDirectory() as feed:
+        make_network(feed, words.patterns)
+        stops = [stop.id for stop in read_stops(feed).values() if stop.is_station]
+        run_right(words, feed, stops)
+        run_killed(words, feed, stops)
+
+
+if __name__ == "__main__":
+    main()

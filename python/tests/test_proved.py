@@ -1,0 +1,167 @@
+"""Tests over the proved program, where it is there: answers that are worked out by hand, and what
+the commands find in processes of their own.
+"""
+import csv
+import itertools
+import random
+import sys
+import tempfile
+import unittest
+from pathlib import Path
+
+from . import TOP
+from .proved import DAY, EXAMPLES, IS_THERE, PROGRAM, add_coordinates, commanded, make_network
+from yuccadarts import (
+    Ask,
+    Choice,
+    Departure,
+    FeedRefused,
+    Latest,
+    LineRefused,
+    Offer,
+    ProcessEnded,
+    Profile,
+    Reach,
+    Reached,
+    Ride,
+    Router,
+    TravelTimes,
+    UnknownStop,
+    Value,
+)
+from yuccadarts.isochrone import isochrone
+from yuccadarts.stops import read_stops
+
+sys.path.insert(0, str(TOP / "bench"))
+T3 = (Ride("T3", "A", 29_100, "D", 31_800, False),)
+T1_T2 = (Ride("T1", "A", 28_800, "B", 29_400, False), Ride("T2", "B", 29_520, "D", 30_600, False))
+HOUR = 3_600
+
+
+def router(feed=EXAMPLES / "f1", **options):
+    return Router(feed, DAY, program=PROGRAM, **options)
+
+
+@unittest.skipUnless(IS_THERE, "the proved program isn't there")
+class Examples(unittest.TestCase):
+    def test_those_of_the_documents(self):
+        with router(change=0, close=False, mirror=True) as it:
+            ask = it.ask("A", "D", "08:00:00")
+            self.assertEqual((Choice(31_800, 1, T3), Choice(30_600, 2, T1_T2)), ask.values)
+            profile = it.profile("A", "D", "07:00:00", "08:05:00")
+            offers = Offer(29_100, 31_800, 1, T3), Offer(28_800, 30_600, 2, T1_T2)
+            self.assertEqual(offers, profile.values)
+            latest = it.latest("A", "D", "08:50:00")
+            self.assertEqual((Departure(29_100, 1, T3),), latest.values)
+            reach = it.reach("A", "08:00:00")
+            best = Value(31_800, 1), Value(30_600, 2)
+            self.assertEqual(Reached("D", best), reached(reach, "D"))
+            self.assertEqual(Reached("E", ()), reached(reach, "E"))
+            times = {"A": 0, "B": 600, "C": 1_200, "D": 1_800}
+            self.assertEqual([TravelTimes("A", 1, times)], [*it.travel_times(["A"], "08:00:00")])
+            self.assertEqual(1, it.first_edition.number)
+            self.assertEqual(3, it.first_edition.trips)
+
+    def test_what_is_refused(self):
+        with router() as it:
+            with self.assertRaises(UnknownStop):
+                it.ask("A", 'no "stop"', 0)
+            with self.assertRaises(LineRefused) as line:
+                it.ask("A" * 1_100, "D", 0)
+            self.assertEqual("BadLine", line.exception.name)
+            with self.assertRaises(LineRefused) as line:
+                it.ask("A", "D", 360_000)
+            self.assertEqual(1, it.ask("A", "D", 0).edition)
+        with self.assertRaises(FeedRefused) as refused:
+            router(EXAMPLES)
+        self.assertEqual((1, "MissingFile"), (refused.exception.number, refused.exception.name))
+        self.assertEqual("stops.txt", refused.exception.file)
+        with self.assertRaises(ProcessEnded) as ended:
+            router(lanes=65)
+        self.assertEqual(2, ended.exception.status)
+
+    def test_editions(self):
+        with router() as it:
+            self.assertEqual(1, it.ask("A", "D", "08:00:00").edition)
+            valley = it.publish(EXAMPLES / "valley", DAY)
+            self.assertEqual(2, valley.wait(20).number)
+            with self.assertRaises(UnknownStop) as unknown:
+                it.ask("A", "D", "08:00:00")
+            self.assertEqual(2, unknown.exception.edition)
+            with self.assertRaises(FeedRefused):
+                it.publish(EXAMPLES, DAY).wait(20)
+            self.assertEqual(2, it.ask("Mill", "Pier", "08:00:00").edition)
+
+
+    def test_names_that_need_quotes(self):
+        names = ['a "b"', "# c", "t\tab", "\u00e9\\n", "-x", "it's", "x,y", "--close", '""']
+        calls = [(name, f"08:{at:02}:00", at) for at, name in enumerate(names)]
+        with tempfile.TemporaryDirectory() as folder:
+            write_rows(folder, "stops.txt", ["stop_id"], *([name] for name in names))
+            write_rows(folder, "trips.txt", ["service_id", "trip_id"], ["S", 'T "1"'])
+            columns = ["service_id", "date", "exception_type"]
+            write_rows(folder, "calendar_dates.txt", columns, ["S", DAY, "1"])
+            columns = ["trip_id", "stop_id", "arrival_time", "departure_time", "stop_sequence"]
+            rows = (['T "1"', name, time, time, at] for name, time, at in calls)
+            write_rows(folder, "stop_times.txt", columns, *rows)
+            with router(folder) as it:
+                for origin, destination in itertools.combinations(calls, 2):
+                    (choice,) = it.ask(origin[0], destination[0], "08:00:00").values
+                    leave, arrive = 8 * HOUR + 60 * origin[2], 8 * HOUR + 60 * destination[2]
+                    ride = Ride('T "1"', origin[0], leave, destination[0], arrive, False)
+                    self.assertEqual(Choice(arrive, 1, (ride,)), choice)
+
+
+def write_rows(folder, name, *rows):
+    with open(Path(folder, name), "w", encoding="utf-8", newline="") as file:
+        csv.writer(file).writerows(rows)
+
+
+def reached(answer, stop):
+    return next(each for each in answer if each.stop == stop)
+
+
+@unittest.skipUnless(IS_THERE, "the proved program isn't there")
+class Commands(unittest.TestCase):
+    """What the package gives is what the commands find."""
+
+    def hold(self, feed, asked, *options, **given):
+        with router(feed, mirror=True, **given) as it:
+            for question, answer in zip(asked, it.answers(asked)):
+                self.assertEqual(commanded(feed, question, *options), answer.values, question)
+
+    def test_small_feeds_by_chance(self):
+        from fuzzing import made
+
+        for seed in range(12):
+            drawn = random.Random(seed)
+            with tempfile.TemporaryDirectory() as folder:
+                for name, data in made.feed(drawn).items():
+                    Path(folder, name).write_bytes(data)
+                stops = [*read_stops(folder)]
+                asked = []
+                for _ in range(2):
+                    ends = drawn.choices(stops, k=2)
+                    first, last = sorted(drawn.randrange(5 * HOUR, 10 * HOUR) for _ in "12")
+                    asked += [Ask(*ends, first), Profile(*ends, first, last)]
+                    asked += [Latest(*ends, last), Reach(ends[0], first)]
+                self.hold(folder, asked, "--close", "--change=60", change=60)
+
+    def test_a_made_network(self):
+        with tempfile.TemporaryDirectory() as folder:
+            make_network(folder, 20)
+            add_coordinates(folder)
+            stops = read_stops(folder)
+            stations = [stop.id for stop in stops.values() if stop.is_station]
+            drawn = random.Random(1)
+            ends = [drawn.sample(stations, 2) for _ in range(5)]
+            asked = [Ask(*pair, 8 * HOUR) for pair in ends]
+            asked += [Profile(*pair, 8 * HOUR, 9 * HOUR) for pair in ends]
+            asked += [Latest(*pair, 18 * HOUR) for pair in ends]
+            asked += [Reach(pair[0], 8 * HOUR) for pair in ends]
+            self.hold(folder, asked, "--close", "--change=120")
+            with router(folder) as it:
+                found = isochrone(it, stops, stations[0], 8 * HOUR, with_journeys=True)
+            for place in found.places:
+                journeys = tuple(Value(it.arrival, it.rides) for it in place.journeys)
+                self.assertEqual(place.values, journeys, place.stop)

@@ -1,0 +1,306 @@
+"""Tests of the router over a process that makes its answers up: whose answer is whose, and what
+comes of a process that doesn't do what it should.
+"""
+import multiprocessing
+import os
+import shutil
+import signal
+import tempfile
+import threading
+import time
+import unittest
+from concurrent.futures import ThreadPoolExecutor
+
+from . import STAND_IN, TOP
+from yuccadarts import (
+    Answer,
+    Ask,
+    Cell,
+    Choice,
+    Closed,
+    Departure,
+    Edition,
+    Elsewhere,
+    FeedRefused,
+    LineRefused,
+    NoProgram,
+    NotPublished,
+    Offer,
+    ProcessConfused,
+    ProcessEnded,
+    Profile,
+    Reach,
+    Reached,
+    Ride,
+    Router,
+    RouterError,
+    Spread,
+    TravelTimes,
+    UnknownStop,
+    Value,
+    Walk,
+)
+
+LONG = 20.0
+"""The seconds after which something hangs."""
+
+
+def router(feed="feed", **options):
+    return Router(feed, "20260302", program=STAND_IN, **options)
+
+
+def legs(departure, arrival):
+    return (Ride("A>D", "A", departure, "D", arrival, False), Walk("D", "D", 0))
+
+
+class Answers(unittest.TestCase):
+    def test_of_each_question(self):
+        with router(mirror=True) as it:
+            self.assertEqual(Edition(1, 3, 3, 1), it.first_edition)
+            choice = Choice(28_860, 1, legs(28_800, 28_860))
+            self.assertEqual(Answer(1, (choice,)), it.ask("A", "D", "08:00:00"))
+            offer = Offer(28_800, 28_860, 1, legs(28_800, 28_860))
+            self.assertEqual(Answer(1, (offer,)), it.profile("A", "D", 28_800, 30_000))
+            departure = Departure(28_740, 1, legs(28_740, 28_800))
+            self.assertEqual(Answer(1, (departure,)), it.latest("A", "D", 28_800))
+            reached = it.reach("A", 0)
+            self.assertEqual(Reached("stop 0", (Value(60, 1),)), reached.values[0])
+            self.assertEqual(Reached("Z", ()), reached.values[-1])
+
+    def test_many_at_once(self):
+        with router() as it:
+            asked = [Ask(f"a {number}", "D", number) for number in range(3_000)]
+            asked[1] = Profile("b", "D", 5, 6)
+            answers = [*it.answers(asked)]
+        self.assertEqual(3_000, len(answers))
+        self.assertEqual("b>D", answers[1].values[0].legs[0].trip)
+        for number in (0, 2, 17, 2_999):
+            self.assertEqual(f"a {number}>D", answers[number].values[0].legs[0].trip)
+            self.assertEqual(number + 60, answers[number].values[0].arrival)
+
+    def test_travel_times(self):
+        with router() as it:
+            rows = [*it.travel_times(["A", "B"], "08:00:00")]
+        seconds = {f"stop {number}": 60 for number in range(3)}
+        self.assertEqual([TravelTimes("A", 1, seconds), TravelTimes("B", 1, seconds)], rows)
+
+    def test_times(self):
+        with router() as it:
+            one = it.times("A", "08:00:00", "09:00:00", 300)
+            self.assertEqual(Spread("stop", 13, 13, 60, *[None] * 6), one.values[0])
+            self.assertEqual(Spread("Z", 0, 13, *[None] * 7), one.values[1])
+            two = it.times("A", 0, 10, 3, rides=2)
+            self.assertEqual(Spread("stop", 4, 4, 60, *[2] * 6), two.values[0])
+            cells = [*it.matrix(["A", "B b"], "08:00:00", "09:00:00", 300)]
+        ends = [("A", "stop"), ("A", "Z"), ("B b", "stop"), ("B b", "Z")]
+        self.assertEqual(ends, [(cell.origin, cell.stop) for cell in cells])
+        self.assertEqual(Cell("A", 1, "stop", 13, 13, 60, *[None] * 6), cells[0])
+
+    def test_only_so_many_are_asked_ahead(self):
+        drawn = []
+
+        def origins():
+            for number in range(100):
+                drawn.append(number)
+                yield str(number)
+
+        with router(lanes=2) as it:
+            next(it.travel_times(origins(), 0))
+        self.assertEqual(16, len(drawn))
+
+    def test_what_is_refused(self):
+        with router() as it:
+            with self.assertRaises(UnknownStop) as unknown:
+                it.ask("nowhere", "D", 0)
+            self.assertEqual(("nowhere", 1), (unknown.exception.stop, unknown.exception.edition))
+            with self.assertRaises(LineRefused) as refused:
+                it.ask("a" * 1_001, "D", 0)
+            self.assertEqual((1, "BadLine"), (refused.exception.number, refused.exception.name))
+            with self.assertRaises(ValueError):
+                it.latest("A", "D", 0)
+            with self.assertRaises(ValueError):
+                it.ask("A\nask B", "D", 0)
+            with self.assertRaises(ValueError):
+                it.ask("A", "D", "soon")
+            self.assertEqual(60, it.ask("A", "D", 0).values[0].arrival)
+
+
+class Publications(unittest.TestCase):
+    def test_a_day_that_becomes_an_edition(self):
+        with router() as it:
+            publication = it.publish("slow", "20260303")
+            self.assertTrue(publication.day.endswith("/slow@20260303"))
+            with self.assertRaises(TimeoutError):
+                publication.wait(0)
+            self.assertEqual(1, it.ask("A", "D", 0).edition)
+            self.assertEqual(Edition(2, 3, 3, 1), publication.wait(LONG))
+            self.assertEqual(Edition(2, 3, 3, 1), publication.wait(0))
+            self.assertEqual(2, it.ask("A", "D", 0).edition)
+
+    def test_what_becomes_of_each(self):
+        with router() as it:
+            days = ("slow", "broken", "feed", "unread", "feed")
+            found = [it.publish(day, "20260303") for day in days]
+            self.assertEqual([2, 3, 4], [found[at].wait(LONG).number for at in (0, 2, 4)])
+            with self.assertRaises(FeedRefused) as refused:
+                found[1].wait()
+            fault = refused.exception
+            self.assertEqual((12, "UnknownTrip"), (fault.number, fault.name))
+            place = fault.file, fault.row, fault.column
+            self.assertEqual(("stop_times.txt", 5, "trip_id"), place)
+            self.assertEqual("12 UnknownTrip stop_times.txt row 5 column trip_id", str(fault))
+            with self.assertRaisesRegex(NotPublished, "read fault"):
+                found[3].wait()
+
+    def test_a_folder_that_no_line_can_name(self):
+        with router() as it:
+            with self.assertRaises(LineRefused):
+                it.publish("a" * 1_001, "20260303")
+            self.assertEqual(2, it.publish("feed", "20260303").wait(LONG).number)
+
+    def test_the_first_day_is_refused(self):
+        with self.assertRaises(FeedRefused) as refused:
+            router("broken")
+        self.assertEqual(5, refused.exception.row)
+
+    def test_the_process_ends_while_a_day_is_published(self):
+        with router() as it:
+            publication = it.publish("slow", "20260303")
+            os.kill(it.pid, signal.SIGKILL)
+            with self.assertRaises(ProcessEnded):
+                publication.wait(LONG)
+
+
+class Threads(unittest.TestCase):
+    def test_each_gets_its_own_answers(self):
+        def ask(thread):
+            for number in range(400):
+                choice = it.ask(f"{thread}.{number}", "D", number).values[0]
+                self.assertEqual(f"{thread}.{number}>D", choice.legs[0].trip)
+
+        with router() as it, ThreadPoolExecutor(8) as threads:
+            for done in [threads.submit(ask, thread) for thread in range(8)]:
+                done.result(LONG)
+
+    def test_what_is_asked_at_a_time_is_one_turn(self):
+        with router() as it, ThreadPoolExecutor(9) as threads:
+            threads.submit(it.ask, "pause", "D", 0)
+            time.sleep(0.2)
+            asked = [threads.submit(it.reach, "turn", 0) for _ in range(8)]
+            turns = {future.result(LONG).values[0].values[0].arrival for future in asked}
+        self.assertEqual(1, len(turns))
+
+    def test_no_pipe_stays_full(self):
+        """Lines and replies of many megabytes each way, before the first reply is looked at."""
+        with router() as it:
+            word = "w" * 900
+            few = [it._ask(Ask(word, str(number), number)) for number in range(5_000)]
+            many = [it._ask(Reach("many", 0)) for _ in range(3)]
+            self.assertEqual([20_001] * 3, [len(each.result(LONG)) for each in many])
+            self.assertEqual(5_059, few[-1].result().values[0].arrival)
+
+
+class Ends(unittest.TestCase):
+    def test_a_process_that_dies(self):
+        with router() as it:
+            with self.assertRaises(ProcessEnded) as ended:
+                it.ask("die", "D", 0)
+            self.assertEqual(6, ended.exception.status)
+            self.assertIn("out of memory", str(ended.exception))
+            with self.assertRaises(ProcessEnded):
+                it.ask("A", "D", 0)
+            with self.assertRaises(ProcessEnded):
+                it.publish("feed", "20260303")
+
+    def test_a_process_that_dies_in_the_middle_of_a_line(self):
+        with router() as it, self.assertRaises(ProcessEnded) as ended:
+            it.ask("cut", "D", 0)
+        self.assertEqual(5, ended.exception.status)
+
+    def test_a_process_that_is_killed_under_load(self):
+        """Each thread gets an exception of its own, and none hangs."""
+
+        def ask(thread):
+            while True:
+                it.ask(str(thread), "D", 0)
+
+        with router() as it, ThreadPoolExecutor(8) as threads:
+            asking = [threads.submit(ask, thread) for thread in range(8)]
+            time.sleep(0.3)
+            os.kill(it.pid, signal.SIGKILL)
+            ends = [each.exception(LONG) for each in asking]
+        self.assertEqual({ProcessEnded}, {type(end) for end in ends})
+        self.assertEqual(8, len({id(end) for end in ends}))
+        self.assertIn("SIGKILL", str(ends[0]))
+        self.assertEqual(-signal.SIGKILL, ends[0].status)
+
+    def test_what_is_no_reply(self):
+        for word in ("babble", "skip"):
+            with router() as it, self.assertRaises(ProcessConfused):
+                it.ask(word, "D", 0)
+
+    def test_a_process_that_hangs_is_ended(self):
+        begin = time.monotonic()
+        it = router()
+        hanging = it._ask(Ask("hang", "D", 0))
+        it.close(0.2)
+        self.assertLess(time.monotonic() - begin, LONG)
+        self.assertIsInstance(hanging.exception(LONG), Closed)
+        with self.assertRaises(Closed):
+            it.ask("A", "D", 0)
+        it.close()
+
+    def test_what_was_asked_before_the_end_is_answered(self):
+        it = router()
+        asked = [it._ask(Ask("A", "D", number)) for number in range(2_000)]
+        it.close(LONG)
+        self.assertEqual(2_059, asked[-1].result(0).values[0].arrival)
+
+    def test_nothing_is_left_behind(self):
+        before = threading.active_count(), len(os.listdir("/proc/self/fd"))
+        for _ in range(5):
+            with router() as it:
+                it.ask("A", "D", 0)
+            with router() as it, self.assertRaises(RouterError):
+                it.ask("die", "D", 0)
+            with self.assertRaises(FeedRefused):
+                router("broken")
+        after = threading.active_count(), len(os.listdir("/proc/self/fd"))
+        self.assertEqual(before, after)
+
+    def test_a_fork_has_no_router(self):
+        def in_fork(pipe):
+            try:
+                it.ask("A", "D", 0)
+            except Elsewhere as error:
+                it.close()
+                pipe.send(str(error))
+
+        fork = multiprocessing.get_context("fork")
+        with router() as it:
+            here, there = fork.Pipe(duplex=False)
+            forked = fork.Process(target=in_fork, args=(there,))
+            forked.start()
+            forked.join(LONG)
+            self.assertEqual(0, forked.exitcode)
+            self.assertIn("forked", here.recv())
+            self.assertEqual(60, it.ask("A", "D", 0).values[0].arrival)
+
+    def test_an_interrupt_of_the_terminal_is_not_for_the_process(self):
+        with router() as it:
+            self.assertEqual(it.pid, os.getpgid(it.pid))
+
+    def test_no_program(self):
+        with self.assertRaises(NoProgram):
+            Router("feed", "20260302", program="/nowhere/router")
+        with tempfile.NamedTemporaryFile() as file, self.assertRaises(NoProgram):
+            os.chmod(file.name, 0o755)
+            file.write(b"no program")
+            file.file.close()
+            Router("feed", "20260302", program=file.name)
+
+    def test_the_launcher_without_a_proved_program(self):
+        with tempfile.TemporaryDirectory() as folder:
+            launcher = shutil.copy(TOP / "router", folder)
+            with self.assertRaisesRegex(ProcessEnded, "for it: .*/router --build"):
+                Router("feed", "20260302", program=launcher)
