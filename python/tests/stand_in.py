@@ -3,8 +3,8 @@
 from an answer which question it answers: one arrives as many minutes after the departure as the
 edition's number, by a ride on the trip `ORIGIN>DESTINATION`.
 
-A day whose folder is named `broken` is refused, one named `unread` can't be read, and one named
-`slow` takes a while. Some origins have it do what a process shouldn't: `pause`, `hang`, `die`,
+A day whose folder is named `broken` is refused, one named `unread` can't be read, one named `slow`
+takes a while, and of one named `mixed` it tells as if it were another. Some origins have it do what a process shouldn't: `pause`, `hang`, `die`,
 `cut`, `babble` and `skip`. `reach many` tells of 20,000 stops, and `reach turn` of the turn's number.
 """
 import json
@@ -24,7 +24,7 @@ FAULT = {
     "row": 5,
     "column": "trip_id",
 }
-PAUSES = {"pause": 0.5, "hang": 3_600}
+PAUSES = {"pause": 0.5, "hang": 60}
 OUTCOMES = {"broken": {"fault": FAULT}, "unread": {"message": "read fault"}}
 FORMS = {
     "ask": (3,),
@@ -92,6 +92,7 @@ class StandIn:
                 self.news.put({"day": day, **OUTCOMES[name]})
                 continue
             published += 1
+            day = f"other/{day}" if name == "mixed" else day
             self.news.put({"day": day, "edition": published, "trips": 3, "lines": 3, "kept": 1})
 
     def take_turn(self, lines):

@@ -13,6 +13,15 @@ class Times(unittest.TestCase):
         self.assertEqual("08:00:00", clock("8:00:00"))
         self.assertEqual("-00:10:05", clock(-605))
         self.assertEqual(7, seconds(7))
+        with self.assertRaises(TypeError):
+            seconds(7.5)
+
+    def test_integers_of_other_kinds(self):
+        class Seven:
+            def __index__(self):
+                return 7
+
+        self.assertEqual("00:00:07", clock(Seven()))
 
     def test_no_times(self):
         for text in ("", "8:00", "08:60:00", "108:00:00", "08:00:00 ", "٠٨:00:00"):

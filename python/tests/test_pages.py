@@ -3,6 +3,7 @@
 import contextlib
 import io
 import json
+import socket
 import sys
 import tempfile
 import threading
@@ -221,6 +222,15 @@ class Boards(unittest.TestCase):
         self.assertEqual({"stop 0", "stop 1", "Two [Z]"}, {link["to"][0] for link in links})
         self.assertEqual([], page.tags("img") + page.tags("script"))
 
+    def test_a_name_that_is_the_id_of_another_stop(self):
+        stops = {id: Stop(id, name, 1.0, 2.0, False, "") for id, name in ("AB", "BX", "CC")}
+        desk = Desk(self.router, stops)
+        _, page = desk.page({})
+        labels = [option["value"] for option in Elements(page).tags("option")]
+        self.assertEqual(["B [A]", "X", "C"], labels)
+        _, page = desk.page({"from": "B", "to": "B [A]"})
+        self.assertIn(" on B>A", Elements(page).texts)
+
     def test_what_is_asked_wrongly(self):
         for fields, text in (
             ({"from": "nowhere", "to": "Z"}, "unknown stop nowhere"),
@@ -240,3 +250,9 @@ class Boards(unittest.TestCase):
             urllib.request.urlopen(f"{self.board.url}x")
         error.exception.close()
         self.assertEqual(404, error.exception.code)
+
+    def test_no_url(self):
+        with socket.create_connection(self.board.server_address) as there:
+            there.sendall(b"GET http://[/ HTTP/1.0\r\n\r\n")
+            with there.makefile("rb") as reply:
+                self.assertIn(b" 400 ", reply.readline())

@@ -10,6 +10,7 @@ import threading
 import time
 import unittest
 from concurrent.futures import ThreadPoolExecutor
+from pathlib import Path
 
 from . import STAND_IN, TOP
 from yuccadarts import (
@@ -163,6 +164,10 @@ class Publications(unittest.TestCase):
             router("broken")
         self.assertEqual(5, refused.exception.row)
 
+    def test_news_of_another_day(self):
+        with router() as it, self.assertRaisesRegex(ProcessConfused, "other/"):
+            it.publish("mixed", "20260303").wait(LONG)
+
     def test_the_process_ends_while_a_day_is_published(self):
         with router() as it:
             publication = it.publish("slow", "20260303")
@@ -250,6 +255,25 @@ class Ends(unittest.TestCase):
             it.ask("A", "D", 0)
         it.close()
 
+    def test_a_program_that_hangs_behind_another(self):
+        """It is ended with the one that started it."""
+        with tempfile.TemporaryDirectory() as folder:
+            before = Path(folder, "router")
+            before.write_text(f'#!/bin/sh\n"{STAND_IN}" "$@"\nexit $?\n')
+            before.chmod(0o755)
+            it = Router("feed", "20260302", program=before)
+        hanging = it._ask(Ask("hang", "D", 0))
+        begin = time.monotonic()
+        it.close(0.2)
+        self.assertLess(time.monotonic() - begin, LONG)
+        self.assertIsInstance(hanging.exception(LONG), Closed)
+
+    def test_a_process_that_dies_while_it_is_closed(self):
+        it = router()
+        asked = it._ask(Ask("die", "D", 0))
+        it.close(LONG)
+        self.assertEqual(6, asked.exception(LONG).status)
+
     def test_what_was_asked_before_the_end_is_answered(self):
         it = router()
         asked = [it._ask(Ask("A", "D", number)) for number in range(2_000)]
@@ -285,6 +309,20 @@ class Ends(unittest.TestCase):
             self.assertEqual(0, forked.exitcode)
             self.assertIn("forked", here.recv())
             self.assertEqual(60, it.ask("A", "D", 0).values[0].arrival)
+
+    def test_a_fork_does_not_keep_the_process(self):
+        """Its input ends though a fork has it too; so the process ends by itself."""
+        fork = multiprocessing.get_context("fork")
+        with router() as it:
+            forked = fork.Process(target=time.sleep, args=(LONG,))
+            forked.start()
+            self.addCleanup(forked.join)
+            self.addCleanup(forked.kill)
+            it.close(LONG)
+            self.assertTrue(forked.is_alive())
+            with self.assertRaises(Closed):
+                it.ask("A", "D", 0)
+            self.assertFalse(it._process._killed)
 
     def test_an_interrupt_of_the_terminal_is_not_for_the_process(self):
         with router() as it:

@@ -25,11 +25,15 @@ class Handler(BaseHTTPRequestHandler):
     server: Board
 
     def do_GET(self) -> None:
-        asked = urlsplit(self.path)
+        try:
+            asked = urlsplit(self.path)
+            fields = parse_qs(asked.query)
+        except ValueError:
+            self.send_error(HTTPStatus.BAD_REQUEST)
+            return
         if asked.path != "/":
             self.send_error(HTTPStatus.NOT_FOUND)
             return
-        fields = parse_qs(asked.query)
         first = {name: fields[name][0] for name in FIELDS if name in fields}
         status, text = self.server.desk.page(first)
         data = text.encode()

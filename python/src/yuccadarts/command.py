@@ -1,5 +1,6 @@
 """The command `yuccadarts`: isochrones, and an information desk."""
 import argparse
+import io
 import sys
 
 from .board import Board
@@ -68,6 +69,9 @@ def run_map(words: argparse.Namespace) -> None:
         print(f"stops without coordinates, which are left out: {found.left_out}", file=sys.stderr)
     text = geojson(found) if words.geojson else map_page(found, stops)
     if words.output is None:
+        # pages say that they are UTF-8, whatever the terminal is
+        if isinstance(sys.stdout, io.TextIOWrapper):
+            sys.stdout.reconfigure(encoding="utf-8")
         sys.stdout.write(text)
     else:
         with open(words.output, "w", encoding="utf-8") as file:

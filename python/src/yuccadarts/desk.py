@@ -33,7 +33,7 @@ FIELDS = {"from": "From", "to": "To, or nothing for a map of arrivals", "time": 
 
 class Desk:
     """Makes pages of a router's answers. Places go by their names, with the id behind a name that
-    several have.
+    several have, or that is the id of another stop.
     """
 
     def __init__(self, router: Router, stops: dict[str, Stop]):
@@ -44,7 +44,9 @@ class Desk:
         places = [stop for stop in stops.values() if stop.parent not in stops]
         times = Counter(stop.name for stop in places)
         self._labels = {
-            stop.id: stop.name if times[stop.name] == 1 else f"{stop.name} [{stop.id}]"
+            stop.id: stop.name
+            if times[stop.name] == 1 and stops.get(stop.name, stop) is stop
+            else f"{stop.name} [{stop.id}]"
             for stop in places
         }
         self._ids = {label: stop for stop, label in self._labels.items()}

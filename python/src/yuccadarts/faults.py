@@ -61,7 +61,9 @@ class NotPublished(RouterError):
 
 
 class LineRefused(Refused):
-    """The line of a question has a fault: a time that is too late, or more than 1,024 bytes."""
+    """The line of a question or a day has a fault: it has more than 1,024 bytes, a time is too late,
+    there are too many departures, or a day is none.
+    """
 
 
 class ProcessEnded(RouterError):

@@ -8,6 +8,7 @@ import contextlib
 import functools
 import json
 import os
+import signal
 import subprocess
 import tempfile
 import threading
@@ -40,6 +41,9 @@ there.
 """
 FEED_REFUSED = 3
 """The status with which the program ends if the first day is refused."""
+
+_alive: set["Process"] = set()
+"""Those whose pipes a fork inherits."""
 
 
 @dataclass(slots=True)
@@ -90,12 +94,14 @@ class Process:
         self._nudged = False
         self._written: deque[Asked[Any]] = deque()
         self._closing = False
+        self._killed = False
         self._end: Callable[[], RouterError] | None = None
         self._answered = 0
         self._threads = [
             threading.Thread(target=work, name=f"yuccadarts {name}", daemon=True)
             for name, work in (("writer", self._write), ("reader", self._read))
         ]
+        _alive.add(self)
         for thread in self._threads:
             thread.start()
 
@@ -133,9 +139,25 @@ class Process:
         reader = self._threads[1]
         reader.join(patience)
         if reader.is_alive():
-            self._child.kill()
+            self._kill()
         for thread in self._threads:
             thread.join()
+
+    def let_go(self, nothing: int) -> None:
+        """In a fork: has a file that is nothing in place of each pipe. Else the process wouldn't see
+        its input end before the fork does, and what is half written here would be written twice.
+        """
+        for pipe in (self._child.stdin, self._child.stdout):
+            # one that is closed has no number
+            with contextlib.suppress(ValueError):
+                assert pipe
+                os.dup2(nothing, pipe.fileno(), inheritable=False)
+
+    def _kill(self) -> None:
+        """Ends the process, and what it started: it is the first of a group."""
+        self._killed = True
+        with contextlib.suppress(ProcessLookupError, PermissionError):
+            os.killpg(self._child.pid, signal.SIGKILL)
 
     def _refuse_elsewhere(self) -> None:
         """A fork has no threads that write and read, and the lock may be held for ever there."""
@@ -153,11 +175,16 @@ class Process:
     def _write(self) -> None:
         stdin = self._child.stdin
         assert stdin
-        # where it can't be written the process has ended, and the thread that reads sees why
-        with contextlib.suppress(OSError), stdin:
-            while turn := self._next_turn():
-                stdin.write(turn)
-                stdin.flush()
+        try:
+            # where it can't be written the process has ended, and the thread that reads sees why
+            with contextlib.suppress(OSError), stdin:
+                while turn := self._next_turn():
+                    stdin.write(turn)
+                    stdin.flush()
+        except BaseException:
+            # nobody may be left waiting, whatever it is
+            self._kill()
+            raise
 
     def _next_turn(self) -> bytes:
         """The lines that wait, as soon as there are some; nothing when there will be no more."""
@@ -190,7 +217,7 @@ class Process:
         except Exception as error:
             # nobody may be left waiting, whatever it is
             confused = f"the process wrote what is no reply: {error!r}"
-            self._child.kill()
+            self._kill()
         self._finish(confused)
 
     def _take(self, said: Json) -> None:
@@ -208,6 +235,7 @@ class Process:
     def _finish(self, confused: str | None) -> None:
         """Tells everybody who waits that the process has ended, and why."""
         status = self._wait()
+        _alive.discard(self)
         with self._errors:
             self._errors.seek(0)
             errors = self._errors.read().decode(errors="replace")
@@ -224,19 +252,29 @@ class Process:
         try:
             return self._child.wait(PATIENCE)
         except subprocess.TimeoutExpired:
-            self._child.kill()
+            self._kill()
             return self._child.wait()
 
     def _reason(self, confused: str | None, status: int, errors: str) -> Callable[[], RouterError]:
         """What makes the exception for one who waits: each gets one of his own."""
         if confused:
             return functools.partial(ProcessConfused, confused)
-        if self._closing:
+        if self._closing and (status == 0 or self._killed):
             return Closed
         fault = fault_of(errors) if status == FEED_REFUSED else None
         if fault:
             return functools.partial(FeedRefused, fault)
         return functools.partial(ProcessEnded, status, errors)
+
+
+def _let_go() -> None:
+    nothing = os.open(os.devnull, os.O_RDWR)
+    for process in _alive:
+        process.let_go(nothing)
+    os.close(nothing)
+
+
+os.register_at_fork(after_in_child=_let_go)
 
 
 def fault_of(errors: str) -> Json | None:

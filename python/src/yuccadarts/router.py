@@ -243,7 +243,11 @@ class Router:
         return lambda said: read_reply(queue, said)
 
     def _tell(self, said: Json) -> None:
-        self._publications.popleft().tell(said)
+        """Days are published, and told, in the order in which they queue up."""
+        publication = self._publications.popleft()
+        if said["day"] != publication.day:
+            raise ValueError(f"news of {said['day']} in place of {publication.day}")
+        publication.tell(said)
 
     def _nudge(self) -> None:
         self._process.nudge()
