@@ -11,7 +11,7 @@ from pathlib import Path
 from typing import Any
 
 from . import TOP
-from yuccadarts import Ask, Latest, Profile, Question, Reach, clock
+from yuccadarts import Ask, Latest, Profile, Question, Reach, Times, clock
 from yuccadarts.answers import READERS
 
 PROGRAM = Path(os.environ.get("ROUTER") or TOP / "crates" / "router" / "out" / "router")
@@ -31,6 +31,9 @@ def words_of(question: Question) -> tuple[str, list[str]]:
             return "latest", [origin, destination, clock(arrival)]
         case Reach(origin, departure):
             return "reach", [origin, clock(departure)]
+        case Times(origin, first, last, step, rides):
+            limit = [] if rides is None else ["rides", str(rides)]
+            return "times", [origin, clock(first), clock(last), str(step), *limit]
 
 
 def commanded(

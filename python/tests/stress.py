@@ -14,7 +14,7 @@ import time
 from concurrent.futures import ThreadPoolExecutor
 
 from .proved import DAY, PROGRAM, commanded, make_network
-from yuccadarts import Answer, Ask, Latest, ProcessEnded, Profile, Question, Reach, Router
+from yuccadarts import Answer, Ask, Latest, ProcessEnded, Profile, Question, Reach, Router, Times
 from yuccadarts.stops import read_stops
 
 DATES = (DAY, "20260303", "20260307", "20260308")
@@ -30,7 +30,7 @@ def drawn_question(drawn: random.Random, stops: list[str]) -> Question:
     at = drawn.randrange(6 * HOUR, 22 * HOUR)
     match drawn.randrange(100):
         case 0:
-            return Reach(ends[0], at)
+            return Reach(ends[0], at) if drawn.randrange(2) else Times(ends[0], at, at + HOUR, 600)
         case 1 | 2:
             return Profile(*ends, at, at + HOUR // 4)
         case 3 | 4 | 5:

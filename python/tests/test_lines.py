@@ -3,6 +3,7 @@ import unittest
 
 from . import stand_in
 from yuccadarts import Ask, Latest, Profile, Reach, clock, seconds
+from yuccadarts import Times as Travel
 
 
 class Times(unittest.TestCase):
@@ -35,6 +36,12 @@ class Lines(unittest.TestCase):
         self.assertEqual("profile A D 08:00:00 09:00:00", Profile("A", "D", 28_800, 32_400).line())
         self.assertEqual("latest A D 08:00:00", Latest("A", "D", 28_800).line())
         self.assertEqual("reach A 08:00:00", Reach("A", 28_800).line())
+        times = Travel("A", "8:00:00", 30_000, 60)
+        self.assertEqual("times A 08:00:00 08:20:00 60", times.line())
+        times = Travel("A", "8:00:00", 30_000, 60, rides=0)
+        self.assertEqual("times A 08:00:00 08:20:00 60 rides 0", times.line())
+        with self.assertRaises(ValueError):
+            Travel("A", 0, 1, 7.5).line()
 
     def test_words_come_back(self):
         for word in ("A", "", "#", 'a "b"', "a\tb", '"', "a  b", "é\\n", "a\rb", "'"):

@@ -3,13 +3,16 @@ the commands find in processes of their own.
 """
 import csv
 import itertools
+import os
 import random
+import subprocess
 import sys
 import tempfile
 import unittest
+from importlib.util import find_spec
 from pathlib import Path
 
-from . import TOP
+from . import HERE, TOP
 from .proved import DAY, EXAMPLES, IS_THERE, PROGRAM, add_coordinates, commanded, make_network
 from yuccadarts import (
     Ask,
@@ -25,6 +28,8 @@ from yuccadarts import (
     Reached,
     Ride,
     Router,
+    Spread,
+    Times,
     TravelTimes,
     UnknownStop,
     Value,
@@ -57,6 +62,15 @@ class Examples(unittest.TestCase):
             best = Value(31_800, 1), Value(30_600, 2)
             self.assertEqual(Reached("D", best), reached(reach, "D"))
             self.assertEqual(Reached("E", ()), reached(reach, "E"))
+            times = it.times("A", "07:55:00", "08:10:00", 300)
+            spread = Spread("D", 3, 4, 1_800, 1_800, 1_800, 2_100, 2_700, None, None)
+            self.assertEqual(spread, reached(times, "D"))
+            direct = it.times("A", "07:55:00", "08:10:00", 300, rides=1)
+            spread = Spread("D", 3, 4, 2_700, 2_700, 2_700, 3_000, 3_300, None, None)
+            self.assertEqual(spread, reached(direct, "D"))
+            cells = [*it.matrix(["A", "E"], "07:55:00", "08:10:00", 300)]
+            self.assertEqual([*"ABCDEABCDE"], [cell.stop for cell in cells])
+            self.assertEqual([4, 2, 2, 3, 0, 0, 0, 0, 0, 4], [cell.reached for cell in cells])
             times = {"A": 0, "B": 600, "C": 1_200, "D": 1_800}
             self.assertEqual([TravelTimes("A", 1, times)], [*it.travel_times(["A"], "08:00:00")])
             self.assertEqual(1, it.first_edition.number)
@@ -92,7 +106,6 @@ class Examples(unittest.TestCase):
                 it.publish(EXAMPLES, DAY).wait(20)
             self.assertEqual(2, it.ask("Mill", "Pier", "08:00:00").edition)
 
-
     def test_names_that_need_quotes(self):
         names = ['a "b"', "# c", "t\tab", "\u00e9\\n", "-x", "it's", "x,y", "--close", '""']
         calls = [(name, f"08:{at:02}:00", at) for at, name in enumerate(names)]
@@ -110,6 +123,24 @@ class Examples(unittest.TestCase):
                     leave, arrive = 8 * HOUR + 60 * origin[2], 8 * HOUR + 60 * destination[2]
                     ride = Ride('T "1"', origin[0], leave, destination[0], arrive, False)
                     self.assertEqual(Choice(arrive, 1, (ride,)), choice)
+
+
+    def test_the_lines_of_the_readme(self):
+        """At the top of the clone, with this program, and without the table where pandas isn't."""
+        readme = (HERE.parent / "README.md").read_text(encoding="utf-8")
+        lines, table = readme.split("```python\n")[1].split("```")[0].split("import pandas")
+        self.assertIn('program="./router"', lines)
+        lines = lines.replace('"./router"', repr(str(PROGRAM)))
+        lines += f"import pandas{table}" if find_spec("pandas") else ""
+        env = os.environ | {"PYTHONPATH": str(HERE.parent / "src")}
+        words = [sys.executable, "-c", lines]
+        ended = subprocess.run(words, cwd=TOP, env=env, capture_output=True, text=True)
+        self.assertEqual((0, ""), (ended.returncode, ended.stderr))
+        printed = ended.stdout.splitlines()
+        self.assertEqual(["08:50:00", "08:30:00"], [line[:8] for line in printed[:2]])
+        if find_spec("pandas"):
+            self.assertEqual(["A", "B", "C"], printed[2].split())
+            self.assertEqual(["D", "1800.0", "1800.0", "NaN"], printed[-1].split())
 
 
 def write_rows(folder, name, *rows):
@@ -145,6 +176,8 @@ class Commands(unittest.TestCase):
                     first, last = sorted(drawn.randrange(5 * HOUR, 10 * HOUR) for _ in "12")
                     asked += [Ask(*ends, first), Profile(*ends, first, last)]
                     asked += [Latest(*ends, last), Reach(ends[0], first)]
+                    step, rides = drawn.randrange(60, 900), drawn.choice((None, 0, 1, 2))
+                    asked.append(Times(ends[0], first, last, step, rides))
                 self.hold(folder, asked, "--close", "--change=60", change=60)
 
     def test_a_made_network(self):
@@ -159,6 +192,7 @@ class Commands(unittest.TestCase):
             asked += [Profile(*pair, 8 * HOUR, 9 * HOUR) for pair in ends]
             asked += [Latest(*pair, 18 * HOUR) for pair in ends]
             asked += [Reach(pair[0], 8 * HOUR) for pair in ends]
+            asked += [Times(pair[0], 8 * HOUR, 9 * HOUR, 300) for pair in ends]
             self.hold(folder, asked, "--close", "--change=120")
             with router(folder) as it:
                 found = isochrone(it, stops, stations[0], 8 * HOUR, with_journeys=True)

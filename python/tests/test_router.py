@@ -82,6 +82,7 @@ class Answers(unittest.TestCase):
     def test_travel_times(self):
         with router() as it:
             rows = [*it.travel_times(["A", "B"], "08:00:00")]
+            self.assertEqual(["A B"], [row.origin for row in it.travel_times("A B", 0)])
         seconds = {f"stop {number}": 60 for number in range(3)}
         self.assertEqual([TravelTimes("A", 1, seconds), TravelTimes("B", 1, seconds)], rows)
 
@@ -93,6 +94,7 @@ class Answers(unittest.TestCase):
             two = it.times("A", 0, 10, 3, rides=2)
             self.assertEqual(Spread("stop", 4, 4, 60, *[2] * 6), two.values[0])
             cells = [*it.matrix(["A", "B b"], "08:00:00", "09:00:00", 300)]
+            self.assertEqual(["A B"] * 2, [cell.origin for cell in it.matrix("A B", 0, 10, 1)])
         ends = [("A", "stop"), ("A", "Z"), ("B b", "stop"), ("B b", "Z")]
         self.assertEqual(ends, [(cell.origin, cell.stop) for cell in cells])
         self.assertEqual(Cell("A", 1, "stop", 13, 13, 60, *[None] * 6), cells[0])

@@ -89,8 +89,8 @@ class Times:
     rides: int | None = None
 
     def line(self) -> str:
-        words = clock(self.first), clock(self.last), str(self.step)
-        limit = () if self.rides is None else ("rides", str(self.rides))
+        words = clock(self.first), clock(self.last), f"{self.step:d}"
+        limit = () if self.rides is None else ("rides", f"{self.rides:d}")
         return line("times", self.origin, *words, *limit)
 
 

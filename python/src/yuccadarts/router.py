@@ -109,8 +109,8 @@ class Router:
         mirror: bool = False,
         program: str | os.PathLike[str] | None = None,
     ):
-        options = [f"--change={change}", f"--lanes={lanes}"]
-        options += [] if station is None else [f"--station={station}"]
+        options = [f"--change={change:d}", f"--lanes={lanes:d}"]
+        options += [] if station is None else [f"--station={station:d}"]
         options += ["--close"] if close else []
         options += ["--mirror"] if mirror else []
         day = day_of(feed, date)
@@ -177,16 +177,16 @@ class Router:
 
     def matrix(
         self,
-        origins: Iterable[str],
+        origins: Iterable[str] | str,
         first: Time,
         last: Time,
         step: int,
         rides: int | None = None,
     ) -> Iterator[Cell]:
-        """The same from many origins: a cell for each origin and each stop, in order. `pandas` makes
-        a table of them: `DataFrame(router.matrix(..))`.
+        """The same from many origins, or one: a cell for each origin and each stop, in order.
+        `pandas` makes a table of them: `DataFrame(router.matrix(..))`.
         """
-        asked = (Times(origin, first, last, step, rides) for origin in origins)
+        asked = (Times(origin, first, last, step, rides) for origin in each(origins))
         rows = self._in_order(
             self._send(it, functools.partial(read_cells, it)) for it in asked
         )
@@ -198,11 +198,13 @@ class Router:
         """
         return self._in_order(map(self._ask, questions))
 
-    def travel_times(self, origins: Iterable[str], departure: Time) -> Iterator[TravelTimes]:
-        """For each origin, in order, the travel times to all stops: by a one-to-all search and a
-        reply with a value for every stop.
+    def travel_times(
+        self, origins: Iterable[str] | str, departure: Time
+    ) -> Iterator[TravelTimes]:
+        """For each of many origins, or for one, in order, the travel times to all stops: by a
+        one-to-all search and a reply with a value for every stop.
         """
-        asked = (Reach(origin, departure) for origin in origins)
+        asked = (Reach(origin, departure) for origin in each(origins))
         return self._in_order(
             self._send(it, functools.partial(read_travel_times, it, seconds(departure)))
             for it in asked
@@ -259,6 +261,11 @@ def read_reply(read: Callable[[Json], T], said: Json) -> T:
     if "unknown_stop" in said:
         raise UnknownStop(said["unknown_stop"], said["edition"])
     return read(said)
+
+
+def each(origins: Iterable[str] | str) -> Iterable[str]:
+    """The origins; a text, which Python would take for its letters, is one."""
+    return [origins] if isinstance(origins, str) else origins
 
 
 def day_of(feed: str | os.PathLike[str], date: Date) -> str:
