@@ -1,11 +1,13 @@
 #!/usr/bin/env python3
 """Speaks as `router --json live DIR@DATE` does, but makes its answers up, so that a test can tell
 from an answer which question it answers: one arrives as many minutes after the departure as the
-edition's number, by a ride on the trip `ORIGIN>DESTINATION`.
+edition's number, by a ride on the trip `ORIGIN>DESTINATION`, which began on the day before if the
+origin is `before`, and a walk back.
 
 A day whose folder is named `broken` is refused, one named `unread` can't be read, one named `slow`
 takes a while, and of one named `mixed` it tells as if it were another. Some origins have it do what a process shouldn't: `pause`, `hang`, `die`,
-`cut`, `babble` and `skip`. `reach many` tells of 20,000 stops, and `reach turn` of the turn's number.
+`cut`, `babble`, `skip` and `shout`. `reach many` tells of 20,000 stops, `reach turn` of the turn's
+number, and `reach words` of the words with which it was started.
 """
 import json
 import os
@@ -70,7 +72,8 @@ def values(edition, name, words):
         return [*([f"stop {number}", [value]] for number in range(count)), ["Z", []]]
     ride = {"trip": f"{words[0]}>{words[1]}", "from": words[0], **timed("departure", departure)}
     ride |= {"to": words[1], **timed("arrival", arrival)}
-    legs = [ride, {"from": words[1], "to": words[1], "seconds": 0}]
+    ride |= {"day": -1} if words[0] == "before" else {}
+    legs = [ride, {"from": words[1], "to": words[0], "seconds": 7}]
     leave = {} if name == "ask" else timed("leave", departure)
     arrive = {} if name == "latest" else timed("arrive", arrival)
     return [{**leave, **arrive, "rides": 1, "legs": legs}]
@@ -126,6 +129,8 @@ class StandIn:
         self.misbehave(words[0])
         if words[0] == "turn":
             return {"edition": self.edition, "values": [["turn", [["", self.turn, 0]]]]}
+        if words[0] == "words":
+            return {"edition": self.edition, "values": [[word, []] for word in sys.argv[1:]]}
         return {"edition": self.edition, "values": values(self.edition, name, words)}
 
     def misbehave(self, word):
@@ -140,6 +145,8 @@ class StandIn:
             os._exit(5)
         if word == "babble":
             os.write(1, b"what?\n")
+        if word == "shout":
+            os.write(2, b"!" * 1_000_000)
         if word == "skip":
             self.number += 1
 

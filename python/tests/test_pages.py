@@ -171,6 +171,17 @@ class Asked(unittest.TestCase):
             self.assertEqual(begin, out.getvalue()[: len(begin)])
             left_out = "stops without coordinates, which are left out: 1\n"
             self.assertEqual(left_out, err.getvalue())
+        for options, given in (
+            ([], [120, None, True, 4]),
+            (["--change=5", "--station=7", "--no-close", "--lanes=2"], [5, 7, False, 2]),
+        ):
+            with mock.patch.object(command, "Router") as router:
+                command.router_of(command.parser().parse_args(words[1:] + options))
+            found = router.call_args
+            self.assertEqual((feed, "20260302"), found.args)
+            names = "change", "station", "close", "lanes"
+            self.assertEqual(given, [found.kwargs[name] for name in names])
+            self.assertEqual(str(STAND_IN), found.kwargs["program"])
         words[4], err = "nowhere", io.StringIO()
         with mock.patch.object(sys, "argv", words), contextlib.redirect_stderr(err):
             self.assertEqual(1, command.main())

@@ -1,18 +1,22 @@
 """Tests of the router over a process that makes its answers up: whose answer is whose, and what
 comes of a process that doesn't do what it should.
 """
+import datetime
 import multiprocessing
 import os
 import shutil
 import signal
+import subprocess
+import sys
 import tempfile
 import threading
 import time
 import unittest
 from concurrent.futures import ThreadPoolExecutor
 from pathlib import Path
+from unittest import mock
 
-from . import STAND_IN, TOP
+from . import HERE, STAND_IN, TOP
 from yuccadarts import (
     Answer,
     Ask,
@@ -44,6 +48,18 @@ from yuccadarts import (
 
 LONG = 20.0
 """The seconds after which something hangs."""
+INTERRUPTED = """
+import sys
+sys.path.insert(0, sys.argv[1])
+from yuccadarts import Router
+with Router("feed", "20260302", program=sys.argv[2]) as it:
+    try:
+        print("ready", flush=True)
+        while True:
+            it.ask("pause", "D", 0)
+    except KeyboardInterrupt:
+        print(it.ask("A", "D", 0).values[0].arrival)
+"""
 
 
 def router(feed="feed", **options):
@@ -51,7 +67,7 @@ def router(feed="feed", **options):
 
 
 def legs(departure, arrival):
-    return (Ride("A>D", "A", departure, "D", arrival, False), Walk("D", "D", 0))
+    return (Ride("A>D", "A", departure, "D", arrival, False), Walk("D", "A", 7))
 
 
 class Answers(unittest.TestCase):
@@ -67,6 +83,24 @@ class Answers(unittest.TestCase):
             reached = it.reach("A", 0)
             self.assertEqual(Reached("stop 0", (Value(60, 1),)), reached.values[0])
             self.assertEqual(Reached("Z", ()), reached.values[-1])
+
+    def test_a_ride_that_began_on_the_day_before(self):
+        with router() as it:
+            ride = it.ask("before", "D", 0).values[0].legs[0]
+        self.assertEqual(Ride("before>D", "before", 0, "D", 60, True), ride)
+
+    def test_the_words_of_the_process(self):
+        def words(**options):
+            with router(**options) as it:
+                return [word.stop for word in it.reach("words", 0)]
+
+        day = f"{os.path.abspath('feed')}@20260302"
+        last = ["live", day]
+        self.assertEqual(["--json", "--change=120", "--lanes=4", "--close", *last], words())
+        given = words(change=5, station=0, close=False, lanes=2, mirror=True)
+        self.assertEqual(["--json", "--change=5", "--lanes=2", "--station=0", "--mirror", *last], given)
+        with Router(Path("feed"), datetime.date(2026, 3, 2), program=STAND_IN) as it:
+            self.assertEqual(day, it.reach("words", 0).values[-1].stop)
 
     def test_many_at_once(self):
         with router() as it:
@@ -207,6 +241,11 @@ class Threads(unittest.TestCase):
             self.assertEqual(5_059, few[-1].result().values[0].arrival)
 
 
+    def test_nor_does_standard_error(self):
+        with router() as it:
+            self.assertEqual(60, it.ask("shout", "D", 0).values[0].arrival)
+
+
 class Ends(unittest.TestCase):
     def test_a_process_that_dies(self):
         with router() as it:
@@ -326,9 +365,24 @@ class Ends(unittest.TestCase):
                 it.ask("A", "D", 0)
             self.assertFalse(it._process._killed)
 
-    def test_an_interrupt_of_the_terminal_is_not_for_the_process(self):
-        with router() as it:
-            self.assertEqual(it.pid, os.getpgid(it.pid))
+    def test_an_interrupt_of_the_terminal(self):
+        """It is for whoever asks; the process, and what is asked after it, go on."""
+        words = [sys.executable, "-c", INTERRUPTED, str(HERE.parent / "src"), str(STAND_IN)]
+        pipe = {"stdout": subprocess.PIPE, "stderr": subprocess.PIPE}
+        with subprocess.Popen(words, start_new_session=True, text=True, **pipe) as asking:
+            self.assertEqual("ready\n", asking.stdout.readline())
+            os.killpg(asking.pid, signal.SIGINT)
+            self.assertEqual(("60\n", ""), asking.communicate(timeout=LONG))
+        self.assertEqual(0, asking.returncode)
+
+    def test_the_program_that_the_environment_names(self):
+        with mock.patch.dict(os.environ, ROUTER=str(STAND_IN)):
+            with Router("feed", "20260302") as it:
+                self.assertEqual(1, it.ask("A", "D", 0).edition)
+        with mock.patch.dict(os.environ, PATH=str(STAND_IN.parent)):
+            os.environ.pop("ROUTER", None)
+            with self.assertRaisesRegex(NoProgram, "there is no program router"):
+                Router("feed", "20260302")
 
     def test_no_program(self):
         with self.assertRaises(NoProgram):
