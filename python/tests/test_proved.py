@@ -5,6 +5,7 @@ import csv
 import itertools
 import os
 import random
+import shutil
 import subprocess
 import sys
 import tempfile
@@ -105,6 +106,14 @@ class Examples(unittest.TestCase):
             with self.assertRaises(FeedRefused):
                 it.publish(EXAMPLES, DAY).wait(20)
             self.assertEqual(2, it.ask("Mill", "Pier", "08:00:00").edition)
+
+    def test_folders_that_need_quotes(self):
+        for name in ('a "b"', "# é\\n", " ", "a@20260304", "-x", "late:x"):
+            with tempfile.TemporaryDirectory() as folder:
+                feed = shutil.copytree(EXAMPLES / "f1", Path(folder, name))
+                with router(feed) as it:
+                    self.assertEqual(2, it.publish(feed, DAY).wait(20).number)
+                    self.assertEqual(2, it.ask("A", "D", "08:00:00").edition)
 
     def test_names_that_need_quotes(self):
         names = ['a "b"', "# c", "t\tab", "\u00e9\\n", "-x", "it's", "x,y", "--close", '""']
