@@ -49,13 +49,15 @@ from yuccadarts import (
 LONG = 20.0
 """The seconds after which something hangs."""
 INTERRUPTED = """
-import sys
+import signal, sys
 sys.path.insert(0, sys.argv[1])
 from yuccadarts import Router
+# what runs beside a shell has it ignored
+signal.signal(signal.SIGINT, signal.default_int_handler)
 with Router("feed", "20260302", program=sys.argv[2]) as it:
     try:
         print("ready", flush=True)
-        while True:
+        for _ in range(30):
             it.ask("pause", "D", 0)
     except KeyboardInterrupt:
         print(it.ask("A", "D", 0).values[0].arrival)
