@@ -5,9 +5,10 @@ edition's number, by a ride on the trip `ORIGIN>DESTINATION`, which began on the
 origin is `before`, and a walk back.
 
 A day whose folder is named `broken` is refused, one named `unread` can't be read, one named `slow`
-takes a while, and of one named `mixed` it tells as if it were another. Some origins have it do what a process shouldn't: `pause`, `hang`, `die`,
-`cut`, `babble`, `skip` and `shout`. `reach many` tells of 20,000 stops, `reach turn` of the turn's
-number, and `reach words` of the words with which it was started.
+takes a while, and of one named `mixed` it tells as if it were another. Some origins have it do what
+a process shouldn't: `pause`, `hang`, `die`, `cut`, `babble`, `skip`, `odd` and `shout`. `reach many`
+tells of 20,000 stops, `reach turn` of the turn's number, and `reach words` of the words with which
+it was started.
 """
 import json
 import os
@@ -127,6 +128,8 @@ class StandIn:
         if words[0] == "nowhere":
             return {"edition": self.edition, "unknown_stop": words[0]}
         self.misbehave(words[0])
+        if words[0] == "odd":
+            return {"edition": self.edition, "worth": []}
         if words[0] == "turn":
             return {"edition": self.edition, "values": [["turn", [["", self.turn, 0]]]]}
         if words[0] == "words":

@@ -283,9 +283,11 @@ class Ends(unittest.TestCase):
         self.assertEqual(-signal.SIGKILL, ends[0].status)
 
     def test_what_is_no_reply(self):
-        for word in ("babble", "skip"):
-            with router() as it, self.assertRaises(ProcessConfused):
-                it.ask(word, "D", 0)
+        for word in ("babble", "skip", "odd"):
+            with router() as it:
+                for _ in range(2):
+                    with self.assertRaises(ProcessConfused):
+                        it.ask(word, "D", 0)
 
     def test_a_process_that_hangs_is_ended(self):
         begin = time.monotonic()

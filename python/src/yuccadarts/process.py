@@ -61,6 +61,7 @@ class Asked(Generic[T]):
             self.result.set_exception(error)
         except Exception as error:
             self.result.set_exception(ProcessConfused(f"a reply of another form: {error!r}"))
+            raise
         else:
             self.result.set_result(value)
 
