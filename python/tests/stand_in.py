@@ -6,9 +6,9 @@ origin is `before`, and a walk back.
 
 A day whose folder is named `broken` is refused, one named `unread` can't be read, one named `slow`
 takes a while, and of one named `mixed` it tells as if it were another. Some origins have it do what
-a process shouldn't: `pause`, `hang`, `die`, `cut`, `babble`, `skip`, `odd` and `shout`. `reach many`
-tells of 20,000 stops, `reach turn` of the turn's number, and `reach words` of the words with which
-it was started.
+a process shouldn't: `pause`, `hang`, `die`, `cut`, `babble`, `skip`, `odd` and `shout`. `reach
+many` tells of 20,000 stops, `reach turn` of the turn's number, and `reach words` of the words with
+which it was started.
 """
 import json
 import os

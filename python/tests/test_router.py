@@ -100,7 +100,8 @@ class Answers(unittest.TestCase):
         last = ["live", day]
         self.assertEqual(["--json", "--change=120", "--lanes=4", "--close", *last], words())
         given = words(change=5, station=0, close=False, lanes=2, mirror=True)
-        self.assertEqual(["--json", "--change=5", "--lanes=2", "--station=0", "--mirror", *last], given)
+        options = ["--change=5", "--lanes=2", "--station=0", "--mirror"]
+        self.assertEqual(["--json", *options, *last], given)
         with Router(Path("feed"), datetime.date(2026, 3, 2), program=STAND_IN) as it:
             self.assertEqual(day, it.reach("words", 0).values[-1].stop)
 

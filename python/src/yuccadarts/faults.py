@@ -61,8 +61,8 @@ class NotPublished(RouterError):
 
 
 class LineRefused(Refused):
-    """The line of a question or a day has a fault: it has more than 1,024 bytes, a time is too late,
-    there are too many departures, or a day is none.
+    """The line of a question or a day has a fault: it is too long, of more than 1,024 bytes, a time
+    is too late, there are too many departures, or a day is none.
     """
 
 

@@ -145,8 +145,8 @@ class Process:
             thread.join()
 
     def let_go(self, nothing: int) -> None:
-        """In a fork: has a file that is nothing in place of each pipe. Else the process wouldn't see
-        its input end before the fork does, and what is half written here would be written twice.
+        """In a fork: puts an empty file in each pipe's place. Else the process wouldn't see its
+        input end before the fork does, and what is half written here would be written twice.
         """
         for pipe in (self._child.stdin, self._child.stdout):
             # one that is closed has no number
