@@ -44,6 +44,7 @@ from yuccadarts import (
     UnknownStop,
     Value,
     Walk,
+    process,
 )
 
 LONG = 20.0
@@ -337,6 +338,7 @@ class Ends(unittest.TestCase):
                 router("broken")
         after = threading.active_count(), len(os.listdir("/proc/self/fd"))
         self.assertEqual(before, after)
+        self.assertEqual(set(), process._alive)
 
     def test_a_fork_has_no_router(self):
         def in_fork(pipe):

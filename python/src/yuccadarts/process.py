@@ -102,9 +102,11 @@ class Process:
             threading.Thread(target=work, name=f"yuccadarts {name}", daemon=True)
             for name, work in (("writer", self._write), ("reader", self._read))
         ]
-        _alive.add(self)
         for thread in self._threads:
             thread.start()
+        with self._changed:
+            if not self._end:
+                _alive.add(self)
 
     @property
     def pid(self) -> int:
@@ -236,12 +238,12 @@ class Process:
     def _finish(self, confused: str | None) -> None:
         """Tells everybody who waits that the process has ended, and why."""
         status = self._wait()
-        _alive.discard(self)
         with self._errors:
             self._errors.seek(0)
             errors = self._errors.read().decode(errors="replace")
         with self._changed:
             self._end = self._reason(confused, status, errors)
+            _alive.discard(self)
             left = [*self._written, *self._waiting]
             self._written.clear()
             self._waiting.clear()
