@@ -284,6 +284,16 @@ class Ends(unittest.TestCase):
         self.assertIn("SIGKILL", str(ends[0]))
         self.assertEqual(-signal.SIGKILL, ends[0].status)
 
+    def test_a_process_that_is_killed_while_lines_wait(self):
+        """Lines that no pipe takes any more: whoever asked them gets an exception too."""
+        with router() as it:
+            asked = [it._ask(Ask("hang", "D", 0))]
+            asked += [it._ask(Ask("w" * 900, "D", number)) for number in range(500)]
+            time.sleep(0.2)
+            self.assertLess(100, len(it._process._waiting))
+            os.kill(it.pid, signal.SIGKILL)
+            self.assertEqual({ProcessEnded}, {type(each.exception(LONG)) for each in asked})
+
     def test_what_is_no_reply(self):
         for word in ("babble", "skip", "odd"):
             with router() as it:
