@@ -1,4 +1,4 @@
-"""Measures and tries the proved program, and writes feeds for that: python3 bench COMMAND"""
+"""Measures and tests the proved program, and makes feeds for that: python3 bench COMMAND"""
 import argparse
 import importlib
 import sys
@@ -53,6 +53,8 @@ def main():
     except BrokenPipeError:
         # whoever read the output has enough of it
         sys.stderr.close()
+    except OSError as error:
+        print(f"bench: {error}", file=sys.stderr)
     return 1
 
 

@@ -31,7 +31,7 @@ def built(crate, variable, how):
     """The path of a crate's proved program, or the one that a variable of the environment names."""
     path = os.environ.get(variable) or os.path.join(TOP, "crates", crate, "out", crate)
     if not os.access(path, os.X_OK):
-        raise BenchError(f"there is no program {path}: {how}, or let {variable} name one")
+        raise BenchError(f"there is no program {path}: {how}, or set {variable} to the path of one")
     return os.path.realpath(path)
 
 

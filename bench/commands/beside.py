@@ -1,9 +1,9 @@
 """Two builds of the program, measured by turns.
 
-OTHER is another build of the program, as of an earlier state. Both read each feed by `direct` and
-make its transfers by `build`, in turn. Prints the least processor seconds of `direct` and of what
-`build` takes more, of both, and their ratios; and how many megabytes of stop_times.txt `direct`
-gets through in a second.
+OTHER is another build of the program, such as one of an earlier state. Both programs read each feed
+by `direct` and make its transfers by `build`, by turns. Prints for both the least processor seconds
+of `direct`, and of `build` less `direct`, with the ratios; and how many megabytes of stop_times.txt
+this build's `direct` reads in a second.
 """
 import os
 
@@ -14,7 +14,8 @@ from harness import DAY, BenchError, Table, commit_of, count, done, megabytes_of
 def add_arguments(parser):
     parser.add_argument("other", metavar="OTHER", help="the path of the other build")
     add_feed_argument(parser, "network:300", "city:20000")
-    parser.add_argument("--runs", type=count, default=5, help="runs of each, the least counts (5)")
+    runs = "runs of each, of which the least counts (else 5)"
+    parser.add_argument("--runs", type=count, default=5, help=runs)
 
 
 def ends_of(feed):

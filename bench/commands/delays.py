@@ -1,10 +1,10 @@
-"""A late file from trip updates of GTFS Realtime.
+"""A file of updates for `late`, made of trip updates of GTFS Realtime.
 
-Reads a feed message in protobuf's JSON form, which any protobuf library writes of the binary one,
-and writes the file that `./router late FEED DATE FILE ..` reads: delays, cancelled trips and skipped
-stops of trips that began on DATE or the day before. How much of it the file can't say, as added
-trips and other platforms, is said on standard error, with counts. Arrival and departure at a stop
-have one delay in the file; where they differ it is the arrival's.
+Reads a feed message in protobuf's JSON form, which any protobuf library makes of the binary form,
+and writes the file that `./router late FEED DATE FILE ..` reads: delays, cancelled trips and
+skipped stops of trips that began on DATE or the day before. Standard error says what the file can't
+say, such as added trips and other platforms, with counts. The file has one delay for arrival and
+departure at a stop; if they differ it is the arrival's.
 """
 import argparse
 import json

@@ -1,8 +1,8 @@
 """The examples of the documents, run and compared.
 
-An example is a line `$ COMMAND` of an indented block, with what it prints below it. Each command is
-run at the top of the checkout, `./router` as the proved program where it is built, also where a
-source is newer, and the lines that it prints have to be those of the document. Prints one line for
+An example is a line `$ COMMAND` of an indented block, with what it prints below it. Runs each
+command at the top of the checkout, with the proved program as `./router` if one is built, even of
+older sources, and compares the lines that it prints with those of the document. Prints one line for
 each command, and the lines that differ.
 """
 import difflib
@@ -53,7 +53,7 @@ def program():
     try:
         return shlex.quote(router())
     except BenchError as error:
-        print(f"bench: {error}; until then each command takes a minute", file=sys.stderr)
+        print(f"bench: {error}; until then each command takes minutes", file=sys.stderr)
         return "./router"
 
 

@@ -1,9 +1,10 @@
 """Reading trips by frequency, beside the same trips written out.
 
-Writes each network three times: every second route by rows of frequencies.txt, with the same trips
-written out, and without them. Reads each and makes the timetable of a weekday, the least of all
-runs, and prints seconds of processor time, and microseconds for each trip of the half by frequency
-and of the half written out, beside those of the other half. Both have to give the same answers.
+Writes each network three times: with every second route by rows of frequencies.txt, with the same
+trips written out, and without them. Reads each and makes the timetable of a weekday. Prints the
+least processor seconds of all runs, and from these the microseconds that a trip takes: one of the
+routes that are always written out, one by frequency, and one of the same trips written out. The
+last two have to give the same answers.
 """
 import os
 import tempfile
@@ -13,8 +14,10 @@ from harness import BenchError, Table, asking, asking_words, commit_of, count, d
 
 
 def add_arguments(parser):
-    parser.add_argument("--patterns", type=count, nargs="+", default=[300, 3000])
-    parser.add_argument("--runs", type=count, default=5, help="runs of each, the least counts (5)")
+    patterns = "patterns of each network (else 300 3000)"
+    parser.add_argument("--patterns", type=count, nargs="+", default=[300, 3000], help=patterns)
+    runs = "runs of each, of which the least counts (else 5)"
+    parser.add_argument("--runs", type=count, default=5, help=runs)
 
 
 def answers(program, folder):
@@ -22,6 +25,8 @@ def answers(program, folder):
 
 
 def measure(program, table, patterns, runs, folder):
+    if patterns < 4:
+        raise BenchError(f"{patterns} patterns have no route by frequency; 4 have one")
     folders = {half: os.path.join(folder, half) for half in network.HALVES}
     for half, path in folders.items():
         network.make(path, patterns, half=half)

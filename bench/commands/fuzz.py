@@ -1,11 +1,13 @@
-"""Inputs that are made of feeds by changes, and what becomes of them.
+"""Inputs that are changed at random, and what comes of them.
 
-Changes words, scripts, files of delays, claims and whole feeds by chance, those of `examples/`, of
-the cases and small random ones, runs the program over them, and holds what comes against what the
-documents say, told again in bench/said: the status, one line on standard error with the first
-fault, nothing on standard output then, the form of an answer, its times and rides over small feeds,
-and processor time that grows with the input. The same seed makes the same cases. A case with which
-something is wrong is kept in a folder, with what was run and what came of it.
+Changes words, scripts, files of updates, claims and whole feeds: those of `examples/`, of the
+cases, and small random ones. Runs the program over them, and compares what comes with what the
+documents say, which bench/said says once more: the status; one line on standard error with the
+first fault, and then nothing on standard output; the form of an answer, and over small feeds its
+times and rides; and processor time that grows with the input. The same seed makes the same cases. A
+case with which something is wrong is kept in a folder, with what was run and what came of it.
+Prints how many runs ended with each status and each fault, the seconds of the slowest, and how many
+were wrong.
 """
 import collections
 import json
@@ -27,10 +29,10 @@ LONGEST = 120
 
 
 def add_arguments(parser):
-    parser.add_argument("--minutes", type=float, default=1, help="by the clock (else 1)")
+    parser.add_argument("--minutes", type=float, default=1, help="minutes by the clock (else 1)")
     parser.add_argument("--seed", default="1", help="any word (else 1)")
     parser.add_argument("--workers", type=count, default=1, help="processes (else 1)")
-    parser.add_argument("--case", type=int, metavar="N", help="this one alone, which is shown")
+    parser.add_argument("--case", type=int, metavar="N", help="try and show this case alone")
     keep = "the folder for cases with which something is wrong (else fuzz-kept)"
     parser.add_argument("--keep", default="fuzz-kept", metavar="FOLDER", help=keep)
 

@@ -1,10 +1,10 @@
-"""What the gate costs, crate by crate.
+"""What `rt ci` costs, crate by crate.
 
-Runs `rt ci` at the top of this checkout, with `--anew` where the toolchain knows that word, so that
-everything is proved from nothing, and prints a table: for each crate the processor seconds of its
-code, of its tests and of its mutants, and the most memory that one prover held. With --watch
-it starts nothing, and watches a gate that runs in another checkout until that ends. It samples the
-prover's processes twice a second; what a process used after its last sample is missed.
+Runs `rt ci` at the top of this checkout, with `--anew` if the toolchain knows that word, so that
+everything is proved from nothing. Prints a table: for each crate the processor seconds of its code,
+of its tests and of its mutants, and the most memory that one prover held. With --watch it starts
+nothing, and watches a run in another checkout until that ends. It samples the prover's processes
+twice a second, and misses what a process uses after its last sample.
 """
 import collections
 import os

@@ -1,9 +1,9 @@
 """Feeds of shapes that are made to cost time.
 
-Writes each shape at one size, at twice and at four times that, runs the command over it that meets
-what is dear in it, and prints status and first line, the processor seconds of each size, by how
-much they grow, and what `direct` takes that only reads the largest one. What grows with the bytes
-doubles. Shapes of keys that collide need a C compiler.
+Writes each shape at one size, at twice and at four times that size, and runs over it the command
+that the shape makes costly. Prints status and first line, the processor seconds of each size, by
+how much they grow, and what `direct`, which only reads, takes over the largest one. Time that grows
+with the bytes doubles from size to size. Shapes of keys that collide need a C compiler.
 """
 import argparse
 import os
@@ -16,7 +16,8 @@ from harness import DAY, Run, Table, commit_of, count, known, megabytes_of, rout
 def add_arguments(parser):
     names = " ".join(SHAPES)
     parser.add_argument("names", metavar="NAME", nargs="*", help=f"of {names} (else all)")
-    parser.add_argument("--scale", type=scale, default=1, help="sizes are so many times as great")
+    larger = "makes all sizes so many times as great (else 1)"
+    parser.add_argument("--scale", type=scale, default=1, help=larger)
     limit = "seconds of processor time after which a run ends (else 60)"
     parser.add_argument("--limit", type=count, default=60, help=limit)
 

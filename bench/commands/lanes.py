@@ -1,9 +1,9 @@
 """A script of requests, served in 1, 4 and 8 lanes.
 
 The requests are for best values between random stations, dealt out to the lanes. They are served
-over one day and over two, so that the second is read, built and published beside the lanes. Prints
-seconds by the clock and milliseconds of processor time a request, without those of the same run
-with one request a lane, and the most memory. Requests a second are by the clock.
+over one day and over two, where the second day is read, built and published meanwhile. Prints
+requests a second by the clock and milliseconds of processor time a request, both less what the same
+run takes with one request a lane, and the most memory.
 """
 import os
 import random
@@ -18,7 +18,8 @@ LANES = (1, 4, 8)
 
 def add_arguments(parser):
     add_feed_argument(parser, "city:20000")
-    parser.add_argument("--requests", type=count, default=10_000, help="in all (10,000)")
+    requests = "requests in all (else 10,000)"
+    parser.add_argument("--requests", type=count, default=10_000, help=requests)
 
 
 def stations_of(feed):

@@ -1,7 +1,7 @@
 """The program at its limits and just past them.
 
-Writes a feed or a script just at a limit and one just past it, runs `direct` or `serve` over each,
-and prints status, processor seconds and memory. The files take up to two gigabytes of a temporary
+Writes a feed or a script at a limit and one just past it, runs `direct` or `serve` over each, and
+prints status, processor seconds and memory. The files take up to two gigabytes of a temporary
 folder at a time.
 """
 import tempfile

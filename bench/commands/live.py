@@ -1,16 +1,16 @@
-"""A process that lives, asked over a pipe, and requests a second beside `serve`.
+"""`live` over a pipe: how long a reply takes, and requests a second beside `serve`.
 
-Three tables. What a lone request takes by the clock, from its line to its whole reply: while nothing
-else is done and while further days are built beside, and beside the same the search alone, within
-one process, and a request of a place that isn't there, which searches nothing. Requests a second of
-`live` and of `serve`, with 1 and 4 lanes, by the clock, without those of the same run with one
-request a lane. And the most memory that a run holds which publishes a day once, and as often as
-`--publications` says.
+Prints three tables. First what one request at a time takes by the clock, from its line to its whole
+reply, while nothing else goes on and while further days are built; beside it the search alone,
+within one process, and a request for a place that isn't there, which searches nothing. Second the
+requests a second by the clock of `live` and of `serve`, with 1 and 4 lanes, less what the same run
+takes with one request a lane. Third the most memory of a run that publishes a day once, and of one
+that publishes it as often as `--publications` says.
 """
 import random
 
 from commands.lanes import stations_of
-from feeds import add_feed_argument, feed_of
+from feeds import add_feed_argument, feed_of, feed_word
 from harness import (
     DAY,
     BenchError,
@@ -33,10 +33,14 @@ BUILT_BESIDE = 3
 
 def add_arguments(parser):
     add_feed_argument(parser, "network:300", "network:3000")
-    parser.add_argument("--requests", type=count, default=1000, help="lone ones (1,000)")
-    parser.add_argument("--many", type=count, default=10_000, help="at once (10,000)")
-    parser.add_argument("--publications", type=count, default=200, help="of one day (200)")
-    parser.add_argument("--middle", default="network:300", help="the feed of these (network:300)")
+    helps = {
+        "--requests": (count, 1000, "requests one at a time (else 1,000)"),
+        "--many": (count, 10_000, "requests at once (else 10,000)"),
+        "--publications": (count, 200, "publications of one day (else 200)"),
+        "--middle": (feed_word, "network:300", "the feed of the third table (else network:300)"),
+    }
+    for name, (kind, default, text) in helps.items():
+        parser.add_argument(name, type=kind, default=default, help=text)
 
 
 def requests_of(feed, number):

@@ -1,4 +1,4 @@
-"""Writes a made feed into a folder.
+"""A made feed, written into a folder.
 
 The same words give the same bytes.
 """
@@ -8,10 +8,10 @@ from harness import count
 
 def add_arguments(parser):
     kinds = parser.add_subparsers(metavar="KIND", required=True)
-    add_city(kinds.add_parser("city", help="a city of some thousands of trips and more"))
+    add_city(kinds.add_parser("city", help="a city, whose trips overtake"))
     add_network(kinds.add_parser("network", help="a feed with the density of a real network"))
     add_shape(kinds.add_parser("shape", help="a feed of a shape that is made to cost time"))
-    add_limit(kinds.add_parser("limit", help="a feed just at a limit of the program"))
+    add_limit(kinds.add_parser("limit", help="a feed at a limit of the program"))
 
 
 def add_city(parser):
@@ -36,7 +36,7 @@ def add_network(parser):
 def add_shape(parser):
     parser.add_argument("folder", metavar="FOLDER")
     parser.add_argument("name", metavar="NAME", choices=shapes.SHAPES, help=" ".join(shapes.SHAPES))
-    parser.add_argument("--size", type=count, help="else that of hostile-shapes")
+    parser.add_argument("--size", type=count, help="the size (else that of hostile-shapes)")
 
     def make(words):
         shape = shapes.SHAPES[words.name]
@@ -48,7 +48,7 @@ def add_shape(parser):
 def add_limit(parser):
     parser.add_argument("folder", metavar="FOLDER")
     parser.add_argument("name", metavar="NAME", choices=limits.FEEDS, help=" ".join(limits.FEEDS))
-    parser.add_argument("--past", action="store_true", help="one more than the limit")
+    parser.add_argument("--past", action="store_true", help="make one more than the limit")
     parser.set_defaults(make=lambda words: limits.FEEDS[words.name](words.folder, int(words.past)))
 
 

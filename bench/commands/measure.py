@@ -1,8 +1,9 @@
 """Reading, reduction and search over made cities of several sizes.
 
-Reading is a query on a day outside the time of service; what a query on a working day takes more is
-making the timetable and the answer; `build` less `direct` is making lines and kept transfers; `ask`
-less `build` is the set and the search. Seconds are of processor time.
+Reading is what `direct` takes on a day without service, and the timetable what it takes more on a
+working day. The reduction, which makes lines and kept transfers, is `build` less `direct`; set and
+search are `ask` less `build`; round by round is `ask --plain` less `direct`. Seconds are of
+processor time.
 """
 import os
 import shutil
@@ -18,7 +19,8 @@ NO_DAY = "20300101"
 
 def add_arguments(parser):
     sizes = [2_000, 20_000, 200_000]
-    parser.add_argument("--trips", type=count, nargs="+", default=sizes, help="of each city")
+    text = "trips of each city (else 2000 20000 200000)"
+    parser.add_argument("--trips", type=count, nargs="+", default=sizes, help=text)
 
 
 def copy_seconds(folder):

@@ -1,9 +1,9 @@
 """The program and real faults of the machine.
 
-Runs the program over folders that may not be read, files that are folders and links to nowhere,
-onto a full disk, to a reader that has gone, and with standard input or output closed, and prints
-how each run ended beside what the documents say. As the machine's superuser may read everything,
-the runs are those of the user with the number 65534 then.
+Runs the program over folders that may not be read, files that are folders, and links to nowhere;
+onto a full disk, and to a reader that has gone; and with standard input or output closed. Prints
+how each run ended beside what the documents say. The superuser may read everything, so for him the
+runs are those of the user with the number 65534.
 """
 import os
 import tempfile

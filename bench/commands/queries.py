@@ -1,9 +1,10 @@
-"""Queries, profiles, latest departures, best values and travel times to every stop.
+"""Queries, profiles, latest departures, reach and travel times, measured.
 
 Asks each feed 1,000 random queries by the search and round by round, 50 random profiles of 24
 hours, 1,000 random latest departures, the best values from 20 random stops to every stop, and the
-travel times from 5 over sixty departures of an hour, each within one process. Prints milliseconds of processor time each, of the asking alone: the least and
-the most of all runs. With another build of the program that asks both are measured by turns.
+travel times from 5 stops over sixty departures of an hour, each within one process. Prints the
+milliseconds of processor time that each takes, of the asking alone: the least and the most of all
+runs. With another build of the program that asks, both are measured by turns.
 """
 import os
 
@@ -24,8 +25,9 @@ def add_arguments(parser):
         default=list(COUNTS),
         help=f"of {methods} (else all)",
     )
-    parser.add_argument("--runs", type=count, default=3, help="runs of each (3)")
-    parser.add_argument("--with", dest="other", metavar="PROGRAM", help="another build")
+    parser.add_argument("--runs", type=count, default=3, help="runs of each (else 3)")
+    other = "another build of the program that asks"
+    parser.add_argument("--with", dest="other", metavar="PROGRAM", help=other)
 
 
 def ask(program, feed, method):

@@ -1,9 +1,9 @@
 """Each call for memory refused once.
 
-Runs four commands on the example once for each of their calls for memory, and refuses that one
-call. A small library that is put before the C library counts the calls and refuses the one with the
-number; it needs a C compiler. Each run has to end with status 6 and nothing written, or with an
-answer that the command may give. Prints how many calls there are and how the runs ended.
+Runs four commands on the example once for each of their calls for memory, and refuses that call. A
+small library in front of the C library counts the calls and refuses one of them; it needs a C
+compiler. Each run has to end with status 6 and nothing written, or with an answer that the command
+may give. Prints how many calls there are and how the runs ended.
 """
 import collections
 import os

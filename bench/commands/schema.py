@@ -1,9 +1,9 @@
-"""What the commands write with --json, against the schemas in docs/schema.
+"""What the commands write with --json, checked by the schemas in docs/schema.
 
-Runs each example of the documents that asks for an answer once more with --json, and some whose
-names need escapes and whose words or files are refused, and holds each line that comes against the
-schema of its command. Each journey that ask and profile write is a claim, and verify holds it to be
-one. Prints one line for each run. Needs python3-jsonschema.
+Runs each example of the documents that asks for an answer once more with --json, and some examples
+with names that need escapes and with words or files that are refused, and checks each line that
+comes by the schema of its command. Each journey that ask and profile write is a claim: it checks
+that verify says it is one. Prints one line for each run. Needs python3-jsonschema.
 """
 import json
 import os

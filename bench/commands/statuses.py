@@ -1,6 +1,6 @@
 """The program in each of its statuses.
 
-Prints what each run ended with, what it wrote to standard error, and whether both, and standard
+Prints what each run ended with and what it wrote to standard error, and whether both, and standard
 output, are what the documents say.
 """
 import os

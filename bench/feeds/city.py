@@ -1,9 +1,9 @@
 """The feed of a made city.
 
 Stations with two platforms each stand in a square grid. Lines wander over it, 100 trips each, about
-23 calls a trip. There are services by weekday with exceptions, times that are left out between two
-that stand, marks of boarding and alighting, and transfers that keep the footpath law. The same
-words give the same bytes.
+23 calls a trip. There are services by weekday with exceptions, rows without times, marks of
+boarding and alighting, and transfers that keep the footpath law. The same words give the same
+bytes.
 """
 import os
 import random
