@@ -58,14 +58,18 @@ def ask_many(
 
 
 def publish(
-    router: Router, feed: str, dates: list[str], is_over: threading.Event
+    router: Router, feed: str, stops: list[str], dates: list[str], is_over: threading.Event
 ) -> dict[int, str]:
     """Publishes days one after another, while the others ask; the date of each edition."""
     found = {1: DAY}
     for date in dates:
         if is_over.wait(0.5):
             break
-        found[router.publish(feed, date).wait(LONG).number] = date
+        number = router.publish(feed, date).wait(LONG).number
+        found[number] = date
+        # whoever waited for an edition is answered by it
+        answer = router.ask(*stops[:2], 8 * HOUR)
+        assert answer.edition == number, f"edition {answer.edition} in place of {number}"
     return found
 
 
@@ -75,7 +79,7 @@ def run_right(words: argparse.Namespace, feed: str, stops: list[str]) -> None:
     is_over = threading.Event()
     with Router(feed, DAY, mirror=True, program=PROGRAM) as router:
         with ThreadPoolExecutor(words.threads + 1) as threads:
-            publishing = threads.submit(publish, router, feed, dates, is_over)
+            publishing = threads.submit(publish, router, feed, stops, dates, is_over)
             begin = time.monotonic()
             asking = [
                 threads.submit(ask_many, router, stops, seed, each, words.samples)
