@@ -3,6 +3,7 @@
 import contextlib
 import io
 import json
+import shlex
 import socket
 import sys
 import tempfile
@@ -15,7 +16,7 @@ from html.parser import HTMLParser
 from pathlib import Path
 from unittest import mock
 
-from . import STAND_IN
+from . import HERE, STAND_IN
 from yuccadarts import Choice, Ride, Router, Value, Walk, command
 from yuccadarts.board import Board
 from yuccadarts.desk import Desk
@@ -186,6 +187,15 @@ class Asked(unittest.TestCase):
         with mock.patch.object(sys, "argv", words), contextlib.redirect_stderr(err):
             self.assertEqual(1, command.main())
         self.assertEqual("yuccadarts: unknown stop nowhere\n", err.getvalue())
+
+
+    def test_the_commands_of_the_readme(self):
+        readme = (HERE.parent / "README.md").read_text(encoding="utf-8")
+        lines = [line for line in readme.splitlines() if line.startswith("    yuccadarts ")]
+        self.assertEqual(3, len(lines))
+        for line in lines:
+            _, *words = shlex.split(line.partition(">")[0])
+            self.assertEqual("./router", command.parser().parse_args(words).program)
 
 
 class Boards(unittest.TestCase):

@@ -137,19 +137,20 @@ class Examples(unittest.TestCase):
     def test_the_lines_of_the_readme(self):
         """At the top of the clone, with this program, and without the table where pandas isn't."""
         readme = (HERE.parent / "README.md").read_text(encoding="utf-8")
-        lines, table = readme.split("```python\n")[1].split("```")[0].split("import pandas")
+        _, block, _, printed, *_ = readme.split("```")
+        lines, table = block.removeprefix("python\n").split("import pandas")
         self.assertIn('program="./router"', lines)
         lines = lines.replace('"./router"', repr(str(PROGRAM)))
-        lines += f"import pandas{table}" if find_spec("pandas") else ""
+        wanted = printed.strip().splitlines()
+        if find_spec("pandas"):
+            lines += f"import pandas{table}"
+        else:
+            wanted = wanted[:2]
         env = os.environ | {"PYTHONPATH": str(HERE.parent / "src")}
         words = [sys.executable, "-c", lines]
         ended = subprocess.run(words, cwd=TOP, env=env, capture_output=True, text=True)
         self.assertEqual((0, ""), (ended.returncode, ended.stderr))
-        printed = ended.stdout.splitlines()
-        self.assertEqual(["08:50:00", "08:30:00"], [line[:8] for line in printed[:2]])
-        if find_spec("pandas"):
-            self.assertEqual(["A", "B", "C"], printed[2].split())
-            self.assertEqual(["D", "1800.0", "1800.0", "NaN"], printed[-1].split())
+        self.assertEqual(wanted, ended.stdout.splitlines())
 
 
 def write_rows(folder, name, *rows):

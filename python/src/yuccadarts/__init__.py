@@ -2,7 +2,7 @@
 
     with Router("examples/f1", "20260302", program="./router") as router:
         for choice in router.ask("A", "D", "08:00:00"):
-            print(clock(choice.arrival), choice.rides, choice.legs)
+            print(clock(choice.arrival), choice.rides, *(leg.destination for leg in choice.legs))
 
 Times are seconds since noon minus twelve hours, which is midnight but on the days when clocks
 change; where one is asked for it may also be a text as `08:00:00`.
