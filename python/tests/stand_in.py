@@ -6,9 +6,9 @@ origin is `before`, and a walk back.
 
 A day whose folder is named `broken` is refused, one named `unread` can't be read, one named `slow`
 takes a while, and of one named `mixed` it tells as if it were another. Some origins have it do what
-a process shouldn't: `pause`, `hang`, `die`, `cut`, `babble`, `skip`, `odd` and `shout`. `reach
-many` tells of 20,000 stops, `reach turn` of the turn's number, and `reach words` of the words with
-which it was started.
+a process shouldn't: `pause`, `hang`, `die`, `cut`, `quiet`, `babble`, `skip`, `odd` and `shout`.
+`reach many` tells of 20,000 stops, `reach turn` of the turn's number, `reach words` of the words
+with which it was started.
 """
 import json
 import os
@@ -146,6 +146,9 @@ class StandIn:
         if word == "cut":
             os.write(1, b'{"request":')
             os._exit(5)
+        if word == "quiet":
+            os.close(1)
+            time.sleep(60)
         if word == "babble":
             os.write(1, b"what?\n")
         if word == "shout":

@@ -267,6 +267,12 @@ class Ends(unittest.TestCase):
             it.ask("cut", "D", 0)
         self.assertEqual(5, ended.exception.status)
 
+    def test_a_process_that_closes_its_output(self):
+        """It is ended if it doesn't end by itself soon."""
+        with mock.patch.object(process, "PATIENCE", 0.2), router() as it:
+            with self.assertRaisesRegex(ProcessEnded, "SIGKILL"):
+                it.ask("quiet", "D", 0)
+
     def test_a_process_that_is_killed_under_load(self):
         """Each thread gets an exception of its own, and none hangs."""
 
@@ -353,6 +359,10 @@ class Ends(unittest.TestCase):
     def test_a_fork_has_no_router(self):
         def in_fork(pipe):
             try:
+                publication.wait()
+            except Elsewhere:
+                pipe.send("no publication")
+            try:
                 it.ask("A", "D", 0)
             except Elsewhere as error:
                 it.close()
@@ -360,13 +370,16 @@ class Ends(unittest.TestCase):
 
         fork = multiprocessing.get_context("fork")
         with router() as it:
+            publication = it.publish("slow", "20260303")
             here, there = fork.Pipe(duplex=False)
             forked = fork.Process(target=in_fork, args=(there,))
             forked.start()
             forked.join(LONG)
+            self.addCleanup(forked.kill)
             self.assertEqual(0, forked.exitcode)
+            self.assertEqual("no publication", here.recv())
             self.assertIn("forked", here.recv())
-            self.assertEqual(60, it.ask("A", "D", 0).values[0].arrival)
+            self.assertEqual(2, publication.wait(LONG).number)
 
     def test_a_fork_does_not_keep_the_process(self):
         """Its input ends though a fork has it too; so the process ends by itself."""
