@@ -12,6 +12,7 @@ COMMANDS = (
     "frequencies",
     "lanes",
     "live",
+    "study",
     "limits",
     "hostile-shapes",
     "fuzz",
