@@ -18,8 +18,8 @@ TIMES = ["08:00:00", "08:59:00", "60"]
 
 def add_arguments(parser):
     add_feed_argument(parser, "network:3000")
-    parser.add_argument("--origins", type=count, default=1000, help="stations (1,000)")
-    parser.add_argument("--lanes", type=count, nargs="+", default=[1, 4], help="of each run (1 4)")
+    parser.add_argument("--origins", type=count, default=1000, help="stations (else 1,000)")
+    parser.add_argument("--lanes", type=count, nargs="+", default=[1, 4], help="lanes of each run (else 1 4)")
 
 
 def asked(program, feed, lanes, origins):
