@@ -10,6 +10,7 @@ from harness import TOP, write
 # Answers `times` lines in the form of `live --json`; an origin `lost` ends it.
 STAND_IN = """#!/usr/bin/env python3
 import json, sys
+assert sys.argv[1:] == "--json --lanes 2 --change 60 live f@20260302".split()
 print('{"day":"d","edition":1,"trips":0,"lines":0,"kept":0}', flush=True)
 for number, line in enumerate(sys.stdin, 1):
     name = line.split('"', 1)[1].rsplit('"', 1)[0].replace('""', '"')
@@ -36,7 +37,7 @@ class Studies(unittest.TestCase):
         program = os.path.join(folder.name, "router")
         write(folder.name, "router", STAND_IN)
         os.chmod(program, 0o755)
-        settings = f"ROUTER={program}\nFEED=f DATE=20260302 LANES=2\n"
+        settings = f"ROUTER={program}\nFEED=f DATE=20260302 LANES=2 OPTIONS=(--change 60)\n"
         write(self.study, "settings", settings + "FIRST=08:00:00 LAST=08:59:00 STEP=60\n")
 
     def run_script(self, name, *words, given=""):
@@ -64,7 +65,7 @@ class Studies(unittest.TestCase):
         self.assertEqual([*wanted, bad], self.rows())
 
     def test_a_shard_that_fails_leaves_nothing(self):
-        self.cut(["A", "lost", "B"], 3)
+        self.cut(["A", "lost", *"BCDEFGH"], 9)
         self.assertNotEqual(0, self.run_script("shard", self.study, "00000")[0])
         self.assertEqual([], os.listdir(os.path.join(self.study, "rows")))
         self.assertEqual([], os.listdir(os.path.join(self.study, "parts")))
