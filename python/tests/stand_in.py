@@ -97,7 +97,7 @@ class StandIn:
                 continue
             published += 1
             day = f"other/{day}" if name == "mixed" else day
-            self.news.put({"day": day, "edition": published, "trips": 3, "lines": 3, "kept": 1})
+            self.news.put({"day": day, "edition": published, "trips": 5, "lines": 3, "kept": 1})
 
     def take_turn(self, lines):
         out = []

@@ -1,9 +1,10 @@
-"""Tests of times, and of the lines that ask."""
+"""Tests of times, of the lines that ask, and of what is read from replies."""
 import unittest
 
 from . import stand_in
-from yuccadarts import Ask, Latest, Profile, Reach, clock, seconds
+from yuccadarts import Ask, FeedRefused, Latest, Profile, Reach, TravelTimes, clock, seconds
 from yuccadarts import Times as Travel
+from yuccadarts.answers import read_travel_times
 
 
 class Times(unittest.TestCase):
@@ -28,6 +29,22 @@ class Times(unittest.TestCase):
         for text in ("", "8:00", "08:60:00", "108:00:00", "08:00:00 ", "٠٨:00:00"):
             with self.assertRaises(ValueError):
                 seconds(text)
+
+
+class Replies(unittest.TestCase):
+    def test_the_earliest_arrivals(self):
+        values = [["D", [["", 90, 1], ["", 70, 2]]], ["E", []]]
+        found = read_travel_times(Reach("A", 60), 60, {"edition": 3, "values": values})
+        self.assertEqual(TravelTimes("A", 3, {"D": 10}), found)
+
+    def test_faults(self):
+        fault = FeedRefused({"number": 18, "name": "OpenFootpaths", "stops": ["A", "B b", "C"]})
+        self.assertEqual("18 OpenFootpaths A B b C", str(fault))
+        self.assertEqual(("A", "B b", "C"), fault.stops)
+        self.assertIsNone(fault.file)
+        fault = FeedRefused({"number": 20, "name": "TooMany", "quantity": "stops", "row": 100_002})
+        self.assertEqual("20 TooMany stops row 100002", str(fault))
+        self.assertEqual(("stops", 100_002, ()), (fault.quantity, fault.row, fault.stops))
 
 
 class Lines(unittest.TestCase):

@@ -128,7 +128,9 @@ class Maps(unittest.TestCase):
         elements = Elements(page)
         self.assertEqual([], elements.tags("img"))
         self.assertEqual(2, len(elements.tags("script")))
-        self.assertEqual(3, len([it for it in elements.tags("circle") if "data-at" in it]))
+        # the nearest is the last, and so on top
+        circles = [it["data-at"] for it in elements.tags("circle") if "data-at" in it]
+        self.assertEqual(["2", "1", "0"], circles)
         self.assertIn("stops without coordinates, which are left out: 7", elements.texts)
         self.assertEqual(1, page.count("</html>"))
         start = page.index(">", page.index('id="said"')) + 1
@@ -232,6 +234,7 @@ class Boards(unittest.TestCase):
         self.assertEqual(200, status)
         self.assertIn("Central to Two", page.texts)
         self.assertIn("08:01:00, 1 ride", page.texts)
+        self.assertEqual([{"open": ""}], page.tags("details"))
         self.assertIn("08:00:00 Central – 08:01:00 Two", page.texts)
         self.assertIn(" on C>Z", page.texts)
         self.assertEqual(1, len(page.tags("polyline")))

@@ -34,6 +34,7 @@ from yuccadarts import (
     ProcessConfused,
     ProcessEnded,
     Profile,
+    Publication,
     Reach,
     Reached,
     Ride,
@@ -76,7 +77,7 @@ def legs(departure, arrival):
 class Answers(unittest.TestCase):
     def test_of_each_question(self):
         with router(mirror=True) as it:
-            self.assertEqual(Edition(1, 3, 3, 1), it.first_edition)
+            self.assertEqual(Edition(1, 5, 3, 1), it.first_edition)
             choice = Choice(28_860, 1, legs(28_800, 28_860))
             self.assertEqual(Answer(1, (choice,)), it.ask("A", "D", "08:00:00"))
             offer = Offer(28_800, 28_860, 1, legs(28_800, 28_860))
@@ -174,8 +175,8 @@ class Publications(unittest.TestCase):
             with self.assertRaises(TimeoutError):
                 publication.wait(0)
             self.assertEqual(1, it.ask("A", "D", 0).edition)
-            self.assertEqual(Edition(2, 3, 3, 1), publication.wait(LONG))
-            self.assertEqual(Edition(2, 3, 3, 1), publication.wait(0))
+            self.assertEqual(Edition(2, 5, 3, 1), publication.wait(LONG))
+            self.assertEqual(Edition(2, 5, 3, 1), publication.wait(0))
             self.assertEqual(2, it.ask("A", "D", 0).edition)
 
     def test_what_becomes_of_each(self):
@@ -207,6 +208,12 @@ class Publications(unittest.TestCase):
     def test_news_of_another_day(self):
         with router() as it, self.assertRaisesRegex(ProcessConfused, "other/"):
             it.publish("mixed", "20260303").wait(LONG)
+
+    def test_whoever_waits_for_the_first_day_is_interrupted(self):
+        with mock.patch.object(Publication, "wait", side_effect=KeyboardInterrupt):
+            with self.assertRaises(KeyboardInterrupt):
+                router()
+        self.assertEqual(set(), process._alive)
 
     def test_the_process_ends_while_a_day_is_published(self):
         with router() as it:
