@@ -5,8 +5,9 @@ edition's number, by a ride on the trip `ORIGIN>DESTINATION`, which began on the
 origin is `before`, and a walk back.
 
 A day whose folder is named `broken` is refused, one named `unread` can't be read, one named `slow`
-takes a while, and of one named `mixed` it tells as if it were another. Some origins have it do what
-a process shouldn't: `pause`, `hang`, `die`, `cut`, `quiet`, `babble`, `skip`, `odd` and `shout`.
+waits for a question from `go`, and of one named `mixed` it tells as if it were another. With some
+origins it does what a process shouldn't: `pause`, `hang`, `die`, `cut`, `quiet`, `babble`, `skip`,
+`odd` and `shout`.
 `reach many` tells of 20,000 stops, `reach turn` of the turn's number, `reach words` of the words
 with which it was started.
 """
@@ -84,6 +85,7 @@ class StandIn:
     def __init__(self):
         self.number = self.edition = self.turn = 0
         self.days, self.news = queue.Queue(), queue.Queue()
+        self.going = threading.Event()
 
     def publish(self):
         """Publishes the days that are handed over, one after another."""
@@ -91,7 +93,7 @@ class StandIn:
         while day := self.days.get():
             name = os.path.basename(day.rpartition("@")[0])
             if name == "slow":
-                time.sleep(0.3)
+                self.going.wait()
             if name in OUTCOMES:
                 self.news.put({"day": day, **OUTCOMES[name]})
                 continue
@@ -146,6 +148,8 @@ class StandIn:
         if word == "cut":
             os.write(1, b'{"request":')
             os._exit(5)
+        if word == "go":
+            self.going.set()
         if word == "quiet":
             os.close(1)
             time.sleep(60)

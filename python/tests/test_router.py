@@ -175,6 +175,7 @@ class Publications(unittest.TestCase):
             with self.assertRaises(TimeoutError):
                 publication.wait(0)
             self.assertEqual(1, it.ask("A", "D", 0).edition)
+            self.assertEqual(1, it.ask("go", "D", 0).edition)
             self.assertEqual(Edition(2, 5, 3, 1), publication.wait(LONG))
             self.assertEqual(Edition(2, 5, 3, 1), publication.wait(0))
             self.assertEqual(2, it.ask("A", "D", 0).edition)
@@ -183,6 +184,7 @@ class Publications(unittest.TestCase):
         with router() as it:
             days = ("slow", "broken", "feed", "unread", "feed")
             found = [it.publish(day, "20260303") for day in days]
+            it.ask("go", "D", 0)
             self.assertEqual([2, 3, 4], [found[at].wait(LONG).number for at in (0, 2, 4)])
             with self.assertRaises(FeedRefused) as refused:
                 found[1].wait()
@@ -235,10 +237,15 @@ class Threads(unittest.TestCase):
                 done.result(LONG)
 
     def test_what_is_asked_at_a_time_is_one_turn(self):
-        with router() as it, ThreadPoolExecutor(9) as threads:
-            threads.submit(it.ask, "pause", "D", 0)
-            time.sleep(0.2)
+        with router() as it, ThreadPoolExecutor(8) as threads:
+            # a process that stands still reads what is there once it goes on
+            os.kill(it.pid, signal.SIGSTOP)
             asked = [threads.submit(it.reach, "turn", 0) for _ in range(8)]
+            end = time.monotonic() + LONG
+            while len(it._process._written) < 8 and time.monotonic() < end:
+                time.sleep(0.01)
+            time.sleep(0.2)
+            os.kill(it.pid, signal.SIGCONT)
             turns = {future.result(LONG).values[0].values[0].arrival for future in asked}
         self.assertEqual(1, len(turns))
 
@@ -386,6 +393,7 @@ class Ends(unittest.TestCase):
             self.assertEqual(0, forked.exitcode)
             self.assertEqual("no publication", here.recv())
             self.assertIn("forked", here.recv())
+            it.ask("go", "D", 0)
             self.assertEqual(2, publication.wait(LONG).number)
 
     def test_a_fork_does_not_keep_the_process(self):
