@@ -1,10 +1,11 @@
 """Asks the proved program from several threads while days are published, and holds a sample of the
 answers against the commands, each by its edition; then has it killed while they ask.
 
-python3 -m tests.stress [--threads 8] [--requests 100000] [--patterns 300] [--publications 6]
+python3 -m tests.stress [--threads 8] [--requests 100000] [--patterns 300] [--pause 2]
 """
 import argparse
 import collections
+import itertools
 import os
 import random
 import signal
@@ -58,12 +59,12 @@ def ask_many(
 
 
 def publish(
-    router: Router, feed: str, stops: list[str], dates: list[str], is_over: threading.Event
+    router: Router, feed: str, stops: list[str], pause: float, is_over: threading.Event
 ) -> dict[int, str]:
     """Publishes days one after another, while the others ask; the date of each edition."""
     found = {1: DAY}
-    for date in dates:
-        if is_over.wait(0.5):
+    for date in itertools.cycle(DATES[1:] + DATES[:1]):
+        if is_over.wait(pause):
             break
         number = router.publish(feed, date).wait(LONG).number
         found[number] = date
@@ -74,12 +75,11 @@ def publish(
 
 
 def run_right(words: argparse.Namespace, feed: str, stops: list[str]) -> None:
-    dates = [DATES[number % len(DATES)] for number in range(1, words.publications + 1)]
     each = words.requests // words.threads
     is_over = threading.Event()
     with Router(feed, DAY, mirror=True, program=PROGRAM) as router:
         with ThreadPoolExecutor(words.threads + 1) as threads:
-            publishing = threads.submit(publish, router, feed, stops, dates, is_over)
+            publishing = threads.submit(publish, router, feed, stops, words.pause, is_over)
             begin = time.monotonic()
             asking = [
                 threads.submit(ask_many, router, stops, seed, each, words.samples)
@@ -95,12 +95,14 @@ def run_right(words: argparse.Namespace, feed: str, stops: list[str]) -> None:
     total = each * words.threads
     rate = total / took
     print(f"{total} answers to {words.threads} threads in {took:.1f} s, {rate:.0f} a second")
-    print(f"by edition: {dict(sorted(editions.items()))}")
+    shares = sorted(editions.values())
+    print(f"{len(editions)} editions answered, each {shares[0]} to {shares[-1]} times")
     held = [pair for _, sample in results for pair in sample]
     for question, answer in held:
         wanted = commanded(feed, question, *OPTIONS, date=date_of[answer.edition])
         assert answer.values == wanted, f"{question}: {answer} in place of {wanted}"
-    print(f"{len(held)} answers are those of the commands")
+    count = len({answer.edition for _, answer in held})
+    print(f"{len(held)} answers by {count} editions are those of the commands")
 
 
 def run_killed(words: argparse.Namespace, feed: str, stops: list[str]) -> None:
@@ -124,7 +126,7 @@ def main() -> None:
     parser.add_argument("--threads", type=int, default=8)
     parser.add_argument("--requests", type=int, default=100_000)
     parser.add_argument("--patterns", type=int, default=300, help="of the made network")
-    parser.add_argument("--publications", type=int, default=6)
+    parser.add_argument("--pause", type=float, default=2.0, help="seconds between publications")
     parser.add_argument("--samples", type=int, default=15, help="of each thread")
     words = parser.parse_args()
     with tempfile.TemporaryDirectory() as feed:
