@@ -85,9 +85,11 @@ def run_right(words: argparse.Namespace, feed: str, stops: list[str]) -> None:
                 threads.submit(ask_many, router, stops, seed, each, words.samples)
                 for seed in range(words.threads)
             ]
-            results = [future.result() for future in asking]
+            try:
+                results = [future.result() for future in asking]
+            finally:
+                is_over.set()
             took = time.monotonic() - begin
-            is_over.set()
             date_of = publishing.result()
     editions: collections.Counter[int] = collections.Counter()
     for counted, _ in results:
