@@ -377,6 +377,10 @@ class Ends(unittest.TestCase):
             except Elsewhere:
                 pipe.send("no publication")
             try:
+                next(answers)
+            except Elsewhere:
+                pipe.send("no answer")
+            try:
                 it.ask("A", "D", 0)
             except Elsewhere as error:
                 it.close()
@@ -385,13 +389,16 @@ class Ends(unittest.TestCase):
         fork = multiprocessing.get_context("fork")
         with router() as it:
             publication = it.publish("slow", "20260303")
+            answers = it.answers(Ask(origin, "D", 0) for origin in ("A", "pause"))
+            next(answers)
             here, there = fork.Pipe(duplex=False)
             forked = fork.Process(target=in_fork, args=(there,))
             forked.start()
             forked.join(LONG)
             self.addCleanup(forked.kill)
             self.assertEqual(0, forked.exitcode)
-            self.assertEqual("no publication", here.recv())
+            said = ["no publication", "no answer"]
+            self.assertEqual(said, [here.recv() for _ in said])
             self.assertIn("forked", here.recv())
             it.ask("go", "D", 0)
             self.assertEqual(2, publication.wait(LONG).number)

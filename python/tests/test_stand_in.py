@@ -24,8 +24,6 @@ publish broken@20260303
 publish unread@20260303
 ask go D 08:00:00
 """
-
-
 DAYS = ("feed@20260302", "broken@20260303", "unread@20260303", "feed@20260303", None)
 
 

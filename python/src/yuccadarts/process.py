@@ -115,7 +115,7 @@ class Process:
     def ask(self, line: str, read: Callable[[Json], T]) -> Future[T]:
         """Has a line written, and gives what will be read from its reply, or why there is none."""
         asked = Asked(line.encode() + b"\n", read)
-        self._refuse_elsewhere()
+        self.refuse_elsewhere()
         with self._changed:
             self._refuse_if_over()
             self._waiting.append(asked)
@@ -126,7 +126,7 @@ class Process:
         """Has an empty line written, which has no reply: the process begins a turn, and tells what
         news there is.
         """
-        self._refuse_elsewhere()
+        self.refuse_elsewhere()
         with self._changed:
             self._refuse_if_over()
             self._nudged = True
@@ -146,6 +146,11 @@ class Process:
         for thread in self._threads:
             thread.join()
 
+    def refuse_elsewhere(self) -> None:
+        """A fork has no threads that write and read, and the lock may be held for ever there."""
+        if os.getpid() != self._owner:
+            raise Elsewhere
+
     def let_go(self, nothing: int) -> None:
         """In a fork: puts an empty file in each pipe's place. Else the process wouldn't see its
         input end before the fork does, and what is half written here would be written twice.
@@ -161,11 +166,6 @@ class Process:
         self._killed = True
         with contextlib.suppress(ProcessLookupError, PermissionError):
             os.killpg(self._child.pid, signal.SIGKILL)
-
-    def _refuse_elsewhere(self) -> None:
-        """A fork has no threads that write and read, and the lock may be held for ever there."""
-        if os.getpid() != self._owner:
-            raise Elsewhere
 
     def _refuse_if_over(self) -> None:
         if self._end:

@@ -233,6 +233,7 @@ class Router:
             if len(ahead) >= self._ahead:
                 yield ahead.popleft().result()
         while ahead:
+            self._process.refuse_elsewhere()
             yield ahead.popleft().result()
 
     def _queue(self, day: str) -> Callable[[Json], Publication]:
