@@ -3,6 +3,7 @@ use Rattle.std.proofs.Common.{◌≡◌, ◌<◌, ◌≤◌, ℕ, List, [], ◌�
 use Rattle.std.proofs.lemmas.List.{take_rest}
 use Rattle.command_line.specs.DayCommands.{day_request_from}
 use Rattle.command_line.specs.LateTrips.{late_request_from}
+use Rattle.command_line.specs.Matrices.{matrix_request_from}
 use Rattle.command_line.specs.Verifications.{verify_request_from}
 use Rattle.command_line.specs.declared.settings.Settings.{Settings}
 
@@ -30,6 +31,12 @@ pub too_few_claimed : (s : Settings) (words : List (Bor (List ℕ))) → length 
 too_few_claimed s [] few = refl
 too_few_claimed s (dir ∷ []) few = refl
 too_few_claimed s (dir ∷ date ∷ words) few = absurd (omega arith)
+
+-- nor one of which origins are asked
+pub too_few_asked : (s : Settings) (words : List (Bor (List ℕ))) → length words < 2 → None ≡ matrix_request_from s (map (λ word. word.now) words)
+too_few_asked s [] few = refl
+too_few_asked s (dir ∷ []) few = refl
+too_few_asked s (dir ∷ date ∷ words) few = absurd (omega arith)
 
 -- nor do fewer than three name one and a file of late trips
 pub too_few_late : (s : Settings) (words : List (Bor (List ℕ))) → length words < 3 → None ≡ late_request_from s (map (λ word. word.now) words)

@@ -7,3 +7,4 @@ pub mod LateTrips
 pub mod Plans
 pub mod Cities
 pub mod Requests
+pub mod Matrices

@@ -138,7 +138,7 @@ fn day_request<'a>(
 }
 
 // The first two words, and those behind them.
-fn parted<'w, 'a>(words: &'w [&'a str]) -> Option<(&'a str, &'a str, &'w [&'a str])>
+pub(crate) fn parted<'w, 'a>(words: &'w [&'a str]) -> Option<(&'a str, &'a str, &'w [&'a str])>
     ensures { MatchOption result (length words.now < 2) (λ parts.
         map (λ word. word.now) words.now
         ≡ parts.0.now ∷ parts.1.now ∷ map (λ word. word.now) parts.2.now) }

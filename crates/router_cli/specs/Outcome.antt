@@ -68,7 +68,7 @@ abbrev pub status_text : Status → List ℕ
 status_text status.Done = []
 status_text status.Usage =
     codes "usage: router [--change SECS] [--station SECS] [--close] [--workers N] [--plain]"
-    ++ codes " [--lanes N] [--mirror] COMMAND WORDS\n"
+    ++ codes " [--lanes N] [--mirror] [--csv] COMMAND WORDS\n"
 status_text (status.FeedRefused f) = codes "router: feed refused: " ++ fault_text f ++ codes "\n"
 status_text status.ReadFault = codes "router: read fault\n"
 status_text status.WriteFault = codes "router: write fault\n"
