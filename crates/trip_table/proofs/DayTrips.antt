@@ -7,9 +7,14 @@ use Rattle.gtfs_rows.specs.declared.fault.FeedFault.{FeedFault}
 use Rattle.service_trips.specs.declared.stop_time.StopTime.{StopTime}
 use Rattle.service_trips.specs.Rides.{checked_rides, ride_on, rides_on}
 use Rattle.service_trips.specs.TimeFaults.{wrong_trips}
-use Rattle.service_day.specs.DayBefore.{day_before}
+use Rattle.service_trips.specs.TimetableTrips.{DayRunsData}
+use Rattle.tb_base.specs.declared.days.ServiceDay.{ServiceDay}
+use Rattle.tb_base.specs.declared.days.ServiceDay.TheVariants.{Date}
+use Rattle.tb_base.specs.declared.days.Horizon.{Horizon}
+use Rattle.tb_base.specs.ServiceDays.{other_days, service_days}
+use Rattle.service_day.specs.NearDays.{date_of_day}
 use Rattle.trip_table.specs.References.{Rows}
-use Rattle.trip_table.specs.Day.{runs_on, runs_if, runs_before}
+use Rattle.trip_table.specs.Day.{runs_on, runs_if, runs_of}
 
 -- a value that passes a check is the one that was checked
 pub unless_wrong-value : {A : Type 0} (wrong : List (Option FeedFault)) (x y : A) → unless_wrong wrong x ≡ Ok y → x ≡ y
@@ -30,11 +35,16 @@ pub replicate_is : {X Y : Type 0} (y : Y) (xs : List X) → replicate (length xs
 replicate_is y [] = refl
 replicate_is y (x ∷ xs) = ap (λ ys. y ∷ ys) (replicate_is y xs)
 
--- where there is a day before, its services run, and else none
-pub runs_some : (rows : Rows) (day before : ℕ) → Some before ≡ day_before day → runs_on rows before ≡ runs_before rows day
-unfolding runs_before
-runs_some rows day before e = ap (runs_if rows) e
+-- which rows run on a service day, by its date
+pub runs_given : (rows : Rows) (date : ℕ) (day : ServiceDay) (runs : List Bool) → runs ≡ runs_if rows (date_of_day day date) → record { day = day; runs = runs } ≡ runs_of rows date day
+unfolding runs_of
+runs_given rows date day runs is = ap (λ (r : List Bool). record { day = day; runs = r }) is
 
-pub runs_none : (rows : Rows) (day : ℕ) → None ≡ day_before day → map (λ t. false) rows.trips ≡ runs_before rows day
-unfolding runs_before
-runs_none rows day e = ap (runs_if rows) e
+pub runs-long : (rows : Rows) (date : ℕ) (day : ServiceDay) (runs : List Bool) → record { day = day; runs = runs } ≡ runs_of rows date day → DayRunsData.runs (runs_of rows date day) ≡ runs
+runs-long rows date day runs is = ap DayRunsData.runs (sym is)
+
+-- the date itself is the first of its service days
+pub date_first : (rows : Rows) (date : ℕ) (horizon : Horizon) (runs : List Bool) (others : List DayRunsData) → runs ≡ runs_on rows date → others ≡ map (runs_of rows date) (other_days horizon)
+    → (record { day = Date; runs = runs } ∷ others) ≡ map (runs_of rows date) (service_days horizon)
+unfolding runs_of
+date_first rows date horizon runs others r o = λ i. record { day = Date; runs = r i } ∷ o i

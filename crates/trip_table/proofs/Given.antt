@@ -123,7 +123,7 @@ parts_sound feed day options parts h k e =
     let transfers = stepped (transfers_of feed rows.0.stops) _ parts rows.2 in
     let frequencies = stepped (frequencies_of feed rows.0.trips) _ parts transfers.2 in
     let given = given_footpaths rows.0.stops options transfers.0 in
-    let trips = stepped (trips_on rows.0 frequencies.0 day) _ parts frequencies.2 in
+    let trips = stepped (trips_on rows.0 frequencies.0 day options.horizon) _ parts frequencies.2 in
     let footpaths = stepped given _ parts trips.2 in
     let same = one_value (record { stops = rows.0.stops; footpaths = footpaths.0; trips = trips.0 }) parts footpaths.2 in
     let sound = given_sound rows.0.stops options transfers.0 footpaths.0 h k (few_stops feed rows.0.stops (stops_given feed rows.0 rows.1)) (short feed rows.0.stops transfers.0 transfers.1) footpaths.1 in

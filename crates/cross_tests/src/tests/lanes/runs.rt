@@ -7,7 +7,7 @@ use std::alloc::Global;
 use std::sync::Wait;
 use std::test::*;
 use std::thread::Threads;
-use tb_base::{Gate, IdleGate, Memory};
+use tb_base::{Gate, Horizon, IdleGate, Memory};
 use tb_io::MemFolder;
 use trip_table::Options;
 
@@ -51,6 +51,7 @@ fn run<G: Gate, R: Threads + Wait + Sync>(
         change: 0,
         station: None,
         close: false,
+        horizon: Horizon::OneDay,
     };
     serve(rt, alloc, plan, &options, 1, &script, &mut folder, gate)
 }
