@@ -13,7 +13,9 @@ use crate::frame::{Frame, add_moment};
 use crate::strings::{add_count, add_member, add_string};
 use answer_text::Text;
 use std::alloc::Global;
-use tb_base::{Choice, Leg, Memory, Offer, Sec, ServiceDay, Slot, StopNo, Timetable, TripNo, Value};
+use tb_base::{
+    Choice, Leg, Memory, Offer, Sec, ServiceDay, Slot, StopNo, Timetable, TripNo, Value,
+};
 
 // The name of a stop.
 pub(crate) fn stop_name(table: &Timetable, p: StopNo) -> &[u8]

@@ -8,7 +8,9 @@ ghost use Rattle.answer_text.specs.Journeys.{stop_name, trip_name, place_text, r
 
 use crate::text::Text;
 use std::alloc::Global;
-use tb_base::{Choice, Event, Leg, Memory, Offer, Sec, ServiceDay, Slot, StopNo, Timetable, TripNo, Value};
+use tb_base::{
+    Choice, Event, Leg, Memory, Offer, Sec, ServiceDay, Slot, StopNo, Timetable, TripNo, Value,
+};
 
 /// The line that stands for no choice at all.
 pub const NO_JOURNEY: &[u8] = b"no journey\n";

@@ -27,7 +27,7 @@ abbrev pub day_after : ℕ → Option ℕ
 day_after date =
     if nat_lt date (last_of (date / 10000) (date / 100 % 100)) then Some (date + 1)
     else if nat_lt (date / 100 % 100) 12
-      then Some (first_of (date / 10000) (date / 100 % 100 + 1))
+    then Some (first_of (date / 10000) (date / 100 % 100 + 1))
     else if nat_lt (date / 10000) 9999 then Some (first_of (date / 10000 + 1) 1)
     else None
 

@@ -139,8 +139,8 @@ cut_starts end f good =
     let same : (k : ℕ) → early k ≡ both k = λ k. grind (arith, nat_tests) in
     let late : (k : ℕ) → 0 + m ≤ k → early k ≡ false =
     λ k low.
-        let wide = le-mul_of_pos_right k good.headway in
-        and_left (nat_lt (start_at f k) m) (nat_le 0 (start_at f k)) (grind (arith, nat_tests, wide, low)) in
+    let wide = le-mul_of_pos_right k good.headway in
+    and_left (nat_lt (start_at f k) m) (nat_le 0 (start_at f k)) (grind (arith, nat_tests, wide, low)) in
     filters_map (nat_le 0) (λ start. nat_lt start m) (start_at f) (range_with_len 0 m)
     ∙ ap (map (start_at f)) (passes_below early 0 m f.end (omega arith) late ∙ same_passes early both (range_with_len 0 f.end) same)
     ∙ sym (filters_map (λ start. nat_lt start end) (λ start. nat_lt start f.end) (start_at f) (range_with_len 0 f.end))

@@ -13,8 +13,8 @@ use tb_base::{Event, Memory, Sec, ServiceDay};
 // The seconds of a day.
 const DAY: i32 = 86_400;
 
-// The first second behind the times of a timetable: 100:00:00.
-const END: i32 = 360_000;
+// The last time of a timetable: 99:59:59.
+const LATEST: i32 = 359_999;
 
 /// The departure of a trip.
 pub(crate) fn first_departure(ride: &[Event]) -> Sec
@@ -48,8 +48,8 @@ pub(crate) fn is_shown(ride: &[Event], day: ServiceDay) -> bool
     match day {
         ServiceDay::Before => last_arrival(ride) >= DAY,
         ServiceDay::Date => true,
-        ServiceDay::After => last_departure(ride) < END - DAY,
-        ServiceDay::SecondAfter => last_departure(ride) < END - 2 * DAY,
+        ServiceDay::After => last_departure(ride) <= LATEST - DAY,
+        ServiceDay::SecondAfter => last_departure(ride) <= LATEST - 2 * DAY,
     }
 }
 
@@ -125,8 +125,11 @@ pub(crate) fn shown_starts(ride: &[Event], day: ServiceDay) -> StartSpan
     match day {
         ServiceDay::Before => StartSpan::From(from_zero(midnight_start(ride))),
         ServiceDay::Date => StartSpan::From(0),
-        ServiceDay::After => StartSpan::Until(from_zero(end_start(ride, END - DAY))),
-        ServiceDay::SecondAfter => StartSpan::Until(from_zero(end_start(ride, END - 2 * DAY))),
+        ServiceDay::After => StartSpan::Until(from_zero(end_start(ride, LATEST + 1 - DAY))),
+        ServiceDay::SecondAfter => StartSpan::Until(from_zero(end_start(
+            ride,
+            LATEST + 1 - 2 * DAY,
+        ))),
     }
 }
 
