@@ -31,11 +31,11 @@ use Rattle.trip_table.proofs.FirstBreach.{kept_or_breached}
 use Rattle.trip_table.proofs.FirstFar.{closing_given}
 
 -- a step that gives something, and then the next one
-stepped : {A B : Type 0} (m : Result A FeedFault) (next : A → Result B FeedFault) (y : B) → and_then m next ≡ Ok y → (x : A) × (m ≡ Ok x) × (next x ≡ Ok y)
+pub stepped : {A B : Type 0} (m : Result A FeedFault) (next : A → Result B FeedFault) (y : B) → and_then m next ≡ Ok y → (x : A) × (m ≡ Ok x) × (next x ≡ Ok y)
 stepped (Err f) next y e = absurd (cc)
 stepped (Ok x) next y e = (x, refl, e)
 
-one_value : {A : Type 0} (x y : A) → (let r : Result A FeedFault = Ok x in r) ≡ Ok y → x ≡ y
+pub one_value : {A : Type 0} (x y : A) → (let r : Result A FeedFault = Ok x in r) ≡ Ok y → x ≡ y
 one_value x y e = cc
 
 -- a file has no more rows than its limit
