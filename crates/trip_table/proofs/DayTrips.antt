@@ -1,10 +1,17 @@
 -- The rows of trips.txt and the events of each.
-use Rattle.std.proofs.Common.{◌≡◌, ◌∙◌, sym, ap, refl, ℕ, List, [], ◌∷◌, length, map, replicate, Bool, false, Option, None, Some, Ok}
+use Rattle.std.proofs.Common.{◌≡◌, ◌∙◌, sym, ap, refl, subst, ℕ, List, [], ◌∷◌, length, map, replicate, Bool, false, Option, None, Some, Result, Ok}
 use Rattle.std.proofs.lemmas.List.FromFn.{length-map-range_with_len}
 use Rattle.tb_base.specs.declared.table.Event.{Event}
+use Rattle.tb_base.specs.TimetableData.{TripData}
 use Rattle.gtfs_rows.specs.Faults.{unless_wrong}
+use Rattle.gtfs_rows.specs.Refused.{IsRefused, Yields}
+use Rattle.gtfs_rows.specs.Steps.{and_then}
+use Rattle.gtfs_rows.specs.TripsFile as row
 use Rattle.gtfs_rows.specs.declared.fault.FeedFault.{FeedFault}
+use Rattle.gtfs_rows.specs.declared.fault.RowsFault.{RowsFault}
+use Rattle.service_trips.specs.declared.frequency.TripFrequency.{TripFrequency}
 use Rattle.service_trips.specs.declared.stop_time.StopTime.{StopTime}
+use Rattle.service_trips.specs.Limits.{checked_trips}
 use Rattle.service_trips.specs.Rides.{checked_rides, ride_on, rides_on}
 use Rattle.service_trips.specs.TimeFaults.{wrong_trips}
 use Rattle.service_trips.specs.TimetableTrips.{DayRunsData}
@@ -14,7 +21,7 @@ use Rattle.tb_base.specs.declared.days.Horizon.{Horizon}
 use Rattle.tb_base.specs.ServiceDays.{other_days, service_days}
 use Rattle.service_day.specs.NearDays.{date_of_day}
 use Rattle.trip_table.specs.References.{Rows}
-use Rattle.trip_table.specs.Day.{runs_on, runs_if, runs_of}
+use Rattle.trip_table.specs.Day.{runs_on, runs_if, runs_of, rides_of, trips_on}
 
 -- a value that passes a check is the one that was checked
 pub unless_wrong-value : {A : Type 0} (wrong : List (Option FeedFault)) (x y : A) → unless_wrong wrong x ≡ Ok y → x ≡ y
@@ -48,3 +55,13 @@ pub date_first : (rows : Rows) (date : ℕ) (horizon : Horizon) (runs : List Boo
     → (record { day = Date; runs = runs } ∷ others) ≡ map (runs_of rows date) (service_days horizon)
 unfolding runs_of
 date_first rows date horizon runs others r o = λ i. record { day = Date; runs = r i } ∷ o i
+
+-- trips of these rows, events and service days are those that are meant
+pub trips_meant : {X : Type 0} (view : X → List TripData) (rows : Rows) (frequencies : List TripFrequency) (date : ℕ) (horizon : Horizon) (trips : List row.TripData) (rides : List (List Event)) (days : List DayRunsData) (result : Result X RowsFault)
+    → trips ≡ rows.trips → rides_of rows ≡ Ok rides → days ≡ map (runs_of rows date) (service_days horizon)
+    → Yields IsRefused result view (checked_trips (record { rows = trips; rides = rides; frequencies = frequencies }) days) → Yields IsRefused result view (trips_on rows frequencies date horizon)
+trips_meant view rows frequencies date horizon trips rides days result t r d meant =
+    let meant_is : checked_trips (record { rows = trips; rides = rides; frequencies = frequencies }) days ≡ trips_on rows frequencies date horizon =
+    (λ i. checked_trips (record { rows = t i; rides = rides; frequencies = frequencies }) (d i))
+    ∙ sym (ap (λ (m : Result (List (List Event)) FeedFault). and_then m (λ rides. checked_trips (record { rows = rows.trips; rides = rides; frequencies = frequencies }) (map (runs_of rows date) (service_days horizon)))) r) in
+    subst (λ (m : Result (List TripData) FeedFault). Yields IsRefused result view m) meant_is meant

@@ -1,5 +1,5 @@
-use Rattle.std.proofs.Common.{arith, ◌/◌, ◌%◌, ◌+◌}
-use Rattle.service_day.proofs.NearDays.{good, next_day, next_known, next_month, next_year, first_known, last_of_all}
+use Rattle.std.proofs.Common.{arith}
+use Rattle.service_day.proofs.NearDays.{next_day, next_known, next_month, next_year}
 use Rattle.service_day.proofs.near_days.date_after.Goals as goal
 
 pub returns-then-date-last-clause-known : goal.returns-then-date-last-clause-known
@@ -8,24 +8,10 @@ returns-then-date-last-clause-known c = next_known c.args.date c.requires (let l
 pub returns-then-date-last-clause-number : goal.returns-then-date-last-clause-number
 returns-then-date-last-clause-number c = next_day c.args.date c.requires (let less = c.if-date-last.true in rw c.last_of-last.ensures at less)
 
-pub returns-then-month-lt12-clause-known : goal.returns-then-month-lt12-clause-known
-returns-then-month-lt12-clause-known c =
-    let g = good c.args.date c.requires in
-    rw c.first_of.ensures
-    (first_known (c.args.date / 10000) (c.args.date / 100 % 100 + 1) g.year_low g.year_high (omega arith) (omega (arith, c.if-month-lt12.true)))
-
 pub returns-then-month-lt12-clause-number : goal.returns-then-month-lt12-clause-number
 returns-then-month-lt12-clause-number c =
     rw c.first_of.ensures (next_month c.args.date c.requires (let past = c.if-date-last.false in rw c.last_of-last.ensures at past) c.if-month-lt12.true)
 
-pub returns-then-year-lt9999-clause-known : goal.returns-then-year-lt9999-clause-known
-returns-then-year-lt9999-clause-known c =
-    rw c.first_of-then-year-lt9999.ensures (first_known (c.args.date / 10000 + 1) 1 (omega arith) (omega (arith, c.if-year-lt9999.true)) (omega arith) (omega arith))
-
 pub returns-then-year-lt9999-clause-number : goal.returns-then-year-lt9999-clause-number
 returns-then-year-lt9999-clause-number c =
-    rw c.first_of-then-year-lt9999.ensures (next_year c.args.date c.requires (let past = c.if-date-last.false in rw c.last_of-last.ensures at past) (omega (arith, c.if-month-lt12.false)))
-
-pub returns-clause-number : goal.returns-clause-number
-returns-clause-number c =
-    last_of_all c.args.date c.requires (let past = c.if-date-last.false in rw c.last_of-last.ensures at past) (omega (arith, c.if-month-lt12.false)) (omega (arith, c.if-year-lt9999.false))
+    rw c.first_of-then-year-lt9999.ensures (next_year c.args.date c.requires (let past = c.if-date-last.false in rw c.last_of-last.ensures at past) c.if-month-lt12.false)
