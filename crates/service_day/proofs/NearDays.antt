@@ -101,13 +101,6 @@ earlier_year date h first first_month more =
     let step = days_from_civil-next_year (pos (date / 10000 - 1)) (pos (date / 10000)) (omega (arith, signed_arith)) (omega (arith, signed_arith, more)) in
     rw (n, one, january) (omega (arith, signed_arith, step))
 
--- the first day of a month is a date
-pub first_known : (y m : ℕ) → 1 ≤ y → y ≤ 9999 → 1 ≤ m → m ≤ 12 → is_date (first_of y m) ≡ true
-first_known y m hy hy' hm hm' =
-    let long = days_in_month_bounds (pos y) m in
-    let parts = made y m 1 (omega (arith, hm')) (omega arith) in
-    rw (parts.year_is, parts.month_is, parts.day_is) (grind (arith, nat_tests, long))
-
 -- a day that its month's last one follows
 pub next_day : (date : ℕ) → is_date date ≡ true → date < last_of (date / 10000) (date / 100 % 100) → day_number (date + 1) ≡ day_number date +ℤ pos 1
 next_day date h less =
@@ -159,13 +152,3 @@ next_year date h past whole_year =
     let n = number_of (date / 10000 + 1) 1 1 (omega arith) (omega arith) in
     let step = days_from_civil-next_year (pos (date / 10000)) (pos (date / 10000 + 1)) (omega (arith, signed_arith)) (omega (arith, signed_arith, g.year_low)) in
     rw (n, last, december) (omega (arith, signed_arith, step))
-
--- the last day of the year 9999
-pub last_of_all : (date : ℕ) → is_date date ≡ true → last_of (date / 10000) (date / 100 % 100) ≤ date → 12 ≤ date / 100 % 100 → 9999 ≤ date / 10000 → date ≡ 99991231
-last_of_all date h past whole_year last_year =
-    let g = good date h in
-    let last = is_last date h past in
-    let december : date / 100 % 100 ≡ 12 = omega (arith, whole_year, g.month_high) in
-    let end : date / 10000 ≡ 9999 = omega (arith, last_year, g.year_high) in
-    let day : date % 100 ≡ 31 = rw (december, end) at last in
-    omega (arith, split date, day, december, end)

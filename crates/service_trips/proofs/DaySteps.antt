@@ -32,4 +32,4 @@ size_more feed days i d day runs so_far one size below at is_day are plus is mor
     (plus (timetable_trips feed (take i days)) (shown day (service_trips feed runs)) is more)
 
 pub all_days : (feed : FeedTrips) (days : List DayRunsData) (i : ℕ) → length days ≤ i → timetable_trips feed (take i days) ≡ timetable_trips feed days
-all_days feed days i past = ap (timetable_trips feed) (take_all days i past)
+all_days feed days i past = ap (timetable_trips feed) (take_all i days past)

@@ -10,7 +10,7 @@ use Rattle.tb_base.specs.declared.table.Event.{Event}
 use Rattle.tb_base.specs.TimetableData.{no_event}
 use Rattle.service_trips.specs.ServiceDay.{moved, first_departure, starting_at}
 use Rattle.service_trips.specs.TimetableTrips.{is_shown, last_arrival, last_departure}
-use Rattle.service_trips.specs.ShownRides.{IsRide}
+use Rattle.service_trips.specs.ShownRides.{IsFromZero, IsRide}
 
 -- a trip departs before it arrives
 pub first_before_last : (ride : List Event) → IsRide ride → first_departure ride ≤ℤ last_arrival ride
@@ -29,11 +29,6 @@ end_moved ride secs some =
     let n = length-map ride (moved secs) in
     let at = get_or-map (moved secs) ride (length ride - 1) no_event no_event (omega (arith, some)) in
     rw n (ap Event.dep at)
-
--- a number that stands for a time, and for one before the day its begin
-pub record IsFromZero (time : ℤ) (n : ℕ) : Type 0 where
-  pub none : time ≤ℤ pos 0 → n ≡ 0
-  pub same : pos 0 ≤ℤ time → pos n ≡ time
 
 -- from the start on with which it arrives at a time it arrives no earlier
 from_time : (limit last first time : ℤ) (start least : ℕ) → time ≡ (limit +ℤ first) -ℤ last → IsFromZero time least
@@ -71,14 +66,14 @@ shown_from ride time least ok is at start =
     rw (last_moved ride (pos start -ℤ first_departure ride) (omega (arith, long))) (from_time (pos 86400) (last_arrival ride) (first_departure ride) time start least is at)
 
 -- before a start a trip of a later day is over in time
-pub shown_until : (ride : List Event) (time : ℤ) (most : ℕ) → IsRide ride → time ≡ (pos 273600 +ℤ first_departure ride) -ℤ last_departure ride → IsFromZero time most
+pub shown_until : (ride : List Event) (time : ℤ) (most : ℕ) → IsRide ride → time ≡ ((pos 360000 -ℤ pos 86400) +ℤ first_departure ride) -ℤ last_departure ride → IsFromZero time most
     → (start : ℕ) → nat_lt start most ≡ is_shown day.After (starting_at ride start)
 shown_until ride time most ok is at start =
     let long = ok.long in
-    rw (end_moved ride (pos start -ℤ first_departure ride) (omega (arith, long))) (until_time (pos 273599) (pos 273600) (last_departure ride) (first_departure ride) time start most (omega (arith, ints)) is at)
+    rw (end_moved ride (pos start -ℤ first_departure ride) (omega (arith, long))) (until_time (pos 273599) (pos 360000 -ℤ pos 86400) (last_departure ride) (first_departure ride) time start most (omega (arith, ints)) is at)
 
-pub shown_until_second : (ride : List Event) (time : ℤ) (most : ℕ) → IsRide ride → time ≡ (pos 187200 +ℤ first_departure ride) -ℤ last_departure ride → IsFromZero time most
+pub shown_until_second : (ride : List Event) (time : ℤ) (most : ℕ) → IsRide ride → time ≡ ((pos 360000 -ℤ pos 172800) +ℤ first_departure ride) -ℤ last_departure ride → IsFromZero time most
     → (start : ℕ) → nat_lt start most ≡ is_shown day.SecondAfter (starting_at ride start)
 shown_until_second ride time most ok is at start =
     let long = ok.long in
-    rw (end_moved ride (pos start -ℤ first_departure ride) (omega (arith, long))) (until_time (pos 187199) (pos 187200) (last_departure ride) (first_departure ride) time start most (omega (arith, ints)) is at)
+    rw (end_moved ride (pos start -ℤ first_departure ride) (omega (arith, long))) (until_time (pos 187199) (pos 360000 -ℤ pos 172800) (last_departure ride) (first_departure ride) time start most (omega (arith, ints)) is at)

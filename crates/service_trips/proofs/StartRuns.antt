@@ -1,5 +1,5 @@
 -- The starts of a row are a run of headways.
-use Rattle.std.proofs.Common.{◌≡◌, ◌∙◌, sym, ap, refl, ℕ, zero, suc, ◌+◌, ◌-◌, ◌*◌, ◌/◌, ◌<◌, ◌≤◌, List, [], ◌∷◌, map, min, Bool, true, false, ◌&&◌, inl, inr, arith}
+use Rattle.std.proofs.Common.{◌≡◌, ◌∙◌, sym, ap, refl, subst, ℕ, zero, suc, ◌+◌, ◌-◌, ◌*◌, ◌/◌, ◌<◌, ◌≤◌, List, [], ◌∷◌, map, min, Bool, true, false, ◌&&◌, inl, inr, arith}
 use Rattle.std.specs.Prelude.{filter, nat_lt, nat_le}
 use Rattle.std.specs.List.{range_with_len}
 use Rattle.std.proofs.Math.Nat.{div-mul-le_self, lt-div-mul-add, mul-le-mul_right, le-mul_of_pos_right}
@@ -131,7 +131,7 @@ same_passes p q (x ∷ xs) same =
     ]
 
 -- the starts of a row that is cut at a time are those before it
-pub cut_starts : (end : ℕ) (f : TripFrequency) → IsGoodFrequency f → starts_from 0 (cut_at end f) ≡ starts_in (span.Until end) f
+cut_starts : (end : ℕ) (f : TripFrequency) → IsGoodFrequency f → starts_from 0 (cut_at end f) ≡ starts_in (span.Until end) f
 cut_starts end f good =
     let m = min f.end end in
     let early : ℕ → Bool = λ k. nat_lt (start_at f k) m && nat_le 0 (start_at f k) in
@@ -144,3 +144,9 @@ cut_starts end f good =
     filters_map (nat_le 0) (λ start. nat_lt start m) (start_at f) (range_with_len 0 m)
     ∙ ap (map (start_at f)) (passes_below early 0 m f.end (omega arith) late ∙ same_passes early both (range_with_len 0 f.end) same)
     ∙ sym (filters_map (λ start. nat_lt start end) (λ start. nat_lt start f.end) (start_at f) (range_with_len 0 f.end))
+
+pub cut_run : (end first count : ℕ) (f g : TripFrequency) → IsGoodFrequency f → g ≡ cut_at end f → map (λ k. first + k * g.headway) (range_with_len 0 count) ≡ starts_from 0 g
+    → map (λ k. first + k * f.headway) (range_with_len 0 count) ≡ starts_in (span.Until end) f
+cut_run end first count f g good is run =
+    let cut : map (λ k. first + k * f.headway) (range_with_len 0 count) ≡ starts_from 0 (cut_at end f) = subst (λ (h : TripFrequency). map (λ k. first + k * h.headway) (range_with_len 0 count) ≡ starts_from 0 h) is run in
+    cut ∙ cut_starts end f good

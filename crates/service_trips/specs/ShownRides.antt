@@ -1,5 +1,5 @@
 -- The events of trips, in the reckoning of their own day.
-use Rattle.std.specs.Prelude.{ℕ, ◌-◌, ◌<◌, ◌≤◌, List, length, slice_index_or, All, AllPairs, ℤ, pos, ◌≤ℤ◌, ◌-ℤ◌, ◌+ℤ◌}
+use Rattle.std.specs.Prelude.{◌≡◌, ℕ, ◌-◌, ◌<◌, ◌≤◌, List, length, slice_index_or, All, AllPairs, ℤ, pos, ◌≤ℤ◌, ◌-ℤ◌, ◌+ℤ◌}
 use Rattle.tb_base.specs.declared.days.ServiceDay.{ServiceDay}
 use Rattle.tb_base.specs.declared.table.Event.{Event}
 use Rattle.tb_base.specs.ServiceDays.{seconds_after}
@@ -26,6 +26,11 @@ IsRideOrNone ride = 0 < length ride → IsRide ride
 -- date
 abbrev pub shift : ServiceDay → List Event → ℕ → ℤ
 shift d ride start = pos start -ℤ first_departure ride +ℤ seconds_after d
+
+-- a number that stands for a time, and for one before the day its begin
+pub record IsFromZero (time : ℤ) (n : ℕ) : Type 0 where
+  pub none : time ≤ℤ pos 0 → n ≡ 0
+  pub same : pos 0 ≤ℤ time → pos n ≡ time
 
 -- when a trip that starts at a time arrives at its first stop, and departs from its last
 abbrev pub begin_from : List Event → ℕ → ℤ

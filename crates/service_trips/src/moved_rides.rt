@@ -2,7 +2,7 @@
 ghost use Rattle.std.specs.Prelude.{◌≡◌, ◌<◌, ◌≤◌, ◌≤ℤ◌, ◌-ℤ◌, ◌+ℤ◌, ℕ, All, IfOk, length, map, pos, negsuc};
 ghost use Rattle.tb_base.specs.ServiceDays.{seconds_after};
 ghost use Rattle.service_trips.specs.Starts.{is_in};
-ghost use Rattle.service_trips.specs.ShownRides.{IsRide, IsDayEvent, shift};
+ghost use Rattle.service_trips.specs.ShownRides.{IsRide, IsDayEvent, IsFromZero, shift};
 ghost use Rattle.service_trips.specs.ServiceDay.{first_departure, moved, starting_at};
 ghost use Rattle.service_trips.specs.TimetableTrips.{is_shown, last_arrival, last_departure};
 
@@ -123,38 +123,29 @@ pub(crate) fn shown_starts(ride: &[Event], day: ServiceDay) -> StartSpan
     ensures { (start : ℕ) → is_in result start ≡ is_shown day (starting_at ride.now start) }
 {
     match day {
-        ServiceDay::Before => StartSpan::From(from_zero(midnight_start(ride))),
+        ServiceDay::Before => StartSpan::From(midnight_start(ride)),
         ServiceDay::Date => StartSpan::From(0),
-        ServiceDay::After => StartSpan::Until(from_zero(end_start(ride, LATEST + 1 - DAY))),
-        ServiceDay::SecondAfter => StartSpan::Until(from_zero(end_start(
-            ride,
-            LATEST + 1 - 2 * DAY,
-        ))),
+        ServiceDay::After => StartSpan::Until(end_start(ride, day)),
+        ServiceDay::SecondAfter => StartSpan::Until(end_start(ride, day)),
     }
 }
 
-// A time, and for one before the day its begin.
-fn from_zero(time: Sec) -> u32
-    ensures none { time ≤ℤ pos 0 → result ≡ 0 }
-    ensures same { pos 0 ≤ℤ time → pos result ≡ time }
+// The least start with which a trip arrives after its day.
+fn midnight_start(ride: &[Event]) -> u32
+    requires { IsRide ride.now }
+    ensures { IsFromZero (pos 86400 +ℤ first_departure ride.now -ℤ last_arrival ride.now) result }
 {
+    let time = DAY + first_departure(ride) - last_arrival(ride);
     if time > 0 { time.unsigned_abs() } else { 0 }
 }
 
-// The start with which a trip arrives at midnight, after its day.
-fn midnight_start(ride: &[Event]) -> Sec
+// The least start with which a trip of a service day is over too late.
+fn end_start(ride: &[Event], day: ServiceDay) -> u32
     requires { IsRide ride.now }
-    ensures { result ≡ pos 86400 +ℤ first_departure ride.now -ℤ last_arrival ride.now }
+    ensures { IsFromZero
+        (pos 360000 -ℤ seconds_after day +ℤ first_departure ride.now -ℤ last_departure ride.now)
+        result }
 {
-    DAY + first_departure(ride) - last_arrival(ride)
-}
-
-// The start with which a trip departs from its last stop at a time.
-fn end_start(ride: &[Event], end: Sec) -> Sec
-    requires ride { IsRide ride.now }
-    requires low { pos 0 ≤ℤ end }
-    requires high { end ≤ℤ pos 360000 }
-    ensures { result ≡ end +ℤ first_departure ride.now -ℤ last_departure ride.now }
-{
-    end + first_departure(ride) - last_departure(ride)
+    let time = LATEST + 1 - day_shift(day) + first_departure(ride) - last_departure(ride);
+    if time > 0 { time.unsigned_abs() } else { 0 }
 }
