@@ -1,5 +1,5 @@
 -- What a timetable shows of the trips of a service day.
-use Rattle.std.proofs.Common.{◌≡◌, ◌∙◌, sym, ap, refl, ℕ, ◌<◌, List, [], ◌∷◌, ◌++◌, length, map, Bool, inl, inr, arith}
+use Rattle.std.proofs.Common.{◌≡◌, ◌∙◌, sym, ap, refl, ℕ, List, [], ◌∷◌, ◌++◌, map, Bool, inl, inr, arith}
 use Rattle.std.specs.Prelude.{filter, codes, ℤ, pos, ◌+ℤ◌, ◌-ℤ◌}
 use Rattle.std.proofs.lemmas.Int.{ints}
 use Rattle.std.proofs.lemmas.Bool.{cases_Bool}
@@ -12,9 +12,8 @@ use Rattle.tb_base.specs.Clock.{time_text}
 use Rattle.tb_base.specs.ServiceDays.{seconds_after}
 use Rattle.tb_base.specs.TimetableData.{TripData}
 use Rattle.service_trips.specs.declared.starts.StartSpan.{StartSpan}
-use Rattle.service_trips.specs.declared.frequency.TripFrequency.{TripFrequency}
-use Rattle.service_trips.specs.Starts.{frequency_at, is_in}
-use Rattle.service_trips.specs.ServiceDay.{moved, first_departure, trip_starting_at, trips_of}
+use Rattle.service_trips.specs.Starts.{is_in}
+use Rattle.service_trips.specs.ServiceDay.{moved, first_departure, trip_starting_at}
 use Rattle.service_trips.specs.TimetableTrips.{is_shown, reckoned, shown}
 use Rattle.service_trips.specs.ShownRides.{shift}
 
@@ -28,7 +27,7 @@ moved_none (x ∷ xs) =
     λ i. record { stop = x.stop; arr = arr i; dep = dep i; board = x.board; alight = x.alight } ∷ rest i
 
 -- a trip of the date stays as it is
-of_date : (name : List ℕ) (events : List Event) → record { name = name; day = day.Date; events = events } ≡ reckoned day.Date (record { name = name; day = day.Date; events = events })
+pub of_date : (name : List ℕ) (events : List Event) → record { name = name; day = day.Date; events = events } ≡ reckoned day.Date (record { name = name; day = day.Date; events = events })
 of_date name events =
     let e = moved_none events in
     λ i. record { name = name; day = day.Date; events = sym e i }
@@ -70,12 +69,3 @@ late_starts d span f (x ∷ xs) late =
       | inl t ↦ rw (here, t) (ap (λ rest. reckoned d (f x) ∷ rest) (late_starts d span f xs late))
       | inr e ↦ rw (here, e) (late_starts d span f xs late)
     ]
-
--- a trip of the date that no row of frequencies.txt names
-pub own_added : (id name : List ℕ) (rows these : List TripFrequency) (places : List ℕ) (ride : List Event) (old new : List TripData) → 0 < length ride → length places ≡ 0 → map (frequency_at rows) places ≡ these → name ≡ id
-    → new ≡ old ++ record { name = name; day = day.Date; events = ride } ∷ [] → new ≡ old ++ shown day.Date (trips_of id these ride)
-own_added id name rows these places [] old new some none are named is = absurd (omega (arith, some))
-own_added id name rows these (p ∷ places) (e ∷ es) old new some none are named is = absurd (omega (arith, none))
-own_added id name rows [] [] (e ∷ es) old new some none are named is =
-    is ∙ ap (λ t. old ++ t ∷ []) ((λ i. record { name = named i; day = day.Date; events = e ∷ es }) ∙ of_date id (e ∷ es))
-own_added id name rows (f ∷ fs) [] (e ∷ es) old new some none are named is = absurd cc

@@ -3,7 +3,7 @@ ghost use Rattle.std.specs.Prelude.{◌≡◌, ◌<◌, ◌++◌, All, IfOk, OnO
 ghost use Rattle.service_trips.specs.Starts.{names_trip};
 ghost use Rattle.service_trips.specs.ShownRides.{IsRideOrNone};
 ghost use Rattle.service_trips.specs.ServiceDay.{trips_where, service_trips};
-ghost use Rattle.service_trips.specs.TimetableTrips.{shown};
+ghost use Rattle.service_trips.specs.TimetableTrips.{reckoned, shown};
 
 use crate::FrequencyTable;
 use crate::by_starts::add_by_starts;
@@ -46,8 +46,21 @@ fn add_shown(
     Ok(())
 }
 
-// The same of the date itself. Where no row of frequencies.txt names the row, its events go over to
-// its trip.
+// A trip of the date: its times are those of the date as they are.
+fn own_trip(name: Name, events: Vec<Event>) -> Trip
+    ensures { result
+        ≡ reckoned ServiceDay.Date
+        (record { name = name; day = ServiceDay.Date; events = events.items }) }
+{
+    Trip {
+        name,
+        day: ServiceDay::Date,
+        events,
+    }
+}
+
+// Adds the trips of a row of trips.txt on the date, if it runs then. Where no row of frequencies.txt
+// names it, its events go over to its trip.
 fn add_own(
     alloc: Global,
     trips: &mut Vec<Trip>,
@@ -67,16 +80,11 @@ fn add_own(
     if !runs || ride.is_empty() {
         return Ok(());
     }
-    let day = ServiceDay::Date;
     if !table.places(trip).is_empty() {
-        return add_by_starts(alloc, trips, id, &ride, table, trip, day);
+        return add_by_starts(alloc, trips, id, &ride, table, trip, ServiceDay::Date);
     }
     let name = Name::new(alloc, id.bytes())?;
-    trips.push(Trip {
-        name,
-        day,
-        events: ride,
-    })?;
+    trips.push(own_trip(name, ride))?;
     Ok(())
 }
 
