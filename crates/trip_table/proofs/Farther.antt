@@ -23,7 +23,7 @@ use Rattle.trip_table.specs.Feed.{Feed}
 use Rattle.trip_table.specs.References.{Rows, frequencies_of, rows_of, transfers_of}
 use Rattle.trip_table.proofs.DayTrips.{unless_wrong-value}
 use Rattle.trip_table.proofs.Determined.{settled_unique}
-use Rattle.trip_table.proofs.Given.{one_value, stepped}
+use Rattle.trip_table.proofs.Steps.{one_value, stepped}
 
 -- what the members of a list give is among what those of another give that has them
 module _ {A B : Type 0} (f : A → List B) where
