@@ -30,6 +30,15 @@ end_moved ride secs some =
     let at = get_or-map (moved secs) ride (length ride - 1) no_event no_event (omega (arith, some)) in
     rw n (ap Event.dep at)
 
+-- a trip departs from its last stop at a time of a day
+pub end_within : (ride : List Event) → IsRide ride → (pos 0 ≤ℤ last_departure ride) × (last_departure ride ≤ℤ pos 359999)
+end_within ride ok =
+    let long = ok.long in
+    let e = ok.events (length ride - 1) no_event (omega (arith, long)) in
+    let since = e.since in
+    let waits = e.waits in
+    (omega (arith, ints, since, waits), e.latest)
+
 -- from the start on with which it arrives at a time it arrives no earlier
 from_time : (limit last first time : ℤ) (start least : ℕ) → time ≡ (limit +ℤ first) -ℤ last → IsFromZero time least
     → nat_le least start ≡ not (int_lt (last +ℤ (pos start -ℤ first)) limit)

@@ -123,29 +123,56 @@ pub(crate) fn shown_starts(ride: &[Event], day: ServiceDay) -> StartSpan
     ensures { (start : ℕ) → is_in result start ≡ is_shown day (starting_at ride.now start) }
 {
     match day {
-        ServiceDay::Before => StartSpan::From(midnight_start(ride)),
+        ServiceDay::Before => StartSpan::From(least_start(ride)),
         ServiceDay::Date => StartSpan::From(0),
-        ServiceDay::After => StartSpan::Until(end_start(ride, day)),
-        ServiceDay::SecondAfter => StartSpan::Until(end_start(ride, day)),
+        ServiceDay::After => StartSpan::Until(late_start(ride, day)),
+        ServiceDay::SecondAfter => StartSpan::Until(late_start(ride, day)),
     }
 }
 
 // The least start with which a trip arrives after its day.
-fn midnight_start(ride: &[Event]) -> u32
+fn least_start(ride: &[Event]) -> u32
     requires { IsRide ride.now }
     ensures { IsFromZero (pos 86400 +ℤ first_departure ride.now -ℤ last_arrival ride.now) result }
 {
-    let time = DAY + first_departure(ride) - last_arrival(ride);
+    let time = midnight_start(ride);
     if time > 0 { time.unsigned_abs() } else { 0 }
 }
 
+// The start with which a trip arrives at midnight, after its day.
+fn midnight_start(ride: &[Event]) -> Sec
+    requires { IsRide ride.now }
+    ensures { result ≡ pos 86400 +ℤ first_departure ride.now -ℤ last_arrival ride.now }
+{
+    DAY + first_departure(ride) - last_arrival(ride)
+}
+
 // The least start with which a trip of a service day is over too late.
-fn end_start(ride: &[Event], day: ServiceDay) -> u32
+fn late_start(ride: &[Event], day: ServiceDay) -> u32
     requires { IsRide ride.now }
     ensures { IsFromZero
         (pos 360000 -ℤ seconds_after day +ℤ first_departure ride.now -ℤ last_departure ride.now)
         result }
 {
-    let time = LATEST + 1 - day_shift(day) + first_departure(ride) - last_departure(ride);
+    let time = end_start(ride, day);
     if time > 0 { time.unsigned_abs() } else { 0 }
+}
+
+// The start with which a trip of a service day departs from its last stop a second too late.
+fn end_start(ride: &[Event], day: ServiceDay) -> Sec
+    requires { IsRide ride.now }
+    ensures { result
+        ≡ pos 360000 -ℤ seconds_after day +ℤ first_departure ride.now -ℤ last_departure ride.now }
+{
+    LATEST + 1 - day_shift(day) + first_departure(ride) - end_of(ride)
+}
+
+// The departure of a trip from its last stop, which is a time of a day.
+fn end_of(ride: &[Event]) -> Sec
+    requires { IsRide ride.now }
+    ensures end { result ≡ last_departure ride.now }
+    ensures least { pos 0 ≤ℤ result }
+    ensures most { result ≤ℤ pos 359999 }
+{
+    last_departure(ride)
 }

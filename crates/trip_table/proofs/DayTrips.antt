@@ -47,9 +47,6 @@ pub runs_given : (rows : Rows) (date : ℕ) (day : ServiceDay) (runs : List Bool
 unfolding runs_of
 runs_given rows date day runs is = ap (λ (r : List Bool). record { day = day; runs = r }) is
 
-pub runs-long : (rows : Rows) (date : ℕ) (day : ServiceDay) (runs : List Bool) → record { day = day; runs = runs } ≡ runs_of rows date day → DayRunsData.runs (runs_of rows date day) ≡ runs
-runs-long rows date day runs is = ap DayRunsData.runs (sym is)
-
 -- the date itself is the first of its service days
 pub date_first : (rows : Rows) (date : ℕ) (horizon : Horizon) (runs : List Bool) (others : List DayRunsData) → runs ≡ runs_on rows date → others ≡ map (runs_of rows date) (other_days horizon)
     → (record { day = Date; runs = runs } ∷ others) ≡ map (runs_of rows date) (service_days horizon)
