@@ -30,11 +30,19 @@ end_moved ride secs some =
     let at = get_or-map (moved secs) ride (length ride - 1) no_event no_event (omega (arith, some)) in
     rw n (ap Event.dep at)
 
--- a trip departs from its last stop at a time of a day
+-- a trip departs from its first and its last stop at times of a day
 pub end_within : (ride : List Event) → IsRide ride → (pos 0 ≤ℤ last_departure ride) × (last_departure ride ≤ℤ pos 359999)
 end_within ride ok =
     let long = ok.long in
     let e = ok.events (length ride - 1) no_event (omega (arith, long)) in
+    let since = e.since in
+    let waits = e.waits in
+    (omega (arith, ints, since, waits), e.latest)
+
+pub begin_within : (ride : List Event) → IsRide ride → (pos 0 ≤ℤ first_departure ride) × (first_departure ride ≤ℤ pos 359999)
+begin_within ride ok =
+    let long = ok.long in
+    let e = ok.events 0 no_event (omega (arith, long)) in
     let since = e.since in
     let waits = e.waits in
     (omega (arith, ints, since, waits), e.latest)

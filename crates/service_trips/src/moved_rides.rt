@@ -164,7 +164,17 @@ fn end_start(ride: &[Event], day: ServiceDay) -> Sec
     ensures { result
         ≡ pos 360000 -ℤ seconds_after day +ℤ first_departure ride.now -ℤ last_departure ride.now }
 {
-    LATEST + 1 - day_shift(day) + first_departure(ride) - end_of(ride)
+    LATEST + 1 - day_shift(day) + begin_of(ride) - end_of(ride)
+}
+
+// The departure of a trip from its first stop, which is a time of a day.
+fn begin_of(ride: &[Event]) -> Sec
+    requires { IsRide ride.now }
+    ensures begin { result ≡ first_departure ride.now }
+    ensures least { pos 0 ≤ℤ result }
+    ensures most { result ≤ℤ pos 359999 }
+{
+    first_departure(ride)
 }
 
 // The departure of a trip from its last stop, which is a time of a day.
