@@ -1,6 +1,6 @@
 -- A timetable with a farther horizon has all that one with a nearer horizon has.
 use Rattle.std.proofs.Common.{◌≡◌, ◌∙◌, sym, ap, refl, subst, ℕ, zero, suc, ◌<◌, List, [], ◌∷◌, ◌++◌, map, length, get_or, arith}
-use Rattle.std.specs.Prelude.{All, Bool, Contains, Result, Ok, Err}
+use Rattle.std.specs.Prelude.{All, Bool, Contains, nat_lt, Result, Ok, Err}
 use Rattle.std.specs.List.{flat_map}
 use Rattle.std.proofs.lemmas.List.{get_or-map, length-map}
 use Rattle.std.proofs.lemmas.List.Elements.{All-append, All-cons, All-head, All-nil, All-tail, Contains-append_left, Contains-append_right, Contains-get_or}
@@ -8,14 +8,17 @@ use Rattle.tb_base.specs.TimetableData.{FootpathData, TimetableData, TripData}
 use Rattle.tb_base.specs.ServiceDays.{service_days}
 use Rattle.tb_base.specs.Wider.{HasAllOf}
 use Rattle.tb_base.specs.declared.days.ServiceDay.{ServiceDay}
+use Rattle.gtfs_rows.specs.Faults.{fault_if}
 use Rattle.gtfs_rows.specs.Steps.{and_then}
 use Rattle.gtfs_rows.specs.StopsFile.{StopData}
 use Rattle.gtfs_rows.specs.TransfersFile.{TransferData}
 use Rattle.gtfs_rows.specs.declared.fault.FeedFault.{FeedFault}
+use Rattle.gtfs_rows.specs.declared.fault.FeedFault.TheVariants as fault
+use Rattle.gtfs_rows.specs.declared.fault.Many.TheVariants as many
 use Rattle.footpaths.specs.declared.paths.Options.{Options}
 use Rattle.service_trips.specs.Limits.{check_frequencies, checked_trips}
 use Rattle.service_trips.specs.ServiceDay.{FeedTrips}
-use Rattle.service_trips.specs.Sizes.{check_size}
+use Rattle.service_trips.specs.Sizes.{check_size, event_count}
 use Rattle.service_trips.specs.TimetableTrips.{DayRunsData, timetable_trips}
 use Rattle.trip_table.specs.Day.{AreClosedOrTested, DayParts, IsTimetableOf, IsTimetableOfParts, Then, day_parts, given_footpaths, parts_after_rows, rides_of, runs_of, timetable, trips_on}
 use Rattle.trip_table.specs.Farther.{IsNoNearer}
@@ -60,7 +63,8 @@ passed : (feed : FeedTrips) (days : List DayRunsData) (trips : List TripData) �
 unfolding checked_trips
 passed feed days trips e =
     let checked = stepped (check_frequencies feed) (λ _. check_size (timetable_trips feed days)) trips e in
-    unless_wrong-value _ (timetable_trips feed days) trips checked.2
+    let meant = timetable_trips feed days in
+    unless_wrong-value (fault_if (nat_lt 500000 (length meant)) (fault.TooMany many.RunningTrips 0) ∷ fault_if (nat_lt 10000000 (event_count meant)) (fault.TooMany many.Events 0) ∷ []) meant trips checked.2
 
 -- the trips of a nearer horizon are among those of a farther one
 trips_among : (rows : Rows) (feed : FeedTrips) (date : ℕ) (near far : List ServiceDay) (some more : List TripData) → All (Contains far) near

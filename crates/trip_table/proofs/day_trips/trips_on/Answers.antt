@@ -17,7 +17,7 @@ pub returns-clause-trips : goal.returns-clause-trips
 returns-clause-trips c =
     let days = date_first c.args.rows.now c.args.date.now c.args.horizon c.as_slice.result.now c.as_slice-2.result.now (c.as_slice.ensures.value ∙ c.in_ok-runs.ensures.runs)
     (c.as_slice-2.ensures.value ∙ c.in_ok-others.ensures.runs ∙ ap (map (runs_of c.args.rows.now c.args.date.now)) c.other_days.ensures) in
-    trips_meant (λ trips. trips.items) c.args.rows.now c.args.frequencies.now.rows c.args.date.now c.args.horizon c.rows-trips.result.now _ _ c.timetable_trips.result (c.rows-trips.ensures.rows ∙ c.trips-trips.ensures) c.in-Ok.ensures.rides days c.timetable_trips.ensures.meant
+    trips_meant (λ trips. trips.items) c.args.rows.now c.args.frequencies.now.rows c.args.date.now c.args.horizon c.rows-trips.result.now _ _ c.timetable_trips.result (c.rows-trips.ensures.rows ∙ c.trips.ensures) c.in-Ok.ensures.rides days c.timetable_trips.ensures.meant
 
 pub returns-clause-sound : goal.returns-clause-sound
 returns-clause-sound c =
