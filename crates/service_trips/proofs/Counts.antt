@@ -1,5 +1,5 @@
 -- How many trips are shown, and how many events they have.
-use Rattle.std.proofs.Common.{◌≡◌, ◌∙◌, sym, ap, refl, ℕ, suc, ◌+◌, ◌*◌, ◌<◌, ◌≤◌, List, [], ◌∷◌, map, length, min, Bool, true, false, arith, inl, inr}
+use Rattle.std.proofs.Common.{◌≡◌, ◌∙◌, sym, ap, refl, ℕ, suc, ◌+◌, ◌*◌, ◌<◌, ◌≤◌, List, [], ◌∷◌, map, length, min, Bool, arith, inl, inr}
 use Rattle.std.specs.Prelude.{All, filter, nat_le, sum_by}
 use Rattle.std.specs.List.{flat_map}
 use Rattle.std.proofs.Math.Nat.{le-mul_of_pos_right}

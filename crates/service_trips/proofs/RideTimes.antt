@@ -1,5 +1,5 @@
 -- When a trip arrives and departs that is moved to a start.
-use Rattle.std.proofs.Common.{◌≡◌, ap, ℕ, ◌-◌, ◌<◌, List, map, length, Bool, true, inl, inr, arith}
+use Rattle.std.proofs.Common.{◌≡◌, ap, ℕ, ◌-◌, ◌<◌, List, map, length, inl, inr, arith}
 use Rattle.std.specs.Prelude.{nat_le, nat_lt, not, ℤ, pos, int_lt, ◌+ℤ◌, ◌-ℤ◌, ◌≤ℤ◌}
 use Rattle.std.proofs.lemmas.Int.{ints}
 use Rattle.std.proofs.lemmas.Bool.{cases_Bool}

@@ -1,4 +1,3 @@
-use Rattle.std.proofs.Common.{arith}
 use Rattle.service_day.proofs.NearDays.{next_day, next_known, next_month, next_year}
 use Rattle.service_day.proofs.near_days.date_after.Goals as goal
 
