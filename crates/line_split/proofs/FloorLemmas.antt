@@ -175,6 +175,10 @@ module _ (T : TimetableData) (lines buckets : List (List ℕ)) (floors new : Lis
           subst (λ r. AreFloorsOf T opened r (get_or new c no_floor)) (sym (get_or-set_other buckets b c (row ++ length lines ∷ []) [] e))
           (subst (λ fs. AreFloorsOf T opened (get_or buckets c []) fs) (sym (others c e)) (record { room = (are.each c).room; no_later = still c; far = (are.each c).far }))
 
+pub replicated : {X : Type 0} (x : X) (n : ℕ) → length (replicate n x) ≡ n
+replicated x zero = refl
+replicated x (suc n) = ap (λ k. suc k) (replicated x n)
+
 -- before any trip
 pub no_floors_yet : (T : TimetableData) (n m : ℕ) → n ≡ m → AreFloors T [] (replicate n []) (replicate m no_floor)
 no_floors_yet T n m e = record {
@@ -183,10 +187,6 @@ no_floors_yet T n m e = record {
       (subst (λ fs. AreFloorsOf T [] [] fs) (sym (nowhere m b)) (record { room = omega arith; no_later = λ k below. absurd (omega (arith, below)); far = record { room = omega arith; lower = λ j below. absurd (omega (arith, below)) } }));
 }
   where
-    replicated : {X : Type 0} (x : X) (n : ℕ) → length (replicate n x) ≡ n
-    replicated x zero = refl
-    replicated x (suc n) = ap (λ k. suc k) (replicated x n)
-
     nowhere : (m b : ℕ) → get_or (replicate m no_floor) b no_floor ≡ no_floor
     nowhere zero b = refl
     nowhere (suc m) zero = refl
