@@ -1,14 +1,16 @@
 -- The least of some times, and figures of all stops.
-use Rattle.std.proofs.Common.{◌≡◌, ◌∙◌, ℕ, zero, suc, ◌+◌, ◌-◌, ◌<◌, ◌≤◌, List, [], ◌∷◌, ◌++◌, length, get_or, map, reverse, refl, sym, ap, subst, arith, Option, Some, None, ℤ, pos, ◌+ℤ◌, ◌-ℤ◌, ◌≤ℤ◌}
-use Rattle.std.specs.Prelude.{Contains}
+use Rattle.std.proofs.Common.{◌≡◌, ◌∙◌, ℕ, zero, suc, ◌+◌, ◌-◌, ◌<◌, ◌≤◌, List, [], ◌∷◌, ◌++◌, length, get_or, map, reverse, refl, sym, ap, subst, arith, Option, Some, None, ℤ, pos, ◌+ℤ◌, ◌-ℤ◌, ◌≤ℤ◌, ◌⊎◌, inl, inr}
+use Rattle.std.specs.Prelude.{All, Contains}
 use Rattle.std.proofs.lemmas.Int.{ints}
 use Rattle.std.proofs.lemmas.List.{get_or-map, get_or-reverse, length-map, length-reverse}
 use Rattle.tb_base.specs.declared.query.Value.{Value}
 use Rattle.tb_base.specs.BestValues.{IsLeast}
 use Rattle.tb_base.specs.TimetableData.{TimetableData}
+use Rattle.tb_base.proofs.Ordered.{Member, Member-from_Contains}
 use Rattle.plain_rounds.specs.OneRide.{earlier_of}
 use Rattle.plain_rounds.proofs.Least.{IsLeast-contained, IsLeast-more, IsLeast-same, earlier_of-least, get_or-inside}
 use Rattle.reach_all.specs.declared.figures.Figures.{Figures}
+use Rattle.reach_all.specs.Arriving.{lone}
 use Rattle.reach_all.specs.Reach.{values_at}
 use Rattle.reach_all.specs.TravelTimes.{AreFigures, HaveFigures, IsTravelTime, IsWithin}
 use Rattle.reach_all.specs.Ranks.{AreTimesAt, IsTimeOf}
@@ -43,6 +45,29 @@ module _ (values : List Value) (leave : ℤ) where
       IsLeast-contained (λ (v : Value) secs. v.arrive ≡ leave +ℤ secs) values d i time all
       (IsLeast-same (λ secs. (k : ℕ) × (k < i) × ((e : Value) → (get_or values k e).arrive ≡ leave +ℤ secs)) (λ secs. (k : ℕ) × (k < i) × ((get_or values k d).arrive ≡ leave +ℤ secs))
       (λ secs p. (p.0, p.1, p.2 d)) (λ secs p. (p.0, p.1, λ e. subst (λ (v : Value). v.arrive ≡ leave +ℤ secs) (get_or-inside values p.0 d e (subst (λ n. p.0 < n) all p.1)) p.2)) time h)
+
+-- a lone arrival
+pub lone_later : (arrival : Option ℤ) (a leave : ℤ) → arrival ≡ Some a → All (λ (v : Value). leave ≤ℤ v.arrive) (lone arrival) → leave ≤ℤ a
+lone_later arrival a leave is all = subst (λ o. All (λ (v : Value). leave ≤ℤ v.arrive) (lone o)) is all 0 (record { arrive = a; rides = 1 }) (omega arith)
+
+only_one : (w v : Value) → Member v (w ∷ []) → w ≡ v
+only_one w v (inl is) = is
+only_one w v (inr h) = absurd h
+
+pub lone_time : (arrival : Option ℤ) (a leave time : ℤ) → arrival ≡ Some a → time ≡ a -ℤ leave → IsTimeOf (lone arrival) leave (Some time)
+lone_time arrival a leave time is e = subst (λ o. IsTimeOf (lone o) leave (Some time)) (sym is) ((one, (0, omega arith, refl), there), least)
+  where
+    one : Value
+    one = record { arrive = a; rides = 1 }
+
+    there : a ≡ leave +ℤ time
+    there = omega (arith, ints, e)
+
+    least : (secs : ℤ) → ((v : Value) × Contains (one ∷ []) v × (v.arrive ≡ leave +ℤ secs)) → time ≤ℤ secs
+    least secs h =
+        let same : one ≡ h.0 = only_one one h.0 (Member-from_Contains h.0 (one ∷ []) h.1) in
+        let at : a ≡ leave +ℤ secs = ap (λ (v : Value). v.arrive) same ∙ h.2 in
+        omega (arith, ints, e, at)
 
 -- by walks and by rides
 pub time_at : (walks rides : List Value) (leave : ℤ) (a b : Option ℤ) → IsTimeOf walks (pos 0) a → IsTimeOf rides leave b → IsLeast (IsWalkOrRide walks rides leave) (earlier_of a b)

@@ -1,5 +1,5 @@
 -- The values that have been found for each stop so far.
-use Rattle.std.specs.Prelude.{◌≡◌, ◌⊎◌, ◌<◌, ◌≤◌, ◌==◌, ℕ, List, [], ◌∷◌, ℤ, pos, ◌+ℤ◌, int_le, if◌then◌else◌, length, All, AllPairs, Contains, Some, slice_index_or}
+use Rattle.std.specs.Prelude.{◌≡◌, ◌⊎◌, ◌<◌, ◌≤◌, ◌==◌, ℕ, List, [], ◌∷◌, ℤ, pos, ◌+ℤ◌, int_le, if◌then◌else◌, length, All, AllPairs, Contains, Option, None, Some, slice_index_or}
 use Rattle.tb_base.specs.declared.query.Value.{Value}
 use Rattle.tb_base.specs.declared.table.Path.{Path}
 use Rattle.tb_base.specs.BestValues.{IsAttained, IsStep}
@@ -17,6 +17,11 @@ with_value (w ∷ []) v =
     else if w.rides == v.rides then v ∷ []
     else w ∷ v ∷ []
 with_value (w ∷ x ∷ more) v = w ∷ with_value (x ∷ more) v
+
+-- the value of one ride that arrives then, where there is an arrival
+abbrev pub lone : Option ℤ → List Value
+lone None = []
+lone (Some time) = record { arrive = time; rides = 1 } ∷ []
 
 -- for each stop ever more rides and ever earlier arrivals, with at most so many rides
 pub record AreStairs (rides : ℕ) (lists : List (List Value)) : Type 0 where

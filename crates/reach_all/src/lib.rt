@@ -17,6 +17,7 @@ mod figures;
 pub mod laws;
 mod offers;
 mod query;
+mod soonest;
 mod sweeping;
 mod text;
 mod travel_text;

@@ -6,7 +6,7 @@ ghost use Rattle.tb_base.specs.Sufficiency.{AreSufficient};
 ghost use Rattle.segment_queue.specs.Queue.{Fits, IsSoundSegment};
 ghost use Rattle.segment_queue.specs.Traced.{round_of, segment_of};
 ghost use Rattle.earliest_query.specs.Sweeping.{IsSweptTo};
-ghost use Rattle.reach_all.specs.Arriving.{AreStairs};
+ghost use Rattle.reach_all.specs.Arriving.{AreStairs, lone};
 ghost use Rattle.plain_rounds.specs.OneRide.{earlier_of};
 ghost use Rattle.reach_all.specs.Ranks.{AreTimesAt, IsTimeOf};
 ghost use Rattle.reach_all.specs.Reach.{values_at};
@@ -16,7 +16,8 @@ ghost use Rattle.reach_all.specs.TravelTimes.{IsWithin};
 
 use super::arrivals::Arrivals;
 use super::query::query_everywhere;
-use super::walking::{alight, walk_all};
+use super::soonest::Soonest;
+use super::walking::{alight_soonest, walk_all};
 use earliest_query::{Sweep, segment_total};
 use segment_queue::{Desk, Look, Scan, Steps};
 use std::alloc::Global;
@@ -29,7 +30,7 @@ use tb_base::{Memory, Query, Sec, StopNo, Value};
 struct Swept {
     sweep: Sweep,
     rounds: Vec<u32>,
-    arrivals: Arrivals,
+    arrivals: Soonest,
 }
 
 // Whether a round is past a limit on rides.
@@ -82,7 +83,7 @@ fn offer_segment<L: Ledger, S: Look<L>>(
     scan: &S,
     desk: &Desk,
     n: u32,
-    arrivals: &mut Arrivals,
+    arrivals: &mut Soonest,
     steps: &mut Steps<L>,
 ) -> Result<(), Memory>
     requires segment { n < length desk.now.segments }
@@ -98,7 +99,7 @@ fn offer_segment<L: Ledger, S: Look<L>>(
     };
     for before in segment.board..segment.end {
         let visit = scan.visit(segment.trip, before + 1, steps);
-        alight(scan, arrivals, &visit, 1)?;
+        alight_soonest(scan, arrivals, &visit);
     }
     Ok(())
 }
@@ -111,7 +112,7 @@ fn offer_within<L: Ledger, S: Look<L>>(
     n: u32,
     round: u32,
     rides: Option<u32>,
-    arrivals: &mut Arrivals,
+    arrivals: &mut Soonest,
     steps: &mut Steps<L>,
 ) -> Result<(), Memory>
     requires segment { n < length desk.now.segments }
@@ -139,7 +140,7 @@ fn offer_segments<L: Ledger, S: Look<L>>(
     from: u32,
     rounds: &[u32],
     rides: Option<u32>,
-    arrivals: &mut Arrivals,
+    arrivals: &mut Soonest,
     steps: &mut Steps<L>,
 ) -> Result<(), Memory>
     requires sound { All (IsSoundSegment (S.net scan.now).table) desk.now.segments }
@@ -262,21 +263,42 @@ fn time_of(values: &[Value], leave: Sec) -> Option<Sec>
     time
 }
 
+// How long after the departure an arrival is.
+fn later_by(arrive: Sec, leave: Sec) -> Sec
+    requires leave { pos 0 ≤ℤ leave }
+    requires later { leave ≤ℤ arrive }
+    ensures { result ≡ arrive -ℤ leave }
+{
+    arrive - leave
+}
+
+// The same, where there is one.
+fn time_after(arrival: Option<Sec>, leave: Sec) -> Option<Sec>
+    requires leave { pos 0 ≤ℤ leave }
+    requires later { All (λ v. leave ≤ℤ v.arrive) (lone arrival) }
+    ensures { IsTimeOf (lone arrival) leave result }
+{
+    match arrival {
+        Some(arrive) => Some(later_by(arrive, leave)),
+        None => None,
+    }
+}
+
 // The least time by a walk that begins at 0 or by an arrival after the departure.
-fn time_at(walks: &[Value], arrivals: &[Value], leave: Sec) -> Option<Sec>
+fn time_at(walks: &[Value], arrival: Option<Sec>, leave: Sec) -> Option<Sec>
     requires leave { pos 0 ≤ℤ leave }
     requires walks { All (λ v. pos 0 ≤ℤ v.arrive) walks.now }
-    requires arrivals { All (λ v. leave ≤ℤ v.arrive) arrivals.now }
-    ensures { IsLeast (IsWalkOrRide walks.now arrivals.now leave) result }
+    requires arrival { All (λ v. leave ≤ℤ v.arrive) (lone arrival) }
+    ensures { IsLeast (IsWalkOrRide walks.now (lone arrival) leave) result }
 {
-    shorter(time_of(walks, 0), time_of(arrivals, leave))
+    shorter(time_of(walks, 0), time_after(arrival, leave))
 }
 
 // The same for each stop.
 fn times_at(
     alloc: Global,
     walks: &[Vec<Value>],
-    arrivals: &[Vec<Value>],
+    arrivals: &[Option<Sec>],
     leave: Sec,
 ) -> Result<Vec<Option<Sec>>, Memory>
     requires leave { pos 0 ≤ℤ leave }
@@ -284,16 +306,15 @@ fn times_at(
     requires walks { (p : ℕ) → All (λ v. pos 0 ≤ℤ v.arrive)
         (values_at (map (λ list. list.items) walks.now) p) }
     requires arrivals { (p : ℕ) → All (λ v. leave ≤ℤ v.arrive)
-        (values_at (map (λ list. list.items) arrivals.now) p) }
+        (values_at (map lone arrivals.now) p) }
     ensures each_stop { IfOk result (λ times. length times.items ≡ length arrivals.now) }
     ensures times { IfOk result (λ times. (p : ℕ) (o : Option ℤ) → p < length arrivals.now →
         IsLeast (IsWalkOrRide (values_at (map (λ list. list.items) walks.now) p)
-        (values_at (map (λ list. list.items) arrivals.now) p) leave)
-        (slice_index_or times.items p o)) }
+        (values_at (map lone arrivals.now) p) leave) (slice_index_or times.items p o)) }
 {
     let mut times = Vec::new(alloc);
     for stop in 0..arrivals.len() {
-        times.push(time_at(walks[stop].as_slice(), arrivals[stop].as_slice(), leave))?;
+        times.push(time_at(walks[stop].as_slice(), arrivals[stop], leave))?;
     }
     Ok(times)
 }
@@ -307,7 +328,7 @@ fn begin<S: Scan>(alloc: Global, scan: &S, query: &Query, desk: &mut Desk) -> Re
 {
     let mut sweep = Sweep::new(alloc);
     sweep.begin(alloc, scan, query, desk)?;
-    let arrivals = Arrivals::new(alloc, scan.shape().stops as usize)?;
+    let arrivals = Soonest::new(alloc, scan.shape().stops as usize)?;
     Ok(Swept {
         sweep,
         rounds: Vec::new(alloc),
@@ -345,7 +366,7 @@ fn ask<L: Ledger, S: Look<L>>(
 {
     scan.soundness();
     come_down(alloc, scan, query, rides, desk, swept, steps)?;
-    let times = times_at(alloc, walks, swept.arrivals.rows(), query.leave)?;
+    let times = times_at(alloc, walks, swept.arrivals.times(), query.leave)?;
     Ok(times)
 }
 

@@ -3,6 +3,7 @@ ghost use Rattle.reach_all.specs.Arriving.{AreStairs, IsOfferedFrom};
 ghost use Rattle.reach_all.specs.Spreading.{AreStarts};
 
 use super::arrivals::Arrivals;
+use super::soonest::Soonest;
 use segment_queue::{Scan, Visit};
 use tb_base::{Memory, Query, StopNo, Value};
 
@@ -90,6 +91,41 @@ pub(crate) fn alight<S: Scan>(
     }
     let value = alighting(visit, round);
     offer_from(scan, arrivals, visit.stop, &value)
+}
+
+// Offers a value of one ride at a stop to the stop and to each one with a walk from there.
+fn offer_ride<S: Scan>(scan: &S, soonest: &mut Soonest, stop: StopNo, value: &Value)
+    requires stop { stop < length (S.net scan.now).table.stops }
+    requires each_stop { length soonest.old ≡ length (S.net scan.now).table.stops }
+    requires stairs { AreStairs 1 soonest.old }
+    requires arrive { value.now.arrive ≤ℤ pos 359999 }
+    requires rides { value.now.rides ≡ 1 }
+    ensures { IsOfferedFrom (S.net scan.now).table stop value.now soonest.old soonest.new }
+{
+    scan.soundness();
+    soonest.offer(stop, value);
+    for path in scan.walks(stop) {
+        let there = walked_on(value, path.secs);
+        soonest.offer(path.to, &there);
+    }
+}
+
+// Offers what an event of a trip that is ridden gives as a value of one ride, if one may alight
+// there.
+pub(crate) fn alight_soonest<S: Scan>(scan: &S, soonest: &mut Soonest, visit: &Visit)
+    requires stop { visit.now.stop < length (S.net scan.now).table.stops }
+    requires each_stop { length soonest.old ≡ length (S.net scan.now).table.stops }
+    requires stairs { AreStairs 1 soonest.old }
+    requires arr { visit.now.arr ≤ℤ pos 359999 }
+    ensures { MatchBool visit.now.alight
+        (IsOfferedFrom (S.net scan.now).table visit.now.stop
+        (record { arrive = visit.now.arr; rides = 1 }) soonest.old soonest.new)
+        (soonest.new ≡ soonest.old) }
+{
+    if visit.alight {
+        let value = alighting(visit, 1);
+        offer_ride(scan, soonest, visit.stop, &value);
+    }
 }
 
 // Offers all walks from origins.
