@@ -20,5 +20,5 @@ pub fn mirror(alloc: Global, table: &Timetable) -> Result<Timetable, Memory>
         change: table.copy_change_times(alloc)?,
         paths: PathsInto::of(alloc, table)?.into_rows(),
     };
-    Timetable::new(alloc, parts)
+    Timetable::new(alloc, table.key(), parts)
 }

@@ -14,7 +14,7 @@ mod heading;
 mod lines;
 
 use std::alloc::Global;
-use tb_base::{Memory, Parts, Timetable};
+use tb_base::{HashKey, Memory, Parts, Timetable};
 
 // The parts of the city with so many rows and columns.
 fn parts(alloc: Global, side: u32) -> Result<Parts, Memory>
@@ -44,5 +44,5 @@ pub fn city(alloc: Global, side: u32) -> Result<Timetable, Memory>
     requires few { side ≤ 40 }
     ensures { IfOk result (λ table. table ≡ city side) }
 {
-    Timetable::new(alloc, parts(alloc, side)?)
+    Timetable::new(alloc, HashKey::known(), parts(alloc, side)?)
 }

@@ -12,12 +12,12 @@ use gtfs_rows::{PathRule, TransferRow};
 use indexmap::IndexSet;
 use std::alloc::{AllocError, Global};
 use std::marker::Model;
-use tb_base::Memory;
+use tb_base::{HashKey, Memory};
 
 // The numbers of pairs of stops that were seen.
 #[derive(Drop)]
 struct Pairs {
-    numbers: IndexSet<u64>,
+    numbers: IndexSet<u64, HashKey>,
 }
 
 impl Model for Pairs {
@@ -29,11 +29,11 @@ impl Model for Pairs {
 }
 
 impl Pairs {
-    fn new(alloc: Global) -> Pairs
+    fn new(alloc: Global, key: HashKey) -> Pairs
         ensures { result ≡ [] }
     {
         Pairs {
-            numbers: IndexSet::new(alloc),
+            numbers: IndexSet::with_hasher(alloc, key),
         }
     }
 
@@ -109,7 +109,7 @@ fn check_transfers(alloc: Global, rows: &[TransferRow], stops: &StopTable) -> Re
         (check_transfers stops.now rows.now) }
     ensures days { OnOk result (All (λ r. TakesAtMostADay (TransferData.rule r)) rows.now) }
 {
-    let mut pairs = Pairs::new(alloc);
+    let mut pairs = Pairs::new(alloc, stops.key());
     for row in rows {
         let pair = match pair_of(row, stops) {
             Ok(pair) => pair,

@@ -8,14 +8,14 @@ use crate::{Found, StopsFault};
 use gtfs_rows::StopRow;
 use std::alloc::Global;
 use std::marker::Model;
-use tb_base::{Memory, Name, NameIndex, StopNo};
+use tb_base::{HashKey, Memory, Name, NameIndex, StopNo};
 
 // The ids of all rows, where an id that stands twice counts once.
-fn known_ids(alloc: Global, rows: &[StopRow]) -> Result<NameIndex, Memory>
+fn known_ids(alloc: Global, key: HashKey, rows: &[StopRow]) -> Result<NameIndex, Memory>
     ensures { IfOk result
         (λ ids. (id : List ℕ) → list_any (bytes_eq id) ids ≡ list_any (has_stop_id id) rows.now) }
 {
-    let mut ids = NameIndex::new(alloc);
+    let mut ids = NameIndex::new(alloc, key);
     for row in rows {
         ids.add(alloc, row.id.bytes())?;
     }
@@ -40,7 +40,7 @@ fn checked_ids(alloc: Global, rows: &[StopRow], known: &NameIndex) -> Result<Nam
         (λ ids. (check_stops rows.now ≡ Ok rows.now) × (ids ≡ map stop_id rows.now))
         (IsStopsRefused (check_stops rows.now)) }
 {
-    let mut ids = NameIndex::new(alloc);
+    let mut ids = NameIndex::new(alloc, known.key());
     for row in rows {
         match ids.add(alloc, row.id.bytes()) {
             Ok(true) => {}
@@ -55,11 +55,11 @@ fn checked_ids(alloc: Global, rows: &[StopRow], known: &NameIndex) -> Result<Nam
 }
 
 // The ids of the platforms, in file order.
-fn platform_ids(alloc: Global, rows: &[StopRow]) -> Result<NameIndex, Memory>
+fn platform_ids(alloc: Global, key: HashKey, rows: &[StopRow]) -> Result<NameIndex, Memory>
     requires { check_stops rows.now ≡ Ok rows.now }
     ensures { IfOk result (λ ids. ids ≡ map stop_id (platforms rows.now)) }
 {
-    let mut ids = NameIndex::new(alloc);
+    let mut ids = NameIndex::new(alloc, key);
     for row in rows {
         if row.kind.is_platform() {
             ids.add(alloc, row.id.bytes())?;
@@ -69,11 +69,11 @@ fn platform_ids(alloc: Global, rows: &[StopRow]) -> Result<NameIndex, Memory>
 }
 
 // The ids of the stations, in file order.
-fn station_ids(alloc: Global, rows: &[StopRow]) -> Result<NameIndex, Memory>
+fn station_ids(alloc: Global, key: HashKey, rows: &[StopRow]) -> Result<NameIndex, Memory>
     requires { check_stops rows.now ≡ Ok rows.now }
     ensures { IfOk result (λ ids. ids ≡ map stop_id (stations rows.now)) }
 {
-    let mut ids = NameIndex::new(alloc);
+    let mut ids = NameIndex::new(alloc, key);
     for row in rows {
         if row.kind.is_station() {
             ids.add(alloc, row.id.bytes())?;
@@ -173,14 +173,15 @@ impl StopTable {
     ghost use Rattle.footpaths.specs.Stops.{find_stop, station_of};
 
     /// The table of these rows. Refused exactly where a row has the id of an earlier row, or names
-    /// a parent that no row has: the first such row, and its first such fault.
-    pub fn new(alloc: Global, rows: &[StopRow]) -> Result<StopTable, StopsFault>
+    /// a parent that no row has: the first such row, and its first such fault. Ids are hashed by
+    /// the key.
+    pub fn new(alloc: Global, key: HashKey, rows: &[StopRow]) -> Result<StopTable, StopsFault>
         requires { length rows.now ≤ 100000 }
         ensures { MatchResult result
             (λ table. (table ≡ rows.now) × (check_stops rows.now ≡ Ok rows.now))
             (IsStopsRefused (check_stops rows.now)) }
     {
-        let known = known_ids(alloc, rows)?;
+        let known = known_ids(alloc, key, rows)?;
         let ids = checked_ids(alloc, rows, &known)?;
         let table = StopTable::with_ids(alloc, rows, ids)?;
         Ok(table)
@@ -193,8 +194,8 @@ impl StopTable {
         requires ids { ids ≡ map stop_id rows.now }
         ensures { IfOk result (λ table. table ≡ rows.now) }
     {
-        let platforms = platform_ids(alloc, rows)?;
-        let stations = station_ids(alloc, rows)?;
+        let platforms = platform_ids(alloc, ids.key(), rows)?;
+        let stations = station_ids(alloc, ids.key(), rows)?;
         let parents = parents_of(alloc, rows, &stations)?;
         let rows = copies_of(alloc, rows)?;
         Ok(StopTable {
@@ -212,6 +213,11 @@ impl StopTable {
         ensures checked { check_stops self.now ≡ Ok self.now }
     {
         let _rows = &self.rows;
+    }
+
+    /// The key by which ids are hashed.
+    pub fn key(&self) -> HashKey {
+        self.ids.key()
     }
 
     /// The rows, in file order.

@@ -34,5 +34,5 @@ pub fn amended(
         change: table.copy_change_times(alloc)?,
         paths: table.copy_paths(alloc)?,
     };
-    Ok(Timetable::new(alloc, parts)?)
+    Ok(Timetable::new(alloc, table.key(), parts)?)
 }

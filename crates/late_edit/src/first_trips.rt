@@ -6,12 +6,12 @@ ghost use Rattle.late_edit.specs.Finding.{FindsFirst, trip_found, trip_noted};
 use indexmap::IndexMap;
 use std::alloc::Global;
 use std::marker::Model;
-use tb_base::{Memory, Trip};
+use tb_base::{HashKey, Memory, Trip};
 
 // For each name the number of a trip, where one is noted.
 #[derive(Drop)]
 struct NamedTrips {
-    trips: IndexMap<Vec<u8>, u32>,
+    trips: IndexMap<Vec<u8>, u32, HashKey>,
 }
 
 impl Model for NamedTrips {
@@ -24,11 +24,11 @@ impl Model for NamedTrips {
 }
 
 impl NamedTrips {
-    fn new(alloc: Global) -> NamedTrips
+    fn new(alloc: Global, key: HashKey) -> NamedTrips
         ensures { (name : List ℕ) → trip_noted result name ≡ None }
     {
         NamedTrips {
-            trips: IndexMap::new(alloc),
+            trips: IndexMap::with_hasher(alloc, key),
         }
     }
 
@@ -68,12 +68,12 @@ impl Model for FirstTrips {
 
 impl FirstTrips {
     // No trip.
-    fn new(alloc: Global) -> FirstTrips
+    fn new(alloc: Global, key: HashKey) -> FirstTrips
         ensures { (before : Bool) (name : List ℕ) → trip_found result before name ≡ None }
     {
         FirstTrips {
-            of_day: NamedTrips::new(alloc),
-            of_day_before: NamedTrips::new(alloc),
+            of_day: NamedTrips::new(alloc, key),
+            of_day_before: NamedTrips::new(alloc, key),
         }
     }
 
@@ -92,12 +92,12 @@ impl FirstTrips {
     }
 
     /// The first of these trips of each name. The last one is noted first, so that an earlier one
-    /// takes the place of a later one.
-    pub(crate) fn of(alloc: Global, trips: &[Trip]) -> Result<FirstTrips, Memory>
+    /// takes the place of a later one. Names are hashed by the key.
+    pub(crate) fn of(alloc: Global, key: HashKey, trips: &[Trip]) -> Result<FirstTrips, Memory>
         requires { length trips.now ≤ 500000 }
         ensures { IfOk result (λ first. FindsFirst first trips.now) }
     {
-        let mut first = FirstTrips::new(alloc);
+        let mut first = FirstTrips::new(alloc, key);
         for t in (0..trips.len()).rev() {
             first.note(alloc, &trips[t], t as u32)?;
         }

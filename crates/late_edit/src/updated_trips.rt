@@ -57,7 +57,7 @@ impl UpdatedTrips {
     {
         table.soundness();
         let trips = table.copy_trips(alloc)?;
-        let first = FirstTrips::of(alloc, trips.as_slice())?;
+        let first = FirstTrips::of(alloc, table.key(), trips.as_slice())?;
         Ok(UpdatedTrips { trips, first })
     }
 

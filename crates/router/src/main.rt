@@ -11,7 +11,7 @@ use std::env;
 use std::io::ErrorKind;
 use std::process::ExitCode;
 use std::rt::Env;
-use tb_base::IdleGate;
+use tb_base::{HashKey, IdleGate};
 use tb_io::{HostFolder, InSource, OutSink};
 
 // The words after the program's name. One that isn't UTF-8 has no meaning.
@@ -35,7 +35,7 @@ fn main(rt: HostRuntime) -> ExitCode {
         Ok(words) => words,
         Err(status) => return end(&rt, false, status),
     };
-    let mut folder = HostFolder::new(&rt);
+    let mut folder = HostFolder::new(&rt, HashKey::drawn(&rt));
     let mut script = InSource::new(rt.stdin());
     let mut out = OutSink::new(rt.stdout());
     let status = route(

@@ -7,7 +7,7 @@ use crate::Day;
 use gtfs_rows::{CalendarRow, DateRow};
 use std::alloc::Global;
 use std::marker::Model;
-use tb_base::{Memory, NameIndex};
+use tb_base::{HashKey, Memory, NameIndex};
 
 /// The services that run on a day, seen as their ids.
 #[derive(Drop)]
@@ -31,12 +31,18 @@ impl Services {
 }
 
 // The services that the date rows of a day add, or those that they remove.
-fn dated(alloc: Global, day: u32, dates: &[DateRow], added: bool) -> Result<NameIndex, Memory>
+fn dated(
+    alloc: Global,
+    key: HashKey,
+    day: u32,
+    dates: &[DateRow],
+    added: bool,
+) -> Result<NameIndex, Memory>
     ensures { IfOk result
         (λ ids. (service : List ℕ) →
         list_any (bytes_eq service) ids ≡ list_any (says day added service) dates.now) }
 {
-    let mut ids = NameIndex::new(alloc);
+    let mut ids = NameIndex::new(alloc, key);
     for row in dates {
         if row.date == day && row.added == added {
             if ids.add(alloc, row.service.bytes()).is_err() {
@@ -76,9 +82,11 @@ fn counts(day: &Day, row: &CalendarRow, removed: &NameIndex) -> bool
     holds(day, row) && !removed.contains(row.service.bytes())
 }
 
-/// The services that run on a day, by the rows of calendar.txt and calendar_dates.txt.
+/// The services that run on a day, by the rows of calendar.txt and calendar_dates.txt. Ids are
+/// hashed by the key.
 pub fn running(
     alloc: Global,
+    key: HashKey,
     day: &Day,
     calendar: &[CalendarRow],
     dates: &[DateRow],
@@ -87,8 +95,8 @@ pub fn running(
         (λ s. (service : List ℕ) →
         list_any (bytes_eq service) s ≡ runs day.now calendar.now dates.now service) }
 {
-    let removed = dated(alloc, day.date(), dates, false)?;
-    let mut ids = dated(alloc, day.date(), dates, true)?;
+    let removed = dated(alloc, key, day.date(), dates, false)?;
+    let mut ids = dated(alloc, key, day.date(), dates, true)?;
     for row in calendar {
         let service = row.service.bytes();
         let test = counts(day, row, &removed);

@@ -2,6 +2,7 @@
 ghost use Rattle.std.specs.List.{list_any};
 ghost use Rattle.std.specs.Prelude.{not, ◌≡◌, ◌≢◌, ◌+◌, ◌<◌, ◌++◌, ◌||◌, ◌∷◌, [], ℕ, OnOk, List, AllPairs, map, position, bytes_eq, IfOk, OnErr, MatchBool, Some, false};
 
+use super::hash_key::HashKey;
 use super::memory::Memory;
 use super::table::{Station, Stop};
 use indexmap::IndexSet;
@@ -12,7 +13,7 @@ use std::marker::Model;
 /// of the names.
 #[derive(Drop)]
 pub struct NameIndex {
-    ids: IndexSet<Vec<u8>>,
+    ids: IndexSet<Vec<u8>, HashKey>,
 }
 
 impl Model for NameIndex {
@@ -27,21 +28,26 @@ impl Model for NameIndex {
 }
 
 impl NameIndex {
-    /// No name.
-    pub fn new(alloc: Global) -> NameIndex
+    /// No name. What comes is hashed by the key.
+    pub fn new(alloc: Global, key: HashKey) -> NameIndex
         ensures { result ≡ [] }
     {
         NameIndex {
-            ids: IndexSet::new(alloc),
+            ids: IndexSet::with_hasher(alloc, key),
         }
     }
 
+    /// The key by which names are hashed.
+    pub fn key(&self) -> HashKey {
+        *self.ids.hasher()
+    }
+
     /// The names of stops.
-    pub(crate) fn of_stops(alloc: Global, stops: &[Stop]) -> Result<NameIndex, Memory>
+    pub(crate) fn of_stops(alloc: Global, key: HashKey, stops: &[Stop]) -> Result<NameIndex, Memory>
         requires { AllPairs (λ m n. m ≢ n) (map (λ s. s.name) stops.now) }
         ensures { IfOk result (λ index. index ≡ map (λ s. s.name) stops.now) }
     {
-        let mut index = NameIndex::new(alloc);
+        let mut index = NameIndex::new(alloc, key);
         for stop in stops {
             index.push(alloc, stop.name.bytes())?;
         }
@@ -49,11 +55,15 @@ impl NameIndex {
     }
 
     /// The names of stations.
-    pub(crate) fn of_stations(alloc: Global, stations: &[Station]) -> Result<NameIndex, Memory>
+    pub(crate) fn of_stations(
+        alloc: Global,
+        key: HashKey,
+        stations: &[Station],
+    ) -> Result<NameIndex, Memory>
         requires { AllPairs (λ m n. m ≢ n) (map (λ s. s.name) stations.now) }
         ensures { IfOk result (λ index. index ≡ map (λ s. s.name) stations.now) }
     {
-        let mut index = NameIndex::new(alloc);
+        let mut index = NameIndex::new(alloc, key);
         for station in stations {
             index.push(alloc, station.name.bytes())?;
         }

@@ -1,6 +1,7 @@
 ghost use Rattle.std.specs.Prelude.{◌≡◌, ◌<◌, ◌≤◌, length, map, sum_by, All, AllPairs, Some};
 ghost use Rattle.tb_base.specs.TimetableData.{TripData};
 
+use super::hash_key::HashKey;
 use super::memory::Memory;
 use super::name_index::NameIndex;
 use super::numbers::{StopNo, TripNo};
@@ -75,13 +76,14 @@ impl Timetable {
     ghost use Rattle.tb_base.specs.Walking.{change, walk};
 
     /// The timetable with exactly these parts. It owns them, and an index of the names of stops and
-    /// stations besides. Refused only for want of memory; the parts are dropped then.
-    pub fn new(alloc: Global, parts: Parts) -> Result<Timetable, Memory>
+    /// stations besides, hashed by the key. Refused only for want of memory; the parts are dropped
+    /// then.
+    pub fn new(alloc: Global, key: HashKey, parts: Parts) -> Result<Timetable, Memory>
         requires { IsSound parts }
         ensures { IfOk result (λ table. table ≡ parts) }
     {
-        let stop_names = NameIndex::of_stops(alloc, parts.stops.as_slice())?;
-        let station_names = NameIndex::of_stations(alloc, parts.stations.as_slice())?;
+        let stop_names = NameIndex::of_stops(alloc, key, parts.stops.as_slice())?;
+        let station_names = NameIndex::of_stations(alloc, key, parts.stations.as_slice())?;
         let events = events_in(parts.trips.as_slice());
         let footpaths = paths_in(parts.paths.as_slice());
         Ok(Timetable {
@@ -98,6 +100,11 @@ impl Timetable {
         ensures { IsSound self.now }
     {
         let _parts = &self.parts;
+    }
+
+    /// The key by which names are hashed.
+    pub fn key(&self) -> HashKey {
+        self.stop_names.key()
     }
 
     /// How many stops there are. Their numbers are those below.

@@ -22,6 +22,7 @@ pub use host::{HostFolder, InSource, OutSink};
 pub use mem::{MemFolder, MemSink, MemSource};
 pub use put::{Put, put_all};
 pub use take::{Taken, take_file, take_source};
+use tb_base::HashKey;
 
 /// The outside failed.
 #[derive(Debug, Clone, Copy, PartialEq, Eq)]
@@ -32,6 +33,9 @@ pub trait Folder {
     ghost files: { Self → Option FileList };
 
     ghost faults: { Self → ℕ };
+
+    /// The key by which names of its files are to be hashed.
+    fn key(&self) -> HashKey;
 
     /// Whether the path is one of the folder's files.
     fn has(&mut self, path: &str) -> Result<bool, Failed>

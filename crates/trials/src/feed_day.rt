@@ -3,7 +3,7 @@ use crate::stopped::Stopped;
 use service_day::{Day, day_of};
 use std::alloc::Global;
 use std::rt::Files;
-use tb_base::Timetable;
+use tb_base::{HashKey, Timetable};
 use tb_io::HostFolder;
 use trip_table::{Options, read_day};
 
@@ -39,7 +39,7 @@ impl FeedDay<'_> {
             station: None,
             close: false,
         };
-        let mut folder = HostFolder::new(rt);
+        let mut folder = HostFolder::new(rt, HashKey::known());
         let Ok(table) = read_day(alloc, &mut folder, self.dir, &self.day, &options) else {
             let _ = eprintln!(rt;
                 "trials: the feed {} has no timetable of that day",

@@ -90,6 +90,7 @@ pub(crate) fn assemble(
         paths) }
 {
     stops.soundness();
+    let key = stops.key();
     let stations = stations_of(alloc, stops)?;
     let stops = stops_of(alloc, stops.rows())?;
     let Paths { change, paths } = paths;
@@ -100,5 +101,5 @@ pub(crate) fn assemble(
         change,
         paths,
     };
-    Timetable::new(alloc, parts)
+    Timetable::new(alloc, key, parts)
 }

@@ -38,6 +38,7 @@ fn runs_on(alloc: Global, rows: &FeedRows, day: &Day) -> Result<Vec<bool>, Memor
     let found = rows.services();
     let services = running(
         alloc,
+        rows.stops().key(),
         day,
         found.calendar.as_slice(),
         found.dates.as_slice(),

@@ -9,7 +9,7 @@ use crate::feed::spot;
 use gtfs_rows::columns::{calendar, trips};
 use gtfs_rows::{CalendarRow, FeedFault, FeedFile, RowsFault, TripRow};
 use std::alloc::Global;
-use tb_base::NameIndex;
+use tb_base::{HashKey, NameIndex};
 
 /// A row with an id that no other row of its file may have.
 pub trait Identified {
@@ -54,15 +54,19 @@ impl Identified for TripRow {
     }
 }
 
-/// The ids of rows, which all differ, or what is wrong with the first row that has the id of an
-/// earlier one.
-pub fn distinct_ids<R: Identified>(alloc: Global, rows: &[R]) -> Result<NameIndex, RowsFault>
+/// The ids of rows, which all differ, hashed by the key; or what is wrong with the first row that
+/// has the id of an earlier one.
+pub fn distinct_ids<R: Identified>(
+    alloc: Global,
+    key: HashKey,
+    rows: &[R],
+) -> Result<NameIndex, RowsFault>
     ensures { MatchResult result
         (λ ids. (check_rows (λ _. wrong_twice R.id R.duplicate) rows.now ≡ Ok rows.now)
         × (ids ≡ map R.id rows.now))
         (IsRefused (check_rows (λ _. wrong_twice R.id R.duplicate) rows.now)) }
 {
-    let mut ids = NameIndex::new(alloc);
+    let mut ids = NameIndex::new(alloc, key);
     for row in rows {
         match ids.add(alloc, row.id()) {
             Ok(true) => {}

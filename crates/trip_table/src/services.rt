@@ -12,6 +12,7 @@ use crate::feed::file_rows;
 use gtfs_rows::{CalendarReader, CalendarRow, DateReader, DateRow, FeedFault, FeedFile, RowsFault};
 use std::alloc::Global;
 use std::marker::Model;
+use tb_base::HashKey;
 use tb_io::Folder;
 
 /// The rows that say which services run.
@@ -30,7 +31,11 @@ impl Model for ServiceRows {
 }
 
 // Refuses the first row of calendar.txt whose service has an earlier row.
-fn check_calendar(alloc: Global, calendar: &Option<Vec<CalendarRow>>) -> Result<(), RowsFault>
+fn check_calendar(
+    alloc: Global,
+    key: HashKey,
+    calendar: &Option<Vec<CalendarRow>>,
+) -> Result<(), RowsFault>
     ensures { Yields rows.IsRefused result
         (λ _. unwrap_or (option_map (λ v. v.items) calendar.now) [])
         (check_rows wrong_calendar (unwrap_or (option_map (λ v. v.items) calendar.now) [])) }
@@ -38,7 +43,7 @@ fn check_calendar(alloc: Global, calendar: &Option<Vec<CalendarRow>>) -> Result<
     let Some(rows) = calendar else {
         return Ok(());
     };
-    match distinct_ids(alloc, rows.as_slice()) {
+    match distinct_ids(alloc, key, rows.as_slice()) {
         Ok(_) => Ok(()),
         Err(fault) => Err(fault),
     }
@@ -61,7 +66,7 @@ fn read_calendar<F: Folder>(
         Ok(rows) => rows,
         Err(fault) => return Err(fault),
     };
-    check_calendar(alloc, &calendar)?;
+    check_calendar(alloc, folder.key(), &calendar)?;
     Ok(calendar)
 }
 

@@ -30,7 +30,7 @@ pub fn read_stops<F: Folder>(
         Ok(None) => return Err(DayFault::Feed(FeedFault::MissingFile(FeedFile::Stops))),
         Err(fault) => return Err(fault),
     };
-    match StopTable::new(alloc, rows.as_slice()) {
+    match StopTable::new(alloc, folder.key(), rows.as_slice()) {
         Ok(table) => Ok(table),
         Err(StopsFault::DuplicateId(row)) => Err(DayFault::Feed(FeedFault::DuplicateId(spot(
             FeedFile::Stops,

@@ -1,5 +1,6 @@
 //! Files, output and scripts.
 mod breaking;
+mod keys;
 mod machine;
 mod pieces;
 mod streams;

@@ -10,7 +10,7 @@ use crate::plan::{Building, Built, PlanEnd, PlanItem, build_item};
 use std::alloc::Global;
 use std::marker::{Brand, PhantomData};
 use std::thread::Threads;
-use tb_base::Gate;
+use tb_base::{Gate, HashKey};
 use tb_io::{Failed, Folder};
 
 /// Which folder is lent, and how many faults it had counted then. Each call picks it.
@@ -38,6 +38,9 @@ pub(crate) trait Lends {
     ghost count: { Self → ℕ };
 
     ghost name: { Self → ℕ };
+
+    /// The folder's key.
+    fn lent_key(&self) -> HashKey;
 
     /// As the folder's `has`.
     fn lent_has(&mut self, path: &str) -> Result<bool, Failed>
@@ -80,6 +83,10 @@ impl<'f, F: Folder> Lends for Loan<'f, F> {
 
     ghost name = { λ l. l.folder.ghost_name };
 
+    fn lent_key(&self) -> HashKey {
+        self.folder.key()
+    }
+
     fn lent_has(&mut self, path: &str) -> Result<bool, Failed> {
         self.folder.has(path)
     }
@@ -103,6 +110,10 @@ impl<B: Lends, N: Lent> Folder for Counted<B, N> {
     ghost files = { λ c. B.lent_files c.lender };
 
     ghost faults = { λ c. c.faults };
+
+    fn key(&self) -> HashKey {
+        self.lender.lent_key()
+    }
 
     fn has(&mut self, path: &str) -> Result<bool, Failed> {
         match self.lender.lent_has(path) {

@@ -13,11 +13,13 @@ use std::io;
 use std::io::{ErrorKind, Read, Seek, SeekFrom};
 use std::marker::Model;
 use std::rt::Files;
+use tb_base::HashKey;
 
 /// The files of the machine. It tells no contents, and contracts see it as its count of faults.
 #[derive(Drop)]
 pub struct HostFolder<'a, R: Files> {
     rt: &'a R,
+    key: HashKey,
     faults: u64,
 }
 
@@ -30,11 +32,11 @@ impl<'a, R: Files> Model for HostFolder<'a, R> {
 }
 
 impl<'a, R: Files> HostFolder<'a, R> {
-    /// The files that a runtime reaches, before the first fault.
-    pub fn new(rt: &'a R) -> HostFolder<'a, R>
+    /// The files that a runtime reaches, before the first fault. Their names are hashed by the key.
+    pub fn new(rt: &'a R, key: HashKey) -> HostFolder<'a, R>
         ensures { result ≡ 0 }
     {
-        HostFolder { rt, faults: 0 }
+        HostFolder { rt, key, faults: 0 }
     }
 }
 
@@ -42,6 +44,10 @@ impl<'a, R: Files> Folder for HostFolder<'a, R> {
     ghost files = { λ _. None };
 
     ghost faults = { λ s. s };
+
+    fn key(&self) -> HashKey {
+        self.key
+    }
 
     fn has(&mut self, path: &str) -> Result<bool, Failed> {
         counted(&mut self.faults, presence(self.rt.metadata(path)))

@@ -10,8 +10,10 @@ use super::calls::Calls;
 use super::copy_front;
 use crate::{Failed, Folder};
 use std::marker::Model;
+use tb_base::HashKey;
 
-/// A folder in memory. It tells its contents, and fails at the calls whose numbers are given.
+/// A folder in memory. It tells its contents, and fails at the calls whose numbers are given. Its
+/// key is the one that everyone knows.
 #[derive(Drop)]
 pub struct MemFolder {
     files: Vec<(String, Vec<u8>)>,
@@ -104,6 +106,10 @@ impl Folder for MemFolder {
     ghost files = { λ f. Some f.files };
 
     ghost faults = { λ f. f.calls.faults };
+
+    fn key(&self) -> HashKey {
+        HashKey::known()
+    }
 
     fn has(&mut self, path: &str) -> Result<bool, Failed>
         ensures told { IfOk result (λ there.

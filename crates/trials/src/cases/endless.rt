@@ -1,5 +1,6 @@
 //! A file that has no end.
 use std::marker::Model;
+use tb_base::HashKey;
 use tb_io::{Failed, Folder};
 
 /// A folder with one file, which goes on for ever. It tells no contents.
@@ -23,6 +24,10 @@ impl<'a> Folder for Endless<'a> {
     ghost files = { λ _. None };
 
     ghost faults = { λ s. s };
+
+    fn key(&self) -> HashKey {
+        HashKey::known()
+    }
 
     fn has(&mut self, path: &str) -> Result<bool, Failed> {
         Ok(path == self.path)

@@ -3,6 +3,7 @@
 use super::untried::Untried;
 use std::alloc::{AllocError, Global};
 use std::rt;
+use tb_base::HashKey;
 use tb_io::{HostFolder, take_file};
 
 /// The files of a folder by their paths.
@@ -33,7 +34,7 @@ pub fn host_file<R: rt::Files>(
     alloc: Global,
     path: &str,
 ) -> Result<Option<Vec<u8>>, Untried> {
-    let mut folder = HostFolder::new(rt);
+    let mut folder = HostFolder::new(rt, HashKey::known());
     match take_file(alloc, &mut folder, path, MOST) {
         Ok(taken) => Ok(taken),
         Err(_) => Err(Untried::NoFile),

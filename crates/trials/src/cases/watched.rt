@@ -1,4 +1,5 @@
 //! Objects of which it is noted whether they are called after a call that failed.
+use tb_base::HashKey;
 use tb_io::{Failed, Folder, Sink, Source};
 
 /// A folder, a source or a sink, which is as another one, and notes whether it is called after a
@@ -42,6 +43,10 @@ impl<F: Folder> Folder for Watched<F> {
     ghost files = { λ s. F.files s.inner };
 
     ghost faults = { λ s. F.faults s.inner };
+
+    fn key(&self) -> HashKey {
+        self.inner.key()
+    }
 
     fn has(&mut self, path: &str) -> Result<bool, Failed> {
         note_call(self.has_failed, &mut self.is_called_again);

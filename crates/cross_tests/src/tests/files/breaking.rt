@@ -2,6 +2,7 @@
 ghost use Rattle.std.specs.Prelude.{◌≡◌, None};
 ghost use Rattle.tb_io.specs.Causes.{HasCause};
 
+use tb_base::HashKey;
 use tb_io::{Failed, Folder, Sink, Source, put_all, take_file, take_source};
 
 // An object without an end, one of whose calls fails, and which counts the calls that come after
@@ -45,6 +46,10 @@ impl Folder for Breaking {
     ghost files = { λ _. None };
 
     ghost faults = { λ s. s.faults };
+
+    fn key(&self) -> HashKey {
+        HashKey::known()
+    }
 
     fn has(&mut self, _path: &str) -> Result<bool, Failed> {
         self.call()?;

@@ -7,6 +7,7 @@ use std::os::unix::fs::{MetadataExt, PermissionsExt, symlink};
 use std::path::Path;
 use std::test::Fail;
 use std::{env, fs, process};
+use tb_base::HashKey;
 use tb_io::{HostFolder, InSource, Taken, take_file, take_source};
 
 // A path in a folder, which no other test has.
@@ -37,7 +38,7 @@ fn varied(alloc: Global, count: u32) -> Result<Vec<u8>, AllocError> {
 fn taken(rt: &HostRuntime, path: &str, most: u64) -> Result<Option<Vec<u8>>, Taken>
     requires { most ≤ 200_000 }
 {
-    let mut folder = HostFolder::new(rt);
+    let mut folder = HostFolder::new(rt, HashKey::known());
     take_file(rt.alloc(), &mut folder, path, most)
 }
 
