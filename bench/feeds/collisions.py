@@ -1,10 +1,12 @@
-"""Names and numbers that a hash with a fixed seed takes for alike.
+"""Names and numbers that a hash with a known start takes for alike.
 
-The maps of the toolchain's `indexmap` hash by its `FoldHasher`, whose seed is fixed. Their tables
-have groups of twelve places. A key is looked for from the group on that the lowest bits of its hash
-name, and is compared where the highest eight bits, its tag, are equal. What is made here begins in
-the first part of the groups and has one tag, so that each key is compared with all before it. That
-takes thousands of tries for each key, so a small program in C makes them.
+The maps of the toolchain's `indexmap` hash by its `FoldHasher`, which begins with a known number
+unless a map is given another start: the program's begin with bytes that the machine draws, so what
+is made here costs it as much as other names. The tables have groups of twelve places. A key is
+looked for from the group on that the lowest bits of its hash name, and is compared where the
+highest eight bits, its tag, are equal. What is made here begins in the first part of the groups and
+has one tag, so that each key is compared with all before it. That takes thousands of tries for each
+key, so a small program in C makes them.
 """
 import atexit
 import functools
@@ -93,17 +95,17 @@ def folded(a, b):
     return a * b & ALL ^ a * b >> 64
 
 
-def table_hash(words):
+def table_hash(words, start=START):
     """The hash that a table has of a key, which is hashed as these numbers of so many bytes."""
-    state = START
+    state = start
     for number, size in words:
         word = {1: number * 0x010101, 4: number | number << 32, 8: number}[size]
         state = folded(state ^ word, FACTOR ^ 2 * size)
     return (state ^ state >> 32) & 0xFFFFFFFF
 
 
-def name_hash(name):
-    return table_hash([(len(name), 8), *((byte, 1) for byte in name.encode())])
+def name_hash(name, start=START):
+    return table_hash([(len(name), 8), *((byte, 1) for byte in name.encode())], start)
 
 
 def groups_of(count):

@@ -1,4 +1,5 @@
 """Tests of what the commands share, with programs of the system in place of the proved ones."""
+import collections
 import contextlib
 import io
 import os
@@ -105,6 +106,13 @@ class Feeds(unittest.TestCase):
         keys = collisions.sequences(1000)
         hashes += [collisions.table_hash([(trip, 4), (row, 4)]) for trip, row in keys]
         self.assertEqual([0] * 3000, [number & zero for number in hashes])
+
+    def test_names_that_collide_don_t_by_another_start(self):
+        groups = collisions.groups_of(1000)
+        for start in range(1, 6):
+            hashes = (collisions.name_hash(name, start) for name in collisions.names(1000))
+            most = collections.Counter(number % groups for number in hashes).most_common(1)
+            self.assertLess(most[0][1], 40)
 
 
 class Words(unittest.TestCase):
