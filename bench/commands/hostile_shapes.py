@@ -3,14 +3,19 @@
 Writes each shape at one size, at twice and at four times that size, and runs over it the command
 that the shape makes costly. Prints status and first line, the processor seconds of each size, by
 how much they grow, and what `direct`, which only reads, takes over the largest one. Time that grows
-with the bytes doubles from size to size. Shapes of keys that collide need a C compiler.
+with the bytes doubles from size to size. With `--most`, names on standard error the shapes that
+grow by more, and ends with status 1. Shapes of keys that collide need a C compiler.
 """
 import argparse
 import os
+import sys
 import tempfile
 
 from feeds.shapes import SHAPES
 from harness import DAY, Run, Table, commit_of, count, known, megabytes_of, router
+
+# What takes less seconds than this tells nothing of growth.
+LEAST = 0.05
 
 
 def add_arguments(parser):
@@ -18,6 +23,7 @@ def add_arguments(parser):
     parser.add_argument("names", metavar="NAME", nargs="*", help=f"of {names} (else all)")
     larger = "makes all sizes so many times as great (else 1)"
     parser.add_argument("--scale", type=scale, default=1, help=larger)
+    parser.add_argument("--most", type=scale, help="how many times as long twice the size may take")
     limit = "seconds of processor time after which a run ends (else 60)"
     parser.add_argument("--limit", type=count, default=60, help=limit)
 
@@ -42,6 +48,7 @@ def words_for(command, folder):
         "build": ["build", folder, DAY],
         "late": ["late", folder, DAY, os.path.join(folder, "late"), *ask[1:]],
         "serve": ["serve", f"{folder}@{DAY}"],
+        "live": ["live", f"{folder}@{DAY}"],
         "verify": ["verify", folder, *ask],
     }[command]
 
@@ -69,9 +76,15 @@ def run_shape(program, shape, size, limit, reads):
         return megabytes_of(folder), ended, reading
 
 
+def growth(taken, least):
+    """By how much each of these seconds is more than those before, which count as the least."""
+    return [later / max(least, sooner) for sooner, later in zip(taken, taken[1:])]
+
+
 def run(words):
     names = known(words.names, SHAPES)
     program = router()
+    grown_more = []
     table = Table(
         commit_of(program),
         "shape",
@@ -98,7 +111,8 @@ def run(words):
             taken.append(ended.seconds)
             if ended.status == "SIGXCPU":
                 break
-        grown = [f"{later / max(0.01, sooner):.1f}" for sooner, later in zip(taken, taken[1:])]
+        if words.most and (len(taken) < 3 or max(growth(taken, LEAST)) > words.most):
+            grown_more.append(name)
         table.row(
             name.replace("_", " "),
             f"`{shape.command}`",
@@ -106,12 +120,14 @@ def run(words):
             ended.status,
             ended.first_line(),
             *padded([f"{seconds:.2f}" for seconds in taken], 3),
-            *padded(grown, 2),
+            *padded([f"{times:.1f}" for times in growth(taken, 0.01)], 2),
             f"{reading.seconds:.2f}" if len(taken) == 3 else "-",
             f"{megabytes:.1f}",
             f"{ended.megabytes:.0f}",
         )
-    return 0
+    if grown_more:
+        print(f"bench: these grew by more: {' '.join(grown_more)}", file=sys.stderr)
+    return 1 if grown_more else 0
 
 
 def padded(cells, length):

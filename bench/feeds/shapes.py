@@ -266,6 +266,39 @@ def remarks_of_a_script(folder, n):
     write(folder, "script", "lane a\nask A B 08:00:00\n" + "#\n" * n)
 
 
+def lines_of_live(folder, n):
+    feed(folder)
+    write(folder, "script", "ask A B 08:00:00\n" * n)
+
+
+def lines_of_live_of_long_names(folder, n):
+    """Each for a stop that isn't there, with a name of some hundred quotes."""
+    feed(folder)
+    name = '"' + '""' * 490 + '"'
+    write(folder, "script", f"ask {name} B 08:00:00\n" * n)
+
+
+def lines_of_live_without_words(folder, n):
+    feed(folder)
+    write(folder, "script", "\n" * n)
+
+
+def lines_of_live_that_are_refused(folder, n):
+    feed(folder)
+    write(folder, "script", "x\n" * n)
+
+
+def one_line_of_live(folder, n):
+    feed(folder)
+    write(folder, "script", "x" * (100 * n))
+
+
+def publications_of_live(folder, n):
+    """Of one day, and a request behind each."""
+    feed(folder)
+    write(folder, "script", f"publish {folder}@{DAY}\nask A B 08:00:00\n" * n)
+
+
 def rides_of_a_claim(folder, n):
     """Rides on the last of as many trips."""
     smallest.make(folder, trips=(f"S,t{i}\n" for i in range(n)), times=smallest.times_of(n, 2))
@@ -323,6 +356,12 @@ OTHERS = {
     requests_of_a_script: (5_000, "serve"),
     requests_of_long_names: (5_000, "serve"),
     remarks_of_a_script: (4_000_000, "serve"),
+    lines_of_live: (5_000, "live"),
+    lines_of_live_of_long_names: (5_000, "live"),
+    lines_of_live_without_words: (4_000_000, "live"),
+    lines_of_live_that_are_refused: (100_000, "live"),
+    one_line_of_live: (250_000, "live"),
+    publications_of_live: (1_000, "live"),
     rides_of_a_claim: (6_000, "verify"),
     rides_of_a_claim_on_one_trip: (6_000, "verify"),
 }
