@@ -163,7 +163,7 @@ def sequences(count):
 
 def patterns(count):
     """A number of stops, and so many pairs of their numbers: the patterns of trips of two stops
-    that fall into one of as many buckets, by a hash that line_split once had.
+    that fall into one of as many buckets, by the hash of line_split, which has no key.
     """
     stops = min(100_000, 2 * count)
     return stops, numbers(found("patterns", count, stops))

@@ -260,7 +260,7 @@ def patterns_of_two_stops(folder, n):
 
 
 def patterns_that_collide(folder, n):
-    """The same, where all patterns fall into one bucket of a hash that line_split once had."""
+    """The same, where all patterns fall into one bucket of line_split's hash."""
     stops, pairs = collisions.patterns(n)
     names = ["A", "B", "C", "D", *(f"P{i}" for i in range(stops - 4))]
 
