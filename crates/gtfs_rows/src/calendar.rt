@@ -1,6 +1,7 @@
 //! The rows of calendar.txt.
-ghost use Rattle.std.specs.Prelude.{◌≡◌, ◌≤◌, length};
+ghost use Rattle.std.specs.Prelude.{◌≡◌, ◌≤◌, IfErr, length};
 ghost use Rattle.gtfs_rows.specs.CalendarFile.{calendar_row, calendar_rows, flag_in, flag_of, week_in};
+ghost use Rattle.gtfs_rows.specs.LeftOut.{IsOfRow};
 ghost use Rattle.gtfs_rows.specs.Refused.{IsRefused, Yields};
 ghost use Rattle.gtfs_rows.specs.declared.fault.FeedFile.TheVariants as file;
 
@@ -44,7 +45,8 @@ fn flag_of(text: &[u8]) -> Option<bool>
 
 fn flag_in(cursor: &RowCursor, column: u8) -> Result<bool, RowsFault>
     requires { 1 ≤ column }
-    ensures { Yields IsRefused result (λ x. x) (flag_in cursor.now.current column) }
+    ensures meant { Yields IsRefused result (λ x. x) (flag_in cursor.now.current column) }
+    ensures borne { IfErr result (IsOfRow file.Calendar cursor.now.current.row) }
 {
     match flag_of(cursor.cell(column)) {
         Some(flag) => Ok(flag),
@@ -54,7 +56,8 @@ fn flag_in(cursor: &RowCursor, column: u8) -> Result<bool, RowsFault>
 
 // The seven days of the week of a row, from Monday on.
 fn week_in(cursor: &RowCursor) -> Result<[bool; 7], RowsFault>
-    ensures { Yields IsRefused result (λ x. x) (week_in cursor.now.current) }
+    ensures meant { Yields IsRefused result (λ x. x) (week_in cursor.now.current) }
+    ensures borne { IfErr result (IsOfRow file.Calendar cursor.now.current.row) }
 {
     let monday = flag_in(cursor, calendar::MONDAY)?;
     let tuesday = flag_in(cursor, calendar::TUESDAY)?;
