@@ -1,6 +1,6 @@
 -- A trip with the same events that calls nowhere near one with other events is not touched.
-use Rattle.std.proofs.Common.{◌≡◌, ◌∙◌, sym, ap, subst, refl, ℕ, ◌+◌, ◌-◌, ◌<◌, ◌≤◌, ◌⊎◌, inl, inr, Bool, true, false, cond, ◌==◌, ◌&&◌, ◌||◌, not, List, [], ◌∷◌, length, map, get_or, Option, Some, None, ℤ, pos, ◌+ℤ◌, arith}
-use Rattle.std.specs.Prelude.{filter, filter_map, flat_map, nat_lt, int_le, All, AllPairs}
+use Rattle.std.proofs.Common.{◌≡◌, ◌∙◌, sym, ap, subst, refl, ℕ, ◌+◌, ◌-◌, ◌<◌, ◌≤◌, ◌⊎◌, inl, inr, Bool, true, false, cond, ◌==◌, ◌&&◌, not, List, [], ◌∷◌, length, map, get_or, Option, Some, None, ℤ, pos, ◌+ℤ◌, arith}
+use Rattle.std.specs.Prelude.{filter, filter_map, flat_map, nat_lt, int_le, AllPairs}
 use Rattle.std.specs.List.{list_any}
 use Rattle.std.specs.Option.{option_and_then}
 use Rattle.std.proofs.lemmas.Bool.{and_parts, cases_lt, eq-eqb, eqb-true, false_from_ne_true, false≢true, or_from, not_from_true}
@@ -13,9 +13,8 @@ use Rattle.tb_base.specs.declared.table.Stop.{Stop}
 use Rattle.tb_base.specs.declared.transfer.Hop.{Hop}
 use Rattle.tb_base.specs.declared.transfer.Transfer.{Transfer}
 use Rattle.tb_base.specs.Lines.{AreDividedInto, AreLines, last_trip}
-use Rattle.tb_base.specs.Soundness.{IsSoundEvent}
 use Rattle.tb_base.specs.TimetableData.{TimetableData, TripData, no_event, no_trip, events_of, event_at, stop_at, arrival_at, departure_at}
-use Rattle.tb_base.specs.Transfers.{boarding_indexes, candidates, earliest_trip, hop_onto, is_own_line_onward, may_be_boarded, numbers_below, numbers_down}
+use Rattle.tb_base.specs.Transfers.{boarding_indexes, candidates, earliest_trip, hop_onto, is_own_line_onward, may_be_boarded, numbers_below}
 use Rattle.tb_base.specs.Walking.{change, change_between}
 use Rattle.tb_base.proofs.LineFacts.{IsTripNoLater, MayFollow, first_no_later}
 use Rattle.tb_base.proofs.Members.{All-from_Member, find_found, Member-filter, Member-filter_back, Member-filter_map_back, Member-flat_map_back, Member-map_back, Member-numbers_below_back}
@@ -26,11 +25,10 @@ use Rattle.line_split.proofs.LineLaws.{lines_divide}
 use Rattle.line_split.specs.LinesData.{LinesData}
 use Rattle.late_edit.specs.Near.{MarksNear}
 use Rattle.late_edit.specs.Updated.{IsUpdated}
-use Rattle.late_edit.specs.Touched.{TellsOtherEvents, candidates_of, has_other_events, is_touched, same_transfer}
-use Rattle.late_edit.proofs.ListFacts.{filter-none, filter_map-none, find-same, flat_map-filter, flat_map-none, flat_map-same, list_any-by, list_any-found, list_any-none, Member-get_or, Member-numbers_down_back}
+use Rattle.late_edit.specs.Touched.{TellsOtherEvents, candidates_at, has_other_events, is_touched_at, same_transfer}
+use Rattle.late_edit.proofs.ListFacts.{filter-none, filter_map-none, find-same, flat_map-filter, flat_map-none, flat_map-same, list_any-by, list_any-found, Member-get_or}
 use Rattle.late_edit.proofs.SameEvents.{same_rows, same_trip}
 use Rattle.late_edit.proofs.SameLines.{IsCalm, calls, line_calls, lines-same}
-use Rattle.late_edit.proofs.Untouched.{rows_at}
 
 -- the hops from t@i onto the line where it calls at stop q
 abbrev hops_onto : TimetableData → ℕ → ℕ → ℕ → List ℕ → List Hop
@@ -179,31 +177,13 @@ module _ (L M : LinesData) (same : IsUpdated L.table M.table) (a : AreLines L.ta
             on_line r.0 s.0 s.1 s.2 (change L.table (stop_at L.table t i) r.0) refl (line_calls L.table r.0 s.0) refl
         by_test false n = absurd n
 
-  pub far_untouched : (t : ℕ) → All (IsSoundEvent (length L.table.stops)) (events_of L.table t) → list_any (λ e. get_or marks e.stop false) (events_of L.table t) ≡ false → has_other_events L.table M.table t ≡ false → is_touched L M t ≡ false
-  far_untouched t inside far times =
-      or_from (has_other_events L.table M.table t || not (pointwise same_transfer (candidates_of L t) (candidates_of M t))) (list_any (λ r. has_other_events L.table M.table r.to_trip) (candidates_of L t))
-      (or_from (has_other_events L.table M.table t) (not (pointwise same_transfer (candidates_of L t) (candidates_of M t))) times
-      (not_from_true (pointwise same_transfer (candidates_of L t) (candidates_of M t)) ((same_rows (candidates_of L t) (candidates_of M t)).1 rows)))
-      (list_any_none (λ (r : Transfer). has_other_events L.table M.table r.to_trip) (candidates_of L t) (All-from_Member (λ (r : Transfer). has_other_events L.table M.table r.to_trip ≡ false) (candidates_of L t) calm))
+  pub far_untouched : (t i : ℕ) → stop_at L.table t i < length L.table.stops → get_or marks (stop_at L.table t i) false ≡ false → has_other_events L.table M.table t ≡ false → is_touched_at L M t i ≡ false
+  far_untouched t i inside far times =
+      or_from (not (pointwise same_transfer (candidates_at L t i) (candidates_at M t i))) (list_any (λ r. has_other_events L.table M.table r.to_trip) (candidates_at L t i))
+      (not_from_true (pointwise same_transfer (candidates_at L t i) (candidates_at M t i)) ((same_rows (candidates_at L t i) (candidates_at M t i)).1 (ap (map (row_of t i)) (candidates_same t times i inside far))))
+      (list_any_none (λ (r : Transfer). has_other_events L.table M.table r.to_trip) (candidates_at L t i) (All-from_Member (λ (r : Transfer). has_other_events L.table M.table r.to_trip ≡ false) (candidates_at L t i) calm))
     where
-      event : (i : ℕ) → i < length (events_of L.table t) → Member (event_at L.table t i) (events_of L.table t)
-      event i below = Member-get_or (events_of L.table t) i no_event below
-
-      there : (i : ℕ) → i < length (events_of L.table t) → stop_at L.table t i < length L.table.stops
-      there i below = (inside i no_event below).stop
-
-      away : (i : ℕ) → i < length (events_of L.table t) → get_or marks (stop_at L.table t i) false ≡ false
-      away i below = list_any-none (λ (e : Event). get_or marks e.stop false) (events_of L.table t) far (event_at L.table t i) (event i below)
-
-      rows : candidates_of L t ≡ candidates_of M t
-      rows =
-          flat_map-same (rows_at (candidates L.table L.lines t) t) (rows_at (candidates M.table M.lines t) t) (numbers_down (length (events_of L.table t)))
-          (λ i m. let below = Member-numbers_down_back i (length (events_of L.table t)) m in ap (map (row_of t i)) (candidates_same t times i (there i below) (away i below)))
-          ∙ ap (λ (es : List Event). flat_map (rows_at (candidates M.table M.lines t) t) (numbers_down (length es))) (same_trip L.table M.table t times)
-
-      calm : (r : Transfer) → Member r (candidates_of L t) → has_other_events L.table M.table r.to_trip ≡ false
+      calm : (r : Transfer) → Member r (candidates_at L t i) → has_other_events L.table M.table r.to_trip ≡ false
       calm r m =
-          let i = Member-flat_map_back (rows_at (candidates L.table L.lines t) t) r (numbers_down (length (events_of L.table t))) m in
-          let below = Member-numbers_down_back i.0 (length (events_of L.table t)) i.1 in
-          let h = Member-map_back (row_of t i.0) r (candidates L.table L.lines t i.0) i.2 in
-          subst (λ (x : Transfer). has_other_events L.table M.table x.to_trip ≡ false) h.2 (candidates_calm t times i.0 (there i.0 below) (away i.0 below) h.0 h.1)
+          let h = Member-map_back (row_of t i) r (candidates L.table L.lines t i) m in
+          subst (λ (x : Transfer). has_other_events L.table M.table x.to_trip ≡ false) h.2 (candidates_calm t times i inside far h.0 h.1)

@@ -13,4 +13,5 @@ pub mod Reading
 pub mod SameEvents
 pub mod SameLines
 pub mod Sound
+pub mod TouchedEvents
 pub mod Untouched

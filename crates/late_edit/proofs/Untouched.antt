@@ -31,7 +31,7 @@ abbrev pub rows_at : (ℕ → List Hop) → ℕ → ℕ → List Transfer
 rows_at hops t i = map (row_of t i) (hops i)
 
 -- the hop of a row of event i
-abbrev hop_at : ℕ → Transfer → Option Hop
+abbrev pub hop_at : ℕ → Transfer → Option Hop
 hop_at i r = cond (r.at == i) (Some (record { trip = r.to_trip; at = r.to_at })) None
 
 hops_at-own : (t i : ℕ) (hs : List Hop) (rs : List Transfer) → filter_map (hop_at i) (map (row_of t i) hs ++ rs) ≡ hs ++ filter_map (hop_at i) rs
@@ -46,7 +46,7 @@ hops_at-other t i j e (h ∷ hs) rs =
     ap (λ b. cons_option (cond b (Some h) None) (filter_map (hop_at i) (map (row_of t j) hs ++ rs))) e
     ∙ hops_at-other t i j e hs rs
 
-hops_at-all : (hops : ℕ → List Hop) (t i n : ℕ) → i < n → filter_map (hop_at i) (flat_map (rows_at hops t) (numbers_down n)) ≡ hops i
+pub hops_at-all : (hops : ℕ → List Hop) (t i n : ℕ) → i < n → filter_map (hop_at i) (flat_map (rows_at hops t) (numbers_down n)) ≡ hops i
 hops_at-all hops t i zero h = absurd (omega arith)
 hops_at-all hops t i (suc n) h = by_case (hops_at-all hops t i n) (last_or_below i n h)
   where

@@ -1,5 +1,5 @@
 -- The trips that a change of times touches.
-use Rattle.std.specs.Prelude.{ℕ, ◌==◌, ◌&&◌, ◌||◌, not, Bool, List, length, filter, slice_index_or, false, ◌≡◌, ◌<◌}
+use Rattle.std.specs.Prelude.{ℕ, ◌==◌, ◌&&◌, ◌||◌, not, Bool, List, length, filter, map, slice_index_or, false, ◌≡◌, ◌<◌}
 use Rattle.std.specs.List.{list_any}
 use Rattle.std.specs.Ordering.{int_eq}
 use lib.Pointwise.{pointwise}
@@ -8,6 +8,7 @@ use Rattle.tb_base.specs.declared.transfer.Transfer.{Transfer}
 use Rattle.tb_base.specs.Lines.{same_mark}
 use Rattle.tb_base.specs.TimetableData.{TimetableData, events_of}
 use Rattle.tb_base.specs.Transfers.{candidates, numbers_below, transfers_of}
+use Rattle.tb_laws.specs.Rows.{row_of}
 use Rattle.line_split.specs.LinesData.{LinesData}
 
 -- two events have the same stop, times and marks
@@ -36,6 +37,16 @@ is_touched L M t =
     has_other_events L.table M.table t
     || not (pointwise same_transfer (candidates_of L t) (candidates_of M t))
     || list_any (λ r. has_other_events L.table M.table r.to_trip) (candidates_of L t)
+
+-- the candidates of event i of trip t
+abbrev pub candidates_at : LinesData → ℕ → ℕ → List Transfer
+candidates_at L t i = map (row_of t i) (candidates L.table L.lines t i)
+
+-- event i of trip t touches it: it has other candidates, or a trip among them has other events
+abbrev pub is_touched_at : LinesData → LinesData → ℕ → ℕ → Bool
+is_touched_at L M t i =
+    not (pointwise same_transfer (candidates_at L t i) (candidates_at M t i))
+    || list_any (λ r. has_other_events L.table M.table r.to_trip) (candidates_at L t i)
 
 -- how many trips are touched
 abbrev pub touched_count : LinesData → LinesData → ℕ

@@ -1,13 +1,14 @@
 //! The trips that a change of times touches.
-ghost use Rattle.std.specs.Prelude.{◌≡◌, ◌<◌, ◌||◌, IfOk, false, length};
+ghost use Rattle.std.specs.Prelude.{◌≡◌, ◌<◌, ◌||◌, IfOk, false, length, not};
 ghost use Rattle.std.specs.List.{list_any};
 ghost use lib.Pointwise.{pointwise};
 ghost use Rattle.late_edit.specs.Updated.{IsUpdated};
-ghost use Rattle.late_edit.specs.Touched.{has_other_events, is_touched, same_transfer};
+ghost use Rattle.tb_base.specs.TimetableData.{events_of};
+ghost use Rattle.late_edit.specs.Touched.{has_other_events, is_touched, is_touched_at, same_transfer};
 
 use crate::events::other_events;
 use crate::lined_timetable::LinedTimetable;
-use crate::near::{calls_at, near_stops};
+use crate::near::{is_at, near_stops};
 use std::alloc::Global;
 use std::marker::Model;
 use tb_base::{Memory, Transfer, TripNo};
@@ -74,16 +75,42 @@ impl<'a> Amendment<'a> {
         rows.iter().any(|row| self.has_other_events(row.to_trip))
     }
 
-    // Whether a trip calls at a marked stop. One that doesn't is not touched, if its own times are
-    // the same.
-    fn is_near(&self, trip: TripNo) -> bool
-        requires { trip < length self.now.before.table.trips }
+    // Whether candidates touch a trip: they were others, or one leads to a trip with other events.
+    fn do_touch(&self, old: &[Transfer], new: &[Transfer]) -> bool
+        ensures { result ≡ (not (pointwise same_transfer old.now new.now) || list_any
+            (λ r. has_other_events self.now.before.table self.now.after.table r.to_trip) old.now) }
+    {
+        !same_transfers(old, new) || self.leads_to_other_events(old)
+    }
+
+    // Whether an event of a trip is at a marked stop. One that isn't doesn't touch the trip, if that
+    // has the same events.
+    fn is_near(&self, trip: TripNo, at: u32) -> bool
+        requires trip { trip < length self.now.before.table.trips }
+        requires at { at < length (events_of self.now.before.table trip) }
         ensures { has_other_events self.now.before.table self.now.after.table trip ≡ false →
-            result ≡ false → is_touched self.now.before self.now.after trip ≡ false }
+            result ≡ false → is_touched_at self.now.before self.now.after trip at ≡ false }
     {
         self.before.soundness();
         self.after.soundness();
-        calls_at(self.before.events(trip), self.near.as_slice())
+        is_at(self.before.events(trip), at as usize, self.near.as_slice())
+    }
+
+    // Whether an event of a trip touches it, by the candidates from there: others than before, or
+    // one that leads to a trip with other events.
+    fn is_touched_at(&self, alloc: Global, trip: TripNo, at: u32) -> Result<bool, Memory>
+        requires trip { trip < length self.now.before.table.trips }
+        requires at { at < length (events_of self.now.before.table trip) }
+        requires same { has_other_events self.now.before.table self.now.after.table trip ≡ false }
+        ensures { IfOk result (λ touched.
+            touched ≡ is_touched_at self.now.before self.now.after trip at) }
+    {
+        if !self.is_near(trip, at) {
+            return Ok(false);
+        }
+        let old = self.before.candidates_at(alloc, trip, at)?;
+        let new = self.after.candidates_at(alloc, trip, at)?;
+        Ok(self.do_touch(old.as_slice(), new.as_slice()))
     }
 
     /// Whether a trip is touched: it has other events, or another list of candidates, or a trip in
@@ -96,15 +123,13 @@ impl<'a> Amendment<'a> {
         if self.has_other_events(trip) {
             return Ok(true);
         }
-        if !self.is_near(trip) {
-            return Ok(false);
+        for at in 0..self.before.event_count(trip) {
+            let touched = self.is_touched_at(alloc, trip, at)?;
+            if touched {
+                return Ok(true);
+            }
         }
-        let old = self.before.candidates(alloc, trip)?;
-        let new = self.after.candidates(alloc, trip)?;
-        Ok(
-            !same_transfers(old.as_slice(), new.as_slice())
-                || self.leads_to_other_events(old.as_slice()),
-        )
+        Ok(false)
     }
 }
 

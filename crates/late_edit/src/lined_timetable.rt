@@ -3,13 +3,13 @@ ghost use Rattle.std.specs.Prelude.{◌≡◌, ◌<◌, All, IfOk, length};
 ghost use Rattle.tb_base.specs.Lines.{AreLines};
 ghost use Rattle.tb_base.specs.Soundness.{IsSoundEvent};
 ghost use Rattle.tb_base.specs.TimetableData.{events_of};
-ghost use Rattle.late_edit.specs.Touched.{candidates_of};
+ghost use Rattle.late_edit.specs.Touched.{candidates_at};
 
 use line_split::Lines;
 use std::alloc::Global;
 use std::marker::Model;
 use tb_base::{Event, Memory, Timetable, Transfer, TripNo};
-use transfer_make::make;
+use transfer_make::add_event;
 
 /// A timetable, and its lines.
 #[derive(Drop)]
@@ -62,11 +62,29 @@ impl<'a> LinedTimetable<'a> {
         table.trip(trip).events.as_slice()
     }
 
-    // The candidates of a trip, from its last event down.
-    pub(crate) fn candidates(&self, alloc: Global, trip: TripNo) -> Result<Vec<Transfer>, Memory>
+    // How many events a trip has.
+    pub(crate) fn event_count(&self, trip: TripNo) -> u32
         requires { trip < length self.now.table.trips }
-        ensures { IfOk result (λ rows. rows.items ≡ candidates_of self.now trip) }
+        ensures { result ≡ length (events_of self.now.table trip) }
     {
-        make(alloc, self.table, self.lines, trip)
+        let table = self.table;
+        table.soundness();
+        table.events(trip).len() as u32
+    }
+
+    // The candidates of an event of a trip, in order.
+    pub(crate) fn candidates_at(
+        &self,
+        alloc: Global,
+        trip: TripNo,
+        at: u32,
+    ) -> Result<Vec<Transfer>, Memory>
+        requires trip { trip < length self.now.table.trips }
+        requires at { at < length (events_of self.now.table trip) }
+        ensures { IfOk result (λ rows. rows.items ≡ candidates_at self.now trip at) }
+    {
+        let mut rows = Vec::new(alloc);
+        add_event(&mut rows, self.table, self.lines, trip, at as usize)?;
+        Ok(rows)
     }
 }

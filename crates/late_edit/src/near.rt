@@ -2,6 +2,8 @@
 ghost use Rattle.std.specs.Prelude.{◌≡◌, ◌<◌, ◌||◌, ℕ, All, IfOk, IsTrue, [], false, length, slice_index_or};
 ghost use Rattle.std.specs.List.{list_any};
 ghost use Rattle.tb_base.specs.Soundness.{IsSoundEvent, IsSoundPath};
+ghost use Rattle.tb_base.specs.TimetableData.{no_event};
+ghost use Rattle.tb_base.specs.declared.table.Event.{Event};
 ghost use Rattle.late_edit.specs.Near.{MarksCalls, MarksNear};
 
 use std::alloc::Global;
@@ -76,10 +78,12 @@ pub(crate) fn near_stops(
     Ok(near)
 }
 
-/// Whether one of the events is at a marked stop.
-pub(crate) fn calls_at(events: &[Event], marks: &[bool]) -> bool
-    requires { All (IsSoundEvent (length marks.now)) events.now }
-    ensures { result ≡ list_any (λ e. slice_index_or marks.now e.stop false) events.now }
+/// Whether an event is at a marked stop.
+pub(crate) fn is_at(events: &[Event], at: usize, marks: &[bool]) -> bool
+    requires sound { All (IsSoundEvent (length marks.now)) events.now }
+    requires at { at < length events.now }
+    ensures { result
+        ≡ slice_index_or marks.now (Event.stop (slice_index_or events.now at no_event)) false }
 {
-    events.iter().any(|event| marks[event.stop.index()])
+    marks[events[at].stop.index()]
 }
