@@ -1,6 +1,7 @@
 pub mod Amended
 pub mod Amending
 pub mod Finding
+pub mod LateFiles
 pub mod Updates
 pub mod Near
 pub mod UpdateData

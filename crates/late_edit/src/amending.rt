@@ -14,16 +14,16 @@ use crate::amended_table::amended;
 use crate::late::LateFault;
 use crate::rows::Rows;
 use crate::update::Update;
-use edition_store::{Edition, Shared};
+use edition_store::Edition;
 use line_split::{Lines, split};
 use std::alloc::Global;
 use tb_base::{Memory, Refused, Timetable};
 use transfer_pack::Set;
 
-/// An amended edition, and how many trips are touched.
+/// An amended edition, which has no mirror, and how many trips are touched.
 #[derive(Drop)]
 pub struct Amended {
-    pub edition: Shared,
+    pub edition: Edition,
     pub redone: u32,
 }
 
@@ -73,11 +73,7 @@ fn amended_over(
     match kept_of(alloc, old, &table, &lines) {
         Ok(Kept { set, kept, redone }) => {
             let edition = Edition::with_set(alloc, table, lines, set, kept)?;
-            let shared = Shared::new(alloc, edition)?;
-            Ok(Amended {
-                edition: shared,
-                redone,
-            })
+            Ok(Amended { edition, redone })
         }
         Err(Memory) => {
             drop(table);

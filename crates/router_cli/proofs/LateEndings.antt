@@ -12,7 +12,8 @@ use Rattle.late_edit.specs.declared.late.LateFault.{LateFault}
 use Rattle.command_line.specs.LateTrips.{LateRequestData}
 use Rattle.router_cli.proofs.Endings.{IsDetermined}
 use Rattle.router_cli.specs.Outcome.{IsDayOf, Writes}
-use Rattle.router_cli.specs.LateTrips.{IsAmendEnding, IsLateAnswer, IsLateEnding, IsNoLateAnswer, UpdatesGive, updates_in}
+use Rattle.late_edit.specs.LateFiles.{UpdatesGive, updates_in}
+use Rattle.router_cli.specs.LateTrips.{IsAmendEnding, IsLateAnswer, IsLateEnding, IsNoLateAnswer}
 use Rattle.router_cli.specs.declared.status.Status.{Status}
 use Rattle.router_cli.specs.declared.status.Status.TheVariants as status
 

@@ -1,5 +1,5 @@
 -- What the program's status says of a day amended by late trips.
-use Rattle.std.specs.Prelude.{◌≡◌, Bool, false, ℕ, ◌<◌, ◌⊎◌, List, ◌++◌, codes, length, nat_lt, Option, Some, None, IfSome, Result, Ok, Err, if◌then◌else◌, ⊤}
+use Rattle.std.specs.Prelude.{◌≡◌, Bool, false, ℕ, ◌⊎◌, List, ◌++◌, codes, Option, IfSome, Result, Ok, Err, if◌then◌else◌, ⊤}
 use Rattle.std.specs.Fmt.{decimal}
 use Rattle.tb_base.specs.Lines.{AreLines}
 use Rattle.tb_base.specs.Soundness.{IsSound}
@@ -11,10 +11,10 @@ use Rattle.gtfs_rows.specs.Steps.{and_then}
 use Rattle.gtfs_rows.specs.declared.fault.FeedFault.{FeedFault}
 use Rattle.tb_io.specs.Files.{FileList, file_at}
 use Rattle.late_edit.specs.Amended.{amended}
-use Rattle.late_edit.specs.Updates.{updates_of}
+use Rattle.late_edit.specs.LateFiles.{IsNoUpdates, UpdatesGive, updates_in}
 use Rattle.late_edit.specs.declared.update.Update.{Update}
 use Rattle.late_edit.specs.declared.late.LateFault.{LateFault}
-use Rattle.late_edit.specs.declared.late.LateFault.TheVariants as fault
+use Rattle.late_edit.specs.declared.taking.LateTaken.TheVariants as taken
 use Rattle.late_edit.specs.Touched.{touched_count}
 use Rattle.edition_store.specs.Editions.{kept_count}
 use Rattle.command_line.specs.Inquiries.{InquiryData}
@@ -27,17 +27,6 @@ use Rattle.router_cli.specs.declared.status.Status.TheVariants as status
 -- the question that an inquiry asks
 abbrev pub ask_of : InquiryData → Question
 ask_of i = question.Ask i.from i.to i.time
-
--- what a file says of trips, or its first fault: that it isn't there, then its size, then its
--- first bad line
-abbrev pub updates_in : Option (List ℕ) → Result (List Update) LateFault
-updates_in None = Err fault.MissingFile
-updates_in (Some bytes) =
-    if nat_lt 33554432 (length bytes) then Err fault.TooLarge else updates_of bytes
-
--- where the folder tells its files, the one at this path says this of trips
-abbrev pub UpdatesGive : Option FileList → List ℕ → Result (List Update) LateFault → Type 0
-UpdatesGive files path updates = IfSome files (λ fs. updates_in (file_at fs path) ≡ updates)
 
 -- what is told of the second edition: how many trips are touched, and how many transfers are kept
 abbrev pub amended_text : ℕ → ℕ → List ℕ
@@ -118,12 +107,13 @@ IsLateEnding files r (Ok T) s = IfSome files (λ fs.
 IsLateEnding files r (Err f) s = EndsBy (status.FeedRefused f) s
 
 -- why a file says nothing of trips, by the folder's count of faults before and now
-abbrev pub IsNoUpdates : Option FileList → List ℕ → ℕ → ℕ → Status → Type 0
-IsNoUpdates files path before now (status.LateRefused f) =
-    UpdatesGive files path (Err f) × (now ≡ before)
-IsNoUpdates files path before now status.ReadFault = before < now
-IsNoUpdates files path before now status.Memory = now ≡ before
-IsNoUpdates files path before now s = ⊥
+abbrev pub HasNoUpdates : Option FileList → List ℕ → ℕ → ℕ → Status → Type 0
+HasNoUpdates files path before now (status.LateRefused f) =
+    IsNoUpdates files path before now (taken.Fault f)
+HasNoUpdates files path before now status.ReadFault =
+    IsNoUpdates files path before now taken.ReadFault
+HasNoUpdates files path before now status.Memory = IsNoUpdates files path before now taken.Memory
+HasNoUpdates files path before now s = ⊥
 
 -- why updates make no text of a timetable
 abbrev pub IsNotAmended : TimetableData → List Update → Status → Type 0

@@ -6,11 +6,12 @@ ghost use Rattle.edition_store.specs.Editions.{EditionData};
 ghost use Rattle.late_edit.specs.Amended.{amended};
 ghost use Rattle.late_edit.specs.Touched.{touched_count};
 ghost use Rattle.late_edit.specs.Amending.{edition_lines};
+ghost use Rattle.late_edit.specs.LateFiles.{UpdatesGive};
 ghost use Rattle.query_gate.specs.Callers.{CallerData};
 ghost use Rattle.tb_base.specs.Workers.{AreWorkers};
 ghost use Rattle.router_cli.specs.Answers.{ShowsReply};
 ghost use Rattle.router_cli.specs.Outcome.{LeavesFolder};
-ghost use Rattle.router_cli.specs.LateTrips.{IsAmendedText, IsLateAnswer, IsLateText, IsNoLateAnswer, IsNoUpdates, IsNotAmended, UpdatesGive, amended_json, amended_shown, amended_text, ask_of};
+ghost use Rattle.router_cli.specs.LateTrips.{HasNoUpdates, IsAmendedText, IsLateAnswer, IsLateText, IsNoLateAnswer, IsNotAmended, amended_json, amended_shown, amended_text, ask_of};
 
 use crate::day::table_of;
 use crate::status::{Status, at_number};
@@ -19,17 +20,14 @@ use answer_text::{Question, Text};
 use command_line::{Inquiry, LateRequest};
 use edition_build::build_edition;
 use edition_store::{Edition, Last, Naming, Opened, Publisher, Seat, Shared, Store};
-use late_edit::{Amended, LateFault, Update, amend, read_late};
+use late_edit::{Amended, LateFault, LateTaken, Update, amend, take_late};
 use query_gate::{Caller, shown_reply};
 use std::alloc::Global;
 use std::marker::Brand;
 use std::sync::Wait;
 use std::thread::Threads;
 use tb_base::{Gate, Memory, Name, Refused, Timetable};
-use tb_io::{Folder, Taken, take_file};
-
-// No file of late trips has more bytes.
-const MOST_BYTES: u64 = 33_554_432;
+use tb_io::Folder;
 
 // What a file of the folder says of trips.
 fn updates_from<F: Folder>(alloc: Global, folder: &mut F, path: &str) -> Result<Vec<Update>, Status>
@@ -37,20 +35,15 @@ fn updates_from<F: Folder>(alloc: Global, folder: &mut F, path: &str) -> Result<
     ensures updates { IfOk result (λ updates.
         UpdatesGive (F.files folder.old) path.now (Ok updates.items)) }
     ensures kept { IfOk result (λ _. F.faults folder.new ≡ F.faults folder.old) }
-    ensures refused { IfErr result (IsNoUpdates (F.files folder.old) path.now
+    ensures refused { IfErr result (HasNoUpdates (F.files folder.old) path.now
         (F.faults folder.old) (F.faults folder.new)) }
     ensures files { F.files folder.new ≡ F.files folder.old }
 {
-    match take_file(alloc, folder, path, MOST_BYTES) {
-        Ok(Some(bytes)) => match read_late(alloc, bytes.as_slice()) {
-            Ok(updates) => Ok(updates),
-            Err(Refused::Fault(fault)) => Err(Status::LateRefused(fault)),
-            Err(Refused::Memory) => Err(Status::Memory),
-        },
-        Ok(None) => Err(Status::LateRefused(LateFault::MissingFile)),
-        Err(Taken::TooLarge) => Err(Status::LateRefused(LateFault::TooLarge)),
-        Err(Taken::ReadFault) => Err(Status::ReadFault),
-        Err(Taken::Memory) => Err(Status::Memory),
+    match take_late(alloc, folder, path) {
+        Ok(updates) => Ok(updates),
+        Err(LateTaken::Fault(fault)) => Err(Status::LateRefused(fault)),
+        Err(LateTaken::ReadFault) => Err(Status::ReadFault),
+        Err(LateTaken::Memory) => Err(Status::Memory),
     }
 }
 
@@ -234,8 +227,9 @@ fn editions_text<R: Wait>(
 {
     old.edition().soundness();
     let Amended { edition, redone } = amended;
-    edition.edition().soundness();
-    let kept = edition.edition().kept();
+    edition.soundness();
+    let kept = edition.kept();
+    let edition = Shared::new(alloc, edition)?;
     let answer = ask_last::<Brand, R>(rt, alloc, json, Opened::new(), old, edition, inquiry)?;
     let mut text = amended_shown(alloc, json, redone, kept)?;
     text.extend_from_slice(answer.as_slice())?;
@@ -260,7 +254,7 @@ fn amended_answer<R: Threads + Wait + Sync, G: Gate>(
     let old = build_edition(rt, alloc, table, workers, gate)?;
     match amend(alloc, old.edition(), updates) {
         Ok(amended) => {
-            amended.edition.edition().soundness();
+            amended.edition.soundness();
             Ok(editions_text(rt, alloc, json, old, amended, inquiry)?)
         }
         Err(refused) => {

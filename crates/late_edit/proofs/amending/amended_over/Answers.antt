@@ -5,10 +5,10 @@ use Rattle.late_edit.specs.Amending.{edition_lines}
 use Rattle.late_edit.proofs.KeptRows.{edition_lines_are}
 use Rattle.late_edit.proofs.amending.amended_over.Goals as goal
 
-pub returns-in_ok-shared-in-Ok-clause-redone : goal.returns-in_ok-shared-in-Ok-clause-redone
-returns-in_ok-shared-in-Ok-clause-redone c =
+pub returns-in_ok-edition-in-Ok-clause-redone : goal.returns-in_ok-edition-in-Ok-clause-redone
+returns-in_ok-edition-in-Ok-clause-redone c =
     let L = c.args.lines in
-    let e = c.in_ok-shared-in-Ok.shared in
-    let is = c.in_ok-shared-in-Ok.ensures ∙ c.in_ok-edition-in-Ok.ensures in
+    let e = c.in_ok-edition-in-Ok.edition in
+    let is = c.in_ok-edition-in-Ok.ensures in
     c.in-Ok.ensures.redone
     ∙ ap (touched_count (edition_lines c.args.old.now)) (edition_lines_are e L (c.requires.lines ∙ sym (ap (λ (x : EditionData). x.table) is)) (sym (ap (λ (x : EditionData). x.lines) is)))

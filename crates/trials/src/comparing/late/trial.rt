@@ -81,7 +81,7 @@ fn compare_parts(
     anew: &Edition,
     tally: &mut AmendedTally,
 ) -> Result<(), Refused> {
-    let new = found.edition.edition();
+    let new = &found.edition;
     compare_editions(new, anew)?;
     let moved = compare_touched(alloc, old, new, found.redone)?;
     if moved == 0 {
@@ -102,7 +102,7 @@ fn compare_amended(
     tally: &mut AmendedTally,
 ) -> Result<(), Refused> {
     compare_parts(alloc, old, found, anew, tally)?;
-    compare_answers(alloc, found.edition.edition(), anew, desk, draw, tally)
+    compare_answers(alloc, &found.edition, anew, desk, draw, tally)
 }
 
 // Builds the edition anew, and compares.
