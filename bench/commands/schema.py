@@ -113,9 +113,10 @@ def more(folder):
         f'lane "l \\ 1"\nask "{quoted}" C {late}\nsince 2 reach "{quoted}" {late}\n'
         f'ask X C {late}\nreach "{quoted}" {late}\ntimes C {late} {late} 1\nprofile "{quoted}" C {late} 26:00:00\n'
     )
-    updates = os.path.join(folder, "updates")
-    with open(updates, "w", encoding="utf-8") as file:
-        file.write("late T-none 0 60\n")
+    updates, none = os.path.join(folder, "updates"), os.path.join(folder, "none")
+    for path, line in ((updates, "late T-none 0 60\n"), (none, "")):
+        with open(path, "w", encoding="utf-8") as file:
+            file.write(line)
     claim = claim_of(
         f"arrive 00:20:00 rides 1\nride 'T 1' {shlex.quote(NAMED)} 00:10:00 C 00:20:00 day-before"
     )
@@ -128,11 +129,11 @@ def more(folder):
     yield ["reach", feed, day, NAMED, late], ""
     yield ["times", feed, day, NAMED, late, "00:20:00", "300", "rides", "1"], ""
     yield ["build", feed, day, "list"], ""
-    yield ["serve", f"{feed}@{day}", f"{feed}-none@{day}"], script
+    yield ["serve", f"{feed}@{day}", f"{feed}-none@{day}", f"late:{updates}", f"late:{none}"], script
     lines = (
         f'# lines\nask "{quoted}" C {late}\nask X C {late}\nask X\nreach X 8\n'
         f'publish {feed}@{day}\npublish {feed}-none@{day}\nsince 9 reach C {late}\n'
-        f'latest "{quoted}" C 26:00:00\n'
+        f'latest "{quoted}" C 26:00:00\nlate "{updates}"\nlate "{none}"\n'
     )
     yield ["--mirror", "--lanes", "2", "live", f"{feed}@{day}"], lines
     yield ["live", f"{feed}-none@{day}"], lines

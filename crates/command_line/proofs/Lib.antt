@@ -1,4 +1,5 @@
 pub mod Parsed
 pub mod LastAt
 pub mod Days
+mod LatePath
 pub mod Named

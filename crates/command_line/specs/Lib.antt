@@ -4,6 +4,7 @@ pub mod Settings
 pub mod DayCommands
 pub mod Verifications
 pub mod LateTrips
+pub mod PlannedDays
 pub mod Plans
 pub mod Cities
 pub mod Requests

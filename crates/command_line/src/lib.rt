@@ -18,7 +18,7 @@ mod verification;
 mod words;
 
 pub use request::{
-    CityRequest, Command, DayRequest, Inquiry, LateRequest, LiveRequest, PlannedDay, Request,
-    ServeRequest, VerifyRequest,
+    CityRequest, Command, DayRequest, Inquiry, LateRequest, LiveRequest, PlannedDay, PlannedFile,
+    PlannedItem, PlannedSource, Request, ServeRequest, VerifyRequest,
 };
 pub use words::{asks_json, request_of};

@@ -141,23 +141,58 @@ impl<'a> Model for LateRequest<'a> {
     ghost invariant = { λ r. AreWithinADay r.options × AreWorkers r.workers };
 }
 
-/// A day of a feed: its folder, the day, and the word DIR@DATE that names both.
+/// A day of a feed: its folder, and the day.
 #[derive(Drop)]
 pub struct PlannedDay<'a> {
     pub dir: &'a str,
-    pub word: &'a str,
     pub day: Day,
 }
 
 impl<'a> Model for PlannedDay<'a> {
-    ghost use Rattle.command_line.specs.Plans.{PlannedDayData};
+    ghost use Rattle.command_line.specs.PlannedDays.{PlannedDayData};
 
     ghost Value = { PlannedDayData };
 
-    ghost view = { λ p. record { dir = p.dir.now; word = p.word.now; date = p.day } };
+    ghost view = { λ p. record { dir = p.dir.now; date = p.day } };
 }
 
-/// A request to publish several days one after another, while a script is answered.
+/// The path of a file by which the last day is amended.
+#[derive(Drop)]
+pub struct PlannedFile<'a> {
+    pub path: &'a str,
+}
+
+impl<'a> Model for PlannedFile<'a> {
+    ghost use Rattle.clap.specs.Words.{Text};
+
+    ghost Value = { Text };
+
+    ghost view = { λ f. f.path.now };
+}
+
+/// What an item of a plan is made of.
+#[derive(Drop)]
+pub enum PlannedSource<'a> {
+    Day(PlannedDay<'a>),
+    Late(PlannedFile<'a>),
+}
+
+/// An item of a plan, and the word that names it: DIR@DATE, or late:FILE.
+#[derive(Drop)]
+pub struct PlannedItem<'a> {
+    pub word: &'a str,
+    pub source: PlannedSource<'a>,
+}
+
+impl<'a> Model for PlannedItem<'a> {
+    ghost use Rattle.command_line.specs.Plans.{PlannedItemData};
+
+    ghost Value = { PlannedItemData };
+
+    ghost view = { λ i. record { word = i.word.now; source = i.source } };
+}
+
+/// A request to publish several items one after another, while a script is answered.
 #[derive(Drop)]
 pub struct ServeRequest<'a> {
     pub options: Options,
@@ -165,8 +200,8 @@ pub struct ServeRequest<'a> {
     pub workers: u32,
     /// As JSON, in place of a text.
     pub json: bool,
-    /// 1 to 100 days, in the order of their publication.
-    pub plan: Vec<PlannedDay<'a>>,
+    /// 1 to 100 items, in the order of their publication, of which the first is a day.
+    pub plan: Vec<PlannedItem<'a>>,
 }
 
 impl<'a> Model for ServeRequest<'a> {
@@ -200,8 +235,8 @@ pub struct LiveRequest<'a> {
     pub mirror: bool,
     /// As JSON, in place of a text.
     pub json: bool,
-    /// The first 1 to 100 days, in the order of their publication.
-    pub plan: Vec<PlannedDay<'a>>,
+    /// The first 1 to 100 items, in the order of their publication, of which the first is a day.
+    pub plan: Vec<PlannedItem<'a>>,
 }
 
 impl<'a> Model for LiveRequest<'a> {

@@ -2,6 +2,8 @@ mod Scripts
 mod Runs
 pub mod Answering
 mod Plans
+mod Told
+pub mod FirstDay
 mod Reports
 mod OutcomeLines
 mod Sent

@@ -1,5 +1,5 @@
 -- What a publisher has taken grows by one item.
-use Rattle.std.proofs.Common.{◌≡◌, inl, inr, ℕ, ◌+◌, ◌<◌, ◌≤◌, List, [], ◌∷◌, ◌++◌, drop, take, length, refl, sym, ap, subst, ◌∙◌, Bool, Option, Result, Ok, Err, append_assoc, arith}
+use Rattle.std.proofs.Common.{◌≡◌, ℕ, ◌+◌, ◌<◌, ◌≤◌, List, [], ◌∷◌, ◌++◌, drop, take, length, refl, sym, ap, subst, ◌∙◌, Bool, Option, Some, Result, Ok, Err, append_assoc, arith}
 use Rattle.std.specs.Prelude.{IfOk, OnOk}
 use Rattle.std.proofs.lemmas.List.{append-nil, length-append}
 use Rattle.tb_base.specs.declared.memory.Memory.{Memory}
@@ -9,49 +9,44 @@ use Rattle.footpaths.specs.declared.paths.Options.{Options}
 use Rattle.edition_store.specs.Editions.{EditionData}
 use Rattle.lane_serve.specs.declared.live.news.Became.{Became}
 use Rattle.lane_serve.specs.declared.live.news.Became.TheVariants as became
-use Rattle.lane_serve.specs.Live.{AreNews, ArePublished, BeginsWithEdition, HasBecome, ReadFaultsRose, became_of}
-use Rattle.lane_serve.specs.LivePublisher.{IsNextEdition, IsNextItem, TakesItem, items_taken}
+use Rattle.lane_serve.specs.Live.{ArePublished, BeginsWithEdition, HasBecome, IsNewsOf, ReadFaultsRose}
+use Rattle.lane_serve.specs.LivePublisher.{HavePublished, IsNextItem, TakesItem, items_taken}
 use Rattle.lane_serve.specs.LiveTexts.{NewsData}
-use Rattle.lane_serve.specs.Plans.{IsEditionOfItem, ItemData}
-
--- one more item
-news_snoc : (files : Option FileList) (options : Options) (mirrored : Bool) (n : ℕ) (xs : List ItemData) (ns : List NewsData) (es added : List EditionData) (item : ItemData) (x : NewsData) →
-    AreNews files options mirrored n xs ns es → x.word ≡ item.word → HasBecome files options mirrored (n + length es) item x.became added →
-    AreNews files options mirrored n (xs ++ item ∷ []) (ns ++ x ∷ []) (es ++ added)
-news_snoc files options mirrored n [] [] es added item x h w b =
-    let z : n + length es ≡ n = ap (λ (l : List EditionData). n + length l) h ∙ omega arith in
-    (added, [], ap (λ l. l ++ added) h ∙ sym (append-nil added), w, subst (λ m. HasBecome files options mirrored m item x.became added) z b, refl)
-news_snoc files options mirrored n [] (y ∷ ns) es added item x h w b = absurd h
-news_snoc files options mirrored n (i ∷ xs) [] es added item x h w b = absurd h
-news_snoc files options mirrored n (i ∷ xs) (y ∷ ns) es added item x h w b =
-    let z : n + length es ≡ n + length h.0 + length h.1 = ap (λ (l : List EditionData). n + length l) h.2 ∙ omega (arith, length-append h.0 h.1) in (
-      h.0,
-      h.1 ++ added,
-      ap (λ l. l ++ added) h.2 ∙ append_assoc h.0 h.1 added,
-      h.3,
-      h.4,
-      news_snoc files options mirrored (n + length h.0) xs ns h.1 added item x h.5 w (subst (λ m. HasBecome files options mirrored m item x.became added) z b),
-    )
+use Rattle.lane_serve.specs.Plans.{AreSoFar, HasOutcome, ItemData, day_after}
+use Rattle.lane_serve.specs.declared.plan.ItemSource.{ItemSource}
+use Rattle.lane_serve.specs.declared.plan.ItemSource.TheVariants as source
+use Rattle.lane_serve.specs.declared.plan.Outcome.{Outcome}
+use Rattle.lane_serve.proofs.Told.{so_far_all, so_far_more}
 
 still_begins : (ns more : List NewsData) → BeginsWithEdition ns → BeginsWithEdition (ns ++ more)
 still_begins [] more h = absurd h
 still_begins (x ∷ ns) more h = h
 
 -- the items that were taken, with one more
-pub published_more : (files now : Option FileList) (options : Options) (mirrored : Bool) (items more : List ItemData) (item : ItemData) (before after : ℕ) (es gone : List EditionData) (told news : List NewsData) →
-    now ≡ files → more ≡ items ++ item ∷ [] → ArePublished files options mirrored items told es →
-    TakesItem now options mirrored item before after es gone told news → ArePublished files options mirrored more news gone
-published_more files now options mirrored items more item before after es gone told news same is h t =
+pub published_more : (files now : Option FileList) (options : Options) (mirrored : Bool) (items more : List ItemData) (item : ItemData) (before after : ℕ) (es gone : List EditionData) (day next : EditionData)
+    (told news : List NewsData) → now ≡ files → more ≡ items ++ item ∷ [] → HavePublished files options mirrored items told es day →
+    TakesItem now options mirrored item before after es gone day next told news → HavePublished files options mirrored more news gone next
+published_more files now options mirrored items more item before after es gone day next told news same is h t =
     let b = t.0 in
     let added = t.1.0 in
     let x : NewsData = record { word = item.word; became = b } in
-    let one = subst (λ f. HasBecome f options mirrored (length es) item b added) same t.1.2 in
-    let z : length es ≡ 0 + length es = omega arith in
-    let grown = news_snoc files options mirrored 0 items told es added item x h.outcomes refl (subst (λ m. HasBecome files options mirrored m item b added) z one) in
+    let Tells = IsNewsOf files options mirrored in
+    let one = subst (λ f. HasBecome f options mirrored (Some day) (length es) item b added) same t.1.2 in
+    let grown = so_far_more Tells items told es day item x added next h.outcomes (refl, one) t.1.3 in
     record {
-      outcomes = rw (is, t.2, t.1.1) grown;
-      first = rw t.2 (still_begins told (x ∷ []) h.first);
+      outcomes = subst (λ l. AreSoFar Tells l news gone next) (sym is)
+          (subst (λ l. AreSoFar Tells (items ++ item ∷ []) l gone next) (sym t.2)
+          (subst (λ l. AreSoFar Tells (items ++ item ∷ []) (told ++ x ∷ []) l next) (sym t.1.1) grown));
+      first = subst (λ l. BeginsWithEdition l) (sym t.2) (still_begins told (x ∷ []) h.first);
     }
+
+-- no more items
+pub published_all : (files : Option FileList) (options : Options) (mirrored : Bool) (items : List ItemData) (news : List NewsData) (es : List EditionData) (day : EditionData) →
+    HavePublished files options mirrored items news es day → ArePublished files options mirrored items news es
+published_all files options mirrored items news es day h = record {
+  outcomes = so_far_all (IsNewsOf files options mirrored) items news es day h.outcomes;
+  first = h.first;
+}
 
 rose_longer : (start before after : ℕ) → Rose start before → before ≤ after → Rose start after
 rose_longer start before after r le = omega (arith, r, le)
@@ -68,11 +63,11 @@ rose_earlier : (start before after : ℕ) → start ≤ before → Rose before a
 rose_earlier start before after le r = omega (arith, le, r)
 
 -- a folder's count that rose behind one item rose over all of them
-pub rose_more : (start before after : ℕ) (files : Option FileList) (options : Options) (mirrored : Bool) (item : ItemData) (es gone : List EditionData) (told news : List NewsData) →
-    start ≤ before → before ≤ after → ReadFaultsRose start before told → TakesItem files options mirrored item before after es gone told news → ReadFaultsRose start after news
-rose_more start before after files options mirrored item es gone told news low le h t =
+pub rose_more : (start before after : ℕ) (files : Option FileList) (options : Options) (mirrored : Bool) (item : ItemData) (es gone : List EditionData) (day next : EditionData) (told news : List NewsData) →
+    start ≤ before → before ≤ after → ReadFaultsRose start before told → TakesItem files options mirrored item before after es gone day next told news → ReadFaultsRose start after news
+rose_more start before after files options mirrored item es gone day next told news low le h t =
     let x : NewsData = record { word = item.word; became = t.0 } in
-    rw t.2 (rose_snoc start after told x (rose_later start before after told le h) (λ e. rose_earlier start before after low (t.1.3 e)))
+    rw t.2 (rose_snoc start after told x (rose_later start before after told le h) (λ e. rose_earlier start before after low (t.1.4 e)))
 
 -- one more item was handed over
 pub handed_more : (words old new : List ItemData) (item : ItemData) → 0 < length old → new ≡ old ++ item ∷ [] → items_taken words new ≡ items_taken words old ++ item ∷ []
@@ -88,25 +83,27 @@ handed_none words [] one = absurd (omega arith)
 handed_none words (x ∷ []) one = append-nil words
 handed_none words (x ∷ y ∷ rest) one = absurd (omega arith)
 
-not_read_fault : (e : EditionData) (n : ℕ) (b : Became) → b ≡ became_of n e → b ≡ became.ReadFault → ⊥
-not_read_fault e n b h k = let c : became_of n e ≡ became.ReadFault = sym h ∙ k in cc
+-- an item without an edition leaves the last day as it is
+day_stays : (day : EditionData) (s : ItemSource) → day_after (Some day) s [] ≡ Some day
+day_stays day (source.Day d) = refl
+day_stays day (source.Late path) = refl
 
-not_both : (b : Became) → b ≡ became.Memory → b ≡ became.ReadFault → ⊥
-not_both b h k = let c : became.Memory ≡ became.ReadFault = sym h ∙ k in cc
+-- an item has an outcome
+pub next_found : (files : Option FileList) (options : Options) (mirrored : Bool) (item : ItemData) (before after n : ℕ) (es gone : List EditionData) (day next : EditionData) (o : Outcome) (added : List EditionData) →
+    n ≡ length es → HasOutcome files options mirrored (Some day) n item o added → gone ≡ es ++ added → day_after (Some day) item.source added ≡ Some next →
+    IsNextItem files options mirrored item before after es gone day next (became.Outcome o)
+next_found files options mirrored item before after n es gone day next o added count h more then =
+    (added, more, subst (λ m. HasOutcome files options mirrored (Some day) m item o added) count h, then, λ k. absurd (cc k))
 
--- the edition of a lawful item is the next one, or there was no number for it
-next_is : (files : Option FileList) (options : Options) (mirrored : Bool) (item : ItemData) (before after : ℕ) (es now : List EditionData) (e : EditionData) (b : Became) →
-    IsEditionOfItem files options mirrored item e → IsNextEdition es now e b → IsNextItem files options mirrored item before after es now b
-next_is files options mirrored item before after es now e b good (inl h) =
-    (e ∷ [], h.0, subst (λ c. HasBecome files options mirrored (length es) item c (e ∷ [])) (sym h.1) (e, refl, good, refl), λ k. absurd (not_read_fault e (length es + 1) b h.1 k))
-next_is files options mirrored item before after es now e b good (inr h) =
-    ([], h.0 ∙ sym (append-nil es), subst (λ c. HasBecome files options mirrored (length es) item c []) (sym h.1) refl, λ k. absurd (not_both b h.1 k))
+-- an item could not be read
+pub next_unread : (files : Option FileList) (options : Options) (mirrored : Bool) (item : ItemData) (before after : ℕ) (es : List EditionData) (day : EditionData) → Rose before after →
+    IsNextItem files options mirrored item before after es es day day became.ReadFault
+next_unread files options mirrored item before after es day rose = ([], sym (append-nil es), refl, day_stays day item.source, λ k. rose)
 
-pub next_built : {P : Type 0} (list : P → List EditionData) (files : Option FileList) (options : Options) (mirrored : Bool) (item : ItemData) (before after : ℕ) (es : List EditionData) (e : EditionData)
-    (result : Result (P × Became) Memory) → IsEditionOfItem files options mirrored item e → IfOk result (λ t. IsNextEdition es (list t.0) e t.1)
-    → IfOk result (λ t. IsNextItem files options mirrored item before after es (list t.0) t.1)
-next_built list files options mirrored item before after es e (Ok t) good h = next_is files options mirrored item before after es (list t.0) e t.1 good h
-next_built list files options mirrored item before after es e (Err m) good h = tt
+-- there was no memory for an item
+pub next_unmade : (files : Option FileList) (options : Options) (mirrored : Bool) (item : ItemData) (before after : ℕ) (es : List EditionData) (day : EditionData) →
+    IsNextItem files options mirrored item before after es es day day became.Memory
+next_unmade files options mirrored item before after es day = ([], sym (append-nil es), refl, day_stays day item.source, λ k. absurd (cc k))
 
 pub where_ok : {T E : Type 0} (result : Result T E) (A B : Type 0) → (A → B) → OnOk result A → OnOk result B
 where_ok (Ok t) A B f h = f h

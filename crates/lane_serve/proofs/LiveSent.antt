@@ -24,7 +24,7 @@ use Rattle.edition_store.specs.contracts.rule.View as view
 use Rattle.lane_serve.specs.contracts.live.news.Became as became
 use Rattle.lane_serve.specs.contracts.live.news.News as news
 use Rattle.lane_serve.specs.contracts.live.news.News.TheInside as news_inside
-use Rattle.lane_serve.specs.contracts.plan.Building as building
+use Rattle.lane_serve.specs.contracts.building.Building as building
 use Rattle.lane_serve.specs.contracts.plan.PlanItem as item
 
 pub item_sync : IsSync item.the_row
@@ -37,7 +37,7 @@ pub building_sync : IsSync building.the_row
 building_sync = search (sendable, crosses) depth 40 fits 100000
 
 became_send : IsSend became.the_row
-became_send = search (sendable, crosses) depth 40 fits 100000
+became_send = search (sendable, crosses) depth 100 fits 1000000
 
 news_inside_send : IsSend news_inside.the_row
 news_inside_send =
@@ -54,11 +54,11 @@ news_send = let i = news_inside_send in record { owned = λ d vs x. (i.owned x.0
 pub slot_send : (A : RattleType) → IsSend A → IsSend (option.the_row A)
 slot_send A a = search sendable depth 12
 
--- nine captures, each of which may go
-pub nine_send : (A B C D E F G H I : RattleType) → IsSend A → IsSend B → IsSend C → IsSend D → IsSend E → IsSend F → IsSend G → IsSend H → IsSend I → IsSend (TupleAt [] (A ∷ B ∷ C ∷ D ∷ E ∷ F ∷ G ∷ H ∷ I ∷ []))
-nine_send A B C D E F G H I a b c d e f g h i =
-    declared_send (type_at [] (A ∷ B ∷ C ∷ D ∷ E ∷ F ∷ G ∷ H ∷ I ∷ []))
-    (as_row_send (row_field A) a, (as_row_send (row_field B) b, (as_row_send (row_field C) c, (as_row_send (row_field D) d, (as_row_send (row_field E) e, (as_row_send (row_field F) f, (as_row_send (row_field G) g, (as_row_send (row_field H) h, (as_row_send (row_field I) i, tt)))))))))
+-- ten captures, each of which may go
+pub ten_send : (A B C D E F G H I J : RattleType) → IsSend A → IsSend B → IsSend C → IsSend D → IsSend E → IsSend F → IsSend G → IsSend H → IsSend I → IsSend J → IsSend (TupleAt [] (A ∷ B ∷ C ∷ D ∷ E ∷ F ∷ G ∷ H ∷ I ∷ J ∷ []))
+ten_send A B C D E F G H I J a b c d e f g h i j =
+    declared_send (type_at [] (A ∷ B ∷ C ∷ D ∷ E ∷ F ∷ G ∷ H ∷ I ∷ J ∷ []))
+    (as_row_send (row_field A) a, (as_row_send (row_field B) b, (as_row_send (row_field C) c, (as_row_send (row_field D) d, (as_row_send (row_field E) e, (as_row_send (row_field F) f, (as_row_send (row_field G) g, (as_row_send (row_field H) h, (as_row_send (row_field I) i, (as_row_send (row_field J) j, tt))))))))))
 
 -- the publisher of a list of editions: the search does not find its row by itself
 module _ (A : RattleType) (g : Ghosts A.Denot) (d : Dict) where

@@ -19,14 +19,17 @@ use Rattle.lane_serve.specs.declared.live.lived.LiveFault.TheVariants as fault
 use Rattle.lane_serve.specs.declared.live.running.LinesFault.{LinesFault}
 use Rattle.lane_serve.specs.declared.live.running.LinesFault.TheVariants as cut
 use Rattle.lane_serve.specs.declared.live.saying.LiveMode.{LiveMode}
-use Rattle.lane_serve.specs.Live.{ArePublished, BeginsWithFirst, HasFailed, HasFailedBehind, HasBecome, HasLived, HasLivedUntil, IsPublished, IsTextOf, ReadFaultsRose, became_of}
+use Rattle.lane_serve.specs.Live.{ArePublished, BeginsWithFirst, HasAnEdition, HasBecome, HasFailed, HasFailedBehind, HasLived, HasLivedUntil, IsNewsOf, IsTextOf, ReadFaultsRose}
 use Rattle.lane_serve.specs.LiveLines.{live_counts, live_gives}
-use Rattle.lane_serve.specs.LivePublisher.{items_taken}
+use Rattle.lane_serve.specs.LivePublisher.{HavePublished, items_taken}
 use Rattle.lane_serve.specs.LiveReplies.{LiveReplies}
 use Rattle.lane_serve.specs.LiveSides.{BeginsLive, FailsToTellFirst, FailsToTellRest, HasCutLines, HasRunLines, HaveClosed, TellsRest, told_as}
 use Rattle.lane_serve.specs.LiveTexts.{NewsData, news_shown}
 use Rattle.lane_serve.specs.LiveTurns.{CutTurnsAreOneRun, IsCutBy, IsLiveRun, IsLiveText, IsLiveTurn, LineSideData, TurnsAreOneRun, before_lines}
-use Rattle.lane_serve.specs.Plans.{ItemData}
+use Rattle.lane_serve.specs.Plans.{ItemData, outcome_of}
+use Rattle.lane_serve.specs.declared.live.news.Became.TheVariants as became
+use Rattle.lane_serve.proofs.FirstDay.{source_first}
+use Rattle.lane_serve.proofs.Told.{so_far_first}
 
 -- the text of a side that begins with the first news told, at its first line
 begun_text : (mode : LiveMode) (es : List EditionData) (side : LineSideData) (news told : List NewsData) (lines : List (List ℕ)) (text : List ℕ) (first : List EditionData) →
@@ -83,8 +86,8 @@ longer : (cause : LiveFault) (line text : List ℕ) (count : ℕ) → (cause ≡
 longer cause line text count (inl e) = inl e
 longer cause line text count (inr e) = inr (omega (arith, e, length-append line text))
 
-module _ (files : Option FileList) (options : Options) (mode : LiveMode) (words : List ItemData) (es0 : List EditionData) (items0 : List ItemData) (news0 : List NewsData) (side : LineSideData)
-    (b : BeginsLive files options mode words es0 items0 news0 side) (left before mid : Option (List ℕ)) (kept : Shown EditionData) where
+module _ (files : Option FileList) (options : Options) (mode : LiveMode) (words : List ItemData) (es0 : List EditionData) (day0 : EditionData) (items0 : List ItemData) (news0 : List NewsData) (side : LineSideData)
+    (b : BeginsLive files options mode words es0 day0 items0 news0 side) (left before mid : Option (List ℕ)) (kept : Shown EditionData) where
   kept_begins : Extends kept side.live.kept → BeginsWithFirst files options mode.mirrored words kept.list
   kept_begins later = first_is files options mode words es0 kept.list b.one b.good (subst (λ l. StartsWith kept.list l) b.kept_is later.0)
 
@@ -294,35 +297,31 @@ no_read line before now fault.Memory result P h is e = absurd (cc (sym is ∙ e)
 
 -- the first item's edition is published, and its news
 first_published : (files : Option FileList) (options : Options) (mirrored : Bool) (words : List ItemData) (w : ItemData) (e : EditionData) (x : NewsData) →
-    take 1 words ≡ w ∷ [] → x ≡ record { word = w.word; became = became_of 1 e } → BeginsWithFirst files options mirrored words (e ∷ []) →
-    ArePublished files options mirrored (take 1 words) (x ∷ []) (e ∷ [])
+    take 1 words ≡ w ∷ [] → x ≡ record { word = w.word; became = became.Outcome (outcome_of 1 e) } → BeginsWithFirst files options mirrored words (e ∷ []) →
+    HavePublished files options mirrored (take 1 words) (x ∷ []) (e ∷ []) e
 first_published files options mirrored [] w e x one is h = absurd h
 first_published files options mirrored (v ∷ words) w e x one is h =
     let same : v ≡ w = cc one in
-    let b : x.became ≡ became_of 1 e = ap (λ (n : NewsData). n.became) is in
+    let b : x.became ≡ became.Outcome (outcome_of 1 e) = ap (λ (n : NewsData). n.became) is in
+    let first = source_first files options mirrored v.source e h in
+    let word : x.word ≡ v.word = ap (λ (n : NewsData). n.word) is ∙ ap (λ (i : ItemData). i.word) (sym same) in
     record {
-      outcomes = (
-        e ∷ [],
-        [],
-        refl,
-        ap (λ (n : NewsData). n.word) is ∙ ap (λ (i : ItemData). i.word) (sym same),
-        subst (λ c. HasBecome files options mirrored 0 v c (e ∷ [])) (sym b) (e, refl, h, refl),
-        refl,
-      );
-      first = subst (λ c. IsPublished c) (sym b) tt;
+      outcomes = so_far_first (IsNewsOf files options mirrored) v x e (word, subst (λ c. HasBecome files options mirrored None 0 v c (e ∷ [])) (sym b) first.0) first.1;
+      first = subst (λ c. HasAnEdition c) (sym b) tt;
     }
 
 -- what a run begins with, before its first line
-pub begins_live : (files : Option FileList) (options : Options) (mode : LiveMode) (words : List ItemData) (w : ItemData) (e : EditionData) (x : NewsData) (es : List EditionData)
-    (items : List ItemData) (news : List NewsData) (lanes : ℕ) (side : LineSideData) → take 1 words ≡ w ∷ [] → x ≡ record { word = w.word; became = became_of 1 e } →
-    BeginsWithFirst files options mode.mirrored words (e ∷ []) → es ≡ e ∷ [] → items ≡ w ∷ [] → news ≡ x ∷ [] → 0 < lanes →
-    side ≡ before_lines mode lanes (record { list = e ∷ []; closed = false }) (w ∷ []) (x ∷ []) → BeginsLive files options mode words es items news side
-begins_live files options mode words w e x es items news lanes side one is good es_is items_is news_is some side_is =
+pub begins_live : (files : Option FileList) (options : Options) (mode : LiveMode) (words : List ItemData) (w : ItemData) (e : EditionData) (x : NewsData) (es : List EditionData) (day : EditionData)
+    (items : List ItemData) (news : List NewsData) (lanes : ℕ) (side : LineSideData) → take 1 words ≡ w ∷ [] → x ≡ record { word = w.word; became = became.Outcome (outcome_of 1 e) } →
+    BeginsWithFirst files options mode.mirrored words (e ∷ []) → es ≡ e ∷ [] → day ≡ e → items ≡ w ∷ [] → news ≡ x ∷ [] → 0 < lanes →
+    side ≡ before_lines mode lanes (record { list = e ∷ []; closed = false }) (w ∷ []) (x ∷ []) → BeginsLive files options mode words es day items news side
+begins_live files options mode words w e x es day items news lanes side one is good es_is day_is items_is news_is some side_is =
     let published = first_published files options mode.mirrored words w e x one is good in
     record {
       one = ap length es_is;
       good = subst (λ l. BeginsWithFirst files options mode.mirrored words l) (sym es_is) good;
-      published = subst (λ l. ArePublished files options mode.mirrored (take 1 words) l es) (sym news_is) (subst (λ l. ArePublished files options mode.mirrored (take 1 words) (x ∷ []) l) (sym es_is) published);
+      published = subst (λ d. HavePublished files options mode.mirrored (take 1 words) news es d) (sym day_is)
+          (subst (λ l. HavePublished files options mode.mirrored (take 1 words) l es e) (sym news_is) (subst (λ l. HavePublished files options mode.mirrored (take 1 words) (x ∷ []) l e) (sym es_is) published));
       items_are = items_is ∙ sym one;
       some = subst (λ (s : LineSideData). 0 < s.lanes) (sym side_is) some;
       mode_is = ap (λ (s : LineSideData). s.mode) side_is;
@@ -333,9 +332,9 @@ begins_live files options mode words w e x es items news lanes side one is good 
     }
 
 -- the first news tell of no failed read
-pub first_rose : (count : ℕ) (w : List ℕ) (e : EditionData) (x : NewsData) (news : List NewsData) → x ≡ record { word = w; became = became_of 1 e } → news ≡ x ∷ [] → ReadFaultsRose count count news
+pub first_rose : (count : ℕ) (w : List ℕ) (e : EditionData) (x : NewsData) (news : List NewsData) → x ≡ record { word = w; became = became.Outcome (outcome_of 1 e) } → news ≡ x ∷ [] → ReadFaultsRose count count news
 first_rose count w e x news is news_is =
-    let b : x.became ≡ became_of 1 e = ap (λ (n : NewsData). n.became) is in
+    let b : x.became ≡ became.Outcome (outcome_of 1 e) = ap (λ (n : NewsData). n.became) is in
     subst (λ l. ReadFaultsRose count count l) (sym news_is) (λ h. absurd (cc (sym b ∙ h)), tt)
 
 -- the first of some things

@@ -5,18 +5,18 @@ use Rattle.lane_serve.specs.declared.plan.Outcome.{Outcome}
 use Rattle.lane_serve.specs.Plans.{ItemData}
 use Rattle.lane_serve.specs.Texts.{outcome_lines}
 
-module _ (line_of : ItemData → Outcome → List ℕ) where
+module _ (line_of : List ℕ → Outcome → List ℕ) where
   outcomes_snoc : (xs : List ItemData) (os : List Outcome) (x : ItemData) (o : Outcome) → length os ≡ length xs
-      → outcome_lines line_of (xs ++ x ∷ []) (os ++ o ∷ []) ≡ outcome_lines line_of xs os ++ line_of x o
-  outcomes_snoc [] [] x o e = append-nil (line_of x o)
+      → outcome_lines line_of (xs ++ x ∷ []) (os ++ o ∷ []) ≡ outcome_lines line_of xs os ++ line_of x.word o
+  outcomes_snoc [] [] x o e = append-nil (line_of x.word o)
   outcomes_snoc [] (p ∷ os) x o e = absurd (omega arith)
   outcomes_snoc (y ∷ xs) [] x o e = absurd (omega arith)
   outcomes_snoc (y ∷ xs) (p ∷ os) x o e =
-      ap (λ t. line_of y p ++ t) (outcomes_snoc xs os x o (omega arith)) ∙ sym (append_assoc (line_of y p) (outcome_lines line_of xs os) (line_of x o))
+      ap (λ t. line_of y.word p ++ t) (outcomes_snoc xs os x o (omega arith)) ∙ sym (append_assoc (line_of y.word p) (outcome_lines line_of xs os) (line_of x.word o))
 
   -- one line more
   pub outcomes_told : (plan : List ItemData) (outcomes : List Outcome) (i : ℕ) (d : ItemData) (e : Outcome) (start mid end line : List ℕ) → length outcomes ≡ length plan → i < length plan
-      → mid ≡ start ++ outcome_lines line_of (take i plan) (take i outcomes) → line ≡ line_of (get_or plan i d) (get_or outcomes i e) → end ≡ mid ++ line
+      → mid ≡ start ++ outcome_lines line_of (take i plan) (take i outcomes) → line ≡ line_of (ItemData.word (get_or plan i d)) (get_or outcomes i e) → end ≡ mid ++ line
       → end ≡ start ++ outcome_lines line_of (take (i + 1) plan) (take (i + 1) outcomes)
   outcomes_told plan outcomes i d e start mid end line long lt before is added =
       let short : length (take i outcomes) ≡ length (take i plan) = omega (arith, length-take i outcomes, length-take i plan) in

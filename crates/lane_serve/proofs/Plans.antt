@@ -1,90 +1,83 @@
 -- A plan grows by one item.
-use Rattle.std.proofs.Common.{◌≡◌, ℕ, suc, ◌+◌, ◌<◌, ◌≤◌, List, [], ◌∷◌, ◌++◌, take, length, get_or, refl, sym, ap, subst, ◌∙◌, Bool, Option, Result, Ok, Err, arith}
-use Rattle.std.specs.Prelude.{IfOk}
+use Rattle.std.proofs.Common.{◌≡◌, ◌⊎◌, inl, inr, ℕ, ◌+◌, ◌<◌, ◌≤◌, List, [], ◌∷◌, ◌++◌, take, length, get_or, refl, sym, ap, subst, ◌∙◌, Bool, Option, Some, None, Result, Ok, Err, arith}
+use Rattle.std.specs.Prelude.{IfOk, OnOk, option_to_list}
 use Rattle.gtfs_rows.specs.declared.fault.FeedFault.{FeedFault}
-use Rattle.std.proofs.lemmas.List.{take_more, length-take, append-nil}
+use Rattle.std.proofs.lemmas.List.{take_more, length-take}
 use Rattle.tb_io.specs.Files.{FileList}
 use Rattle.footpaths.specs.declared.paths.Options.{Options}
-use Rattle.edition_store.specs.Editions.{EditionData}
+use Rattle.edition_store.specs.Editions.{EditionData, IsEdition}
+use Rattle.late_edit.specs.Amending.{edition_lines}
+use Rattle.late_edit.specs.Touched.{touched_count}
+use Rattle.late_edit.specs.declared.late.LateFault.{LateFault}
+use Rattle.lane_serve.specs.declared.building.Building.{Building}
+use Rattle.lane_serve.specs.declared.building.Found.{Found}
+use Rattle.lane_serve.specs.declared.building.PlanEnd.{PlanEnd}
+use Rattle.lane_serve.specs.declared.plan.ItemSource.{ItemSource}
+use Rattle.lane_serve.specs.declared.plan.ItemSource.TheVariants as source
 use Rattle.lane_serve.specs.declared.plan.Outcome.{Outcome}
-use Rattle.lane_serve.specs.declared.plan.Outcome.TheVariants.{Published, Refused}
-use Rattle.lane_serve.specs.Plans.{AreOutcomes, BeginsPublished, IsEditionOfItem, ItemData, ItemGives, Takes, outcome_of}
-use Rattle.lane_serve.specs.declared.plan.PlanEnd.{PlanEnd}
+use Rattle.lane_serve.specs.declared.plan.Outcome.TheVariants.{Amended, LateRefused, Published, Refused}
+use Rattle.lane_serve.specs.FeedDays.{FeedDayData}
+use Rattle.lane_serve.specs.Plans.{AreOutcomes, AreSoFar, AreTold, BeginsPublished, DayGives, HasDayOutcome, HasLateOutcome, HasOutcome, HasSourceOutcome, IsAmendedEdition, IsEditionOfDay, IsPublished, ItemData, LateGives, Takes, amended_outcome_of, day_after, outcome_of}
+use Rattle.lane_serve.specs.Sides.{HasTakenSoFar}
+use Rattle.lane_serve.proofs.Told.{so_far_all, so_far_first, so_far_more, told_count, told_few}
 
-outcomes_append : (files : Option FileList) (options : Options) (mirrored : Bool) (n : ℕ) (xs ys : List ItemData) (os ps : List Outcome) (es fs : List EditionData) →
-    AreOutcomes files options mirrored n xs os es → AreOutcomes files options mirrored (n + length es) ys ps fs →
-    AreOutcomes files options mirrored n (xs ++ ys) (os ++ ps) (es ++ fs)
-outcomes_append files options mirrored n [] ys [] ps [] fs h k = let z : n + 0 ≡ n = omega arith in subst (λ m. AreOutcomes files options mirrored m ys ps fs) z k
-outcomes_append files options mirrored n [] ys [] ps (e ∷ es) fs h k = absurd h
-outcomes_append files options mirrored n [] ys (o ∷ os) ps es fs h k = absurd h
-outcomes_append files options mirrored n (x ∷ xs) ys [] ps es fs h k = absurd h
-outcomes_append files options mirrored n (x ∷ xs) ys (Refused f ∷ os) ps es fs h k = (h.0, outcomes_append files options mirrored n xs ys os ps es fs h.1 k)
-outcomes_append files options mirrored n (x ∷ xs) ys (Published number trips lines kept ∷ os) ps [] fs h k = absurd h
-outcomes_append files options mirrored n (x ∷ xs) ys (Published number trips lines kept ∷ os) ps (e ∷ es) fs h k =
-    let z : n + suc (length es) ≡ n + 1 + length es = omega arith in
-    (h.0, h.1, outcomes_append files options mirrored (n + 1) xs ys os ps es fs h.2 (subst (λ m. AreOutcomes files options mirrored m ys ps fs) z k))
-
-few_editions : (files : Option FileList) (options : Options) (mirrored : Bool) (n : ℕ) (xs : List ItemData) (os : List Outcome) (es : List EditionData) →
-    AreOutcomes files options mirrored n xs os es → length es ≤ length xs
-few_editions files options mirrored n [] [] [] h = omega arith
-few_editions files options mirrored n [] [] (e ∷ es) h = absurd h
-few_editions files options mirrored n [] (o ∷ os) es h = absurd h
-few_editions files options mirrored n (x ∷ xs) [] es h = absurd h
-few_editions files options mirrored n (x ∷ xs) (Refused f ∷ os) es h = let r = few_editions files options mirrored n xs os es h.1 in omega arith
-few_editions files options mirrored n (x ∷ xs) (Published number trips lines kept ∷ os) [] h = absurd h
-few_editions files options mirrored n (x ∷ xs) (Published number trips lines kept ∷ os) (e ∷ es) h = let r = few_editions files options mirrored (n + 1) xs os es h.2 in omega arith
+-- an item adds one edition at most
+source_few : (files : Option FileList) (options : Options) (mirrored : Bool) (day : Option EditionData) (n : ℕ) (s : ItemSource) (o : Outcome) (es : List EditionData) →
+    HasSourceOutcome files options mirrored day n s o es → length es ≤ 1
+source_few files options mirrored day n (source.Day d) o es (inl h) = omega (arith, ap (λ (l : List EditionData). length l) h.1)
+source_few files options mirrored day n (source.Day d) o es (inr h) = omega (arith, ap (λ (l : List EditionData). length l) h.1)
+source_few files options mirrored (Some day) n (source.Late path) o es (inl h) = omega (arith, ap (λ (l : List EditionData). length l) h.1)
+source_few files options mirrored (Some day) n (source.Late path) o es (inr h) = omega (arith, ap (λ (l : List EditionData). length l) h.1)
+source_few files options mirrored None n (source.Late path) o es h = absurd h
 
 -- there is one outcome for each item
-pub outcome_count : (files : Option FileList) (options : Options) (mirrored : Bool) (n : ℕ) (xs : List ItemData) (os : List Outcome) (es : List EditionData) →
-    AreOutcomes files options mirrored n xs os es → length os ≡ length xs
-outcome_count files options mirrored n [] [] es h = refl
-outcome_count files options mirrored n [] (o ∷ os) es h = absurd h
-outcome_count files options mirrored n (x ∷ xs) [] es h = absurd h
-outcome_count files options mirrored n (x ∷ xs) (Refused f ∷ os) es h = ap suc (outcome_count files options mirrored n xs os es h.1)
-outcome_count files options mirrored n (x ∷ xs) (Published number trips lines kept ∷ os) [] h = absurd h
-outcome_count files options mirrored n (x ∷ xs) (Published number trips lines kept ∷ os) (e ∷ es) h = ap suc (outcome_count files options mirrored (n + 1) xs os es h.2)
+pub outcome_count : (files : Option FileList) (options : Options) (mirrored : Bool) (xs : List ItemData) (os : List Outcome) (es : List EditionData) →
+    AreOutcomes files options mirrored xs os es → length os ≡ length xs
+outcome_count files options mirrored xs os es h = told_count (HasOutcome files options mirrored) None 0 xs os es h
 
 -- there is room for one more edition
-pub has_room : (files : Option FileList) (options : Options) (mirrored : Bool) (plan : List ItemData) (i : ℕ) (os : List Outcome) (es : List EditionData) →
-    AreOutcomes files options mirrored 0 (take i plan) os es → i < length plan → length plan ≤ 100 → length es < 100
-has_room files options mirrored plan i os es h lt le =
-    let few = few_editions files options mirrored 0 (take i plan) os es h in
+pub has_room : (files : Option FileList) (building : Building) (plan : List ItemData) (i : ℕ) (os : List Outcome) (es : List EditionData) (day : EditionData) →
+    HasTakenSoFar files building (take i plan) os es day → i < length plan → length plan ≤ 100 → length es < 100
+has_room files building plan i os es day h lt le =
+    let all = so_far_all (HasOutcome files building.options building.mirrored) (take i plan) os es day h.outcomes_are in
+    let few = told_few (HasOutcome files building.options building.mirrored) (λ d n item o gs t. source_few files building.options building.mirrored d n item.source o gs t) None 0 (take i plan) os es all in
     omega (arith, few, length-take i plan)
-
--- the outcomes with those of the next item
-pub outcomes_more : (files now : Option FileList) (options : Options) (mirrored : Bool) (plan : List ItemData) (i : ℕ) (d : ItemData) (os told : List Outcome) (es gone : List EditionData) →
-    now ≡ files → AreOutcomes files options mirrored 0 (take i plan) os es → i < length plan → Takes now options mirrored (get_or plan i d) es gone os told →
-    AreOutcomes files options mirrored 0 (take (i + 1) plan) told gone
-outcomes_more files now options mirrored plan i d os told es gone same h lt t =
-    let new = t.0 in
-    let o = t.1 in
-    let one = subst (λ f. AreOutcomes f options mirrored (length es) (get_or plan i d ∷ []) (o ∷ []) new) same t.4 in
-    let z : length es ≡ 0 + length es = omega arith in
-    let grown = outcomes_append files options mirrored 0 (take i plan) (get_or plan i d ∷ []) os (o ∷ []) es new h
-    (subst (λ m. AreOutcomes files options mirrored m (get_or plan i d ∷ []) (o ∷ []) new) z one) in
-    subst (λ xs. AreOutcomes files options mirrored 0 xs told gone) (sym (take_more plan i d lt))
-    (subst (λ l. AreOutcomes files options mirrored 0 (take i plan ++ get_or plan i d ∷ []) l gone) (sym t.3)
-    (subst (λ l. AreOutcomes files options mirrored 0 (take i plan ++ get_or plan i d ∷ []) (os ++ o ∷ []) l) (sym t.2) grown))
 
 still_published : (os ps : List Outcome) → BeginsPublished os → BeginsPublished (os ++ ps)
 still_published [] ps h = absurd h
-still_published (Refused f ∷ os) ps h = absurd h
-still_published (Published number trips lines kept ∷ os) ps h = tt
+still_published (o ∷ os) ps h = h
 
-pub begins_more : (files : Option FileList) (options : Options) (mirrored : Bool) (item : ItemData) (os told : List Outcome) (es gone : List EditionData) →
-    Takes files options mirrored item es gone os told → BeginsPublished os → BeginsPublished told
-begins_more files options mirrored item os told es gone t h = subst (λ l. BeginsPublished l) (sym t.3) (still_published os (t.1 ∷ []) h)
+-- the outcomes with those of the next item
+pub taken_more : (files now : Option FileList) (building : Building) (plan : List ItemData) (i : ℕ) (d : ItemData) (os told : List Outcome) (es gone : List EditionData) (day next : EditionData) →
+    now ≡ files → HasTakenSoFar files building (take i plan) os es day → i < length plan → Takes now building.options building.mirrored (get_or plan i d) es gone os told day next →
+    HasTakenSoFar files building (take (i + 1) plan) told gone next
+taken_more files now building plan i d os told es gone day next same h lt t =
+    let item = get_or plan i d in
+    let Tells = HasOutcome files building.options building.mirrored in
+    let one = subst (λ f. HasOutcome f building.options building.mirrored (Some day) (length es) item t.1 t.0) same t.4 in
+    let grown = so_far_more Tells (take i plan) os es day item t.1 t.0 next h.outcomes_are one t.5 in
+    record {
+      outcomes_are = subst (λ xs. AreSoFar Tells xs told gone next) (sym (take_more plan i d lt))
+          (subst (λ l. AreSoFar Tells (take i plan ++ item ∷ []) l gone next) (sym t.3)
+          (subst (λ l. AreSoFar Tells (take i plan ++ item ∷ []) (os ++ t.1 ∷ []) l next) (sym t.2) grown));
+      first = subst (λ l. BeginsPublished l) (sym t.3) (still_published os (t.1 ∷ []) h.first);
+    }
 
--- the first item alone
-pub first_outcome : (files : Option FileList) (options : Options) (mirrored : Bool) (plan : List ItemData) (d : ItemData) (e : EditionData) → 0 < length plan →
-    IsEditionOfItem files options mirrored (get_or plan 0 d) e →
-    AreOutcomes files options mirrored 0 (take 1 plan) (outcome_of 1 e ∷ []) (e ∷ [])
-first_outcome files options mirrored [] d e some h = absurd (omega arith)
-first_outcome files options mirrored (x ∷ xs) d e some h = (h, refl, tt)
+-- all items were taken
+pub taken_all : (files : Option FileList) (building : Building) (items plan : List ItemData) (os : List Outcome) (es : List EditionData) (day : EditionData) → items ≡ plan →
+    HasTakenSoFar files building items os es day → AreOutcomes files building.options building.mirrored plan os es
+taken_all files building items plan os es day is h =
+    subst (λ l. AreOutcomes files building.options building.mirrored l os es) is (so_far_all (HasOutcome files building.options building.mirrored) items os es day h.outcomes_are)
 
--- an item that was refused adds no edition
-pub took_fault : {P : Type 0} (list : P → List EditionData) (files : Option FileList) (options : Options) (mirrored : Bool) (item : ItemData) (es : List EditionData) (os told : List Outcome)
-    (f : FeedFault) (result : Result P PlanEnd) → ItemGives files options item (Err f) → IfOk result (λ p. list p ≡ es) →
-    IfOk result (λ _. told ≡ os ++ Refused f ∷ []) → IfOk result (λ p. Takes files options mirrored item es (list p) os told)
-took_fault list files options mirrored item es os told f (Ok p) gives same more = ([], Refused f, same ∙ sym (append-nil es), more, (gives, tt))
-took_fault list files options mirrored item es os told f (Err e) gives same more = tt
+pub begins_taken : (files : Option FileList) (building : Building) (items : List ItemData) (os : List Outcome) (es : List EditionData) (day : EditionData) →
+    HasTakenSoFar files building items os es day → BeginsPublished os
+begins_taken files building items os es day h = h.first
+
+-- an item is taken
+pub takes_found : {P : Type 0} (list : P → List EditionData) (files : Option FileList) (options : Options) (mirrored : Bool) (item : ItemData) (n : ℕ) (es : List EditionData) (os told : List Outcome)
+    (o : Outcome) (edition : Option EditionData) (day next : EditionData) (result : Result P PlanEnd) → n ≡ length es →
+    HasOutcome files options mirrored (Some day) n item o (option_to_list edition) → IfOk result (λ p. list p ≡ es ++ option_to_list edition) → OnOk result (told ≡ os ++ o ∷ []) →
+    OnOk result (day_after (Some day) item.source (option_to_list edition) ≡ Some next) → IfOk result (λ p. Takes files options mirrored item es (list p) os told day next)
+takes_found list files options mirrored item n es os told o edition day next (Ok p) count h more is then =
+    (option_to_list edition, o, more, is, subst (λ m. HasOutcome files options mirrored (Some day) m item o (option_to_list edition)) count h, then)
+takes_found list files options mirrored item n es os told o edition day next (Err e) count h more is then = tt

@@ -1,8 +1,8 @@
 -- A folder's count of faults, and one that begins at 0.
 use Rattle.std.specs.Prelude.{ℕ, ◌<◌, ◌≤◌, ⊤}
 use Rattle.tb_io.specs.Causes.{Rose}
-use Rattle.lane_serve.specs.declared.plan.PlanEnd.{PlanEnd}
-use Rattle.lane_serve.specs.declared.plan.PlanEnd.TheVariants as ended
+use Rattle.lane_serve.specs.declared.building.PlanEnd.{PlanEnd}
+use Rattle.lane_serve.specs.declared.building.PlanEnd.TheVariants as ended
 
 -- the folder's count never fell, and where faults were counted, it rose or stands at its last value
 abbrev pub Counts : ℕ → ℕ → ℕ → Type 0

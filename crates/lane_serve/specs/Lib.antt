@@ -1,11 +1,13 @@
 pub mod Script
 pub mod Lanes
+pub mod FeedDays
 pub mod Plans
 pub mod Served
 pub mod Seats
 pub mod Sides
 pub mod Texts
 pub mod Json
+pub mod LateFaults
 pub mod LiveLines
 pub mod LiveTexts
 pub mod LiveReplies

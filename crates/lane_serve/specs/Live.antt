@@ -1,5 +1,5 @@
 -- What a process that lives has published and written.
-use Rattle.std.specs.Prelude.{◌≡◌, ◌⊎◌, ℕ, ◌+◌, List, [], ◌∷◌, ◌++◌, length, map, take, flat_map, Bool, Option, IfSome, Err, ⊤}
+use Rattle.std.specs.Prelude.{◌≡◌, ◌⊎◌, ℕ, ◌+◌, List, [], ◌∷◌, ◌++◌, length, map, take, flat_map, Bool, Option, None, IfSome, Err, ⊤}
 use Rattle.std.specs.Io.KnownBytes.{Appends, Consumes}
 use Rattle.tb_io.specs.Causes.{Rose}
 use Rattle.tb_io.specs.Files.{FileList}
@@ -17,53 +17,46 @@ use Rattle.lane_serve.specs.declared.live.saying.LiveMode.{LiveMode}
 use Rattle.lane_serve.specs.LiveLines.{live_counts, live_gives}
 use Rattle.lane_serve.specs.LiveReplies.{LiveReplies}
 use Rattle.lane_serve.specs.LiveTexts.{NewsData, news_shown}
-use Rattle.lane_serve.specs.Plans.{IsEditionOfItem, ItemData, ItemGives}
+use Rattle.lane_serve.specs.Plans.{AreTold, HasOutcome, IsEditionOfDay, IsPublished, ItemData, OfDay}
 use Rattle.lane_serve.specs.Served.{FirstGives}
 
--- what became of an item that was published as edition number: that, and the edition's counts
-abbrev pub became_of : ℕ → EditionData → Became
-became_of number e = became.Published number (length e.table.trips) (length e.lines) e.kept
+-- What became of an item, where n editions were published before, and this is the edition of the
+-- last day among them, and the editions that it added: its outcome; or it couldn't be read, or there
+-- was no memory for it, and it added none.
+abbrev pub HasBecome : Option FileList → Options → Bool → Option EditionData → ℕ → ItemData →
+    Became → List EditionData → Type 0
+HasBecome files options mirrored day n item (became.Outcome o) es =
+    HasOutcome files options mirrored day n item o es
+HasBecome files options mirrored day n item became.ReadFault es = es ≡ []
+HasBecome files options mirrored day n item became.Memory es = es ≡ []
 
--- What became of an item, where n editions were published before, and the edition that it added. A
--- lawful item is published as the next edition. One whose feed is refused, that couldn't be read,
--- or for which there was no memory adds none.
-abbrev pub HasBecome : Option FileList → Options → Bool → ℕ → ItemData → Became →
+-- the news of an item: its word, and what became of it
+abbrev pub IsNewsOf : Option FileList → Options → Bool → Option EditionData → ℕ → ItemData →
+    NewsData → List EditionData → Type 0
+IsNewsOf files options mirrored day n item x es =
+    (x.word ≡ item.word) × HasBecome files options mirrored day n item x.became es
+
+-- one piece of news for each item in order; the editions are those that the items added, in order
+abbrev pub AreNews : Option FileList → Options → Bool → List ItemData → List NewsData →
     List EditionData → Type 0
-HasBecome files options mirrored n item (became.Published number trips lines kept) es =
-    (e : EditionData) × (es ≡ e ∷ []) × IsEditionOfItem files options mirrored item e
-    × (became.Published number trips lines kept ≡ became_of (n + 1) e)
-HasBecome files options mirrored n item (became.Refused f) es =
-    (es ≡ []) × ItemGives files options item (Err f)
-HasBecome files options mirrored n item became.ReadFault es = es ≡ []
-HasBecome files options mirrored n item became.Memory es = es ≡ []
+AreNews files options mirrored items news es =
+    AreTold (IsNewsOf files options mirrored) None 0 items news es
 
--- One piece of news for each item in order, where n editions were published before; the editions
--- are those that the items added, in order.
-abbrev pub AreNews : Option FileList → Options → Bool → ℕ → List ItemData → List NewsData →
-    List EditionData → Type 0
-AreNews files options mirrored n [] [] es = es ≡ []
-AreNews files options mirrored n [] (x ∷ news) es = ⊥
-AreNews files options mirrored n (item ∷ items) [] es = ⊥
-AreNews files options mirrored n (item ∷ items) (x ∷ news) es =
-    (added : List EditionData) × (rest : List EditionData) × (es ≡ added ++ rest)
-    × (x.word ≡ item.word) × HasBecome files options mirrored n item x.became added
-    × AreNews files options mirrored (n + length added) items news rest
-
-abbrev pub IsPublished : Became → Type 0
-IsPublished (became.Published number trips lines kept) = ⊤
-IsPublished (became.Refused f) = ⊥
-IsPublished became.ReadFault = ⊥
-IsPublished became.Memory = ⊥
+-- a day was published
+abbrev pub HasAnEdition : Became → Type 0
+HasAnEdition (became.Outcome o) = IsPublished o
+HasAnEdition became.ReadFault = ⊥
+HasAnEdition became.Memory = ⊥
 
 -- the first item was published
 abbrev pub BeginsWithEdition : List NewsData → Type 0
 BeginsWithEdition [] = ⊥
-BeginsWithEdition (x ∷ news) = IsPublished x.became
+BeginsWithEdition (x ∷ news) = HasAnEdition x.became
 
 -- these items were taken, the first of which was published, with this news and these editions
 pub record ArePublished (files : Option FileList) (options : Options) (mirrored : Bool)
     (items : List ItemData) (news : List NewsData) (editions : List EditionData) : Type 0 where
-  pub outcomes : AreNews files options mirrored 0 items news editions
+  pub outcomes : AreNews files options mirrored items news editions
   pub first : BeginsWithEdition news
 
 -- The text has for each line in order, from number 1 on, its right reply by an edition of the list;
@@ -104,7 +97,7 @@ abbrev pub BeginsWithFirst : Option FileList → Options → Bool → List ItemD
 BeginsWithFirst files options mirrored [] es = ⊥
 BeginsWithFirst files options mirrored (item ∷ items) [] = ⊥
 BeginsWithFirst files options mirrored (item ∷ items) (e ∷ es) =
-    IsEditionOfItem files options mirrored item e
+    OfDay item.source (λ d. IsEditionOfDay files options mirrored d e)
 
 -- The text for some first lines of the source was written, with some news, or a first part of it,
 -- where the sink failed; with a fault of the source these are the lines that ended before, by their

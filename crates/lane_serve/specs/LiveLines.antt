@@ -1,5 +1,5 @@
 -- What a line of a process that lives says.
-use Rattle.std.specs.Prelude.{ℕ, ◌+◌, ◌==◌, ◌||◌, not, List, [], ◌∷◌, length, codes, bytes_eq, Option, Some, None, ⊤, if◌then◌else◌}
+use Rattle.std.specs.Prelude.{ℕ, ◌+◌, ◌==◌, ◌||◌, not, List, [], ◌∷◌, ◌++◌, length, codes, bytes_eq, Option, Some, None, ⊤, if◌then◌else◌}
 use Rattle.std.specs.Option.{option_and_then, option_map}
 use Rattle.std.specs.Path.{rsplit_once}
 use Rattle.std.specs.Str.{is_utf8}
@@ -12,6 +12,7 @@ use Rattle.lane_serve.specs.declared.live.saying.Saying.{Saying}
 use Rattle.lane_serve.specs.declared.live.saying.Saying.TheVariants as say
 use Rattle.lane_serve.specs.declared.live.saying.Wanted.{Wanted}
 use Rattle.lane_serve.specs.declared.live.saying.Wanted.TheVariants as want
+use Rattle.lane_serve.specs.declared.plan.ItemSource.TheVariants as source
 use Rattle.lane_serve.specs.declared.said.Said.{Said}
 use Rattle.lane_serve.specs.declared.said.Said.TheVariants as said
 use Rattle.lane_serve.specs.declared.script.Line.{Line}
@@ -36,7 +37,10 @@ as_in_script mode (Some (said.Request (Some request))) = requested_live mode req
 abbrev pub item_between : List ℕ → List ℕ → List ℕ → Option ItemData
 item_between word dir date =
     if length dir == 0 then None
-    else option_map (λ day. record { dir = dir; word = word; day = day }) (date_of date)
+    else option_map (λ day. record {
+      word = word;
+      source = source.Day (record { dir = dir; day = day });
+    }) (date_of date)
 
 -- the item that `DIR@DATE` names; the last `@`, which is the code 64, divides
 abbrev pub item_of_word : List ℕ → Option ItemData
@@ -55,11 +59,27 @@ abbrev pub publish_of : List (List ℕ) → Saying
 publish_of (word ∷ []) = publishing (item_of_word word)
 publish_of words = say.BadLine
 
--- what words say: `publish DIR@DATE`, or a line of a script
+-- the item of a file that amends the last day, where its path isn't empty
+abbrev pub late_item_of_text : List ℕ → Option ItemData
+late_item_of_text path =
+    if length path == 0 then None
+    else Some (record { word = codes "late:" ++ path; source = source.Late path })
+
+-- the same of a path that is text
+abbrev pub late_item : List ℕ → Option ItemData
+late_item path = if is_utf8 path then late_item_of_text path else None
+
+-- FILE
+abbrev pub late_of : List (List ℕ) → Saying
+late_of (path ∷ []) = publishing (late_item path)
+late_of words = say.BadLine
+
+-- what words say: `publish DIR@DATE`, `late FILE`, or a line of a script
 abbrev pub words_say : LiveMode → List (List ℕ) → Saying
 words_say mode [] = say.Nothing
 words_say mode (word ∷ words) =
     if bytes_eq word (codes "publish") then publish_of words
+    else if bytes_eq word (codes "late") then late_of words
     else as_in_script mode (said_of mode.json (word ∷ words))
 
 -- what the words of a line say, where it has words

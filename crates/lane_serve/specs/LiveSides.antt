@@ -12,7 +12,8 @@ use Rattle.lane_serve.specs.declared.live.lived.LiveFault.TheVariants as fault
 use Rattle.lane_serve.specs.declared.live.running.LinesFault.{LinesFault}
 use Rattle.lane_serve.specs.declared.live.running.LinesFault.TheVariants as lines
 use Rattle.lane_serve.specs.declared.live.saying.LiveMode.{LiveMode}
-use Rattle.lane_serve.specs.Live.{ArePublished, BeginsWithFirst}
+use Rattle.lane_serve.specs.Live.{BeginsWithFirst}
+use Rattle.lane_serve.specs.LivePublisher.{HavePublished}
 use Rattle.lane_serve.specs.LiveTexts.{NewsData, news_shown}
 use Rattle.lane_serve.specs.LiveTurns.{IsCutBy, IsLiveTurn, LineSideData, side_of}
 use Rattle.lane_serve.specs.Plans.{ItemData}
@@ -62,13 +63,13 @@ pub record HaveClosed (json : Bool) (es : List EditionData) (known : Shown Editi
   pub tells : Tells (news_shown json) told news note
 
 -- Before the first line: the list has the first item's edition, which was published; the first item
--- was handed over, and the first news.
+-- was handed over, and the first news; and the last day's edition is that one.
 pub record BeginsLive (files : Option FileList) (options : Options) (mode : LiveMode)
-    (words : List ItemData) (es : List EditionData) (items : List ItemData)
+    (words : List ItemData) (es : List EditionData) (day : EditionData) (items : List ItemData)
     (news : List NewsData) (side : LineSideData) : Type 0 where
   pub one : length es ≡ 1
   pub good : BeginsWithFirst files options mode.mirrored words es
-  pub published : ArePublished files options mode.mirrored (take 1 words) news es
+  pub published : HavePublished files options mode.mirrored (take 1 words) news es day
   pub items_are : items ≡ take 1 words
   pub some : 0 < side.lanes
   pub mode_is : side.mode ≡ mode

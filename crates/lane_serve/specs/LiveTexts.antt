@@ -5,8 +5,8 @@ use Rattle.answer_json.specs.Faults.{line_fault_json}
 use Rattle.answer_json.specs.Frames.{count_json, member_json, string_json}
 use Rattle.lane_serve.specs.declared.live.news.Became.{Became}
 use Rattle.lane_serve.specs.declared.live.news.Became.TheVariants as became
-use Rattle.lane_serve.specs.Json.{published_json, refused_json}
-use Rattle.lane_serve.specs.Texts.{published_text, refused_text}
+use Rattle.lane_serve.specs.Json.{outcome_json}
+use Rattle.lane_serve.specs.Texts.{outcome_text}
 
 -- `K edition N`, the lines of the reply, and an empty line
 abbrev pub answered_lines : ℕ → ℕ → List ℕ → List ℕ
@@ -61,9 +61,7 @@ failed_text word reason =
     codes "refused " ++ word ++ codes " " ++ reason ++ codes "\n"
 
 abbrev pub became_text : List ℕ → Became → List ℕ
-became_text word (became.Published number trips lines kept) =
-    published_text word number trips lines kept
-became_text word (became.Refused fault) = refused_text word fault
+became_text word (became.Outcome o) = outcome_text word o
 became_text word became.ReadFault = failed_text word (codes "read fault")
 became_text word became.Memory = failed_text word (codes "out of memory")
 
@@ -73,9 +71,7 @@ failed_json word reason =
     codes "{\"day\":" ++ string_json word ++ member_json (codes "message") reason ++ codes "}\n"
 
 abbrev pub became_json : List ℕ → Became → List ℕ
-became_json word (became.Published number trips lines kept) =
-    published_json word number trips lines kept
-became_json word (became.Refused fault) = refused_json word fault
+became_json word (became.Outcome o) = outcome_json word o
 became_json word became.ReadFault = failed_json word (codes "read fault")
 became_json word became.Memory = failed_json word (codes "out of memory")
 

@@ -9,13 +9,13 @@ use Rattle.history.specs.Lists.{Shown}
 use Rattle.edition_store.specs.Editions.{EditionData}
 use Rattle.lane_serve.specs.declared.lane.ReplyText.{ReplyText}
 use Rattle.lane_serve.specs.declared.plan.Outcome.{Outcome}
-use Rattle.lane_serve.specs.declared.plan.PlanEnd.{PlanEnd}
-use Rattle.lane_serve.specs.declared.plan.PlanEnd.TheVariants as ended
+use Rattle.lane_serve.specs.declared.building.PlanEnd.{PlanEnd}
+use Rattle.lane_serve.specs.declared.building.PlanEnd.TheVariants as ended
 use Rattle.lane_serve.specs.declared.script.Line.{Line}
 use Rattle.lane_serve.specs.declared.run.ServeFault.{ServeFault}
 use Rattle.lane_serve.specs.declared.run.ServeFault.TheVariants as fault
 use Rattle.lane_serve.specs.Lanes.{IsClosing, IsLaneRun, ReportData, to_close}
-use Rattle.lane_serve.specs.Plans.{AreOutcomes, BeginsPublished, ItemData, ItemGives}
+use Rattle.lane_serve.specs.Plans.{AreOutcomes, BeginsPublished, DayGives, ItemData, OfDay}
 use Rattle.lane_serve.specs.Script.{LaneData, needs_mirrors}
 
 -- the outcomes of a plan's items, what each lane was answered, how many editions there were in the
@@ -44,22 +44,23 @@ AreServed es (l ∷ ls) [] cs = ⊥
 AreServed es (l ∷ ls) (r ∷ rs) [] = ⊥
 AreServed es (l ∷ ls) (r ∷ rs) (c ∷ cs) = IsServedLane es l r c × AreServed es ls rs cs
 
--- One outcome for each item of the plan, the first of which is lawful; and over the editions of the
--- lawful items, in order, which have their mirrors where a request needs one, each lane's run and
--- its closing replies.
+-- One outcome for each item of the plan, the first of which is a lawful day; and over the editions
+-- of the lawful items, in order, which have their mirrors where a request needs one, each lane's run
+-- and its closing replies.
 pub record IsServed (files : Option FileList) (options : Options) (plan : List ItemData)
     (script : List LaneData) (s : ServedData) : Type 0 where
   pub editions : List EditionData
-  pub outcomes : AreOutcomes files options (needs_mirrors script) 0 plan s.outcomes editions
+  pub outcomes : AreOutcomes files options (needs_mirrors script) plan s.outcomes editions
   pub first : BeginsPublished s.outcomes
   pub last : s.last ≡ length editions
   pub lanes : AreServed editions script s.lanes s.closing
 
--- the first item of a plan gives this timetable or first fault
+-- the first item of a plan is a day, which gives this timetable or first fault
 abbrev pub FirstGives :
     Option FileList → Options → List ItemData → Result TimetableData FeedFault → Type 0
 FirstGives files options [] result = ⊥
-FirstGives files options (item ∷ items) result = ItemGives files options item result
+FirstGives files options (item ∷ items) result =
+    OfDay item.source (λ d. DayGives files options d result)
 
 -- Why there is no answer: the first item's first fault; or a failed read, where the count of faults
 -- rose; or want of memory.

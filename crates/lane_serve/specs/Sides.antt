@@ -2,20 +2,30 @@
 use Rattle.std.specs.Prelude.{List, Option}
 use Rattle.tb_io.specs.Files.{FileList}
 use Rattle.edition_store.specs.Editions.{EditionData}
-use Rattle.lane_serve.specs.declared.plan.Building.{Building}
+use Rattle.lane_serve.specs.declared.building.Building.{Building}
 use Rattle.lane_serve.specs.declared.plan.Outcome.{Outcome}
-use Rattle.lane_serve.specs.Plans.{AreOutcomes, BeginsPublished, ItemData}
+use Rattle.lane_serve.specs.Plans.{AreOutcomes, AreSoFar, BeginsPublished, HasOutcome, ItemData}
 
--- a plan, how its feeds are read and built, and what became of its items so far
+-- a plan, how its items are read and built, what became of them so far, and the edition of the last
+-- day among these
 pub record PublisherSideData : Type 0 where
   pub building : Building
   pub plan : List ItemData
   pub outcomes : List Outcome
+  pub day : EditionData
+
+-- these items were taken, the first of which was published, and what became of each is told; this is
+-- the edition of the last day among them
+pub record HasTakenSoFar (files : Option FileList) (building : Building) (items : List ItemData)
+    (outcomes : List Outcome) (es : List EditionData) (day : EditionData) : Type 0 where
+  pub outcomes_are :
+      AreSoFar (HasOutcome files building.options building.mirrored) items outcomes es day
+  pub first : BeginsPublished outcomes
 
 -- these items were taken, and what became of each is told: the list has the editions of the lawful
 -- ones, of which the first item is one
 abbrev pub HasTaken :
     Option FileList → Building → List ItemData → List Outcome → List EditionData → Type 0
 HasTaken files building items outcomes es =
-    AreOutcomes files building.options building.mirrored 0 items outcomes es
+    AreOutcomes files building.options building.mirrored items outcomes es
     × BeginsPublished outcomes

@@ -1,19 +1,21 @@
 //! What a run gives, as lines of JSON.
 ghost use Rattle.std.specs.Prelude.{◌≡◌, ◌++◌, IfOk, OnOk, flat_map, length};
-ghost use Rattle.lane_serve.specs.Json.{answered_json, closing_json, outcome_json, outcomes_json, published_json, refused_json, report_json, served_json, served_shown};
+ghost use Rattle.lane_serve.specs.Json.{amended_json, answered_json, closing_json, late_refused_json, outcome_json, outcomes_json, published_json, refused_json, report_json, served_json, served_shown};
 
 use crate::lane::{LaneReport, ReplyText};
+use crate::late_faults::add_late_fault_json;
 use crate::plan::{Outcome, PlanItem};
 use crate::run::Served;
 use crate::texts::served_text;
 use answer_json::{add_count, add_fault, add_string, add_total};
 use answer_text::Text;
 use gtfs_rows::FeedFault;
+use late_edit::LateFault;
 use std::alloc::Global;
 use tb_base::Memory;
 
 // Adds `{"day":WORD,"edition":N,"trips":N,"lines":N,"kept":N}`.
-pub(crate) fn add_published(
+fn add_published(
     text: &mut Text,
     word: &str,
     number: u32,
@@ -34,7 +36,7 @@ pub(crate) fn add_published(
 }
 
 // Adds `{"day":WORD,"fault":FAULT}`.
-pub(crate) fn add_refused(text: &mut Text, word: &str, fault: &FeedFault) -> Result<(), Memory>
+fn add_refused(text: &mut Text, word: &str, fault: &FeedFault) -> Result<(), Memory>
     ensures { OnOk result (text.new ≡ text.old ++ refused_json word.now fault.now) }
 {
     text.add(b"{\"day\":")?;
@@ -44,11 +46,39 @@ pub(crate) fn add_refused(text: &mut Text, word: &str, fault: &FeedFault) -> Res
     text.add(b"}\n")
 }
 
-// Adds the line of an item's outcome.
-fn add_outcome(text: &mut Text, item: &PlanItem, outcome: &Outcome) -> Result<(), Memory>
-    ensures { OnOk result (text.new ≡ text.old ++ outcome_json item.now outcome.now) }
+// Adds `{"day":WORD,"edition":N,"touched":N,"kept":N}`.
+fn add_amended(
+    text: &mut Text,
+    word: &str,
+    number: u32,
+    touched: u32,
+    kept: u64,
+) -> Result<(), Memory>
+    ensures { OnOk result (text.new ≡ text.old ++ amended_json word.now number touched kept) }
 {
-    let word = item.word.as_str();
+    text.add(b"{\"day\":")?;
+    add_string(text, word.as_bytes())?;
+    add_count(text, b"edition", number)?;
+    add_count(text, b"touched", touched)?;
+    add_total(text, b"kept", kept)?;
+    text.add(b"}\n")
+}
+
+// Adds `{"day":WORD,"fault":FAULT}`, of a file that amends a day.
+fn add_late_refused(text: &mut Text, word: &str, fault: LateFault) -> Result<(), Memory>
+    ensures { OnOk result (text.new ≡ text.old ++ late_refused_json word.now fault) }
+{
+    text.add(b"{\"day\":")?;
+    add_string(text, word.as_bytes())?;
+    text.add(b",\"fault\":")?;
+    add_late_fault_json(text, fault)?;
+    text.add(b"}\n")
+}
+
+/// Adds the line of the outcome of the item of a word.
+pub(crate) fn add_outcome(text: &mut Text, word: &str, outcome: &Outcome) -> Result<(), Memory>
+    ensures { OnOk result (text.new ≡ text.old ++ outcome_json word.now outcome.now) }
+{
     match outcome {
         Outcome::Published {
             number,
@@ -57,6 +87,12 @@ fn add_outcome(text: &mut Text, item: &PlanItem, outcome: &Outcome) -> Result<()
             kept,
         } => add_published(text, word, *number, *trips, *lines, *kept),
         Outcome::Refused(fault) => add_refused(text, word, fault),
+        Outcome::Amended {
+            number,
+            touched,
+            kept,
+        } => add_amended(text, word, *number, *touched, *kept),
+        Outcome::LateRefused(fault) => add_late_refused(text, word, *fault),
     }
 }
 
@@ -66,7 +102,8 @@ fn add_outcomes(text: &mut Text, plan: &[PlanItem], outcomes: &[Outcome]) -> Res
     ensures { OnOk result (text.new ≡ text.old ++ outcomes_json plan.now outcomes.now) }
 {
     for i in 0..plan.len() {
-        add_outcome(text, &plan[i], &outcomes[i])?;
+        let item = &plan[i];
+        add_outcome(text, item.word.as_str(), &outcomes[i])?;
     }
     Ok(())
 }
@@ -135,8 +172,8 @@ fn served_json(alloc: Global, plan: &[PlanItem], served: &Served) -> Result<Vec<
 }
 
 /// What a run gives, as `served_text` shows it, or as lines of JSON: for each item of the plan
-/// `{"day":WORD,"edition":N,"trips":N,"lines":N,"kept":N}` or `{"day":WORD,"fault":FAULT}`; for each
-/// request of each lane `{"lane":NAME,"request":K,"edition":N,MEMBER}`, the member being that of the
+/// `{"day":WORD,"edition":N,"trips":N,"lines":N,"kept":N}`, or for a file that amends a day
+/// `{"day":WORD,"edition":N,"touched":N,"kept":N}`, or `{"day":WORD,"fault":FAULT}`; for each request of each lane `{"lane":NAME,"request":K,"edition":N,MEMBER}`, the member being that of the
 /// reply; `{"closing":N}`; and for each lane the same of its closing replies.
 pub fn served_shown(
     alloc: Global,

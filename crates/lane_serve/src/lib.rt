@@ -2,7 +2,8 @@
 //!
 //! `read_script` gives the lanes that a script says, or exactly its first fault. `serve` reads,
 //! builds and publishes the items of a plan one after another, each a day of a feed by the GTFS
-//! Schedule Reference, while the lanes run: `run_lane` answers a lane's requests by a caller of its
+//! Schedule Reference, or the last such day amended by a file of updates as `late_edit` amends it;
+//! these files don't add up. Meanwhile the lanes run: `run_lane` answers a lane's requests by a caller of its
 //! own, each by an edition of the list that the caller then keeps and none before those that it
 //! knew, or as deferred; `close_lane` answers again, by the last edition of all, the first request
 //! and each that was deferred. To the layer above the crate promises one outcome for each item of
@@ -11,8 +12,10 @@
 //! each closing reply is the last edition's. `served_shown` shows all of it, as text or as JSON.
 #![tactic(auto)]
 
+mod building;
 mod json;
 mod lane;
+mod late_faults;
 mod live;
 mod plan;
 mod publishing;
@@ -23,8 +26,9 @@ mod texts;
 
 pub use json::served_shown;
 pub use lane::{LaneReport, ReplyText, close_lane, run_lane};
+pub use late_faults::{add_late_fault_json, add_late_fault_text};
 pub use live::{LiveFault, LiveMode, run_live};
-pub use plan::{Outcome, PlanItem};
+pub use plan::{FeedDay, ItemSource, LateFile, Outcome, PlanItem, begins_with_day};
 pub use run::{ServeFault, Served, serve};
 pub use script::{Lane, Line, Script, ScriptFault, read_script};
 pub use texts::served_text;

@@ -4,17 +4,16 @@ ghost use Rattle.std.specs.Thread.{IsSync};
 ghost use Rattle.gtfs_rows.specs.declared.fault.FeedFault.{FeedFault};
 ghost use Rattle.footpaths.specs.Limits.{AreWithinADay};
 ghost use Rattle.tb_base.specs.Workers.{AreWorkers};
-ghost use Rattle.lane_serve.specs.Plans.{AreOutcomes, HasStopped, IsGoodBuilding, outcome_of};
+ghost use Rattle.lane_serve.specs.Plans.{BeginsWithDay, HasStopped, IsGoodBuilding, outcome_of};
 ghost use Rattle.lane_serve.specs.Script.{IsAskable, IsScript, LaneData, needs_mirrors};
 ghost use Rattle.lane_serve.specs.Seats.{HaveRun};
-ghost use Rattle.lane_serve.specs.Sides.{HasTaken, PublisherSideData};
+ghost use Rattle.lane_serve.specs.Sides.{HasTaken, HasTakenSoFar, PublisherSideData};
 ghost use Rattle.lane_serve.specs.Lanes.{IsLaneRun};
 ghost use Rattle.lane_serve.specs.Served.{AreServed, FirstGives, HasRun, IsServeFault, IsServed, IsServedLane, ServedData, TellsFault, fault_for};
 
+use crate::building::{Building, PlanEnd, build_day};
 use crate::lane::{LaneReport, ReplyText, close_lane, run_lane};
-use crate::plan::{
-    Building, Built, Outcome, PlanEnd, PlanItem, build_item, first_outcome, publish_rest,
-};
+use crate::plan::{Outcome, PlanItem, first_day, first_outcome, publish_rest};
 use crate::publishing::Publishes;
 use crate::script::{Lane, Script};
 use edition_store::{Edition, Last, Naming, Opened, Publisher, Seat, Shared, Store};
@@ -28,6 +27,7 @@ use std::thread;
 use std::thread::{Threads, join_mut};
 use tb_base::{Gate, Memory, Name};
 use tb_io::Folder;
+use trip_table::DayFault;
 use trip_table::laws::timetable_determined;
 
 /// What a run gives: the outcome of each item of the plan, what each lane was answered, the number
@@ -116,14 +116,15 @@ fn run_lanes<J: Naming + Send + Sync, G: Gate, R: Threads + Sync>(
     );
 }
 
-// The publisher's side of a run: a plan, how its feeds are read and built, and what became of its
-// items so far.
+// The publisher's side of a run: a plan, how its items are read and built, what became of them so
+// far, and the edition of the last day among these.
 #[derive(Drop)]
 struct PublisherSide<'p> {
     alloc: Global,
     building: Building,
     plan: &'p [PlanItem],
     outcomes: Vec<Outcome>,
+    day: Shared,
 }
 
 impl<'p> Model for PublisherSide<'p> {
@@ -137,6 +138,7 @@ impl<'p> Model for PublisherSide<'p> {
       building = s.building;
       plan = s.plan.now;
       outcomes = s.outcomes.items;
+      day = s.day;
     } };
 
     ghost invariant = { λ s. IsGoodBuilding s.building × (length s.plan.now ≤ 100) };
@@ -152,8 +154,8 @@ fn publish_side<P: Publishes, F: Folder, G: Gate, R: Threads + Wait + Sync>(
 ) -> Result<P, PlanEnd>
     requires count { F.faults folder.old < 2 ^ 64 - 1 }
     requires slot { IsSome slot.old }
-    requires first { IfSome slot.old (λ p. HasTaken (F.files folder.old)
-        side.old.building (take 1 side.old.plan) side.old.outcomes (P.list p)) }
+    requires first { IfSome slot.old (λ p. HasTakenSoFar (F.files folder.old)
+        side.old.building (take 1 side.old.plan) side.old.outcomes (P.list p) side.old.day) }
     ensures files { F.files folder.new ≡ F.files folder.old }
     ensures faults { IfOk result (λ _. F.faults folder.new ≡ F.faults folder.old) }
     ensures ended { IfErr result (HasStopped (F.faults folder.old) (F.faults folder.new)) }
@@ -172,6 +174,7 @@ fn publish_side<P: Publishes, F: Folder, G: Gate, R: Threads + Wait + Sync>(
         folder,
         side.plan,
         &mut side.outcomes,
+        &mut side.day,
         publisher,
     )
 }
@@ -222,8 +225,8 @@ fn sides<P: Publishes, J: Naming + Send + Sync, F: Folder, G: Gate, R: Threads +
     seats: &mut [Seated<J>],
 ) -> Result<P, PlanEnd>
     requires count { F.faults folder.old < 2 ^ 64 - 1 }
-    requires first { HasTaken (F.files folder.old) side.old.building
-        (take 1 side.old.plan) side.old.outcomes (P.list publisher) }
+    requires first { HasTakenSoFar (F.files folder.old) side.old.building
+        (take 1 side.old.plan) side.old.outcomes (P.list publisher) side.old.day }
     requires lanes { IsScript lanes.now }
     requires seats { length seats.old ≡ length lanes.now }
     ensures files { F.files folder.new ≡ F.files folder.old }
@@ -243,8 +246,8 @@ fn sides<P: Publishes, J: Naming + Send + Sync, F: Folder, G: Gate, R: Threads +
         seats,
         &mut || -> Result<P, PlanEnd>
             requires { (F.faults folder.now < 2 ^ 64 - 1) × IsSome slot
-                × IfSome slot (λ p. HasTaken (F.files folder.now) side.now.building
-                (take 1 side.now.plan) side.now.outcomes (P.list p)) }
+                × IfSome slot (λ p. HasTakenSoFar (F.files folder.now) side.now.building
+                (take 1 side.now.plan) side.now.outcomes (P.list p) side.now.day) }
             ensures { (F.files folder.exit.now ≡ F.files folder.entry.now)
                 × IfOk result (λ _. F.faults folder.exit.now ≡ F.faults folder.entry.now)
                 × IfErr result (HasStopped (F.faults folder.entry.now) (F.faults folder.exit.now))
@@ -482,8 +485,8 @@ fn serve_open<J: Naming + Send + Sync, F: Folder, G: Gate, R: Threads + Wait + S
     seats: Vec<Seated<J>>,
 ) -> Result<Served, PlanEnd>
     requires count { F.faults folder.old < 2 ^ 64 - 1 }
-    requires first { HasTaken (F.files folder.old) side.building (take 1 side.plan)
-        side.outcomes publisher }
+    requires first { HasTakenSoFar (F.files folder.old) side.building (take 1 side.plan)
+        side.outcomes publisher side.day }
     requires lanes { IsScript lanes.now }
     requires seats { vec_len seats ≡ length lanes.now }
     requires mirrored { side.building.mirrored ≡ needs_mirrors lanes.now }
@@ -507,8 +510,10 @@ fn serve_open<J: Naming + Send + Sync, F: Folder, G: Gate, R: Threads + Wait + S
     let PublisherSide {
         alloc,
         outcomes,
+        day,
         ..
     } = side;
+    drop(day);
     match published {
         Ok(publisher) => match served_of(rt, alloc, publisher, lanes, outcomes, seats) {
             Ok(served) => Ok(served),
@@ -537,10 +542,9 @@ fn serve_from<J: Naming + Send + Sync, F: Folder, G: Gate, R: Threads + Wait + S
     requires book { opened.seen.book ≡ J.book }
     requires building { IsGoodBuilding building }
     requires count { F.faults folder.old < 2 ^ 64 - 1 }
-    requires plan { 0 < length plan.now }
-    requires days { length plan.now ≤ 100 }
-    requires first { AreOutcomes (F.files folder.old) building.options building.mirrored 0
-        (take 1 plan.now) (outcome_of 1 first ∷ []) (first ∷ []) }
+    requires items { length plan.now ≤ 100 }
+    requires first { HasTakenSoFar (F.files folder.old) building (take 1 plan.now)
+        (outcome_of 1 first ∷ []) (first ∷ []) first }
     requires script { IsScript script.now }
     requires mirrored { building.mirrored ≡ needs_mirrors script.now }
     ensures files { F.files folder.new ≡ F.files folder.old }
@@ -550,6 +554,10 @@ fn serve_from<J: Naming + Send + Sync, F: Folder, G: Gate, R: Threads + Wait + S
         script.now) }
 {
     let lanes = script.lanes.as_slice();
+    let Ok(day) = first.share() else {
+        drop(first);
+        return Err(PlanEnd::Memory);
+    };
     match first_outcome(alloc, first.edition()) {
         Ok(outcomes) => match open::<J, R>(rt, alloc, opened, first, lanes.len()) {
             Ok((publisher, seats)) => {
@@ -558,16 +566,19 @@ fn serve_from<J: Naming + Send + Sync, F: Folder, G: Gate, R: Threads + Wait + S
                     building,
                     plan,
                     outcomes,
+                    day,
                 };
                 serve_open(rt, gate, folder, side, publisher, lanes, seats)
             }
             Err(Memory) => {
                 drop(outcomes);
+                drop(day);
                 Err(PlanEnd::Memory)
             }
         },
         Err(Memory) => {
             drop(first);
+            drop(day);
             Err(PlanEnd::Memory)
         }
     }
@@ -592,8 +603,8 @@ fn serve_plan<F: Folder, G: Gate, R: Threads + Wait + Sync>(
     plan: &[PlanItem],
     script: &Script,
 ) -> Result<Served, ServeFault>
-    requires plan { 0 < length plan.now }
-    requires days { length plan.now ≤ 100 }
+    requires plan { BeginsWithDay plan.now }
+    requires items { length plan.now ≤ 100 }
     requires building { IsGoodBuilding building }
     requires script { IsScript script.now }
     requires mirrored { building.mirrored ≡ needs_mirrors script.now }
@@ -605,8 +616,8 @@ fn serve_plan<F: Folder, G: Gate, R: Threads + Wait + Sync>(
     ensures fault { IfErr result (IsServeFault (F.files folder.old) building.options plan.now
         (F.faults folder.old) (F.faults folder.new)) }
 {
-    match build_item(rt, alloc, gate, building, folder, &plan[0]) {
-        Ok(Built::Edition(edition)) => {
+    match build_day(rt, alloc, gate, building, folder, first_day(plan)) {
+        Ok(edition) => {
             let served = serve_from::<Brand, F, G, R>(
                 rt,
                 alloc,
@@ -623,15 +634,16 @@ fn serve_plan<F: Folder, G: Gate, R: Threads + Wait + Sync>(
                 Err(ended) => Err(fault_of(ended)),
             }
         }
-        Ok(Built::Refused(fault)) => Err(ServeFault::Feed(fault)),
-        Err(ended) => Err(fault_of(ended)),
+        Err(DayFault::Feed(fault)) => Err(ServeFault::Feed(fault)),
+        Err(DayFault::ReadFault) => Err(ServeFault::ReadFault),
+        Err(DayFault::Memory) => Err(ServeFault::Memory),
     }
 }
 
 /// Publishes the plan's items, each as it is read and built, while the lanes of a script are
 /// answered, each by a caller of its own, in threads where these can be started; in the end each
-/// lane's first request and each that was deferred is answered once more by the last edition.
-/// `workers` workers reduce the transfers of an item: 1 to 64. `Feed` comes only where the first
+/// lane's first request and each that was deferred is answered once more by the last edition. The
+/// plan begins with a day. `workers` workers reduce the transfers of an item: 1 to 64. `Feed` comes only where the first
 /// item's feed is refused; where it is and the folder doesn't fail, nothing else comes but
 /// `Memory`. `ReadFault` comes only where the folder's count of faults rose. It may wait. That
 /// lanes and publisher are at work at once, and that the gate is told of pieces, publications and
@@ -646,8 +658,8 @@ pub fn serve<F: Folder + Send, G: Gate, R: Threads + Wait + Sync>(
     folder: &mut F,
     gate: &G,
 ) -> Result<Served, ServeFault>
-    requires plan { 0 < length plan.now }
-    requires days { length plan.now ≤ 100 }
+    requires plan { BeginsWithDay plan.now }
+    requires items { length plan.now ≤ 100 }
     requires options { AreWithinADay options.now }
     requires workers { AreWorkers workers }
     requires script { IsScript script.now }

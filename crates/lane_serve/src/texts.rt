@@ -1,17 +1,19 @@
 //! What a run gives, as lines of text.
 ghost use Rattle.std.specs.Prelude.{◌≡◌, ◌++◌, IfOk, OnOk, flat_map, length};
-ghost use Rattle.lane_serve.specs.Texts.{answered_text, closing_text, outcome_text, outcomes_text, published_text, refused_text, report_text, served_text};
+ghost use Rattle.lane_serve.specs.Texts.{amended_text, answered_text, closing_text, late_refused_text, outcome_text, outcomes_text, published_text, refused_text, report_text, served_text};
 
 use crate::lane::{LaneReport, ReplyText};
+use crate::late_faults::add_late_fault_text;
 use crate::plan::{Outcome, PlanItem};
 use crate::run::Served;
 use answer_text::{Text, fault_text};
 use gtfs_rows::FeedFault;
+use late_edit::LateFault;
 use std::alloc::Global;
 use tb_base::Memory;
 
 // Adds `edition N WORD trips N lines N kept N`.
-pub(crate) fn add_published(
+fn add_published(
     text: &mut Text,
     word: &str,
     number: u32,
@@ -36,12 +38,7 @@ pub(crate) fn add_published(
 }
 
 // Adds `refused WORD FAULT`.
-pub(crate) fn add_refused(
-    alloc: Global,
-    text: &mut Text,
-    word: &str,
-    fault: &FeedFault,
-) -> Result<(), Memory>
+fn add_refused(alloc: Global, text: &mut Text, word: &str, fault: &FeedFault) -> Result<(), Memory>
     ensures { OnOk result (text.new ≡ text.old ++ refused_text word.now fault.now) }
 {
     text.add(b"refused ")?;
@@ -51,16 +48,47 @@ pub(crate) fn add_refused(
     text.add(b"\n")
 }
 
-// Adds the line of an item's outcome.
-fn add_outcome(
+// Adds `edition N WORD touched N kept N`.
+fn add_amended(
+    text: &mut Text,
+    word: &str,
+    number: u32,
+    touched: u32,
+    kept: u64,
+) -> Result<(), Memory>
+    ensures { OnOk result (text.new ≡ text.old ++ amended_text word.now number touched kept) }
+{
+    text.add(b"edition ")?;
+    text.number(number)?;
+    text.add(b" ")?;
+    text.add(word.as_bytes())?;
+    text.add(b" touched ")?;
+    text.number(touched)?;
+    text.add(b" kept ")?;
+    text.count(kept)?;
+    text.add(b"\n")
+}
+
+// Adds `refused WORD FAULT`, of a file that amends a day.
+fn add_late_refused(text: &mut Text, word: &str, fault: LateFault) -> Result<(), Memory>
+    ensures { OnOk result (text.new ≡ text.old ++ late_refused_text word.now fault) }
+{
+    text.add(b"refused ")?;
+    text.add(word.as_bytes())?;
+    text.add(b" ")?;
+    add_late_fault_text(text, fault)?;
+    text.add(b"\n")
+}
+
+/// Adds the line of the outcome of the item of a word.
+pub(crate) fn add_outcome(
     alloc: Global,
     text: &mut Text,
-    item: &PlanItem,
+    word: &str,
     outcome: &Outcome,
 ) -> Result<(), Memory>
-    ensures { OnOk result (text.new ≡ text.old ++ outcome_text item.now outcome.now) }
+    ensures { OnOk result (text.new ≡ text.old ++ outcome_text word.now outcome.now) }
 {
-    let word = item.word.as_str();
     match outcome {
         Outcome::Published {
             number,
@@ -69,6 +97,12 @@ fn add_outcome(
             kept,
         } => add_published(text, word, *number, *trips, *lines, *kept),
         Outcome::Refused(fault) => add_refused(alloc, text, word, fault),
+        Outcome::Amended {
+            number,
+            touched,
+            kept,
+        } => add_amended(text, word, *number, *touched, *kept),
+        Outcome::LateRefused(fault) => add_late_refused(text, word, *fault),
     }
 }
 
@@ -83,7 +117,8 @@ fn add_outcomes(
     ensures { OnOk result (text.new ≡ text.old ++ outcomes_text plan.now outcomes.now) }
 {
     for i in 0..plan.len() {
-        add_outcome(alloc, text, &plan[i], &outcomes[i])?;
+        let item = &plan[i];
+        add_outcome(alloc, text, item.word.as_str(), &outcomes[i])?;
     }
     Ok(())
 }
@@ -132,7 +167,8 @@ fn add_closing(text: &mut Text, last: u32) -> Result<(), Memory>
 }
 
 /// What a run gives, as lines of text. For each item of the plan `edition N WORD trips N lines N
-/// kept N`, or `refused WORD FAULT`; for each lane `lane NAME`, and for each of its requests `K
+/// kept N`, or for a file that amends a day `edition N WORD touched N kept N`, or `refused WORD
+/// FAULT`; for each lane `lane NAME`, and for each of its requests `K
 /// edition N`, K being its number from 1, and the reply's lines; then `closing edition N`, and for
 /// each lane the same of its closing replies. Its one refusal is want of memory, which may come at
 /// any time.

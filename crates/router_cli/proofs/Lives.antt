@@ -18,7 +18,7 @@ pub live_completed : IsDetermined → (files : Option FileList) → IsSome files
     IsLiveOutcome files r.options (mode_of r) (first_items r) faults risen told left s before now → (s ≡ status.ReadFault → ⊥) → (s ≡ status.WriteFault → ⊥) →
     (day : Result TimetableData FeedFault) → FirstGives files r.options (first_items r) day → IsDayEnding day s
 live_completed same files shown faults risen told left r status.Done before now h read write day is =
-    let first = first_table files r.options r.mirror 0 (first_items r) _ h.news h.editions h.published.outcomes h.published.first day is in
+    let first = first_table files r.options r.mirror (first_items r) _ h.news h.editions h.published.outcomes h.published.first day is in
     by_day day (Ok first.0) status.Done (first_day same files shown r.options (first_items r) (Ok first.0) day first.1 is) (inl refl)
 live_completed same files shown faults risen told left r (status.FeedRefused f) before now h read write day is =
     by_day day (Err f) (status.FeedRefused f) (first_day same files shown r.options (first_items r) (Err f) day h.0 is) (inl refl)

@@ -14,7 +14,7 @@ use Rattle.command_line.specs.DayCommands.{DayRequestData}
 use Rattle.journey_read.specs.declared.claim.JourneyFault.{JourneyFault}
 use Rattle.journey_read.specs.declared.claim.JourneyFault.TheVariants as claim
 use Rattle.late_edit.specs.declared.late.LateFault.{LateFault}
-use Rattle.late_edit.specs.declared.late.LateFault.TheVariants as late
+use Rattle.lane_serve.specs.LateFaults.{late_fault_text}
 use Rattle.lane_serve.specs.declared.script.ScriptFault.{ScriptFault}
 use Rattle.lane_serve.specs.declared.script.ScriptFault.TheVariants as fault
 use Rattle.router_cli.specs.Answers.{IsAnswer}
@@ -45,16 +45,6 @@ script_fault_text (fault.TooManyLanes n) = codes "2 TooManyLanes line " ++ decim
 script_fault_text (fault.TooManyLines n) = codes "3 TooManyLines line " ++ decimal n
 script_fault_text (fault.BadTime n) = codes "4 BadTime line " ++ decimal n
 script_fault_text fault.TooLong = codes "5 TooLong"
-
--- the same of a fault of late trips
-abbrev pub late_fault_text : LateFault → List ℕ
-late_fault_text (late.UnknownTrip n) = codes "1 UnknownTrip line " ++ decimal n
-late_fault_text (late.TimeRunsBack n) = codes "2 TimeRunsBack line " ++ decimal n
-late_fault_text (late.OutOfRange n) = codes "3 OutOfRange line " ++ decimal n
-late_fault_text (late.BadEvent n) = codes "4 BadEvent line " ++ decimal n
-late_fault_text (late.BadLine n) = codes "5 BadLine line " ++ decimal n
-late_fault_text late.MissingFile = codes "6 MissingFile"
-late_fault_text late.TooLarge = codes "7 TooLarge"
 
 -- the same of a claim's fault
 abbrev pub journey_fault_text : JourneyFault → List ℕ

@@ -5,8 +5,7 @@ use Rattle.answer_json.specs.Faults.{fault_json, line_fault_json}
 use Rattle.answer_json.specs.Frames.{member_json}
 use Rattle.journey_read.specs.declared.claim.JourneyFault.{JourneyFault}
 use Rattle.journey_read.specs.declared.claim.JourneyFault.TheVariants as claim
-use Rattle.late_edit.specs.declared.late.LateFault.{LateFault}
-use Rattle.late_edit.specs.declared.late.LateFault.TheVariants as late
+use Rattle.lane_serve.specs.LateFaults.{late_fault_json}
 use Rattle.lane_serve.specs.declared.script.ScriptFault.{ScriptFault}
 use Rattle.lane_serve.specs.declared.script.ScriptFault.TheVariants as fault
 use Rattle.router_cli.specs.Outcome.{status_text}
@@ -20,16 +19,6 @@ script_fault_json (fault.TooManyLanes n) = line_fault_json 2 (codes "TooManyLane
 script_fault_json (fault.TooManyLines n) = line_fault_json 3 (codes "TooManyLines") (Some n)
 script_fault_json (fault.BadTime n) = line_fault_json 4 (codes "BadTime") (Some n)
 script_fault_json fault.TooLong = line_fault_json 5 (codes "TooLong") None
-
--- a fault of late trips
-abbrev pub late_fault_json : LateFault → List ℕ
-late_fault_json (late.UnknownTrip n) = line_fault_json 1 (codes "UnknownTrip") (Some n)
-late_fault_json (late.TimeRunsBack n) = line_fault_json 2 (codes "TimeRunsBack") (Some n)
-late_fault_json (late.OutOfRange n) = line_fault_json 3 (codes "OutOfRange") (Some n)
-late_fault_json (late.BadEvent n) = line_fault_json 4 (codes "BadEvent") (Some n)
-late_fault_json (late.BadLine n) = line_fault_json 5 (codes "BadLine") (Some n)
-late_fault_json late.MissingFile = line_fault_json 6 (codes "MissingFile") None
-late_fault_json late.TooLarge = line_fault_json 7 (codes "TooLarge") None
 
 -- a claim's fault
 abbrev pub journey_fault_json : JourneyFault → List ℕ

@@ -1,14 +1,18 @@
--- What the program's status says of a run of several days.
+-- What the program's status says of a run of several items.
 use Rattle.std.specs.Prelude.{◌≡◌, Bool, ℕ, ◌<◌, List, map, Option, IfSome, Result, Ok, Err, ⊤}
 use Rattle.tb_base.specs.TimetableData.{TimetableData}
 use Rattle.gtfs_rows.specs.declared.fault.FeedFault.{FeedFault}
 use Rattle.tb_io.specs.Files.{FileList}
 use Rattle.footpaths.specs.declared.paths.Options.{Options}
-use Rattle.command_line.specs.Plans.{PlannedDayData, ServeRequestData}
+use Rattle.command_line.specs.Plans.{PlannedItemData, ServeRequestData}
+use Rattle.command_line.specs.declared.request.PlannedSource.{PlannedSource}
+use Rattle.command_line.specs.declared.request.PlannedSource.TheVariants as planned
 use Rattle.lane_serve.specs.Plans.{ItemData}
 use Rattle.lane_serve.specs.Script.{LaneData, script_of}
 use Rattle.lane_serve.specs.Served.{FirstGives, IsServed, ServedData}
 use Rattle.lane_serve.specs.Json.{served_shown}
+use Rattle.lane_serve.specs.declared.plan.ItemSource.{ItemSource}
+use Rattle.lane_serve.specs.declared.plan.ItemSource.TheVariants as source
 use Rattle.lane_serve.specs.declared.run.ServeFault.{ServeFault}
 use Rattle.lane_serve.specs.declared.run.ServeFault.TheVariants as serve
 use Rattle.lane_serve.specs.declared.script.ScriptFault.{ScriptFault}
@@ -16,9 +20,14 @@ use Rattle.router_cli.specs.Outcome.{EndsBy, IsDayEnding}
 use Rattle.router_cli.specs.declared.status.Status.{Status}
 use Rattle.router_cli.specs.declared.status.Status.TheVariants as status
 
--- the item of a plan that a day of the words is
-abbrev pub item_of : PlannedDayData → ItemData
-item_of d = record { dir = d.dir; word = d.word; day = d.date }
+-- what an item of the words is made of
+abbrev pub source_of : PlannedSource → ItemSource
+source_of (planned.Day d) = source.Day (record { dir = d.dir; day = d.date })
+source_of (planned.Late path) = source.Late path
+
+-- the item of a plan that one of the words is
+abbrev pub item_of : PlannedItemData → ItemData
+item_of i = record { word = i.word; source = source_of i.source }
 
 abbrev pub plan_of : ServeRequestData → List ItemData
 plan_of r = map item_of r.plan

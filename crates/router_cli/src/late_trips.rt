@@ -212,24 +212,24 @@ fn ask_last<J: Naming, R: Wait>(
     }
 }
 
-// What is written of an edition and what late trips make of it.
+// What is written of an edition, and of the one that late trips make of it, which touches so many
+// trips.
 fn editions_text<R: Wait>(
     rt: &R,
     alloc: Global,
     json: bool,
     old: Shared,
-    amended: Amended,
+    edition: Shared,
+    redone: u32,
     inquiry: &Inquiry,
 ) -> Result<Vec<u8>, Memory>
-    requires { amended.redone ≡ touched_count (edition_lines old) (edition_lines amended.edition) }
+    requires { redone ≡ touched_count (edition_lines old) (edition_lines edition) }
     ensures { IfOk result (λ text. IsAmendedText json (EditionData.table old)
-        (EditionData.table amended.edition) inquiry.now text.items) }
+        (EditionData.table edition) inquiry.now text.items) }
 {
     old.edition().soundness();
-    let Amended { edition, redone } = amended;
-    edition.soundness();
-    let kept = edition.kept();
-    let edition = Shared::new(alloc, edition)?;
+    edition.edition().soundness();
+    let kept = edition.edition().kept();
     let answer = ask_last::<Brand, R>(rt, alloc, json, Opened::new(), old, edition, inquiry)?;
     let mut text = amended_shown(alloc, json, redone, kept)?;
     text.extend_from_slice(answer.as_slice())?;
@@ -253,9 +253,10 @@ fn amended_answer<R: Threads + Wait + Sync, G: Gate>(
 {
     let old = build_edition(rt, alloc, table, workers, gate)?;
     match amend(alloc, old.edition(), updates) {
-        Ok(amended) => {
-            amended.edition.soundness();
-            Ok(editions_text(rt, alloc, json, old, amended, inquiry)?)
+        Ok(Amended { edition, redone }) => {
+            let edition = Shared::new(alloc, edition)?;
+            edition.edition().soundness();
+            Ok(editions_text(rt, alloc, json, old, edition, redone, inquiry)?)
         }
         Err(refused) => {
             drop(old);

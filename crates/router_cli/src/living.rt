@@ -4,6 +4,7 @@ ghost use Rattle.std.specs.Io.KnownBytes.{Consumes};
 ghost use Rattle.footpaths.specs.Limits.{AreWithinADay};
 ghost use Rattle.tb_base.specs.Workers.{AreWorkers};
 ghost use Rattle.lane_serve.specs.Live.{HasLivedUntil};
+ghost use Rattle.lane_serve.specs.Plans.{BeginsWithDay};
 ghost use Rattle.router_cli.specs.Living.{IsLiveOutcome, first_items, mode_of};
 
 use crate::serving::items_of;
@@ -31,7 +32,7 @@ fn lived<R: Threads + Wait + Sync, F: Folder + Send, S: Source, K: Sink, G: Gate
     out: &mut K,
     gate: &G,
 ) -> Status
-    requires plan { 0 < length plan.now }
+    requires plan { BeginsWithDay plan.now }
     requires options { AreWithinADay options.now }
     requires workers { AreWorkers workers }
     requires some { 0 < lanes }
@@ -64,7 +65,7 @@ fn lived<R: Threads + Wait + Sync, F: Folder + Send, S: Source, K: Sink, G: Gate
     }
 }
 
-/// Answers the lines of a source as they come, until it ends, while the days of a request and those
+/// Answers the lines of a source as they come, until it ends, while the items of a request and those
 /// that lines name are published. Writes as it goes, and waits for lines.
 pub(crate) fn live_status<R: Threads + Wait + Sync, F: Folder + Send, S: Source, K: Sink, G: Gate>(
     rt: &R,

@@ -1,16 +1,17 @@
 //! The line of standard error as JSON, and the end of the program.
 ghost use Rattle.std.specs.Prelude.{◌≡◌, ◌++◌, IfOk, OnOk, codes};
 ghost use Rattle.answer_json.specs.Faults.{fault_json};
+ghost use Rattle.lane_serve.specs.LateFaults.{late_fault_json};
 ghost use Rattle.std.specs.Process.{exit_status};
 ghost use Rattle.router_cli.specs.Outcome.{status_code};
-ghost use Rattle.router_cli.specs.Refusals.{ending_json, journey_fault_json, late_fault_json, refusal_json, script_fault_json, status_head, status_json, status_shown};
+ghost use Rattle.router_cli.specs.Refusals.{ending_json, journey_fault_json, refusal_json, script_fault_json, status_head, status_json, status_shown};
 
 use crate::status::{Status, status_text};
 use answer_json::{add_fault, add_line_fault, add_member};
 use answer_text::Text;
 use gtfs_rows::FeedFault;
 use journey_read::JourneyFault;
-use lane_serve::ScriptFault;
+use lane_serve::{ScriptFault, add_late_fault_json};
 use late_edit::LateFault;
 use std::alloc::Global;
 use std::process::ExitCode;
@@ -30,21 +31,6 @@ fn add_script_fault(text: &mut Text, fault: ScriptFault) -> Result<(), Memory>
         ScriptFault::TooManyLines(line) => add_line_fault(text, 3, b"TooManyLines", Some(line)),
         ScriptFault::BadTime(line) => add_line_fault(text, 4, b"BadTime", Some(line)),
         ScriptFault::TooLong => add_line_fault(text, 5, b"TooLong", None),
-    }
-}
-
-// Adds a fault of late trips.
-fn add_late_fault(text: &mut Text, fault: LateFault) -> Result<(), Memory>
-    ensures { OnOk result (text.new ≡ text.old ++ late_fault_json fault) }
-{
-    match fault {
-        LateFault::UnknownTrip(line) => add_line_fault(text, 1, b"UnknownTrip", Some(line)),
-        LateFault::TimeRunsBack(line) => add_line_fault(text, 2, b"TimeRunsBack", Some(line)),
-        LateFault::OutOfRange(line) => add_line_fault(text, 3, b"OutOfRange", Some(line)),
-        LateFault::BadEvent(line) => add_line_fault(text, 4, b"BadEvent", Some(line)),
-        LateFault::BadLine(line) => add_line_fault(text, 5, b"BadLine", Some(line)),
-        LateFault::MissingFile => add_line_fault(text, 6, b"MissingFile", None),
-        LateFault::TooLarge => add_line_fault(text, 7, b"TooLarge", None),
     }
 }
 
@@ -106,7 +92,7 @@ fn add_late_refusal(text: &mut Text, fault: LateFault) -> Result<(), Memory>
 {
     add_head(text, 8, b"late refused")?;
     text.add(b",\"fault\":")?;
-    add_late_fault(text, fault)?;
+    add_late_fault_json(text, fault)?;
     text.add(b"}\n")
 }
 

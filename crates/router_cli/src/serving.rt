@@ -1,16 +1,20 @@
-//! What the program writes about a run of several days.
+//! What the program writes about a run of several items.
 ghost use Rattle.std.specs.Prelude.{◌≡◌, ◌<◌, ◌≤◌, ◌-◌, ◌^◌, Err, IfErr, IfOk, List, Ok, length, map, ℕ};
 ghost use Rattle.std.specs.Io.KnownBytes.{Consumes};
 ghost use Rattle.footpaths.specs.Limits.{AreWithinADay};
 ghost use Rattle.tb_base.specs.Workers.{AreWorkers};
+ghost use Rattle.lane_serve.specs.Plans.{BeginsWithDay};
 ghost use Rattle.lane_serve.specs.Script.{IsScript};
 ghost use Rattle.router_cli.specs.Outcome.{LeavesOutside, status_of_text};
-ghost use Rattle.router_cli.specs.Serving.{IsNoRun, IsNoRunAnswer, IsNoScript, IsRunAnswer, IsRunText, ScriptGives, TellsScript, item_of, plan_of, status_for};
+ghost use Rattle.router_cli.specs.Serving.{IsNoRun, IsNoRunAnswer, IsNoScript, IsRunAnswer, IsRunText, ScriptGives, TellsScript, item_of, plan_of, source_of, status_for};
 
 use crate::status::Status;
-use command_line::{PlannedDay, ServeRequest};
+use command_line::{PlannedDay, PlannedFile, PlannedItem, PlannedSource, ServeRequest};
 use footpaths::Options;
-use lane_serve::{PlanItem, Script, ScriptFault, ServeFault, read_script, serve, served_shown};
+use lane_serve::{
+    FeedDay, ItemSource, LateFile, PlanItem, Script, ScriptFault, ServeFault, read_script, serve,
+    served_shown,
+};
 use std::alloc::Global;
 use std::sync::Wait;
 use std::thread::Threads;
@@ -41,25 +45,39 @@ fn script_from<S: Source>(alloc: Global, json: bool, source: &mut S) -> Result<S
     }
 }
 
-// The item of a plan that a day of the words is.
-fn item_of(alloc: Global, day: PlannedDay) -> Result<PlanItem, Memory>
-    ensures { IfOk result (λ item. item ≡ item_of day.entry) }
+// What an item of the words is made of.
+fn source_of(alloc: Global, planned: PlannedSource) -> Result<ItemSource, Memory>
+    ensures { IfOk result (λ source. source ≡ source_of planned.entry) }
 {
-    let PlannedDay { dir, word, day } = day;
+    match planned {
+        PlannedSource::Day(PlannedDay { dir, day }) => Ok(ItemSource::Day(FeedDay {
+            dir: String::from_str(alloc, dir)?,
+            day,
+        })),
+        PlannedSource::Late(PlannedFile { path }) => Ok(ItemSource::Late(LateFile {
+            path: String::from_str(alloc, path)?,
+        })),
+    }
+}
+
+// The item of a plan that one of the words is.
+fn item_of(alloc: Global, planned: PlannedItem) -> Result<PlanItem, Memory>
+    ensures { IfOk result (λ item. item ≡ item_of planned.entry) }
+{
+    let PlannedItem { word, source } = planned;
     Ok(PlanItem {
-        dir: String::from_str(alloc, dir)?,
         word: String::from_str(alloc, word)?,
-        day,
+        source: source_of(alloc, source)?,
     })
 }
 
 /// The items of a plan.
-pub(crate) fn items_of(alloc: Global, days: Vec<PlannedDay>) -> Result<Vec<PlanItem>, Memory>
-    ensures { IfOk result (λ items. items.items ≡ map item_of days.entry.items) }
+pub(crate) fn items_of(alloc: Global, plan: Vec<PlannedItem>) -> Result<Vec<PlanItem>, Memory>
+    ensures { IfOk result (λ items. items.items ≡ map item_of plan.entry.items) }
 {
     let mut items = Vec::new(alloc);
-    for day in days {
-        let item = item_of(alloc, day)?;
+    for planned in plan {
+        let item = item_of(alloc, planned)?;
         items.push(item)?;
     }
     Ok(items)
@@ -87,8 +105,8 @@ fn served_run<R: Threads + Wait + Sync, F: Folder + Send, G: Gate>(
     folder: &mut F,
     gate: &G,
 ) -> Result<Vec<u8>, Status>
-    requires plan { 0 < length plan.now }
-    requires days { length plan.now ≤ 100 }
+    requires plan { BeginsWithDay plan.now }
+    requires items { length plan.now ≤ 100 }
     requires options { AreWithinADay options.now }
     requires workers { AreWorkers workers }
     requires script { IsScript script.now }
@@ -110,7 +128,7 @@ fn served_run<R: Threads + Wait + Sync, F: Folder + Send, G: Gate>(
     }
 }
 
-// The text of a run of the lanes of a script beside the days of a request.
+// The text of a run of the lanes of a script beside the items of a request.
 fn plan_text<R: Threads + Wait + Sync, F: Folder + Send, G: Gate>(
     rt: &R,
     alloc: Global,
@@ -150,7 +168,7 @@ fn asks_json(request: &ServeRequest) -> bool
     request.json
 }
 
-/// The replies to the script of a source, by a run of the days of a plan. It may wait.
+/// The replies to the script of a source, by a run of the items of a plan. It may wait.
 pub(crate) fn run_text<R: Threads + Wait + Sync, F: Folder + Send, S: Source, G: Gate>(
     rt: &R,
     alloc: Global,

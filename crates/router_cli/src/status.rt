@@ -1,12 +1,12 @@
 //! How the program ends.
 ghost use Rattle.std.specs.Prelude.{◌≡◌, ◌++◌, IfOk, codes};
 ghost use Rattle.std.specs.Fmt.{decimal};
-ghost use Rattle.router_cli.specs.Outcome.{journey_fault_text, late_fault_text, row_text, script_fault_text, status_code, status_text};
+ghost use Rattle.router_cli.specs.Outcome.{journey_fault_text, row_text, script_fault_text, status_code, status_text};
 
-use answer_text::fault_text;
+use answer_text::{Text, fault_text};
 use gtfs_rows::FeedFault;
 use journey_read::JourneyFault;
-use lane_serve::ScriptFault;
+use lane_serve::{ScriptFault, add_late_fault_text};
 use late_edit::LateFault;
 use std::alloc::Global;
 use tb_base::Memory;
@@ -82,9 +82,7 @@ pub(crate) fn status_text(alloc: Global, status: &Status) -> Result<Vec<u8>, Mem
         Status::ScriptRefused(fault) => {
             row_refusal_text(alloc, b"router: script refused: ", script_row(*fault))
         }
-        Status::LateRefused(fault) => {
-            row_refusal_text(alloc, b"router: late refused: ", late_row(*fault))
-        }
+        Status::LateRefused(fault) => late_refusal_text(alloc, *fault),
         Status::JourneyRefused(fault) => {
             row_refusal_text(alloc, b"router: journey refused: ", journey_row(*fault))
         }
@@ -114,6 +112,16 @@ fn feed_refusal_text(alloc: Global, fault: &FeedFault) -> Result<Vec<u8>, Memory
 {
     let text = fault_text(alloc, fault)?;
     refusal_line(alloc, b"router: feed refused: ", text.as_slice())
+}
+
+fn late_refusal_text(alloc: Global, fault: LateFault) -> Result<Vec<u8>, Memory>
+    ensures { IfOk result (λ v. v.items ≡ status_text (Status.LateRefused fault)) }
+{
+    let mut text = Text::new(alloc);
+    text.add(b"router: late refused: ")?;
+    add_late_fault_text(&mut text, fault)?;
+    text.add(b"\n")?;
+    Ok(text.into_bytes())
 }
 
 /// A name, and a number.
@@ -167,21 +175,6 @@ fn script_row(fault: ScriptFault) -> (&'static [u8], Option<u32>)
         ScriptFault::TooManyLines(line) => (b"3 TooManyLines".as_slice(), Some(line)),
         ScriptFault::BadTime(line) => (b"4 BadTime".as_slice(), Some(line)),
         ScriptFault::TooLong => (b"5 TooLong".as_slice(), None),
-    }
-}
-
-// The same of a fault of late trips.
-fn late_row(fault: LateFault) -> (&'static [u8], Option<u32>)
-    ensures { row_text result.0.now result.1 ≡ late_fault_text fault }
-{
-    match fault {
-        LateFault::UnknownTrip(line) => (b"1 UnknownTrip".as_slice(), Some(line)),
-        LateFault::TimeRunsBack(line) => (b"2 TimeRunsBack".as_slice(), Some(line)),
-        LateFault::OutOfRange(line) => (b"3 OutOfRange".as_slice(), Some(line)),
-        LateFault::BadEvent(line) => (b"4 BadEvent".as_slice(), Some(line)),
-        LateFault::BadLine(line) => (b"5 BadLine".as_slice(), Some(line)),
-        LateFault::MissingFile => (b"6 MissingFile".as_slice(), None),
-        LateFault::TooLarge => (b"7 TooLarge".as_slice(), None),
     }
 }
 

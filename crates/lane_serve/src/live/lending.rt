@@ -1,12 +1,14 @@
-//! Items that are built whatever the folder's count of faults is.
-ghost use Rattle.std.specs.Prelude.{◌≡◌, ◌↔◌, ◌≤◌, IfErr, IfOk, IfSome, IsSome, IsTrue};
+//! Items that are read and built whatever the folder's count of faults is.
+ghost use Rattle.std.specs.Prelude.{◌≡◌, ◌↔◌, ◌<◌, ◌≤◌, ◌-◌, ◌^◌, IfErr, IfOk, IfSome, IsSome, IsTrue, Some, option_to_list};
 ghost use Rattle.std.specs.Io.{ReadsAtMost};
 ghost use Rattle.tb_io.specs.Causes.{HasCause};
 ghost use Rattle.tb_io.specs.Files.{IsPiece, file_at};
 ghost use Rattle.lane_serve.specs.Lending.{Counts, HasFailedBy};
-ghost use Rattle.lane_serve.specs.Plans.{IsBuilt, IsGoodBuilding};
+ghost use Rattle.lane_serve.specs.Plans.{HasOutcome, IsGoodBuilding};
 
-use crate::plan::{Building, Built, PlanEnd, PlanItem, build_item};
+use crate::building::{Building, Found, PlanEnd, find_item};
+use crate::plan::PlanItem;
+use edition_store::Edition;
 use std::alloc::Global;
 use std::marker::{Brand, PhantomData};
 use std::thread::Threads;
@@ -137,52 +139,60 @@ impl<B: Lends, N: Lent> Folder for Counted<B, N> {
 }
 
 // The same over the folder of a lender, which is given back.
-fn build_named<N: Lent, B: Lends + Drop, G: Gate, R: Threads + Sync>(
+fn find_named<N: Lent, B: Lends + Drop, G: Gate, R: Threads + Sync>(
     rt: &R,
     alloc: Global,
     gate: &G,
     building: Building,
     lender: B,
+    before: u32,
+    day: &Edition,
     item: &PlanItem,
-) -> (B, Result<Built, PlanEnd>)
+) -> (B, Result<Found, PlanEnd>)
     requires building { IsGoodBuilding building }
+    requires room { before < 2 ^ 32 - 1 }
     requires name { B.name lender ≡ N.name }
     requires start { B.count lender ≡ N.start }
     ensures name { B.name result.0 ≡ B.name lender }
     ensures files { B.lent_files result.0 ≡ B.lent_files lender }
     ensures later { B.count lender ≤ B.count result.0 }
     ensures failed { IfErr result.1 (HasFailedBy (B.count lender) (B.count result.0)) }
-    ensures built { IfOk result.1
-        (IsBuilt (B.lent_files lender) building.options building.mirrored item.now) }
+    ensures found { IfOk result.1 (λ found. HasOutcome (B.lent_files lender) building.options
+        building.mirrored (Some day.now) before item.now found.outcome
+        (option_to_list found.edition)) }
 {
     let mut folder: Counted<B, N> = Counted {
         lender,
         faults: 0,
         of: PhantomData,
     };
-    let built = build_item(rt, alloc, gate, building, &mut folder, item);
+    let found = find_item(rt, alloc, gate, building, &mut folder, before, day, item);
     let Counted { lender, .. } = folder;
-    (lender, built)
+    (lender, found)
 }
 
 // The same, at a name that is picked here.
-fn build_lent<B: Lends + Drop, G: Gate, R: Threads + Sync>(
+fn find_lent<B: Lends + Drop, G: Gate, R: Threads + Sync>(
     rt: &R,
     alloc: Global,
     gate: &G,
     building: Building,
     lender: B,
+    before: u32,
+    day: &Edition,
     item: &PlanItem,
-) -> (B, Result<Built, PlanEnd>)
+) -> (B, Result<Found, PlanEnd>)
     requires building { IsGoodBuilding building }
+    requires room { before < 2 ^ 32 - 1 }
     ensures name { B.name result.0 ≡ B.name lender }
     ensures files { B.lent_files result.0 ≡ B.lent_files lender }
     ensures later { B.count lender ≤ B.count result.0 }
     ensures failed { IfErr result.1 (HasFailedBy (B.count lender) (B.count result.0)) }
-    ensures built { IfOk result.1
-        (IsBuilt (B.lent_files lender) building.options building.mirrored item.now) }
+    ensures found { IfOk result.1 (λ found. HasOutcome (B.lent_files lender) building.options
+        building.mirrored (Some day.now) before item.now found.outcome
+        (option_to_list found.edition)) }
 {
-    build_named::<Brand, B, G, R>(rt, alloc, gate, building, lender, item)
+    find_named::<Brand, B, G, R>(rt, alloc, gate, building, lender, before, day, item)
 }
 
 // Does nothing; but that the lent folder is used once more is what ties it to the one that was lent.
@@ -190,25 +200,38 @@ fn take_back<F: Folder>(folder: &mut F)
     ensures { folder.new ≡ folder.old }
 {}
 
-/// An item's edition, or the first thing that is wrong with its feed, whatever the folder's count of
-/// faults is. `ReadFault` comes only where that count rose, or stands at its last value.
-pub(crate) fn build_anyway<F: Folder, G: Gate, R: Threads + Sync>(
+/// What an item is found to be, whatever the folder's count of faults is. `ReadFault` comes only
+/// where that count rose, or stands at its last value.
+pub(crate) fn find_anyway<F: Folder, G: Gate, R: Threads + Sync>(
     rt: &R,
     alloc: Global,
     gate: &G,
     building: Building,
     folder: &mut F,
+    before: u32,
+    day: &Edition,
     item: &PlanItem,
-) -> Result<Built, PlanEnd>
+) -> Result<Found, PlanEnd>
     requires building { IsGoodBuilding building }
+    requires room { before < 2 ^ 32 - 1 }
     ensures files { F.files folder.new ≡ F.files folder.old }
     ensures later { F.faults folder.old ≤ F.faults folder.new }
     ensures failed { IfErr result (HasFailedBy (F.faults folder.old) (F.faults folder.new)) }
-    ensures built { IfOk result
-        (IsBuilt (F.files folder.old) building.options building.mirrored item.now) }
+    ensures found { IfOk result (λ found. HasOutcome (F.files folder.old) building.options
+        building.mirrored (Some day.now) before item.now found.outcome
+        (option_to_list found.edition)) }
 {
-    let (loan, built) = build_lent(rt, alloc, gate, building, Loan::new(folder), item);
+    let (loan, found) = find_lent(
+        rt,
+        alloc,
+        gate,
+        building,
+        Loan::new(folder),
+        before,
+        day,
+        item,
+    );
     let Loan { folder } = loan;
     take_back(folder);
-    built
+    found
 }

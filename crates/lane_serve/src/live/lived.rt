@@ -6,20 +6,20 @@ ghost use Rattle.gtfs_rows.specs.declared.fault.FeedFault.{FeedFault};
 ghost use Rattle.history.specs.Lists.{StartsWith};
 ghost use Rattle.tb_base.specs.Workers.{AreWorkers};
 ghost use Rattle.live_turns.specs.Runs.{Tells};
-ghost use Rattle.lane_serve.specs.Live.{BeginsWithFirst, HasFailed, HasFailedBehind, HasLived, HasLivedUntil, ReadFaultsRose, became_of};
+ghost use Rattle.lane_serve.specs.Live.{BeginsWithFirst, HasFailed, HasFailedBehind, HasLived, HasLivedUntil, ReadFaultsRose};
 ghost use Rattle.lane_serve.specs.LiveSides.{BeginsLive, FailsToTellFirst, FailsToTellRest, HaveClosed, TellsRest, told_as};
 ghost use Rattle.lane_serve.specs.LiveTexts.{news_shown};
 ghost use Rattle.lane_serve.specs.LiveTurns.{before_lines};
-ghost use Rattle.lane_serve.specs.Plans.{IsEditionOfItem, IsGoodBuilding, ItemData};
+ghost use Rattle.lane_serve.specs.Plans.{BeginsWithDay, IsGoodBuilding, ItemData, outcome_of};
 
+use crate::building::{Building, build_day, outcome_of};
 use crate::live::laws::turns_are_one_run;
-use crate::live::news::{News, news_shown, tell_news};
-use crate::live::publisher::became_of;
+use crate::live::news::{Became, News, news_shown, tell_news};
 use crate::live::running::LinesFault;
 use crate::live::saying::LiveMode;
 use crate::live::sides::{LinesEnd, both_sides};
 use crate::live::turn::{LineSide, desks_for};
-use crate::plan::{Building, Built, PlanEnd, PlanItem, build_item};
+use crate::plan::{PlanItem, first_day};
 use crate::publishing::Publishes;
 use answer_text::Text;
 use edition_store::{Edition, Naming, Opened, Publisher, Seat, Shared, Store};
@@ -33,6 +33,7 @@ use std::sync::Wait;
 use std::thread::Threads;
 use tb_base::{Gate, Memory};
 use tb_io::{Folder, Put, Sink, Source, put_all};
+use trip_table::DayFault;
 
 /// Why a process that lives ends before its lines do.
 #[derive(Drop)]
@@ -267,6 +268,7 @@ fn run_sides<
     words: &[PlanItem],
     folder: &mut F,
     publisher: Publisher<J>,
+    day: Shared,
     items: Taker<PlanItem, K>,
     tells: Giver<News, L>,
     side: LineSide<J, K, L>,
@@ -277,7 +279,7 @@ fn run_sides<
     requires mirrored { building.now.mirrored ≡ mode.mirrored }
     requires some { 0 < length words.now }
     requires begins { BeginsLive (F.files folder.old) building.now.options mode words.now
-        publisher items tells side }
+        publisher day items tells side }
     requires rose { ReadFaultsRose (F.faults folder.old) (F.faults folder.old) tells }
     requires source { S.faults source.old < 2 ^ 64 - 1 }
     requires sink { O.faults sink.old < 2 ^ 64 - 1 }
@@ -297,12 +299,14 @@ fn run_sides<
         ⊎ (O.faults sink.new ≡ O.faults sink.old) }
 {
     turns_are_one_run();
+    let mut day = day;
     let mut items = items;
     let mut tells = tells;
     let (published, end) = both_sides(
-        rt, alloc, gate, building, words, folder, publisher, &mut items, &mut tells, side, source,
-        sink,
+        rt, alloc, gate, building, words, folder, publisher, &mut items, &mut tells, &mut day,
+        side, source, sink,
     );
+    drop(day);
     let LinesEnd {
         ended,
         seat,
@@ -412,13 +416,15 @@ fn begin<J: Naming, K: Naming, L: Naming, R: Wait>(
 
 // The news of the first item, which is published.
 fn first_news(alloc: Global, item: &PlanItem, first: &Edition) -> Result<News, Memory>
-    ensures { IfOk result (λ n.
-        n ≡ record { word = item.now.word; became = became_of 1 first.now }) }
+    ensures { IfOk result (λ n. n ≡ record {
+      word = item.now.word;
+      became = Became.Outcome (outcome_of 1 first.now);
+    }) }
 {
     let word = String::from_str(alloc, item.word.as_str())?;
     Ok(News {
         word,
-        became: became_of(1, first),
+        became: Became::Outcome(outcome_of(1, first)),
     })
 }
 
@@ -486,29 +492,38 @@ fn live_from<
             return Err(LiveFault::Memory);
         }
     };
+    let Ok(day) = first.share() else {
+        drop(first);
+        drop(news);
+        return Err(LiveFault::Memory);
+    };
     match begin::<J, K, L, R>(
         rt, alloc, mode, lanes, opened, named, told, first, item, &news,
     ) {
         Ok((publisher, items, tells, side)) => match write_news(alloc, mode.json, &news, sink) {
             Ok(()) => run_sides(
-                rt, alloc, gate, building, mode, words, folder, publisher, items, tells, side,
+                rt, alloc, gate, building, mode, words, folder, publisher, day, items, tells, side,
                 source, sink,
             ),
             Err(fault) => {
                 publisher.end(rt);
+                drop(day);
                 drop(items);
                 drop(tells);
                 drop(side);
                 Err(fault)
             }
         },
-        Err(Memory) => Err(LiveFault::Memory),
+        Err(Memory) => {
+            drop(day);
+            Err(LiveFault::Memory)
+        }
     }
 }
 
 /// Publishes the plan's items, and then those that lines name, each as it is read and built, while
 /// the lines of a source are answered as they come, by so many lanes: 1 to 64. News of each item are
-/// told, first of all that of the first one, which is published before a line is read. `workers`
+/// told, first of all that of the first one, a day, which is published before a line is read. `workers`
 /// workers reduce the transfers of an item: 1 to 64. `Feed` comes only where the first item's feed
 /// is refused; what becomes of further items ends nothing. It may wait. That lines are answered
 /// while an item is built is tested and in no clause.
@@ -525,7 +540,7 @@ pub fn run_live<F: Folder + Send, S: Source, O: Sink, G: Gate, R: Threads + Wait
     sink: &mut O,
     gate: &G,
 ) -> Result<(), LiveFault>
-    requires plan { 0 < length plan.now }
+    requires plan { BeginsWithDay plan.now }
     requires options { AreWithinADay options.now }
     requires workers { AreWorkers workers }
     requires lanes { 0 < lanes }
@@ -557,8 +572,8 @@ pub fn run_live<F: Folder + Send, S: Source, O: Sink, G: Gate, R: Threads + Wait
         workers,
         mirrored: mode.mirrored,
     };
-    match build_item(rt, alloc, gate, building, folder, &plan[0]) {
-        Ok(Built::Edition(edition)) => live_from::<Brand, Brand, Brand, F, G, S, O, R>(
+    match build_day(rt, alloc, gate, building, folder, first_day(plan)) {
+        Ok(edition) => live_from::<Brand, Brand, Brand, F, G, S, O, R>(
             rt,
             alloc,
             gate,
@@ -574,8 +589,8 @@ pub fn run_live<F: Folder + Send, S: Source, O: Sink, G: Gate, R: Threads + Wait
             source,
             sink,
         ),
-        Ok(Built::Refused(fault)) => Err(LiveFault::Feed(fault)),
-        Err(PlanEnd::ReadFault) => Err(LiveFault::ReadFault),
-        Err(PlanEnd::Memory) => Err(LiveFault::Memory),
+        Err(DayFault::Feed(fault)) => Err(LiveFault::Feed(fault)),
+        Err(DayFault::ReadFault) => Err(LiveFault::ReadFault),
+        Err(DayFault::Memory) => Err(LiveFault::Memory),
     }
 }

@@ -3,10 +3,10 @@ ghost use Rattle.std.specs.Prelude.{◌≡◌, ◌++◌, List, OnOk, IfOk, ℕ};
 ghost use Rattle.live_turns.specs.Runs.{Tells};
 ghost use Rattle.lane_serve.specs.LiveTexts.{became_json, became_text, failed_json, failed_text, news_shown};
 
+use crate::plan::Outcome;
 use crate::{json, texts};
 use answer_json::{add_member, add_string};
 use answer_text::Text;
-use gtfs_rows::FeedFault;
 use live_turns::{Naming, Taken, Taker};
 use std::alloc::Global;
 use std::marker::Model;
@@ -16,17 +16,9 @@ use tb_base::Memory;
 /// What became of an item.
 #[derive(Drop)]
 pub(crate) enum Became {
-    /// It was published as the edition of this number, from 1, with so many trips, lines and kept
-    /// transfers.
-    Published {
-        number: u32,
-        trips: u32,
-        lines: u32,
-        kept: u64,
-    },
-    /// The first thing that is wrong with its feed.
-    Refused(FeedFault),
-    /// Its feed could not be read.
+    /// It was published or refused.
+    Outcome(Outcome),
+    /// Its files could not be read.
     ReadFault,
     /// There was no memory for it.
     Memory,
@@ -69,13 +61,7 @@ fn add_became_text(
     ensures { OnOk result (text.new ≡ text.old ++ became_text word.now became.now) }
 {
     match became {
-        Became::Published {
-            number,
-            trips,
-            lines,
-            kept,
-        } => texts::add_published(text, word, *number, *trips, *lines, *kept),
-        Became::Refused(fault) => texts::add_refused(alloc, text, word, fault),
+        Became::Outcome(outcome) => texts::add_outcome(alloc, text, word, outcome),
         Became::ReadFault => add_failed_text(text, word, b"read fault"),
         Became::Memory => add_failed_text(text, word, b"out of memory"),
     }
@@ -96,13 +82,7 @@ fn add_became_json(text: &mut Text, word: &str, became: &Became) -> Result<(), M
     ensures { OnOk result (text.new ≡ text.old ++ became_json word.now became.now) }
 {
     match became {
-        Became::Published {
-            number,
-            trips,
-            lines,
-            kept,
-        } => json::add_published(text, word, *number, *trips, *lines, *kept),
-        Became::Refused(fault) => json::add_refused(text, word, fault),
+        Became::Outcome(outcome) => json::add_outcome(text, word, outcome),
         Became::ReadFault => add_failed_json(text, word, b"read fault"),
         Became::Memory => add_failed_json(text, word, b"out of memory"),
     }

@@ -1,15 +1,15 @@
 //! The publisher of a process that lives: items as they are named, and news of each.
 ghost use Rattle.std.specs.Prelude.{ℕ, ◌≡◌, ◌<◌, ◌≤◌, ◌-◌, ◌^◌, ◌∷◌, [], ◌++◌, ◌+◌, IfOk, OnOk, drop, length, take, string_bytes};
-ghost use Rattle.edition_store.specs.Editions.{EditionData};
-ghost use Rattle.lane_serve.specs.Live.{ArePublished, ReadFaultsRose, became_of};
-ghost use Rattle.lane_serve.specs.LivePublisher.{IsNextEdition, IsNextItem, TakesItem, items_taken};
+ghost use Rattle.lane_serve.specs.Live.{ArePublished, ReadFaultsRose};
+ghost use Rattle.lane_serve.specs.LivePublisher.{HavePublished, IsNextItem, TakesItem, items_taken};
 ghost use Rattle.lane_serve.specs.Plans.{IsGoodBuilding};
 
-use crate::live::lending::build_anyway;
+use crate::building::{Building, Found, PlanEnd};
+use crate::live::lending::find_anyway;
 use crate::live::news::{Became, News};
-use crate::plan::{Building, Built, PlanEnd, PlanItem, publish};
+use crate::plan::{PlanItem, publish_found};
 use crate::publishing::Publishes;
-use edition_store::{Edition, Shared};
+use edition_store::Shared;
 use live_turns::{Giver, Naming, Taken, Taker};
 use std::alloc::Global;
 use std::sync::Wait;
@@ -17,41 +17,8 @@ use std::thread::Threads;
 use tb_base::{Gate, Memory};
 use tb_io::Folder;
 
-/// What became of an item that is published as the edition of this number.
-pub(crate) fn became_of(number: u32, edition: &Edition) -> Became
-    ensures { result ≡ became_of number edition.now }
-{
-    Became::Published {
-        number,
-        trips: edition.table().trip_count(),
-        lines: edition.lines().count(),
-        kept: edition.kept(),
-    }
-}
-
-// Publishes item i. Where no number is left for an edition, there is no memory for it.
-fn publish_next<P: Publishes, G: Gate, R: Wait>(
-    rt: &R,
-    gate: &G,
-    i: u32,
-    edition: Shared,
-    publisher: P,
-) -> Result<(P, Became), Memory>
-    ensures { IfOk result (λ t. IsNextEdition (P.list publisher) (P.list t.0) edition t.1) }
-{
-    let number = publisher.number();
-    let Some(next) = number.checked_add(1) else {
-        drop(edition);
-        return Ok((publisher, Became::Memory));
-    };
-    let became = became_of(next, edition.edition());
-    match publish(rt, gate, i, edition, publisher) {
-        Ok(publisher) => Ok((publisher, became)),
-        Err(Memory) => Err(Memory),
-    }
-}
-
-// Reads, builds and publishes item i, and says what became of it.
+// Reads, builds and publishes item i, and says what became of it. Where no number is left for an
+// edition, there is no memory for it.
 fn take_next<P: Publishes, F: Folder, G: Gate, R: Threads + Wait + Sync>(
     rt: &R,
     alloc: Global,
@@ -60,6 +27,7 @@ fn take_next<P: Publishes, F: Folder, G: Gate, R: Threads + Wait + Sync>(
     folder: &mut F,
     i: u32,
     item: &PlanItem,
+    day: &mut Shared,
     publisher: P,
 ) -> Result<(P, Became), Memory>
     requires { IsGoodBuilding building }
@@ -67,11 +35,31 @@ fn take_next<P: Publishes, F: Folder, G: Gate, R: Threads + Wait + Sync>(
     ensures later { F.faults folder.old ≤ F.faults folder.new }
     ensures became { IfOk result (λ t. IsNextItem (F.files folder.old) building.options
         building.mirrored item.now (F.faults folder.old) (F.faults folder.new)
-        (P.list publisher) (P.list t.0) t.1) }
+        (P.list publisher) (P.list t.0) day.old day.new t.1) }
 {
-    match build_anyway(rt, alloc, gate, building, folder, item) {
-        Ok(Built::Edition(edition)) => publish_next(rt, gate, i, edition, publisher),
-        Ok(Built::Refused(fault)) => Ok((publisher, Became::Refused(fault))),
+    let before = publisher.number();
+    if before == u32::MAX {
+        return Ok((publisher, Became::Memory));
+    }
+    match find_anyway(
+        rt,
+        alloc,
+        gate,
+        building,
+        folder,
+        before,
+        day.edition(),
+        item,
+    ) {
+        Ok(Found { outcome, edition }) => {
+            match publish_found(rt, gate, i, item, edition, day, publisher) {
+                Ok(publisher) => Ok((publisher, Became::Outcome(outcome))),
+                Err(Memory) => {
+                    drop(outcome);
+                    Err(Memory)
+                }
+            }
+        }
         Err(PlanEnd::ReadFault) => Ok((publisher, Became::ReadFault)),
         Err(PlanEnd::Memory) => Ok((publisher, Became::Memory)),
     }
@@ -107,6 +95,7 @@ fn publish_item<P: Publishes, L: Naming, F: Folder, G: Gate, R: Threads + Wait +
     i: u32,
     item: &PlanItem,
     news: &mut Giver<News, L>,
+    day: &mut Shared,
     publisher: P,
 ) -> Result<P, Memory>
     requires { IsGoodBuilding building }
@@ -114,9 +103,9 @@ fn publish_item<P: Publishes, L: Naming, F: Folder, G: Gate, R: Threads + Wait +
     ensures later { F.faults folder.old ≤ F.faults folder.new }
     ensures taken { IfOk result (λ p. TakesItem (F.files folder.old) building.options
         building.mirrored item.now (F.faults folder.old) (F.faults folder.new)
-        (P.list publisher) (P.list p) news.old news.new) }
+        (P.list publisher) (P.list p) day.old day.new news.old news.new) }
 {
-    match take_next(rt, alloc, gate, building, folder, i, item, publisher) {
+    match take_next(rt, alloc, gate, building, folder, i, item, day, publisher) {
         Ok((publisher, became)) => match give_news(rt, alloc, news, item, became) {
             Ok(()) => Ok(publisher),
             Err(Memory) => {
@@ -138,17 +127,18 @@ fn publish_words<P: Publishes, L: Naming, F: Folder, G: Gate, R: Threads + Wait 
     folder: &mut F,
     words: &[PlanItem],
     news: &mut Giver<News, L>,
+    day: &mut Shared,
     publisher: P,
 ) -> Result<P, Memory>
     requires building { IsGoodBuilding building }
     requires some { 0 < length words.now }
-    requires first { ArePublished (F.files folder.old) building.options building.mirrored
-        (take 1 words.now) news.old (P.list publisher) }
+    requires first { HavePublished (F.files folder.old) building.options building.mirrored
+        (take 1 words.now) news.old (P.list publisher) day.old }
     requires rose { ReadFaultsRose (F.faults folder.old) (F.faults folder.old) news.old }
     ensures files { F.files folder.new ≡ F.files folder.old }
     ensures later { F.faults folder.old ≤ F.faults folder.new }
-    ensures published { IfOk result (λ p. ArePublished (F.files folder.old) building.options
-        building.mirrored words.now news.new (P.list p)) }
+    ensures published { IfOk result (λ p. HavePublished (F.files folder.old) building.options
+        building.mirrored words.now news.new (P.list p) day.new) }
     ensures rose { OnOk result
         (ReadFaultsRose (F.faults folder.old) (F.faults folder.new) news.new) }
 {
@@ -157,7 +147,7 @@ fn publish_words<P: Publishes, L: Naming, F: Folder, G: Gate, R: Threads + Wait 
     for i in 1..words.len() {
         number = number.saturating_add(1);
         publisher = match publish_item(
-            rt, alloc, gate, building, folder, number, &words[i], news, publisher,
+            rt, alloc, gate, building, folder, number, &words[i], news, day, publisher,
         ) {
             Ok(next) => next,
             Err(Memory) => return Err(Memory),
@@ -176,12 +166,13 @@ fn publish_named<P: Publishes, K: Naming, L: Naming, F: Folder, G: Gate, R: Thre
     words: &[PlanItem],
     items: &mut Taker<PlanItem, K>,
     news: &mut Giver<News, L>,
+    day: &mut Shared,
     publisher: P,
 ) -> Result<P, Memory>
     requires building { IsGoodBuilding building }
     requires some { 0 < length items.old }
-    requires first { ArePublished (F.files folder.old) building.options building.mirrored
-        (items_taken words.now items.old) news.old (P.list publisher) }
+    requires first { HavePublished (F.files folder.old) building.options building.mirrored
+        (items_taken words.now items.old) news.old (P.list publisher) day.old }
     ensures files { F.files folder.new ≡ F.files folder.old }
     ensures later { F.faults folder.old ≤ F.faults folder.new }
     ensures published { IfOk result (λ p. ArePublished (F.files folder.old) building.options
@@ -202,7 +193,7 @@ fn publish_named<P: Publishes, K: Naming, L: Naming, F: Folder, G: Gate, R: Thre
             }
         };
         publisher = match publish_item(
-            rt, alloc, gate, building, folder, number, &item, news, publisher,
+            rt, alloc, gate, building, folder, number, &item, news, day, publisher,
         ) {
             Ok(next) => next,
             Err(Memory) => return Err(Memory),
@@ -214,7 +205,7 @@ fn publish_named<P: Publishes, K: Naming, L: Naming, F: Folder, G: Gate, R: Thre
 
 /// Reads, builds and publishes the further items of the words, behind the first one, which is
 /// published, and then each item that is handed over, up to the end, all in order; and gives news of
-/// each. A feed that is refused, a folder that fails and want of memory for an item end nothing.
+/// each. An item that is refused, a folder that fails and want of memory for an item end nothing.
 /// Refused where a publication fails for want of memory, or where news can't be given.
 pub(crate) fn publish_all<
     P: Publishes,
@@ -232,13 +223,14 @@ pub(crate) fn publish_all<
     words: &[PlanItem],
     items: &mut Taker<PlanItem, K>,
     news: &mut Giver<News, L>,
+    day: &mut Shared,
     publisher: P,
 ) -> Result<P, Memory>
     requires building { IsGoodBuilding building }
     requires some { 0 < length words.now }
     requires one { length items.old ≡ 1 }
-    requires first { ArePublished (F.files folder.old) building.options building.mirrored
-        (take 1 words.now) news.old (P.list publisher) }
+    requires first { HavePublished (F.files folder.old) building.options building.mirrored
+        (take 1 words.now) news.old (P.list publisher) day.old }
     requires rose { ReadFaultsRose (F.faults folder.old) (F.faults folder.old) news.old }
     ensures files { F.files folder.new ≡ F.files folder.old }
     ensures later { F.faults folder.old ≤ F.faults folder.new }
@@ -247,9 +239,11 @@ pub(crate) fn publish_all<
     ensures rose { OnOk result
         (ReadFaultsRose (F.faults folder.old) (F.faults folder.new) news.new) }
 {
-    match publish_words(rt, alloc, gate, building, folder, words, news, publisher) {
+    match publish_words(
+        rt, alloc, gate, building, folder, words, news, day, publisher,
+    ) {
         Ok(publisher) => publish_named(
-            rt, alloc, gate, building, folder, words, items, news, publisher,
+            rt, alloc, gate, building, folder, words, items, news, day, publisher,
         ),
         Err(Memory) => Err(Memory),
     }

@@ -1,10 +1,10 @@
 //! What lines say.
 ghost use Rattle.std.specs.Prelude.{◌≡◌, IfOk, MatchOption, false, true};
 ghost use Rattle.std.specs.Str.{is_utf8};
-ghost use Rattle.lane_serve.specs.LiveLines.{HasSaidTimes, as_in_script, counted, item_between, item_of_word, live_said, publish_of, requested_live, words_say};
+ghost use Rattle.lane_serve.specs.LiveLines.{HasSaidTimes, as_in_script, counted, item_between, item_of_word, late_item, late_item_of_text, late_of, live_said, publish_of, requested_live, words_say};
 ghost use Rattle.lane_serve.specs.Script.{IsAskable, SaysTimes};
 
-use crate::plan::PlanItem;
+use crate::plan::{FeedDay, ItemSource, LateFile, PlanItem};
 use crate::said::{Said, said_of};
 use crate::script::Line;
 use service_day::day_of;
@@ -88,9 +88,11 @@ fn item_between(
     }
     match day_of(date.as_bytes()) {
         Ok(day) => Ok(Some(PlanItem {
-            dir: String::from_str(alloc, dir)?,
             word: String::from_str(alloc, word)?,
-            day,
+            source: ItemSource::Day(FeedDay {
+                dir: String::from_str(alloc, dir)?,
+                day,
+            }),
         })),
         Err(_) => Ok(None),
     }
@@ -115,6 +117,46 @@ fn publish_of(alloc: Global, words: &[Name]) -> Result<Saying, Memory>
 {
     match words {
         [word] => match item_of_word(alloc, word.bytes())? {
+            Some(item) => Ok(Saying::Publish(item)),
+            None => Ok(Saying::BadLine),
+        },
+        _ => Ok(Saying::BadLine),
+    }
+}
+
+// The item of a file that amends the last day, where its path isn't empty.
+fn late_item_of_text(alloc: Global, path: &str) -> Result<Option<PlanItem>, Memory>
+    ensures { IfOk result (λ item. item ≡ late_item_of_text path.now) }
+{
+    if path.is_empty() {
+        return Ok(None);
+    }
+    let mut word = String::from_str(alloc, "late:")?;
+    word.push_str(path)?;
+    Ok(Some(PlanItem {
+        word,
+        source: ItemSource::Late(LateFile {
+            path: String::from_str(alloc, path)?,
+        }),
+    }))
+}
+
+// The item of a file that amends the last day, where its path is text and not empty.
+fn late_item(alloc: Global, path: &[u8]) -> Result<Option<PlanItem>, Memory>
+    ensures { IfOk result (λ item. item ≡ late_item path.now) }
+{
+    match text_of(path) {
+        Some(text) => late_item_of_text(alloc, text),
+        None => Ok(None),
+    }
+}
+
+// FILE.
+fn late_of(alloc: Global, words: &[Name]) -> Result<Saying, Memory>
+    ensures { IfOk result (λ saying. saying ≡ late_of words.now) }
+{
+    match words {
+        [path] => match late_item(alloc, path.bytes())? {
             Some(item) => Ok(Saying::Publish(item)),
             None => Ok(Saying::BadLine),
         },
@@ -159,6 +201,8 @@ fn words_say(alloc: Global, mode: LiveMode, words: &[Name]) -> Result<Saying, Me
         [word, rest @ ..] => {
             if word.bytes() == b"publish".as_slice() {
                 publish_of(alloc, rest)
+            } else if word.bytes() == b"late".as_slice() {
+                late_of(alloc, rest)
             } else {
                 Ok(as_in_script(mode, said_of(alloc, mode.json, words)?))
             }

@@ -3,19 +3,20 @@ ghost use Rattle.std.specs.Prelude.{◌≡◌, ◌≢◌, ◌⊎◌, ◌<◌, �
 ghost use Rattle.std.specs.Io.KnownBytes.{Consumes};
 ghost use Rattle.std.specs.Thread.{IsSync};
 ghost use Rattle.lane_serve.specs.Live.{ArePublished, ReadFaultsRose};
-ghost use Rattle.lane_serve.specs.LivePublisher.{items_taken};
+ghost use Rattle.lane_serve.specs.LivePublisher.{HavePublished, items_taken};
 ghost use Rattle.lane_serve.specs.LiveSides.{HasCutLines, HasRunLines, OfParts};
 ghost use Rattle.lane_serve.specs.LiveTurns.{LineSideData};
 ghost use Rattle.lane_serve.specs.Plans.{IsGoodBuilding};
 ghost use Rattle.lane_serve.specs.declared.live.running.LinesFault.TheVariants as fault;
 
+use crate::building::Building;
 use crate::live::news::News;
 use crate::live::publisher::publish_all;
 use crate::live::running::{LinesFault, run_turns};
 use crate::live::turn::{Bench, Hands, LineSide};
-use crate::plan::{Building, PlanItem};
+use crate::plan::PlanItem;
 use crate::publishing::Publishes;
-use edition_store::{Naming, Seat};
+use edition_store::{Naming, Seat, Shared};
 use live_turns::{Given, Giver, Taker};
 use std::alloc::Global;
 use std::mem;
@@ -90,13 +91,15 @@ fn publish_side<P: Publishes, K: Naming, L: Naming, F: Folder, G: Gate, R: Threa
     slot: &mut Option<P>,
     items: &mut Taker<PlanItem, K>,
     news: &mut Giver<News, L>,
+    day: &mut Shared,
 ) -> Result<P, Memory>
     requires building { IsGoodBuilding building.now }
     requires some { 0 < length words.now }
     requires one { length items.old ≡ 1 }
     requires slot { IsSome slot.old }
-    requires first { IfSome slot.old (λ p. ArePublished (F.files folder.old)
-        building.now.options building.now.mirrored (take 1 words.now) news.old (P.list p)) }
+    requires first { IfSome slot.old (λ p. HavePublished (F.files folder.old)
+        building.now.options building.now.mirrored (take 1 words.now) news.old (P.list p)
+        day.old) }
     requires rose { ReadFaultsRose (F.faults folder.old) (F.faults folder.old) news.old }
     ensures files { F.files folder.new ≡ F.files folder.old }
     ensures published { IfOk result (λ p. ArePublished (F.files folder.old)
@@ -110,7 +113,7 @@ fn publish_side<P: Publishes, K: Naming, L: Naming, F: Folder, G: Gate, R: Threa
         unreachable!()
     };
     publish_all(
-        rt, alloc, gate, *building, folder, words, items, news, publisher,
+        rt, alloc, gate, *building, folder, words, items, news, day, publisher,
     )
 }
 
@@ -135,14 +138,16 @@ fn publish_beside<
     slot: &mut Option<P>,
     items: &mut Taker<PlanItem, K>,
     news: &mut Giver<News, L>,
+    day: &mut Shared,
     beside: &mut B,
 ) -> (Result<P, Memory>, T)
     requires building { IsGoodBuilding building.now }
     requires some { 0 < length words.now }
     requires one { length items.old ≡ 1 }
     requires slot { IsSome slot.old }
-    requires first { IfSome slot.old (λ p. ArePublished (F.files folder.old)
-        building.now.options building.now.mirrored (take 1 words.now) news.old (P.list p)) }
+    requires first { IfSome slot.old (λ p. HavePublished (F.files folder.old)
+        building.now.options building.now.mirrored (take 1 words.now) news.old (P.list p)
+        day.old) }
     requires rose { ReadFaultsRose (F.faults folder.old) (F.faults folder.old) news.old }
     requires beside { B.pre beside.old }
     ensures beside { B.step beside.old result.1 beside.new }
@@ -159,9 +164,9 @@ fn publish_beside<
         &mut || -> Result<P, Memory>
             requires { IsSync R.row × IsGoodBuilding building.now × (0 < length words.now)
                 × (length items.now ≡ 1) × IsSome slot.now
-                × IfSome slot.now (λ p. ArePublished (F.files folder.now)
+                × IfSome slot.now (λ p. HavePublished (F.files folder.now)
                 building.now.options building.now.mirrored (take 1 words.now) news.now
-                (P.list p))
+                (P.list p) day.now)
                 × ReadFaultsRose (F.faults folder.now) (F.faults folder.now) news.now }
             ensures { (F.files folder.exit.now ≡ F.files folder.entry.now)
                 × IfOk result (λ p. ArePublished (F.files folder.entry.now)
@@ -170,7 +175,11 @@ fn publish_beside<
                 × OnOk result (ReadFaultsRose (F.faults folder.entry.now)
                 (F.faults folder.exit.now) news.exit.now)
                 × IsNone slot.exit.now }
-        { publish_side(rt, alloc, gate, building, words, folder, slot, items, news) },
+        {
+            publish_side(
+                rt, alloc, gate, building, words, folder, slot, items, news, day,
+            )
+        },
         beside,
     )
 }
@@ -275,6 +284,7 @@ fn both_beside<
     slot: &mut Option<P>,
     items: &mut Taker<PlanItem, K>,
     news: &mut Giver<News, L>,
+    day: &mut Shared,
     bench: &mut Bench<J>,
     hands: &mut Hands<M, N>,
     source: &mut S,
@@ -284,8 +294,9 @@ fn both_beside<
     requires some { 0 < length words.now }
     requires one { length items.old ≡ 1 }
     requires slot { IsSome slot.old }
-    requires first { IfSome slot.old (λ p. ArePublished (F.files folder.old)
-        building.now.options building.now.mirrored (take 1 words.now) news.old (P.list p)) }
+    requires first { IfSome slot.old (λ p. HavePublished (F.files folder.old)
+        building.now.options building.now.mirrored (take 1 words.now) news.old (P.list p)
+        day.old) }
     requires rose { ReadFaultsRose (F.faults folder.old) (F.faults folder.old) news.old }
     requires seat { IsSome bench.old.seat }
     requires giver { IsSome hands.old.giver }
@@ -329,6 +340,7 @@ fn both_beside<
         slot,
         items,
         news,
+        day,
         &mut || -> Result<(), LinesFault>
             requires { IsSync R.row × IsSome bench.now.seat × IsSome hands.now.giver
                 × IsSome hands.now.news × (0 < vec_len bench.now.desks)
@@ -383,6 +395,7 @@ pub(crate) fn both_sides<
     publisher: P,
     items: &mut Taker<PlanItem, K>,
     news: &mut Giver<News, L>,
+    day: &mut Shared,
     side: LineSide<J, K, L>,
     source: &mut S,
     sink: &mut O,
@@ -390,8 +403,8 @@ pub(crate) fn both_sides<
     requires building { IsGoodBuilding building.now }
     requires some { 0 < length words.now }
     requires one { length items.old ≡ 1 }
-    requires first { ArePublished (F.files folder.old) building.now.options
-        building.now.mirrored (take 1 words.now) news.old (P.list publisher) }
+    requires first { HavePublished (F.files folder.old) building.now.options
+        building.now.mirrored (take 1 words.now) news.old (P.list publisher) day.old }
     requires rose { ReadFaultsRose (F.faults folder.old) (F.faults folder.old) news.old }
     requires lanes { 0 < side.lanes }
     requires source { S.faults source.old < 2 ^ 64 - 1 }
@@ -421,8 +434,8 @@ pub(crate) fn both_sides<
     let mut slot = Some(publisher);
     let (mut bench, mut hands) = side.split();
     let (published, ended) = both_beside(
-        rt, alloc, gate, building, words, folder, &mut slot, items, news, &mut bench, &mut hands,
-        source, sink,
+        rt, alloc, gate, building, words, folder, &mut slot, items, news, day, &mut bench,
+        &mut hands, source, sink,
     );
     let_go(rt, slot);
     let Bench { seat, desks, .. } = bench;

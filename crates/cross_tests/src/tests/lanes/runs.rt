@@ -1,7 +1,10 @@
 //! Whole runs.
 use super::meeting::Meeting;
 use super::texts::{DEFERRED, Files, MET, two_feeds};
-use lane_serve::{PlanItem, ServeFault, Served, read_script, serve, served_text};
+use lane_serve::{
+    FeedDay, ItemSource, PlanItem, ServeFault, Served, begins_with_day, read_script, serve,
+    served_text,
+};
 use service_day::day_of;
 use std::alloc::Global;
 use std::sync::Wait;
@@ -17,9 +20,11 @@ fn item(alloc: Global, dir: &str) -> Result<PlanItem, Memory> {
         return Err(Memory);
     };
     Ok(PlanItem {
-        dir: format!(in alloc; "{dir}")?,
         word: format!(in alloc; "{dir}@20260302")?,
-        day,
+        source: ItemSource::Day(FeedDay {
+            dir: format!(in alloc; "{dir}")?,
+            day,
+        }),
     })
 }
 
@@ -43,7 +48,7 @@ fn run<G: Gate, R: Threads + Wait + Sync>(
     let Ok(script) = read_script(alloc, false, script) else {
         return Err(ServeFault::Memory);
     };
-    if plan.is_empty() || plan.len() > 100 {
+    if !begins_with_day(plan) || plan.len() > 100 {
         return Err(ServeFault::Memory);
     }
     let mut folder = MemFolder::new(files, fails);

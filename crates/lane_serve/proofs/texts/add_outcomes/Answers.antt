@@ -10,5 +10,5 @@ loop-i-preserved c =
     let outcome = c.index-outcomes-i.result in
     outcomes_told outcome_text c.args.plan.now c.args.outcomes.now c.loop-i.i item outcome c.args.text.now c.loop-i.text c.add_outcome.new.text _
     c.requires c.loop-i-test.true c.loop-i.invariant
-    (ap (λ (k : ItemData). outcome_text k outcome) c.index-plan-i.is ∙ ap (outcome_text (get_or c.args.plan.now c.loop-i.i item)) c.index-outcomes-i.is)
+    (ap (λ (k : ItemData). outcome_text k.word outcome) c.index-plan-i.is ∙ ap (outcome_text (ItemData.word (get_or c.args.plan.now c.loop-i.i item))) c.index-outcomes-i.is)
     (search rules)

@@ -1,6 +1,8 @@
 use Rattle.std.proofs.Common.{◌≡◌, ◌∷◌, [], refl, sym, subst, take, rules}
 use Rattle.std.proofs.lemmas.Result.{IfErr-at_err, IfErr-weaker, on_ok_weaker}
-use Rattle.lane_serve.specs.Live.{BeginsWithFirst, HasFailedBehind, became_of}
+use Rattle.lane_serve.specs.Live.{BeginsWithFirst, HasFailedBehind}
+use Rattle.lane_serve.specs.Plans.{outcome_of}
+use Rattle.lane_serve.specs.declared.live.news.Became.TheVariants as became
 use Rattle.lane_serve.specs.LiveTexts.{NewsData, news_shown}
 use Rattle.lane_serve.proofs.LivedRuns.{begins_live, failed_behind, failed_first, lived_behind, read_behind, take_one}
 use Rattle.lane_serve.proofs.live.lived.live_from.Goals as goal
@@ -15,9 +17,9 @@ run_sides-requires-clause-begins g c κs within =
     let x = c.in-Ok.news in
     let b = c.in-Ok-begin in
     let one : take 1 words ≡ w ∷ [] = take_one words w w c.requires.some c.index-words-0.is in
-    let is : x ≡ record { word = w.word; became = became_of 1 e } = search rules in
+    let is : x ≡ record { word = w.word; became = became.Outcome (outcome_of 1 e) } = search rules in
     let good = subst (λ m. BeginsWithFirst files options m words (e ∷ [])) c.requires.mirrored c.requires.first in
-    begins_live files options c.args.mode words w e x b.publisher b.items b.tells c.args.lanes b.side one is good (search rules) (search rules) (search rules) c.requires.lanes (search rules)
+    begins_live files options c.args.mode words w e x b.publisher c.in-Ok-share.day b.items b.tells c.args.lanes b.side one is good (search rules) (search rules) (search rules) (search rules) c.requires.lanes (search rules)
 
 pub returns-in-Ok-write_news-clause-whole : goal.returns-in-Ok-write_news-clause-whole
 returns-in-Ok-write_news-clause-whole g c =

@@ -30,7 +30,7 @@ returns-in-Ok-published-clause-whole g c =
     let start = g.F.Folder.faults c.args.folder.now in
     let stop = g.F.Folder.faults both.new.folder in
     let rose : ReadFaultsRose start stop both.new.news = IfOk-at_ok (λ _. ReadFaultsRose start stop both.new.news) c.in-Ok-published.is both.ensures.rose in
-    on_ok_weaker c.write_rest.result (whole_rest files options mode words c.args.publisher c.args.items c.args.tells side c.requires.begins left before mid end.seat
+    on_ok_weaker c.write_rest.result (whole_rest files options mode words c.args.publisher c.args.day c.args.items c.args.tells side c.requires.begins left before mid end.seat
     (c.turns_are_one_run.ensures.whole mode) end.given end.news r (g.O.Sink.written c.write_rest.new.sink) start stop es
     both.new.items both.new.news c.requires.some (subst (λ m. ArePublished files options m (items_taken words both.new.items) both.new.news es) c.requires.mirrored p) rose)
     c.write_rest.ensures.written
@@ -44,7 +44,7 @@ returns-in-Ok-published-clause-failed g c =
     let mid = g.O.Sink.written both.new.sink in
     let end = both.result.1 in
     let r : HasRunLines side.mode left before mid side end.seat end.given end.news = search rules in
-    IfErr-weaker c.write_rest.result _ _ (failed_rest (g.F.Folder.files c.args.folder.now) c.args.building.now.options c.args.mode c.args.words.now c.args.publisher c.args.items c.args.tells side
+    IfErr-weaker c.write_rest.result _ _ (failed_rest (g.F.Folder.files c.args.folder.now) c.args.building.now.options c.args.mode c.args.words.now c.args.publisher c.args.day c.args.items c.args.tells side
     c.requires.begins left before mid end.seat (c.turns_are_one_run.ensures.whole c.args.mode) end.given end.news r (g.S.Source.left both.new.source)
     (g.O.Sink.written c.write_rest.new.sink) c.in-Ok-published.publisher both.new.items both.new.news) c.write_rest.ensures.failed
 
@@ -57,7 +57,7 @@ returns-in-Ok-clause-failed g c =
     let mid = g.O.Sink.written both.new.sink in
     let end = both.result.1 in
     let r : HasRunLines side.mode left before mid side end.seat end.given end.news = search rules in
-    short_run (g.F.Folder.files c.args.folder.now) c.args.building.now.options c.args.mode c.args.words.now c.args.publisher c.args.items c.args.tells side
+    short_run (g.F.Folder.files c.args.folder.now) c.args.building.now.options c.args.mode c.args.words.now c.args.publisher c.args.day c.args.items c.args.tells side
     c.requires.begins left before mid end.seat (c.turns_are_one_run.ensures.whole c.args.mode) end.given end.news r (g.S.Source.left both.new.source) mid refl
 
 pub returns-clause-failed : goal.returns-clause-failed
@@ -77,4 +77,4 @@ returns-clause-failed g c =
     let h : HasCutLines cause side.mode left rest before mid side end.seat = search rules in
     subst (λ f. HasFailedBehind files options mode words c.args.tells left rest before mid f) (sym c.told_as.ensures)
     (failed_as files options mode words c.args.tells left rest before mid cause
-    (cut_lines files options mode words c.args.publisher c.args.items c.args.tells side c.requires.begins left before mid end.seat (c.turns_are_one_run.ensures.cut mode) rest cause h))
+    (cut_lines files options mode words c.args.publisher c.args.day c.args.items c.args.tells side c.requires.begins left before mid end.seat (c.turns_are_one_run.ensures.cut mode) rest cause h))

@@ -1,11 +1,11 @@
 use Rattle.std.proofs.Common.{◌≡◌, ◌<◌, ◌≤◌, ℕ, length}
-use Rattle.lane_serve.specs.Live.{ArePublished, ReadFaultsRose}
-use Rattle.lane_serve.specs.LivePublisher.{items_taken}
+use Rattle.lane_serve.specs.Live.{ReadFaultsRose}
+use Rattle.lane_serve.specs.LivePublisher.{HavePublished, items_taken}
 use Rattle.lane_serve.proofs.live.publisher.publish_named.Given as goal
 
 abbrev pub invariant-loop-turn : goal.invariant-loop-turn
 invariant-loop-turn g l =
-    ArePublished (g.F.Folder.files l.fn.folder) l.building.options l.building.mirrored (items_taken l.words l.items) l.news (g.P.Publishes.list l.publisher)
+    HavePublished (g.F.Folder.files l.fn.folder) l.building.options l.building.mirrored (items_taken l.words l.items) l.news (g.P.Publishes.list l.publisher) l.day
     × (0 < length l.items)
     × (g.F.Folder.files l.folder ≡ g.F.Folder.files l.fn.folder)
     × (g.F.Folder.faults l.fn.folder ≤ g.F.Folder.faults l.folder)

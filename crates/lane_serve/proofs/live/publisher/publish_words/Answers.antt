@@ -19,10 +19,12 @@ loop-i-preserved g c =
     let item = c.index-words-i.result in
     let es = g.P.Publishes.list c.loop-i.publisher in
     let gone = g.P.Publishes.list c.in-Ok.next in
-    let taken = subst (λ x. TakesItem now options mirrored x before after es gone c.loop-i.news c.publish_item.new.news) c.index-words-i.is c.in-Ok.ensures.taken in (
-      published_more files now options mirrored (take i words) (take (i + 1) words) (get_or words i item) before after es gone c.loop-i.news c.publish_item.new.news inv.1
+    let day = c.loop-i.day in
+    let next = c.publish_item.new.day in
+    let taken = subst (λ x. TakesItem now options mirrored x before after es gone day next c.loop-i.news c.publish_item.new.news) c.index-words-i.is c.in-Ok.ensures.taken in (
+      published_more files now options mirrored (take i words) (take (i + 1) words) (get_or words i item) before after es gone day next c.loop-i.news c.publish_item.new.news inv.1
           (take_more words i item c.loop-i-test.true) inv.0 taken,
       c.publish_item.ensures.files ∙ inv.1,
       (let a = inv.2 in let b = c.publish_item.ensures.later in omega arith),
-      rose_more start before after now options mirrored (get_or words i item) es gone c.loop-i.news c.publish_item.new.news inv.2 c.publish_item.ensures.later inv.3 taken,
+      rose_more start before after now options mirrored (get_or words i item) es gone day next c.loop-i.news c.publish_item.new.news inv.2 c.publish_item.ensures.later inv.3 taken,
     )
