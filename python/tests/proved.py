@@ -11,8 +11,9 @@ from pathlib import Path
 from typing import Any
 
 from . import TOP
-from yuccadarts import Ask, Latest, Profile, Question, Reach, Times, clock
-from yuccadarts.answers import READERS
+from yuccadarts import Ask, Choice, Latest, Profile, Question, Reach, Times, Update, clock
+from yuccadarts.answers import READERS, read_choice
+from yuccadarts.updates import write_updates
 
 PROGRAM = Path(os.environ.get("ROUTER") or TOP / "crates" / "router" / "out" / "router")
 IS_THERE = os.access(PROGRAM, os.X_OK)
@@ -44,6 +45,20 @@ def commanded(
     command = [str(PROGRAM), "--json", *options, name, str(feed), date, "--", *words]
     ended = subprocess.run(command, capture_output=True, check=True)
     return tuple(READERS[type(question)](json.loads(line)) for line in ended.stdout.splitlines())
+
+
+def commanded_late(
+    feed: str | Path, question: Ask, updates: list[Update], *options: str, date: str = DAY
+) -> tuple[Choice, ...]:
+    """The values that `late` finds over the day that the updates amend."""
+    path = write_updates(updates)
+    words = [str(feed), date, path, "--", *words_of(question)[1]]
+    try:
+        command = [str(PROGRAM), "--json", *options, "late", *words]
+        ended = subprocess.run(command, capture_output=True, check=True)
+    finally:
+        os.remove(path)
+    return tuple(read_choice(json.loads(line)) for line in ended.stdout.splitlines()[1:])
 
 
 def make_network(folder: str | Path, patterns: int) -> None:

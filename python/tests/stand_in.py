@@ -4,6 +4,9 @@ from an answer which question it answers: one arrives as many minutes after the 
 edition's number, by a ride on the trip `ORIGIN>DESTINATION`, which began on the day before if the
 origin is `before`, and a walk back.
 
+It amends a day by a file that it reads: as many trips are touched as the file has lines, of which
+the first with the word `unknown` is refused.
+
 A day whose folder is named `broken` is refused, one named `unread` can't be read, one named `slow`
 waits for a question from `go`, and of one named `mixed` it tells as if it were another. With some
 origins it does what a process shouldn't: `pause`, `hang`, `die`, `cut`, `quiet`, `babble`, `skip`,
@@ -37,6 +40,7 @@ FORMS = {
     "reach": (2,),
     "times": (4, 6),
     "publish": (1,),
+    "late": (1,),
 }
 
 
@@ -81,6 +85,21 @@ def values(edition, name, words):
     return [{**leave, **arrive, "rides": 1, "legs": legs}]
 
 
+def amended(path):
+    """What becomes of a day that a file amends."""
+    if os.path.basename(path) == "slow":
+        time.sleep(0.3)
+    try:
+        with open(path, encoding="utf-8", newline="") as file:
+            lines = file.read().split("\n")
+    except OSError:
+        return {"fault": {"number": 6, "name": "MissingFile"}}
+    for number, line in enumerate(lines, 1):
+        if "unknown" in words_of(line):
+            return {"fault": {"number": 1, "name": "UnknownTrip", "line": number}}
+    return {"touched": len(lines) - 1, "kept": len("".join(lines))}
+
+
 class StandIn:
     def __init__(self):
         self.number = self.edition = self.turn = 0
@@ -92,6 +111,12 @@ class StandIn:
         published = 0
         while day := self.days.get():
             name = os.path.basename(day.rpartition("@")[0])
+            if day.startswith("late:"):
+                told = amended(day.removeprefix("late:"))
+                published += "fault" not in told
+                told = told if "fault" in told else {"edition": published, **told}
+                self.news.put({"day": day, **told})
+                continue
             if name == "slow":
                 self.going.wait()
             if name in OUTCOMES:
@@ -124,9 +149,10 @@ class StandIn:
     def reply(self, name, *words):
         if len(words) not in FORMS.get(name, ()) or len(" ".join(words)) > 1_000:
             return {"fault": {"number": 1, "name": "BadLine"}}
-        if name == "publish":
-            self.days.put(words[0])
-            return {"queued": words[0]}
+        if name in ("publish", "late"):
+            day = words[0] if name == "publish" else f"late:{words[0]}"
+            self.days.put(day)
+            return {"queued": day}
         if words[0] == "nowhere":
             return {"edition": self.edition, "unknown_stop": words[0]}
         self.misbehave(words[0])

@@ -1,5 +1,6 @@
-"""Asks the proved program from several threads while days are published, and holds a sample of the
-answers against the commands, each by its edition; then has it killed while they ask.
+"""Asks the proved program from several threads while days are published, and amended by delays, and
+holds a sample of the answers against the commands, each by its edition; then has it killed while
+they ask.
 
 python3 -m tests.stress [--threads 8] [--requests 100000] [--patterns 300] [--pause 2]
 """
@@ -14,8 +15,22 @@ import threading
 import time
 from concurrent.futures import ThreadPoolExecutor
 
-from .proved import DAY, PROGRAM, commanded, make_network
-from yuccadarts import Answer, Ask, Latest, ProcessEnded, Profile, Question, Reach, Router, Times
+from .proved import DAY, PROGRAM, commanded, commanded_late, make_network
+from yuccadarts import (
+    Answer,
+    Ask,
+    Cancellation,
+    Delay,
+    Latest,
+    ProcessEnded,
+    Profile,
+    Question,
+    Reach,
+    Ride,
+    Router,
+    Times,
+    Update,
+)
 from yuccadarts.stops import read_stops
 
 DATES = (DAY, "20260303", "20260307", "20260308")
@@ -24,6 +39,8 @@ HOUR = 3_600
 LONG = 60.0
 """The seconds after which something hangs."""
 Sample = tuple[Question, Answer]
+Day = tuple[str, list[Update]]
+"""The date of an edition, and the updates by which it was amended."""
 
 
 def drawn_question(drawn: random.Random, stops: list[str]) -> Question:
@@ -58,19 +75,43 @@ def ask_many(
     return editions, sample
 
 
+def drawn_updates(router: Router, drawn: random.Random, stops: list[str]) -> list[Update]:
+    """Delays and cancellations of some trips that run."""
+    asked = [Ask(*drawn.sample(stops, 2), drawn.randrange(6 * HOUR, 22 * HOUR)) for _ in range(40)]
+    rides = [
+        leg
+        for answer in router.answers(asked)
+        for choice in answer
+        for leg in choice.legs
+        if isinstance(leg, Ride)
+    ]
+    trips = sorted({(ride.trip, ride.day_before) for ride in rides})
+    return [
+        Delay(trip, 0, 60 * drawn.randrange(1, 30), before)
+        if drawn.randrange(4)
+        else Cancellation(trip, before)
+        for trip, before in trips
+    ]
+
+
 def publish(
     router: Router, feed: str, stops: list[str], pause: float, is_over: threading.Event
-) -> dict[int, str]:
-    """Publishes days one after another, while the others ask; the date of each edition."""
-    found = {1: DAY}
+) -> dict[int, Day]:
+    """Publishes and amends days one after another, while the others ask; what each edition is."""
+    found: dict[int, Day] = {1: (DAY, [])}
+    drawn = random.Random(1)
     for date in itertools.cycle(DATES[1:] + DATES[:1]):
         if is_over.wait(pause):
             break
         number = router.publish(feed, date).wait(LONG).number
-        found[number] = date
+        found[number] = date, []
+        updates = drawn_updates(router, drawn, stops)
+        amended = router.delays(updates).wait(LONG)
+        assert 0 < amended.touched, amended
+        found[amended.number] = date, updates
         # whoever waited for an edition is answered by it
         answer = router.ask(*stops[:2], 8 * HOUR)
-        assert answer.edition == number, f"edition {answer.edition} in place of {number}"
+        assert answer.edition == amended.number, f"edition {answer.edition}, not {amended.number}"
     return found
 
 
@@ -90,7 +131,7 @@ def run_right(words: argparse.Namespace, feed: str, stops: list[str]) -> None:
             finally:
                 is_over.set()
             took = time.monotonic() - begin
-            date_of = publishing.result()
+            days = publishing.result()
     editions: collections.Counter[int] = collections.Counter()
     for counted, _ in results:
         editions += counted
@@ -100,11 +141,24 @@ def run_right(words: argparse.Namespace, feed: str, stops: list[str]) -> None:
     shares = sorted(editions.values())
     print(f"{len(editions)} editions answered, each {shares[0]} to {shares[-1]} times")
     held = [pair for _, sample in results for pair in sample]
-    for question, answer in held:
-        wanted = commanded(feed, question, *OPTIONS, date=date_of[answer.edition])
-        assert answer.values == wanted, f"{question}: {answer} in place of {wanted}"
+    by = collections.Counter(hold(feed, *pair, days[pair[1].edition]) for pair in held)
     count = len({answer.edition for _, answer in held})
-    print(f"{len(held)} answers by {count} editions are those of the commands")
+    print(f"answers by {count} editions are those of commands: {by['own']}, of `late` {by['late']}")
+
+
+def hold(feed: str, question: Question, answer: Answer, day: Day) -> str:
+    """Holds an answer against that of a command; by which one. None tells what others than `ask`
+    are on an amended day.
+    """
+    date, updates = day
+    if not updates:
+        wanted = commanded(feed, question, *OPTIONS, date=date)
+    elif isinstance(question, Ask):
+        wanted = commanded_late(feed, question, updates, *OPTIONS, date=date)
+    else:
+        return "none"
+    assert answer.values == wanted, f"{question}: {answer} in place of {wanted}"
+    return "late" if updates else "own"
 
 
 def run_killed(words: argparse.Namespace, feed: str, stops: list[str]) -> None:

@@ -3,6 +3,7 @@ import unittest
 
 from . import stand_in
 from yuccadarts import Ask, FeedRefused, Latest, Profile, Reach, TravelTimes, clock, seconds
+from yuccadarts import Cancellation, Delay, SkippedEvent
 from yuccadarts import Times as Travel
 from yuccadarts.answers import read_travel_times
 
@@ -59,6 +60,17 @@ class Lines(unittest.TestCase):
         self.assertEqual("times A 08:00:00 08:20:00 60 rides 0", times.line())
         with self.assertRaises(ValueError):
             Travel("A", 0, 1, 7.5).line()
+
+    def test_of_each_update(self):
+        for update, text in (
+            (Delay("T 1", 0, -60), 'late "T 1" 0 -60'),
+            (Delay("T1#08:00:00", 2, 60, day_before=True), "late T1#08:00:00 2 60 day-before"),
+            (Cancellation('"'), 'cancel """"'),
+            (Cancellation("T1", day_before=True), "cancel T1 day-before"),
+            (SkippedEvent("T1", 3), "skip T1 3"),
+            (SkippedEvent("T1", 3, day_before=True), "skip T1 3 day-before"),
+        ):
+            self.assertEqual(text, update.line())
 
     def test_words_come_back(self):
         for word in ("A", "", "#", 'a "b"', "a\tb", '"', "a  b", "é\\n", "a\rb", "'"):

@@ -2,6 +2,7 @@
 comes of a process that doesn't do what it should.
 """
 import datetime
+import gc
 import multiprocessing
 import os
 import shutil
@@ -18,11 +19,14 @@ from unittest import mock
 
 from . import HERE, STAND_IN, TOP
 from yuccadarts import (
+    Amended,
     Answer,
     Ask,
+    Cancellation,
     Cell,
     Choice,
     Closed,
+    Delay,
     Departure,
     Edition,
     Elsewhere,
@@ -43,10 +47,12 @@ from yuccadarts import (
     Spread,
     TravelTimes,
     UnknownStop,
+    UpdatesRefused,
     Value,
     Walk,
     process,
 )
+from yuccadarts.updates import remove, write_updates
 
 LONG = 20.0
 """The seconds after which something hangs."""
@@ -223,6 +229,73 @@ class Publications(unittest.TestCase):
             os.kill(it.pid, signal.SIGKILL)
             with self.assertRaises(ProcessEnded):
                 publication.wait(LONG)
+
+
+class Updates(unittest.TestCase):
+    def setUp(self):
+        """Whatever is written for a moment is written here."""
+        self.folder = self.enterContext(tempfile.TemporaryDirectory())
+        self.enterContext(mock.patch.object(tempfile, "tempdir", self.folder))
+
+    def test_of_a_list(self):
+        with router() as it:
+            amendment = it.delays([Delay("T1", 1, 120), Cancellation("é")])
+            self.assertEqual(1, len(os.listdir(self.folder)))
+            text = "late T1 1 120cancel é"
+            self.assertEqual(Amended(2, 2, len(text)), amendment.wait(LONG))
+            self.assertEqual([], os.listdir(self.folder))
+            self.assertEqual(2, it.ask("A", "D", 0).edition)
+            self.assertEqual(Amended(3, 0, 0), it.delays([]).wait(LONG))
+            self.assertEqual(Edition(4, 5, 3, 1), it.publish("feed", "20260303").wait(LONG))
+
+    def test_of_a_file(self):
+        path = Path(self.folder, "a file")
+        path.write_text("late T1 1 120\n")
+        with router() as it:
+            self.assertEqual(Amended(2, 1, 13), it.delays(path).wait(LONG))
+            amendment = it.delays(os.path.relpath(path))
+            self.assertEqual(f"late:{path}", amendment.day)
+            self.assertEqual(Amended(3, 1, 13), amendment.wait(LONG))
+        self.assertTrue(path.exists())
+
+    def test_what_is_refused(self):
+        updates = [Delay("T1", 0, 1), Cancellation("unknown")]
+        with router() as it:
+            with self.assertRaises(UpdatesRefused) as refused:
+                it.delays(updates).wait(LONG)
+            fault = refused.exception
+            self.assertEqual((1, "UnknownTrip", 2), (fault.number, fault.name, fault.line))
+            self.assertEqual("1 UnknownTrip line 2", str(fault))
+            with self.assertRaises(UpdatesRefused) as refused:
+                it.delays("nowhere").wait(LONG)
+            fault = refused.exception
+            self.assertEqual(("MissingFile", None), (fault.name, fault.line))
+            with self.assertRaises(LineRefused):
+                it.delays("a" * 1_001)
+            with self.assertRaises(ValueError):
+                it.delays([Cancellation("a\nb")])
+            self.assertEqual(1, it.ask("A", "D", 0).edition)
+        self.assertEqual([], os.listdir(self.folder))
+
+    def test_no_file_is_left_of_a_process_that_ended(self):
+        with router() as it:
+            it.publish("slow", "20260303")
+            amendment = it.delays([Cancellation("T1")])
+            os.kill(it.pid, signal.SIGKILL)
+            with self.assertRaises(ProcessEnded):
+                amendment.wait(LONG)
+            with self.assertRaises(ProcessEnded):
+                it.delays([Cancellation("T1")])
+        del it, amendment
+        gc.collect()
+        self.assertEqual([], os.listdir(self.folder))
+
+    def test_a_fork_leaves_the_file(self):
+        path = write_updates([])
+        remove(path, os.getpid() + 1)
+        self.assertTrue(os.path.exists(path))
+        remove(path, os.getpid())
+        self.assertFalse(os.path.exists(path))
 
 
 class Threads(unittest.TestCase):

@@ -8,6 +8,7 @@ Times are seconds since noon minus twelve hours, which is midnight but on the da
 change; where one is asked for it may also be a text as `08:00:00`.
 """
 from .answers import (
+    Amended,
     Answer,
     Cell,
     Choice,
@@ -34,17 +35,22 @@ from .faults import (
     Refused,
     RouterError,
     UnknownStop,
+    UpdatesRefused,
 )
 from .questions import Ask, Latest, Profile, Question, Reach, Times
 from .router import Publication, Router
 from .times import Time, clock, seconds
+from .updates import Cancellation, Delay, SkippedEvent, Update
 
 __all__ = [
+    "Amended",
     "Answer",
     "Ask",
+    "Cancellation",
     "Cell",
     "Choice",
     "Closed",
+    "Delay",
     "Departure",
     "Edition",
     "Elsewhere",
@@ -66,11 +72,14 @@ __all__ = [
     "Ride",
     "Router",
     "RouterError",
+    "SkippedEvent",
     "Spread",
     "Time",
     "Times",
     "TravelTimes",
     "UnknownStop",
+    "Update",
+    "UpdatesRefused",
     "Value",
     "Walk",
     "clock",

@@ -147,6 +147,17 @@ class Edition:
 
 
 @dataclass(frozen=True, slots=True)
+class Amended:
+    """A day that was amended by updates and published: its number, how many trips these touch, so
+    that their transfers may be others, and how many kept transfers it has.
+    """
+
+    number: int
+    touched: int
+    kept: int
+
+
+@dataclass(frozen=True, slots=True)
 class TravelTimes:
     """How many seconds after the departure one is at each stop at the earliest, by any number of
     rides. Stops that nothing leads to are left out.
@@ -225,3 +236,7 @@ def read_cells(question: Times, said: Json) -> list[Cell]:
 
 def read_edition(said: Json) -> Edition:
     return Edition(said["edition"], said["trips"], said["lines"], said["kept"])
+
+
+def read_amended(said: Json) -> Amended:
+    return Amended(said["edition"], said["touched"], said["kept"])

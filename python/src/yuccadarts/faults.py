@@ -52,6 +52,19 @@ class FeedRefused(Refused):
     """A day isn't published, for its feed has this first fault."""
 
 
+class UpdatesRefused(Refused):
+    """A day isn't amended, for the file of updates has this first fault."""
+
+    line: int | None
+    """Counted from 1; of a list it is the number of the update. None where the whole file is
+    meant.
+    """
+
+    def __init__(self, fault: dict[str, Any]):
+        super().__init__(fault)
+        self.line = fault.get("line")
+
+
 class NotPublished(RouterError):
     """A day isn't published, for a file couldn't be read, or memory didn't suffice."""
 

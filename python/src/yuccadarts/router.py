@@ -6,13 +6,15 @@ import math
 import os
 import shutil
 import time
+import weakref
 from collections import deque
 from collections.abc import Callable, Iterable, Iterator
 from concurrent.futures import Future, wait
 from types import TracebackType
-from typing import Any, Self, TypeVar
+from typing import Any, Generic, Self, TypeVar
 
 from .answers import (
+    Amended,
     Answer,
     Cell,
     Choice,
@@ -23,17 +25,28 @@ from .answers import (
     Reached,
     Spread,
     TravelTimes,
+    read_amended,
     read_answer,
     read_cells,
     read_edition,
     read_travel_times,
 )
-from .faults import FeedRefused, LineRefused, NoProgram, NotPublished, UnknownStop
+from .faults import (
+    FeedRefused,
+    LineRefused,
+    NoProgram,
+    NotPublished,
+    Refused,
+    UnknownStop,
+    UpdatesRefused,
+)
 from .process import Process
 from .questions import Ask, Latest, Profile, Question, Reach, Times, line
 from .times import Time, seconds
+from .updates import Update, remove, write_updates
 
 T = TypeVar("T")
+V = TypeVar("V")
 Date = str | datetime.date
 """A day of the feed's calendar, as `20260302` if it is a text."""
 
@@ -45,18 +58,26 @@ NUDGE = 0.05
 """The seconds between two looks at whether a day is published."""
 
 
-class Publication:
-    """A day that is being published."""
+class Publication(Generic[V]):
+    """A day that is being published, or amended."""
 
-    def __init__(self, day: str, nudge: Callable[[], None]):
+    def __init__(
+        self,
+        day: str,
+        nudge: Callable[[], None],
+        read: Callable[[Json], V],
+        refused: Callable[[Json], Refused] = FeedRefused,
+    ):
         self.day = day
         self._nudge = nudge
-        self._edition: Future[Edition] = Future()
+        self._read = read
+        self._refused = refused
+        self._edition: Future[V] = Future()
 
-    def wait(self, timeout: float | None = None) -> Edition:
+    def wait(self, timeout: float | None = None) -> V:
         """The edition of the day, once it is there: what is asked from then on is answered by it or
-        a later one. FeedRefused or NotPublished where there is none; TimeoutError after so many
-        seconds.
+        a later one. FeedRefused, UpdatesRefused or NotPublished where there is none; TimeoutError
+        after so many seconds.
         """
         end = time.monotonic() + (math.inf if timeout is None else timeout)
         while not self._edition.done():
@@ -67,14 +88,19 @@ class Publication:
             wait([self._edition], min(left, NUDGE))
         return self._edition.result()
 
+    def remove_behind(self, path: str) -> None:
+        """Has a file that was made for it removed: once it is told, or nobody waits for it."""
+        removed = weakref.finalize(self, remove, path, os.getpid())
+        self._edition.add_done_callback(lambda _: removed())
+
     def tell(self, said: Json) -> None:
         """What the process says of the day."""
         if "fault" in said:
-            self._edition.set_exception(FeedRefused(said["fault"]))
+            self._edition.set_exception(self._refused(said["fault"]))
         elif "message" in said:
             self._edition.set_exception(NotPublished(self.day, said["message"]))
         else:
-            self._edition.set_result(read_edition(said))
+            self._edition.set_result(self._read(said))
 
 
 class Router:
@@ -116,8 +142,8 @@ class Router:
         day = day_of(feed, date)
         self._mirror = mirror
         self._ahead = AHEAD * lanes
-        first = Publication(day, self._nudge)
-        self._publications = deque([first])
+        first = Publication(day, self._nudge, read_edition)
+        self._publications: deque[Publication[Any]] = deque([first])
         self._process = Process([found(program), "--json", *options, "live", day], self._tell)
         try:
             self.first_edition = first.wait()
@@ -210,12 +236,27 @@ class Router:
             for it in asked
         )
 
-    def publish(self, feed: str | os.PathLike[str], date: Date) -> Publication:
+    def publish(self, feed: str | os.PathLike[str], date: Date) -> Publication[Edition]:
         """Has a further day read and published, while questions are answered by the edition that is
         there.
         """
         day = day_of(feed, date)
-        return self._process.ask(line("publish", day), self._queue(day)).result()
+        return self._queue(line("publish", day), Publication(day, self._nudge, read_edition))
+
+    def delays(
+        self, updates: str | os.PathLike[str] | Iterable[Update]
+    ) -> Publication[Amended]:
+        """Has the last day that was published amended by updates, and published, while questions
+        are answered by the edition that is there. The updates are those of a file, or of a list;
+        what earlier ones said counts no more.
+        """
+        if isinstance(updates, (str, os.PathLike)):
+            path = os.path.abspath(updates)
+            return self._queue(line("late", path), self._amendment(path))
+        path = write_updates(updates)
+        publication = self._amendment(path)
+        publication.remove_behind(path)
+        return self._queue(line("late", path), publication)
 
     def _ask(self, question: Question) -> Future[Answer[Any]]:
         if isinstance(question, Latest) and not self._mirror:
@@ -236,14 +277,16 @@ class Router:
             self._process.refuse_elsewhere()
             yield ahead.popleft().result()
 
-    def _queue(self, day: str) -> Callable[[Json], Publication]:
-        def queue(said: Json) -> Publication:
+    def _amendment(self, path: str) -> Publication[Amended]:
+        return Publication(f"late:{path}", self._nudge, read_amended, UpdatesRefused)
+
+    def _queue(self, asked: str, publication: Publication[V]) -> Publication[V]:
+        def queue(said: Json) -> Publication[V]:
             """Replies come in the order of the lines, so days queue up in that order too."""
-            publication = Publication(day, self._nudge)
             self._publications.append(publication)
             return publication
 
-        return lambda said: read_reply(queue, said)
+        return self._process.ask(asked, lambda said: read_reply(queue, said)).result()
 
     def _tell(self, said: Json) -> None:
         """Days are published, and told, in the order in which they queue up."""
