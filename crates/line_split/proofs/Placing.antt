@@ -3,7 +3,7 @@ use Rattle.std.proofs.Common.{◌≡◌, ◌≢◌, ◌∙◌, sym, ap, subst, r
 use Rattle.std.specs.Prelude.{All, AllPairs, Contains}
 use Rattle.std.proofs.lemmas.Bool.{cases_eq}
 use Rattle.std.proofs.lemmas.List.{get_or_append_left, get_or_push, length_push}
-use Rattle.std.proofs.lemmas.List.Elements.{All-push, All-weaker, All-contains, Contains-push, Contains-append_left}
+use Rattle.std.proofs.lemmas.List.Elements.{All-nil, All-push, All-weaker, All-contains, Contains-push, Contains-append_left}
 use Rattle.std.proofs.lemmas.List.Quantifiers.{all_pairs_push}
 use Rattle.tb_base.specs.declared.table.Event.{Event}
 use Rattle.tb_base.specs.TimetableData.{TimetableData, events_of}
@@ -187,3 +187,12 @@ pub none_in : (n b : ℕ) → get_or (replicate n (let none : List ℕ = [] in n
 none_in zero b = refl
 none_in (suc n) zero = refl
 none_in (suc n) (suc b) = none_in n b
+
+-- before any trip
+pub bucketed_yet : (T : TimetableData) (numbers : List ℕ) (n : ℕ) → AreBucketed T numbers [] (replicate n [])
+bucketed_yet T numbers n = record {
+  known = λ b. subst (λ row. All (λ l. l < 0) row) (sym (none_in n b)) (All-nil (λ l. l < 0));
+  ascending = λ b. subst (λ row. AllPairs (λ k l. k < l) row) (sym (none_in n b)) (λ i j d low inside. absurd (omega (arith, inside)));
+  trips = λ l below. absurd (omega (arith, below));
+  there = λ l below. absurd (omega (arith, below));
+}

@@ -1,22 +1,86 @@
 //! Floors of blocks of lines, for a quick look at many lines.
-ghost use Rattle.std.specs.Prelude.{◌≡◌, ◌≢◌, ◌*◌, ◌<◌, ◌≤◌, ℕ, [], IfOk, OnOk, length, replicate, slice_index_or};
+ghost use Rattle.std.specs.Prelude.{◌≡◌, ◌≢◌, ◌*◌, ◌+◌, ◌/◌, ◌<◌, ◌≤◌, ℕ, [], IfOk, OnOk, length, replicate, slice_index_or};
 ghost use Rattle.std.specs.Bool.{OnFalse};
-ghost use Rattle.line_split.specs.Floors.{AreNoLater, IsEarlier, IsLower, IsNoted};
+ghost use Rattle.line_split.specs.Floors.{AreBelow, AreNoLater, AreNoted, IsEarlier, IsLower, IsNoted, no_floor};
 
 use super::nested::Nested;
 use std::alloc::Global;
+use std::marker::Model;
 use tb_base::{Event, Memory};
 
-/// How many lines have one floor.
-pub(crate) const BLOCK: usize = 64;
+/// How many lines have one floor, and how many floors have one below them.
+const BLOCK: usize = 64;
+
+/// Before so few lines no floor is looked at.
+const FEW: usize = 8;
+
+/// The floors of a bucket's lines: one of each block of lines, and one of each block of these.
+#[derive(Drop)]
+pub(crate) struct Floors {
+    near: Nested<Event>,
+    far: Nested<Event>,
+}
+
+impl Model for Floors {
+    ghost use Rattle.line_split.specs.Floors.{FloorsData};
+
+    ghost Value = { FloorsData };
+
+    ghost view = { λ f. record { near = f.near; far = f.far } };
+}
+
+impl Floors {
+    /// No floor.
+    fn new(alloc: Global) -> Floors
+        ensures { result ≡ no_floor }
+    {
+        Floors {
+            near: Nested::new(alloc),
+            far: Nested::new(alloc),
+        }
+    }
+
+    /// How many lines from a place on, of so many that are left, are later than some events.
+    pub(crate) fn later_from(&self, place: usize, left: usize, events: &[Event]) -> usize
+        requires near { place < 64 * length self.now.near }
+        requires far { AreBelow self.now.far self.now.near }
+        ensures most { result ≤ 4096 }
+        ensures later { (k : ℕ) → place ≤ k → k < place + result →
+            k < 64 * length self.now.near →
+            ¬ (AreNoLater (slice_index_or self.now.near (k / 64) []) events.now) }
+    {
+        if left <= FEW || place % BLOCK != 0 {
+            return 0;
+        }
+        let block = place / BLOCK;
+        if block % BLOCK == 0 && !is_below(self.far.row(block / BLOCK), events) {
+            return BLOCK * BLOCK;
+        }
+        if is_below(self.near.row(block), events) {
+            return 0;
+        }
+        BLOCK
+    }
+
+    /// Notes a line that begins with these events, behind so many.
+    fn note(&mut self, alloc: Global, count: usize, events: &[Event]) -> Result<(), Memory>
+        requires near { count ≤ 64 * length self.old.near }
+        requires far { count / 64 ≤ 64 * length self.old.far }
+        ensures { OnOk result (AreNoted count events.now self.old self.new) }
+    {
+        let block = count / BLOCK;
+        note(alloc, &mut self.near, count, events)?;
+        note(alloc, &mut self.far, block, self.near.row(block))
+    }
+}
 
 /// For each of so many buckets no floor.
-pub(crate) fn no_floors(alloc: Global, count: usize) -> Result<Vec<Nested<Event>>, Memory>
-    ensures { IfOk result (λ floors. floors.items ≡ replicate count []) }
+pub(crate) fn no_floors(alloc: Global, count: usize) -> Result<Vec<Floors>, Memory>
+    ensures { IfOk result (λ floors. floors.items ≡ replicate count no_floor) }
 {
     let mut floors = Vec::new(alloc);
     for _bucket in 0..count {
-        floors.push(Nested::new(alloc))?;
+        floors.push(Floors::new(alloc))?;
     }
     Ok(floors)
 }
@@ -38,33 +102,35 @@ pub(crate) fn is_below(floor: &[Event], events: &[Event]) -> bool
 /// Notes a line in a bucket, behind so many, that begins with these events.
 pub(crate) fn note_in(
     alloc: Global,
-    floors: &mut [Nested<Event>],
+    floors: &mut [Floors],
     bucket: usize,
     count: usize,
     events: &[Event],
 ) -> Result<(), Memory>
     requires bucket { bucket < length floors.old }
-    requires room { count ≤ 64 * length (slice_index_or floors.old bucket []) }
+    requires near { count ≤ 64 * length (slice_index_or floors.old bucket no_floor).near }
+    requires far { count / 64 ≤ 64 * length (slice_index_or floors.old bucket no_floor).far }
     ensures many { length floors.new ≡ length floors.old }
-    ensures noted { OnOk result (IsNoted count events.now (slice_index_or floors.old bucket [])
-        (slice_index_or floors.new bucket [])) }
+    ensures noted { OnOk result (AreNoted count events.now
+        (slice_index_or floors.old bucket no_floor)
+        (slice_index_or floors.new bucket no_floor)) }
     ensures others { (b : ℕ) → b ≢ bucket →
-        slice_index_or floors.new b [] ≡ slice_index_or floors.old b [] }
+        slice_index_or floors.new b no_floor ≡ slice_index_or floors.old b no_floor }
 {
-    note(alloc, &mut floors[bucket], count, events)
+    floors[bucket].note(alloc, count, events)
 }
 
-// Notes a line behind so many: the floor of its block is no later than its events.
+// Notes a row with these events, at a place: the floor of its block is no later.
 fn note(
     alloc: Global,
     floors: &mut Nested<Event>,
-    count: usize,
+    place: usize,
     events: &[Event],
 ) -> Result<(), Memory>
-    requires room { count ≤ 64 * length floors.old }
-    ensures { OnOk result (IsNoted count events.now floors.old floors.new) }
+    requires room { place ≤ 64 * length floors.old }
+    ensures { OnOk result (IsNoted place events.now floors.old floors.new) }
 {
-    let block = count / BLOCK;
+    let block = place / BLOCK;
     if block == floors.len() {
         let floor = lowered(alloc, events, events)?;
         return floors.open_row(floor);
@@ -77,7 +143,7 @@ fn note(
 // The earlier of a floor's times and those of some events.
 fn lowered(alloc: Global, floor: &[Event], events: &[Event]) -> Result<Vec<Event>, Memory>
     ensures lower { IfOk result (λ low. IsLower low.items floor.now) }
-    ensures below { IfOk result (λ low. AreNoLater low.items events.now) }
+    ensures below { IfOk result (λ low. IsLower low.items events.now) }
 {
     let both = floor.len().min(events.len());
     let mut low = Vec::new(alloc);

@@ -7,14 +7,11 @@ ghost use Rattle.line_split.specs.Buckets.{AreBucketed};
 ghost use Rattle.line_split.specs.Floors.{AreFloors, AreFloorsOf};
 
 use super::events::{events_of, may_follow};
-use super::floors::{BLOCK, is_below, no_floors, note_in};
+use super::floors::{Floors, no_floors, note_in};
 use super::nested::Nested;
 use super::patterns::patterns_of;
 use std::alloc::Global;
-use tb_base::{Event, Memory, Timetable, TripNo};
-
-/// Before so few lines no floor is looked at.
-const FEW: usize = 8;
+use tb_base::{Memory, Timetable, TripNo};
 
 /// The lines: each trip in turn joins the first line that it may follow the last trip of, else it
 /// opens a new one.
@@ -54,7 +51,7 @@ fn place(
     numbers: &[usize],
     lines: &mut Nested<TripNo>,
     buckets: &mut Nested<usize>,
-    floors: &mut [Nested<Event>],
+    floors: &mut [Floors],
     trip: TripNo,
 ) -> Result<(), Memory>
     requires trip { trip < length table.now.trips }
@@ -88,13 +85,13 @@ fn last_trip(trips: &[TripNo]) -> TripNo
     trips[trips.len() - 1]
 }
 
-// The first of these lines that a trip may join. A block of lines is passed over whose floor is
-// later than the trip at some event.
+// The first of these lines that a trip may join. Blocks of lines are passed over whose floor is later
+// than the trip at some event.
 fn first_line(
     table: &Timetable,
     lines: &Nested<TripNo>,
     among: &[usize],
-    floors: &Nested<Event>,
+    floors: &Floors,
     trip: TripNo,
 ) -> Option<usize>
     requires lines { All (λ l. l < length lines.now) among.now }
@@ -106,9 +103,9 @@ fn first_line(
     let events = events_of(table, trip);
     let mut place = 0;
     while place < among.len() {
-        let many = among.len() - place > FEW;
-        if many && place % BLOCK == 0 && !is_below(floors.row(place / BLOCK), events) {
-            place += BLOCK;
+        let later = floors.later_from(place, among.len() - place, events);
+        if later > 0 {
+            place += later;
         } else if may_follow(events_of(table, last_trip(lines.row(among[place]))), events) {
             return Some(among[place]);
         } else {

@@ -1,29 +1,25 @@
-use Rattle.std.proofs.Common.{◌∙◌, [], inl, inr, sym, ap, subst, arith, get_or}
+use Rattle.std.proofs.Common.{◌∙◌, ◌/◌, [], inl, inr, sym, ap, subst, arith, get_or}
 use Rattle.tb_base.specs.TimetableData.{events_of}
 use Rattle.tb_base.specs.Lines.{last_trip, may_follow}
 use Rattle.line_split.specs.Floors.{AreNoLater}
-use Rattle.line_split.proofs.FloorLemmas.{floor_later, find_at, find_nowhere, same_block, before_or_from}
+use Rattle.line_split.proofs.FloorLemmas.{floor_later, find_at, find_nowhere, before_or_from}
 use Rattle.line_split.proofs.Placing.{joins}
 use Rattle.line_split.proofs.place.first_line.Goals as goal
 
-pub loop-place-preserved-then-not-is_below : goal.loop-place-preserved-then-not-is_below
-loop-place-preserved-then-not-is_below c = λ k low below.
-    let T = c.args.table.now in
-    let place = c.loop-place.place in
-    elim (before_or_from k place) [
+pub loop-place-preserved-then-later-gt0 : goal.loop-place-preserved-then-later-gt0
+loop-place-preserved-then-later-gt0 c = λ k low below.
+    elim (before_or_from k c.loop-place.place) [
       | inl before ↦ c.loop-place.invariant k before below
       | inr behind ↦
-          let block = same_block place k c.if-place-eq0.true behind low in
-          let same = c.row.ensures ∙ ap (λ b. get_or c.args.floors.now b []) (sym block) in
-          floor_later T c.args.lines.now c.args.among.now c.args.floors.now c.requires.floors c.args.trip k below
-          (λ h. c.if-not-is_below.ensures (subst (λ es. AreNoLater c.row.result.now es) (sym c.events_of-events.ensures) (subst (λ floor. AreNoLater floor (events_of T c.args.trip)) (sym same) h)))
+          floor_later c.args.table.now c.args.lines.now c.args.among.now c.args.floors.now c.requires.floors c.args.trip k below
+          (λ h. c.later_from-later.ensures.later k behind low (omega (arith, below, c.requires.floors.room)) (subst (λ es. AreNoLater (get_or c.args.floors.now.near (k / 64) []) es) (sym c.events_of-events.ensures) h))
     ]
 
 pub returns-then-may_follow : goal.returns-then-may_follow
 returns-then-may_follow c =
     let T = c.args.table.now in
     let lines = c.args.lines.now in
-    let own = c.events_of.ensures ∙ ap (events_of T) (c.last_trip.ensures ∙ ap last_trip c.row-else-many.ensures) in
+    let own = c.events_of.ensures ∙ ap (events_of T) (c.last_trip.ensures ∙ ap last_trip c.row.ensures) in
     sym (find_at (joins T lines (events_of T c.args.trip)) c.args.among.now c.loop-place.place c.loop-place-test.true c.loop-place.invariant
     (sym (λ i. may_follow (own i) (c.events_of-events.ensures i)) ∙ sym c.may_follow.ensures ∙ c.if-may_follow.true))
 

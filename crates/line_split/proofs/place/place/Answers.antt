@@ -1,7 +1,7 @@
 use Rattle.std.proofs.Common.{ℕ, List, ◌≡◌, ap, sym, subst, ◌∙◌, ◌<◌, [], ◌∷◌, ◌++◌, find, get_or, set, length}
 use Rattle.tb_base.specs.TimetableData.{events_of}
 use Rattle.line_split.specs.Buckets.{AreBucketed}
-use Rattle.line_split.specs.Floors.{AreFloors, IsNoted}
+use Rattle.line_split.specs.Floors.{AreFloors, AreNoted, no_floor}
 use Rattle.line_split.proofs.FloorLemmas.{floors_joined, floors_opened}
 use Rattle.line_split.proofs.Placing.{found_inside, placed_on, placed_behind, bucketed_on, bucketed_behind, joins}
 use Rattle.line_split.proofs.RowLemmas.{on_ok_subst}
@@ -57,8 +57,8 @@ returns-in_ok-add-in-None-clause-floors c =
     let b = get_or c.args.numbers.now c.index.result 0 in
     let below : get_or c.args.numbers.now c.index.result 0 < length c.args.buckets.now = subst (λ i. get_or c.args.numbers.now i 0 < length c.args.buckets.now) (sym c.index.ensures) (c.requires.numbered.below c.args.trip c.requires.trip) in
     let listed = c.in_ok-add-in-None.ensures ∙ ap (λ n. set buckets b (get_or buckets b [] ++ n ∷ [])) c.len.ensures in
-    let noted = subst (λ r. IsNoted (length r) (events_of T c.args.trip) (get_or floors b []) (get_or new b [])) c.row-count.ensures
-    (subst (λ es. IsNoted (length c.row-count.result.now) es (get_or floors b []) (get_or new b [])) c.events_of.ensures c.in_ok-note_in-in-None.ensures.noted) in
+    let noted = subst (λ r. AreNoted (length r) (events_of T c.args.trip) (get_or floors b no_floor) (get_or new b no_floor)) c.row-count.ensures
+    (subst (λ es. AreNoted (length c.row-count.result.now) es (get_or floors b no_floor) (get_or new b no_floor)) c.events_of.ensures c.in_ok-note_in-in-None.ensures.noted) in
     on_ok_subst c.open_with.result (λ ls. AreFloors T ls c.add-in-None.new.self new) c.open_with.new.self _ c.open_with.ensures
     (subst (λ bs. AreFloors T (lines ++ (c.args.trip ∷ []) ∷ []) bs new) (sym listed)
     (floors_opened T lines buckets floors new c.args.trip b c.requires.floors c.requires.bucketed.known below c.in_ok-note_in-in-None.ensures.many c.in_ok-note_in-in-None.ensures.others noted))
