@@ -1,12 +1,13 @@
 -- The best values to every stop as JSON.
 use Rattle.std.specs.Prelude.{ℕ, ℤ, List, [], ◌++◌, codes, length, slice_index_or}
 use Rattle.std.specs.Fmt.{decimal, signed_decimal}
+use Rattle.json.specs.Print.{escape}
 use Rattle.tb_base.specs.Clock.{time_text}
 use Rattle.tb_base.specs.declared.query.Value.{Value}
 use Rattle.tb_base.specs.TimetableData.{TimetableData}
 use Rattle.tb_base.specs.Transfers.{numbers_below}
 use Rattle.answer_text.specs.Journeys.{stop_name}
-use Rattle.answer_json.specs.Frames.{count_json, framed, moment, string_json}
+use Rattle.answer_json.specs.Frames.{between, count_json, framed, moment, string_json}
 use Rattle.answer_json.specs.declared.frame.Frame.{Frame}
 use Rattle.answer_json.specs.declared.frame.Frame.TheVariants as frame
 
@@ -32,3 +33,21 @@ stop_json T lists stop =
 -- one value a stop, by its number
 abbrev pub reach_json : Frame → TimetableData → List (List Value) → List ℕ
 reach_json frame T lists = framed frame (stop_json T lists) (numbers_below (length T.stops))
+
+-- what stands behind the name of a stop that has these values: `",[TRIPLE,..]]`
+abbrev pub behind_name : List Value → List ℕ
+behind_name values = codes "\"," ++ framed frame.Array triple_json values ++ codes "]"
+
+-- the same, up to the name of the next stop
+abbrev pub between_names : Frame → List Value → List ℕ
+between_names frame values = behind_name values ++ between frame ++ codes "[\""
+
+-- a stop without the `["` before its name
+abbrev pub from_name : TimetableData → List (List Value) → ℕ → List ℕ
+from_name T lists stop =
+    escape (stop_name T stop) ++ behind_name (slice_index_or lists stop [])
+
+-- the same, up to the name of the next stop
+abbrev pub to_next_name : Frame → TimetableData → List (List Value) → ℕ → List ℕ
+to_next_name frame T lists stop =
+    escape (stop_name T stop) ++ between_names frame (slice_index_or lists stop [])

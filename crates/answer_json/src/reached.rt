@@ -1,14 +1,14 @@
 //! The best values to every stop as JSON.
-ghost use Rattle.std.specs.Prelude.{◌≡◌, ◌++◌, ◌<◌, ◌≤◌, ◌∷◌, [], OnOk, codes, drop, length, map, slice_index_or};
+ghost use Rattle.std.specs.Prelude.{◌≡◌, ◌++◌, ◌<◌, ◌≤◌, [], OnOk, flat_map, length, map, slice_index_or};
 ghost use Rattle.std.specs.Fmt.{decimal, signed_decimal};
 ghost use Rattle.tb_base.specs.Transfers.{numbers_below};
-ghost use Rattle.answer_json.specs.Frames.{followers, framed, string_json};
-ghost use Rattle.answer_json.specs.Reached.{reach_json, stop_json, time_json, triple_json, value_json};
+ghost use Rattle.answer_json.specs.Frames.{followers, framed};
+ghost use Rattle.answer_json.specs.Reached.{behind_name, between_names, from_name, reach_json, time_json, to_next_name, triple_json, value_json};
 ghost use Rattle.answer_json.specs.declared.frame.Frame.TheVariants as frame;
 
 use crate::frame::{Frame, add_moment};
 use crate::journeys::stop_name;
-use crate::strings::{add_content, add_count, add_string};
+use crate::strings::{add_content, add_count};
 use answer_text::Text;
 use tb_base::{Memory, Sec, StopNo, Timetable, Value};
 
@@ -118,18 +118,57 @@ fn values_of(lists: &[Vec<Value>], stop: StopNo) -> &[Value]
     lists[stop.index()].as_slice()
 }
 
-// Adds a stop that has no values.
-fn add_unreached(text: &mut Text, name: &[u8]) -> Result<(), Memory>
-    ensures { OnOk result (text.new
-        ≡ text.old ++ (codes "[" ++ string_json name.now ++ codes ",[]]")) }
+// What stands between the names of two stops where the first has no values.
+fn between_names_alone(frame: Frame) -> &'static [u8]
+    ensures { result.now ≡ between_names frame [] }
 {
-    text.add(b"[\"")?;
-    add_content(text, name)?;
-    text.add(b"\",[]]")
+    match frame {
+        Frame::Lines => b"\",[]]\n[\"".as_slice(),
+        Frame::Array => b"\",[]],[\"".as_slice(),
+    }
 }
 
-// Adds a stop with its values.
-fn add_reached(
+// Adds what stands behind the name of a stop.
+fn add_behind_name(text: &mut Text, values: &[Value]) -> Result<(), Memory>
+    ensures { OnOk result (text.new ≡ text.old ++ behind_name values.now) }
+{
+    text.add(b"\",")?;
+    add_values(text, values)?;
+    text.add(b"]")
+}
+
+// Adds what stands between the names of two stops, the first of which has these values. Without
+// values this is one piece: a reply can have tens of thousands of such stops.
+fn add_between_names(text: &mut Text, frame: Frame, values: &[Value]) -> Result<(), Memory>
+    ensures { OnOk result (text.new ≡ text.old ++ between_names frame values.now) }
+{
+    if values.is_empty() {
+        return text.add(between_names_alone(frame));
+    }
+    add_behind_name(text, values)?;
+    text.add(frame.between())?;
+    text.add(b"[\"")
+}
+
+// Adds a stop without the `["` before its name, up to the name of the next stop.
+fn add_to_next_name(
+    text: &mut Text,
+    frame: Frame,
+    table: &Timetable,
+    lists: &[Vec<Value>],
+    stop: StopNo,
+) -> Result<(), Memory>
+    requires stop { stop < length table.now.stops }
+    requires each_stop { length lists.now ≡ length table.now.stops }
+    ensures { OnOk result (text.new ≡ text.old
+        ++ to_next_name frame table.now (map (λ list. list.items) lists.now) stop) }
+{
+    add_content(text, stop_name(table, stop))?;
+    add_between_names(text, frame, values_of(lists, stop))
+}
+
+// Adds the last stop without the `["` before its name.
+fn add_from_name(
     text: &mut Text,
     table: &Timetable,
     lists: &[Vec<Value>],
@@ -138,36 +177,28 @@ fn add_reached(
     requires stop { stop < length table.now.stops }
     requires each_stop { length lists.now ≡ length table.now.stops }
     ensures { OnOk result (text.new
-        ≡ text.old ++ stop_json table.now (map (λ list. list.items) lists.now) stop) }
+        ≡ text.old ++ from_name table.now (map (λ list. list.items) lists.now) stop) }
 {
-    let values = values_of(lists, stop);
-    if values.is_empty() {
-        return add_unreached(text, stop_name(table, stop));
-    }
-    text.add(b"[")?;
-    add_string(text, stop_name(table, stop))?;
-    text.add(b",")?;
-    add_values(text, values)?;
-    text.add(b"]")
+    add_content(text, stop_name(table, stop))?;
+    add_behind_name(text, values_of(lists, stop))
 }
 
-// Adds the stops behind the first with their values.
-#[tactic(auto, using(crate::proofs::Numbers::followers_more))]
-fn add_later_stops(
+// Adds the stops before one, from the name of the first up to the name of that one.
+fn add_earlier_stops(
     text: &mut Text,
     frame: Frame,
     table: &Timetable,
     lists: &[Vec<Value>],
+    last: StopNo,
 ) -> Result<(), Memory>
-    requires some { 0 < length table.now.stops }
+    requires last { last < length table.now.stops }
     requires each_stop { length lists.now ≡ length table.now.stops }
     ensures { OnOk result (text.new ≡ text.old
-        ++ followers frame (stop_json table.now (map (λ list. list.items) lists.now))
-        (drop 1 (numbers_below (length table.now.stops)))) }
+        ++ flat_map (to_next_name frame table.now (map (λ list. list.items) lists.now))
+        (numbers_below last)) }
 {
-    for stop in 1..table.stop_count() {
-        text.add(frame.between())?;
-        add_reached(text, table, lists, StopNo(stop))?;
+    for stop in 0..last.0 {
+        add_to_next_name(text, frame, table, lists, StopNo(stop))?;
     }
     Ok(())
 }
@@ -186,11 +217,14 @@ pub fn add_reach(
     ensures { OnOk result (text.new
         ≡ text.old ++ reach_json frame table.now (map (λ list. list.items) lists.now)) }
 {
-    if table.stop_count() == 0 {
+    let count = table.stop_count();
+    if count == 0 {
         return text.add(frame.nothing());
     }
+    let last = StopNo(count - 1);
     text.add(frame.opening())?;
-    add_reached(text, table, lists, StopNo(0))?;
-    add_later_stops(text, frame, table, lists)?;
+    text.add(b"[\"")?;
+    add_earlier_stops(text, frame, table, lists, last)?;
+    add_from_name(text, table, lists, last)?;
     text.add(frame.closing())
 }
