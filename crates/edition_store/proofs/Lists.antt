@@ -58,6 +58,10 @@ pub kept_ok : {U E P : Type 0} (Q : E → Type 0) (r : Result U E) → false ≡
 kept_ok Q (Ok u) n h = h
 kept_ok Q (Err e) n h = absurd (false≢true n)
 
+pub kept_err : {U E Q : Type 0} (P : U → Type 0) (r : Result U E) → true ≡ is_err r → MatchResult r P (λ _. Q) → Q
+kept_err P (Ok u) n h = absurd (false≢true (sym n))
+kept_err P (Err e) n h = h
+
 -- of contents that replace one another the last one stays
 pub last_stays : {A : Type 0} (xs : List A) (s x : A) → fold (λ (_ : A) (y : A). y) s (xs ++ x ∷ []) ≡ x
 last_stays [] s x = refl

@@ -23,7 +23,7 @@
 //! layer above the crate promises that a pinned list begins with all that its seat has pinned or
 //! learned before, and that the whole list, once the seat learns it, begins with what it pinned.
 //! What is pinned was published: the publisher's list begins with it. A seat that has learned the
-//! whole list pins that. Which list a seat that learned nothing meets, and when, it does not
+//! whole list pins that. Where a publication is refused, seats are shown the list as it was. Which list a seat that learned nothing meets, and when, it does not
 //! promise. The types of one store carry its name `J`.
 #![tactic(auto)]
 
@@ -48,7 +48,7 @@ pub use mirror_time::mirrored_time;
 pub use mirrored::mirror;
 pub use network::Network;
 pub use pinned::{Last, Pinned, Receipt};
-pub use publisher::Publisher;
+pub use publisher::{Publisher, Refused};
 pub use seat::Seat;
 pub use shared::Shared;
 pub use shelf::Shelf;

@@ -3,6 +3,7 @@ ghost use Rattle.history.specs.Lists.{Shown, Extends};
 
 use crate::content::Content;
 use crate::edition::Edition;
+use crate::seat::Seat;
 use history::Naming;
 use std::marker::Model;
 
@@ -90,5 +91,12 @@ impl<J: Naming> Last<J> {
         ensures { Extends (record { list = self.now; closed = true }) pinned.now }
     {
         self.content.front.compare(&pinned.content.front);
+    }
+
+    /// The whole list extends what a seat keeps. Does nothing.
+    pub fn covers_seat(&self, seat: &Seat<J>)
+        ensures { Extends (record { list = self.now; closed = true }) seat.now }
+    {
+        self.content.front.compare(&seat.kept.front);
     }
 }

@@ -1,5 +1,6 @@
-ghost use Rattle.std.specs.Prelude.{◌≡◌, ◌-◌, ◌^◌, ◌<◌, [], ◌∷◌, ◌++◌, length, false, IfOk};
+ghost use Rattle.std.specs.Prelude.{◌≡◌, ◌-◌, ◌^◌, ◌<◌, [], ◌∷◌, ◌++◌, length, false, IfErr, IfOk};
 ghost use Rattle.history.specs.Lists.{Shown, Extends};
+ghost use Rattle.edition_store.specs.Lists.{RefusedData};
 
 use crate::content::Content;
 use crate::edition::Edition;
@@ -51,6 +52,27 @@ impl<J: Naming, W: Shows> Model for Publishing<J, W> {
 /// The one who publishes, which contracts see as its list. It can't be dropped: `finish` ends it.
 pub type Publisher<J> = Publishing<J, Writing<Content<J>>>;
 
+/// What is left where a publication was refused, with the writer `W`.
+pub struct Refusing<J: Naming, W: Shows> {
+    content: Content<J>,
+    writer: W,
+}
+
+impl<J: Naming, W: Shows> Model for Refusing<J, W> {
+    ghost use Rattle.std.specs.Prelude.{◌≡◌, true};
+    ghost use Rattle.edition_store.specs.Lists.{RefusedData};
+
+    ghost Value = { RefusedData };
+
+    ghost view = { λ r. record { shown = (W.shown r.writer).list; whole = r.content.list } };
+
+    ghost invariant = { λ r. r.content.closed ≡ true };
+}
+
+/// What is left where a publication was refused. Contracts see the list that seats are shown, and
+/// that with the refused edition. It can't be dropped: `end` ends it.
+pub type Refused<J> = Refusing<J, Writing<Content<J>>>;
+
 // The list with one more edition, which the history has then too.
 fn grown<J: Naming>(
     history: &mut History<Edition, J>,
@@ -78,26 +100,41 @@ fn hide<J: Naming, R: Wait>(rt: &R, writer: Writing<Content<J>>) {
     drop(writer.take(rt));
 }
 
-// Shows the readers the next list. At a refusal they are shown none any more.
+// Shows the readers the next list. At a refusal they are shown what they were shown.
 fn show<J: Naming, R: Wait>(
     rt: &R,
     writer: Writing<Content<J>>,
     next: Content<J>,
-) -> Result<Writing<Content<J>>, Memory>
+) -> Result<Writing<Content<J>>, Writing<Content<J>>>
     requires { Extends next writer.desk.shown.value }
-    ensures { IfOk result (λ w. w.desk.shown.value ≡ next) }
+    ensures shown { IfOk result (λ w. w.desk.shown.value ≡ next) }
+    ensures refused { IfErr result (λ w. w.desk.shown.value ≡ writer.desk.shown.value) }
 {
     let mut writer = writer;
     if writer.append(next).is_err() {
-        hide(rt, writer);
-        return Err(Memory);
+        return Err(writer);
     }
     let (writer, done) = writer.publish_as::<Sees, R>(rt);
     if done.is_err() {
-        hide(rt, writer);
-        return Err(Memory);
+        return Err(writer);
     }
     Ok(writer)
+}
+
+// What is left where readers aren't shown the last list of the history, which is closed.
+fn refused<J: Naming>(
+    history: History<Edition, J>,
+    writer: Writing<Content<J>>,
+    content: Content<J>,
+) -> Refused<J>
+    requires { content ≡ history }
+    ensures shown { result.shown ≡ writer.desk.shown.value.list }
+    ensures whole { result.whole ≡ history.list }
+{
+    Refusing {
+        content: content.closed_by(history.finish()),
+        writer,
+    }
 }
 
 // The publisher of a list that its history has, which readers aren't shown yet; and a receipt.
@@ -106,12 +143,14 @@ fn turned<J: Naming, R: Wait>(
     history: History<Edition, J>,
     writer: Writing<Content<J>>,
     content: Content<J>,
-) -> Result<(Publisher<J>, Receipt<J>), Memory>
+) -> Result<(Publisher<J>, Receipt<J>), Refused<J>>
     requires content { content ≡ history }
     requires open { history.closed ≡ false }
     requires shown { Extends content writer.desk.shown.value }
     ensures list { IfOk result (λ t. t.0 ≡ history.list) }
     ensures receipt { IfOk result (λ t. t.1 ≡ history) }
+    ensures shown { IfErr result (λ (r : RefusedData). r.shown ≡ writer.desk.shown.value.list) }
+    ensures whole { IfErr result (λ (r : RefusedData). r.whole ≡ history.list) }
 {
     match content.shares() {
         Ok((next, told)) => match show(rt, writer, next) {
@@ -119,19 +158,12 @@ fn turned<J: Naming, R: Wait>(
                 let receipt = Receipt { content: told };
                 Ok((Publishing::over(history, content, writer), receipt))
             }
-            Err(Memory) => {
-                drop(history);
-                drop(content);
+            Err(writer) => {
                 drop(told);
-                Err(Memory)
+                Err(refused(history, writer, content))
             }
         },
-        Err(Memory) => {
-            hide(rt, writer);
-            drop(history);
-            drop(content);
-            Err(Memory)
-        }
+        Err(Memory) => Err(refused(history, writer, content)),
     }
 }
 
@@ -170,18 +202,19 @@ impl<J: Naming> Publishing<J, Writing<Content<J>>> {
     }
 
     /// Appends the edition to the list in one step. May wait for readers that are just entering.
-    /// Refused only for want of memory; the publisher and the edition are dropped, so nobody
-    /// publishes any more. That seats go on to pin what was published before is so in the code and
-    /// in no clause.
+    /// Refused only for want of memory: seats are shown the list as it was before, and nobody
+    /// publishes any more.
     pub fn publish<R: Wait>(
         self,
         rt: &R,
         edition: Shared,
-    ) -> Result<(Publisher<J>, Receipt<J>), Memory>
+    ) -> Result<(Publisher<J>, Receipt<J>), Refused<J>>
         requires room { length self < 2 ^ 32 - 1 }
         ensures list { IfOk result (λ t. t.0 ≡ self ++ edition ∷ []) }
         ensures receipt { IfOk result (λ t. t.1 ≡
             record { list = self ++ edition ∷ []; closed = false }) }
+        ensures shown { IfErr result (λ (r : RefusedData). r.shown ≡ self) }
+        ensures whole { IfErr result (λ (r : RefusedData). r.whole ≡ self ++ edition ∷ []) }
     {
         let Publishing {
             mut history,
@@ -195,34 +228,31 @@ impl<J: Naming> Publishing<J, Writing<Content<J>>> {
 
     /// Closes the list, to which nothing is added any more, and gives all of it. From then on no
     /// seat is let in: each pins what it keeps until it has learned the end. May wait for readers
-    /// that are just entering. Refused only for want of memory; the publisher is dropped, so nobody
-    /// publishes any more. That seats go on to pin what was published before is so in the code and
-    /// in no clause.
-    pub fn finish<R: Wait>(self, rt: &R) -> Result<Last<J>, Memory>
-        ensures { IfOk result (λ l. l ≡ self) }
+    /// that are just entering. Never refused.
+    pub fn finish<R: Wait>(self, rt: &R) -> Last<J>
+        ensures { result ≡ self }
     {
         let Publishing {
             history,
             kept,
             writer,
         } = self;
-        let content = kept.closed_by(history.finish());
-        match content.share() {
-            Ok(last) => match show(rt, writer, last) {
-                Ok(writer) => {
-                    hide(rt, writer);
-                    Ok(Last { content })
-                }
-                Err(Memory) => {
-                    drop(content);
-                    Err(Memory)
-                }
-            },
-            Err(Memory) => {
-                hide(rt, writer);
-                drop(content);
-                Err(Memory)
-            }
+        hide(rt, writer);
+        Last {
+            content: kept.closed_by(history.finish()),
         }
+    }
+}
+
+impl<J: Naming> Refusing<J, Writing<Content<J>>> {
+    /// Closes the list, of which the refused edition is the last one: what seats pinned before is a
+    /// first part of it, of which no more is known. From then on no seat is let in: each pins what
+    /// it keeps. May wait for readers that are just entering.
+    pub fn end<R: Wait>(self, rt: &R) -> Last<J>
+        ensures { result ≡ self.whole }
+    {
+        let Refusing { content, writer } = self;
+        hide(rt, writer);
+        Last { content }
     }
 }

@@ -16,7 +16,7 @@ use tb_base::Memory;
 /// contracts see it.
 #[derive(Drop)]
 pub struct Seat<J: Naming> {
-    kept: Content<J>,
+    pub(crate) kept: Content<J>,
     reader: Option<Reader<Content<J>, View, Kept>>,
     // The kept list is the one that the reader saw last.
     fresh: bool,

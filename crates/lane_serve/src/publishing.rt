@@ -39,7 +39,10 @@ impl<J: Naming> Publishes for Publisher<J> {
                 drop(receipt);
                 Ok(publisher)
             }
-            Err(Memory) => Err(Memory),
+            Err(refused) => {
+                drop(refused.end(rt));
+                Err(Memory)
+            }
         }
     }
 

@@ -460,18 +460,10 @@ fn served_of<J: Naming, R: Wait>(
     ensures lanes { IfOk result (λ s.
         AreServed publisher lanes.now (ServedData.lanes s) (ServedData.closing s)) }
 {
-    match publisher.finish(rt) {
-        Ok(last) => {
-            let served = served_by(alloc, &last, lanes, outcomes, seats);
-            drop(last);
-            served
-        }
-        Err(Memory) => {
-            drop(outcomes);
-            drop(seats);
-            Err(Memory)
-        }
-    }
+    let last = publisher.finish(rt);
+    let served = served_by(alloc, &last, lanes, outcomes, seats);
+    drop(last);
+    served
 }
 
 // The run, where the first item is published.

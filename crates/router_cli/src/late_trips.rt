@@ -98,9 +98,16 @@ fn whole_with<J: Naming, R: Wait>(
     requires { length publisher < 100 }
     ensures { IfOk result (λ l. l ≡ publisher ++ last ∷ []) }
 {
-    let (publisher, receipt) = publisher.publish(rt, last)?;
-    drop(receipt);
-    publisher.finish(rt)
+    match publisher.publish(rt, last) {
+        Ok((publisher, receipt)) => {
+            drop(receipt);
+            Ok(publisher.finish(rt))
+        }
+        Err(refused) => {
+            drop(refused.end(rt));
+            Err(Memory)
+        }
+    }
 }
 
 // One who asks from one of these seats, and has learned the whole list.

@@ -61,10 +61,13 @@ fn publish_again<J: Naming, R: Wait>(
     requires { length publisher < 100 }
 {
     match edition.share() {
-        Ok(share) => {
-            let (publisher, _receipt) = publisher.publish(rt, share)?;
-            Ok(publisher)
-        }
+        Ok(share) => match publisher.publish(rt, share) {
+            Ok((publisher, _receipt)) => Ok(publisher),
+            Err(refused) => {
+                let _last = refused.end(rt);
+                Err(Memory)
+            }
+        },
         Err(Memory) => {
             let _last = publisher.finish(rt);
             Err(Memory)
@@ -88,7 +91,7 @@ fn fill<J: Naming, R: Wait>(
             Err(Memory) => return Err(Memory),
         };
     }
-    publisher.finish(rt)?;
+    let _last = publisher.finish(rt);
     Ok(())
 }
 

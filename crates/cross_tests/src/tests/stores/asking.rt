@@ -23,7 +23,7 @@ fn started<J: Naming, R: Threads + Wait + Sync>(
     let first = Shared::new(alloc, slow(rt, alloc)?)?;
     let (publisher, mut seats) = Store::new::<J>(alloc, opened, first, 1)?;
     let Some(seat) = seats.pop() else {
-        publisher.finish(rt)?;
+        drop(publisher.finish(rt));
         return Err(Memory);
     };
     Ok((publisher, Caller::new(alloc, seat)))
@@ -38,10 +38,16 @@ fn publish_fast<J: Naming, R: Threads + Wait + Sync>(
     requires { length publisher < 100 }
 {
     let Ok(edition) = fast(rt, alloc) else {
-        publisher.finish(rt)?;
+        drop(publisher.finish(rt));
         return Err(Memory);
     };
-    publisher.publish(rt, edition)
+    match publisher.publish(rt, edition) {
+        Ok(published) => Ok(published),
+        Err(refused) => {
+            drop(refused.end(rt));
+            Err(Memory)
+        }
+    }
 }
 
 fn ask<J: Naming>(
@@ -99,7 +105,7 @@ fn published<J: Naming, R: Threads + Wait + Sync>(
 {
     let (publisher, receipt) = publish_fast(rt, alloc, publisher)?;
     let learned = ask_learned(alloc, caller, &receipt);
-    let last = publisher.finish(rt)?;
+    let last = publisher.finish(rt);
     Ok((learned?, last.number()))
 }
 
@@ -157,7 +163,7 @@ fn unlearned<J: Naming, R: Threads + Wait + Sync>(
     let (publisher, mut caller) = started::<J, R>(rt, alloc, opened)?;
     let (mut publisher, _receipt) = publish_fast(rt, alloc, publisher)?;
     let told = told_published(alloc, &mut publisher, &mut caller);
-    publisher.finish(rt)?;
+    drop(publisher.finish(rt));
     told
 }
 

@@ -68,15 +68,18 @@ fn publish_all<J: Naming, R: Threads + Wait + Sync>(
 ) -> Option<Last<J>> {
     let publisher = slot.take()?;
     let Ok(edition) = fast(rt, alloc) else {
-        return publisher.finish(rt).ok();
+        return Some(publisher.finish(rt));
     };
     if publisher.count() >= 100 {
-        return publisher.finish(rt).ok();
+        return Some(publisher.finish(rt));
     }
-    let Ok((publisher, _)) = publisher.publish(rt, edition) else {
-        return None;
-    };
-    publisher.finish(rt).ok()
+    match publisher.publish(rt, edition) {
+        Ok((publisher, _receipt)) => Some(publisher.finish(rt)),
+        Err(refused) => {
+            drop(refused.end(rt));
+            None
+        }
+    }
 }
 
 fn both<J: Naming + Send + Sync, R: Threads + Wait + Sync>(
@@ -143,7 +146,7 @@ fn raced<J: Naming + Send + Sync, R: Threads + Wait + Sync>(
     let mut slot = Some(publisher);
     let last = both(rt, alloc, &mut slot, sides.as_mut_slice());
     if let Some(publisher) = slot {
-        publisher.finish(rt)?;
+        drop(publisher.finish(rt));
     }
     match last {
         Some(last) => all_end_right(alloc, &last, &mut sides),

@@ -32,12 +32,15 @@ fn published<J: Naming, R: Wait>(
     edition: Result<Shared, Memory>,
 ) -> Result<Publisher<J>, Memory> {
     match edition {
-        Ok(edition) if publisher.count() < 100 => {
-            let (publisher, _receipt) = publisher.publish(rt, edition)?;
-            Ok(publisher)
-        }
+        Ok(edition) if publisher.count() < 100 => match publisher.publish(rt, edition) {
+            Ok((publisher, _receipt)) => Ok(publisher),
+            Err(refused) => {
+                drop(refused.end(rt));
+                Err(Memory)
+            }
+        },
         _ => {
-            publisher.finish(rt)?;
+            drop(publisher.finish(rt));
             Err(Memory)
         }
     }
@@ -58,7 +61,7 @@ fn pinning_each<J: Naming, R: Threads + Wait + Sync>(
     let two = pinning(&mut seats, 2);
     let publisher = published(rt, publisher, first.share())?;
     let three = pinning(&mut seats, 3);
-    publisher.finish(rt)?;
+    drop(publisher.finish(rt));
     Ok((one?, two?, three?))
 }
 
@@ -135,7 +138,7 @@ fn pinned_and_shelved<J: Naming, R: Threads + Wait + Sync>(
     let two = pin_of(&mut seats);
     let publisher = published(rt, publisher, first.share())?;
     let three = pin_of(&mut seats);
-    publisher.finish(rt)?;
+    drop(publisher.finish(rt));
     shelved(alloc, &one?, &two?, &three?)
 }
 
