@@ -12,6 +12,7 @@ mod builds;
 mod faults;
 mod frame;
 mod journeys;
+mod plain;
 mod reached;
 mod shown;
 mod strings;

@@ -1,12 +1,12 @@
 //! Strings in JSON.
 ghost use Rattle.std.specs.Prelude.{◌≡◌, ◌<◌, ◌++◌, ◌∷◌, [], List, OnOk, Some, ℕ};
-ghost use Rattle.std.specs.Bool.{OnTrue};
 ghost use Rattle.std.specs.Char.{digit_char};
 ghost use Rattle.json.specs.Json.{document, string};
 ghost use Rattle.json.specs.Print.{escape, escape_byte, escape_letter};
 ghost use Rattle.json.specs.Text.{content, plain};
 ghost use Rattle.answer_json.specs.Frames.{count_json, member_json, string_json};
 
+use crate::plain::is_plain;
 use answer_text::Text;
 use tb_base::Memory;
 
@@ -61,25 +61,6 @@ fn add_escaped(text: &mut Text, byte: u8) -> Result<(), Memory>
         ]);
     }
     text.add(&[byte])
-}
-
-// Whether a byte stands for itself in a string. Nothing here branches, so that many bytes are tried
-// at once.
-fn stands_for_itself(byte: u8) -> bool
-    ensures { OnTrue result (escape_byte byte ≡ byte ∷ []) }
-{
-    (byte >= 0x20) & (byte != b'"') & (byte != b'\\')
-}
-
-// Whether each byte stands for itself in a string, as in most names.
-fn is_plain(bytes: &[u8]) -> bool
-    ensures { OnTrue result (escape bytes.now ≡ bytes.now) }
-{
-    let mut plain = true;
-    for byte in bytes {
-        plain &= stands_for_itself(*byte);
-    }
-    plain
 }
 
 // Adds what stands in a string for some bytes.
