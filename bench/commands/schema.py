@@ -128,6 +128,9 @@ def more(folder):
     yield ["latest", feed, day, *ends, "26:00:00"], ""
     yield ["reach", feed, day, NAMED, late], ""
     yield ["times", feed, day, NAMED, late, "00:20:00", "300", "rides", "1"], ""
+    yield ["matrix", feed, day, "-", late, "00:20:00", "300"], f'"{quoted}"\nC\nX\n'
+    yield ["matrix", feed, day, "-", late, "00:20:00", "300"], "A B\n"
+    yield ["matrix", feed, day, f"{feed}-none", late, "00:20:00", "300"], ""
     yield ["build", feed, day, "list"], ""
     yield ["serve", f"{feed}@{day}", f"{feed}-none@{day}", f"late:{updates}", f"late:{none}"], script
     lines = (

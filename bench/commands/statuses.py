@@ -10,7 +10,7 @@ from harness import BEST, DAY, SCRIPT, Run, Table, commit_of, example, limited, 
 
 USAGE = (
     "usage: router [--change SECS] [--station SECS] [--close] [--workers N] [--plain] [--lanes N]"
-    " [--mirror] COMMAND WORDS"
+    " [--mirror] [--csv] COMMAND WORDS"
 )
 ASK = [DAY, "A", "D", "08:00:00"]
 

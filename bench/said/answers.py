@@ -7,7 +7,7 @@ from said import feeds
 
 USAGE = (
     "usage: router [--change SECS] [--station SECS] [--close] [--workers N] [--plain] [--lanes N]"
-    " [--mirror] COMMAND WORDS"
+    " [--mirror] [--csv] COMMAND WORDS"
 )
 TIME = r"-?\d{2,3}:[0-5]\d:[0-5]\d"
 LEG = rf"  (?:ride .+ .+ {TIME} .+ {TIME}(?: day-before)?|walk .+ .+ \d+)\n"

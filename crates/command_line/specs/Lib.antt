@@ -8,3 +8,4 @@ pub mod PlannedDays
 pub mod Plans
 pub mod Cities
 pub mod Requests
+pub mod Matrices

@@ -6,6 +6,7 @@ use Rattle.command_line.specs.Arguments.{given}
 use Rattle.command_line.specs.Cities.{city_request}
 use Rattle.command_line.specs.DayCommands.{day_request_from}
 use Rattle.command_line.specs.LateTrips.{late_request_from}
+use Rattle.command_line.specs.Matrices.{matrix_request_from}
 use Rattle.command_line.specs.Plans.{live_request, serve_request}
 use Rattle.command_line.specs.Settings.{settings_given}
 use Rattle.command_line.specs.Verifications.{verify_request_from}
@@ -14,12 +15,14 @@ use Rattle.command_line.specs.declared.request.Request.TheVariants as request
 use Rattle.command_line.specs.declared.settings.Settings.{Settings}
 
 -- a request by the command's name and the words behind it: `serve DIR@DATE ..`, `live DIR@DATE ..`,
--- `city N`, `verify DIR DATE FROM TO TIME`, `late DIR DATE FILE FROM TO TIME`, or `NAME DIR DATE
--- WORDS`
+-- `matrix DIR DATE FILE FIRST LAST STEP`, with or without `rides N`, `city N`, `verify DIR DATE FROM TO
+-- TIME`, `late DIR DATE FILE FROM TO TIME`, or `NAME DIR DATE WORDS`
 abbrev pub request_named : Settings → Text → List Text → Option Request
 request_named s name words =
     if bytes_eq name (codes "serve") then option_map request.Serve (serve_request s words)
     else if bytes_eq name (codes "live") then option_map request.Live (live_request s words)
+    else if bytes_eq name (codes "matrix")
+    then option_map request.Matrix (matrix_request_from s words)
     else if bytes_eq name (codes "city") then option_map request.City (city_request s words)
     else if bytes_eq name (codes "verify")
     then option_map request.Verify (verify_request_from s words)

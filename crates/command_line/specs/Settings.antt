@@ -74,6 +74,7 @@ settings_given rows =
       plain = is_given (codes "plain") rows;
       mirror = is_given (codes "mirror") rows;
       json = is_given (codes "json") rows;
+      csv = is_given (codes "csv") rows;
     }) (lanes_given (first_of (codes "lanes") rows)))
     (workers_given (first_of (codes "workers") rows)))
     (options_given rows)

@@ -47,5 +47,6 @@ pub(crate) fn router_arguments<'a>(alloc: Global) -> Result<clap::Command<'a>, A
         .arg(flag(alloc, "plain"))?
         .arg(flag(alloc, "mirror"))?
         .arg(flag(alloc, "json"))?
+        .arg(flag(alloc, "csv"))?
         .arg(words(alloc))
 }

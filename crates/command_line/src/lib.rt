@@ -11,6 +11,7 @@ mod arguments;
 mod city;
 mod day;
 mod late_trips;
+mod matrix;
 mod plan;
 mod request;
 mod settings;
@@ -18,7 +19,8 @@ mod verification;
 mod words;
 
 pub use request::{
-    CityRequest, Command, DayRequest, Inquiry, LateRequest, LiveRequest, PlannedDay, PlannedFile,
-    PlannedItem, PlannedSource, Request, ServeRequest, VerifyRequest,
+    CityRequest, Command, DayRequest, Departing, Inquiry, LateRequest, LiveRequest, MatrixRequest,
+    OriginsNamed, PlannedDay, PlannedFile, PlannedItem, PlannedSource, Request, ServeRequest,
+    VerifyRequest,
 };
 pub use words::{asks_json, request_of};

@@ -156,7 +156,7 @@ impl<'a> Model for PlannedDay<'a> {
     ghost view = { λ p. record { dir = p.dir.now; date = p.day } };
 }
 
-/// The path of a file by which the last day is amended.
+/// The path of a file: of updates by which the last day is amended, or of origins.
 #[derive(Drop)]
 pub struct PlannedFile<'a> {
     pub path: &'a str,
@@ -260,6 +260,64 @@ impl<'a> Model for LiveRequest<'a> {
         × IsPlan r.plan.items };
 }
 
+/// At which departures each origin of a matrix is asked: the first, and one every `step` seconds
+/// from it on, up to the last, in seconds since noon minus twelve hours; with at most `rides` rides
+/// if that is given.
+#[derive(Clone, Copy)]
+pub struct Departing {
+    pub first: Sec,
+    pub last: Sec,
+    pub step: u32,
+    pub rides: Option<u32>,
+}
+
+/// What names the origins of a matrix.
+#[derive(Drop)]
+pub enum OriginsNamed<'a> {
+    /// The source.
+    Source,
+    /// A file of the folder.
+    File(PlannedFile<'a>),
+}
+
+/// A request for travel times over one day of a feed, from many origins to every stop.
+#[derive(Drop)]
+pub struct MatrixRequest<'a> {
+    pub options: Options,
+    /// How many workers share the origins, and before them the making of transfers: 1 to 64.
+    pub workers: u32,
+    /// As JSON, in place of lines of text.
+    pub json: bool,
+    /// As CSV, in place of both.
+    pub csv: bool,
+    pub dir: &'a str,
+    pub day: Day,
+    pub origins: OriginsNamed<'a>,
+    pub departing: Departing,
+}
+
+impl<'a> Model for MatrixRequest<'a> {
+    ghost use Rattle.command_line.specs.Matrices.{HasDepartures, MatrixRequestData};
+    ghost use Rattle.footpaths.specs.Limits.{AreWithinADay};
+    ghost use Rattle.tb_base.specs.Workers.{AreWorkers};
+
+    ghost Value = { MatrixRequestData };
+
+    ghost view = { λ r. record {
+      options = r.options;
+      workers = r.workers;
+      json = r.json;
+      csv = r.csv;
+      dir = r.dir.now;
+      date = r.day;
+      origins = r.origins;
+      departing = r.departing;
+    } };
+
+    ghost invariant = { λ r.
+        AreWithinADay r.options × AreWorkers r.workers × HasDepartures r.departing };
+}
+
 /// A request about a made city.
 #[derive(Drop)]
 pub struct CityRequest {
@@ -291,6 +349,8 @@ pub enum Request<'a> {
     Serve(ServeRequest<'a>),
     /// The replies to what comes, while days are published.
     Live(LiveRequest<'a>),
+    /// Travel times from the origins that a source names to every stop.
+    Matrix(MatrixRequest<'a>),
     /// What is built of a made city, and the best values between two of its corners.
     City(CityRequest),
     /// Whether the journey that a source claims is one, with its value.

@@ -34,6 +34,8 @@ pub(crate) struct Settings {
     pub mirror: bool,
     /// Answers as JSON, in place of texts.
     pub json: bool,
+    /// The rows of a matrix as CSV.
+    pub csv: bool,
 }
 
 // Seconds of a walk or a change.
@@ -150,5 +152,6 @@ pub(crate) fn settings_given(matches: &ArgMatches<'_>) -> Option<Settings>
         plain: is_given(matches, "plain"),
         mirror: is_given(matches, "mirror"),
         json: is_given(matches, "json"),
+        csv: is_given(matches, "csv"),
     })
 }

@@ -8,6 +8,7 @@ use crate::arguments::router_arguments;
 use crate::city::city_request;
 use crate::day::day_request_from;
 use crate::late_trips::late_request_from;
+use crate::matrix::matrix_request_from;
 use crate::plan::{live_request, serve_request};
 use crate::request::Request;
 use crate::settings::{Settings, settings_given};
@@ -35,6 +36,10 @@ fn request_named<'a>(
         },
         "live" => match live_request(alloc, settings, words)? {
             Some(request) => Ok(Some(Request::Live(request))),
+            None => Ok(None),
+        },
+        "matrix" => match matrix_request_from(alloc, settings, words)? {
+            Some(request) => Ok(Some(Request::Matrix(request))),
             None => Ok(None),
         },
         "city" => match city_request(settings, words) {
@@ -108,12 +113,13 @@ pub fn asks_json(words: &[String]) -> bool
 
 /// What the words mean, the program's name left out: `COMMAND WORDS` with the options `--change
 /// SECS`, `--station SECS`, `--workers N`, `--lanes N` and the flags `--close`, `--plain`,
-/// `--mirror` and `--json`, each at most once and anywhere before `--`; behind `--` every word is
-/// taken as it is. The commands are `direct DIR DATE FROM TO TIME`, `ask DIR DATE FROM TO TIME`,
-/// `profile DIR DATE FROM TO FIRST LAST`, `latest DIR DATE FROM TO TIME`, `reach DIR DATE FROM
-/// TIME`, `build DIR DATE`, `build DIR DATE list`, `verify DIR DATE FROM TO TIME`, `late DIR DATE
-/// FILE FROM TO TIME`, `serve DIR@DATE ..` and `live DIR@DATE ..` of 1 to 100 days, and `city N` of
-/// 2 to 40 rows. `None` comes exactly where the words have no meaning, `Memory` only for want of it.
+/// `--mirror`, `--json` and `--csv`, each at most once and anywhere before `--`; behind `--` every
+/// word is taken as it is. The commands are `direct DIR DATE FROM TO TIME`, `ask DIR DATE FROM TO
+/// TIME`, `profile DIR DATE FROM TO FIRST LAST`, `latest DIR DATE FROM TO TIME`, `reach DIR DATE
+/// FROM TIME`, `build DIR DATE`, `build DIR DATE list`, `verify DIR DATE FROM TO TIME`, `late DIR
+/// DATE FILE FROM TO TIME`, `matrix DIR DATE FILE FIRST LAST STEP` with or without `rides N`, `serve
+/// DIR@DATE ..` and `live DIR@DATE ..` of 1 to 100 days, and `city N` of 2 to 40 rows. `None` comes
+/// exactly where the words have no meaning, `Memory` only for want of it.
 pub fn request_of<'a>(alloc: Global, words: &'a [String]) -> Result<Option<Request<'a>>, Memory>
     ensures { IfOk result (λ request. request ≡ request_of (map string_bytes words.now)) }
 {

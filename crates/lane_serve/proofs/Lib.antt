@@ -14,3 +14,6 @@ pub mod LiveFirst
 mod LivePublisher
 mod LivedRuns
 mod LiveSent
+mod OriginLines
+mod OriginReplies
+mod Matrices

@@ -14,6 +14,7 @@ use Rattle.query_gate.proofs.Sent.{caller_send}
 use Rattle.edition_store.specs.contracts.edition.Edition as edition
 use Rattle.edition_store.specs.contracts.network.Network as network
 use Rattle.lane_serve.specs.contracts.live.office.Bureau as bureau
+use Rattle.lane_serve.specs.contracts.matrix.Clerk as clerk
 use Rattle.lane_serve.specs.contracts.run.Seated as seated
 use Rattle.lane_serve.specs.contracts.script.Lane as lane
 
@@ -29,6 +30,18 @@ network_sync = search (sendable, crosses) depth 40 fits 100000
 -- what lanes share: an edition
 pub edition_sync : IsSync edition.the_row
 edition_sync = search (network_sync, sendable, crosses) depth 40 fits 100000
+
+-- what answers origins
+pub clerk_sync : (κ : NamedLft) → IsSync (clerk.the_row κ)
+clerk_sync κ =
+    let parts : FieldsHave IsSync (clerk.the_type κ).parts = (
+      search (sendable, crosses) depth 40 fits 100000,
+      (
+        search (sendable, crosses) depth 40 fits 100000,
+        (search (edition_sync, sendable, crosses) depth 40 fits 100000, tt),
+      ),
+    ) in
+    declared_sync (clerk.the_type κ) parts
 
 pub bureau_sync : (κ : NamedLft) (G : RattleType) → IsSync G → IsSync (bureau.the_row κ G)
 bureau_sync κ G s =

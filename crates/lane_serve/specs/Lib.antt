@@ -16,3 +16,6 @@ pub mod Lending
 pub mod Live
 pub mod LivePublisher
 pub mod LiveSides
+pub mod Origins
+pub mod Rows
+pub mod Matrix

@@ -10,6 +10,7 @@
 //! the plan, that each reply is exactly that of the edition that it names (best values as in Witt,
 //! Trip-Based Public Transit Routing, ESA 2015), that a lane's editions never go back, and that
 //! each closing reply is the last edition's. `served_shown` shows all of it, as text or as JSON.
+//! `write_matrix` answers many origins over one edition, run after run.
 #![tactic(auto)]
 
 mod building;
@@ -17,8 +18,11 @@ mod json;
 mod lane;
 mod late_faults;
 mod live;
+mod matrix;
+mod origins;
 mod plan;
 mod publishing;
+mod rows;
 mod run;
 mod said;
 mod script;
@@ -28,7 +32,10 @@ pub use json::served_shown;
 pub use lane::{LaneReport, ReplyText, close_lane, run_lane};
 pub use late_faults::{add_late_fault_json, add_late_fault_text};
 pub use live::{LiveFault, LiveMode, run_live};
+pub use matrix::{MatrixFault, write_matrix};
+pub use origins::read_origins;
 pub use plan::{FeedDay, ItemSource, LateFile, Outcome, PlanItem, begins_with_day};
+pub use rows::{RowForm, TimesAsked};
 pub use run::{ServeFault, Served, serve};
 pub use script::{Lane, Line, Script, ScriptFault, read_script};
 pub use texts::served_text;

@@ -20,4 +20,4 @@ pub use lived::{LiveFault, run_live};
 pub(crate) use news::{Became, News, news_shown, tell_news};
 pub(crate) use running::{LinesFault, run_turns};
 pub use saying::LiveMode;
-pub(crate) use turn::LineSide;
+pub(crate) use turn::{LineSide, desks_for};

@@ -91,6 +91,8 @@ pub enum ScriptFault {
     BadTime(u32),
     /// More than 33,554,432 bytes.
     TooLong,
+    /// The file of origins isn't there. A script has no such fault.
+    MissingFile,
 }
 
 // A reader of a script: whether its replies are wanted as JSON, how many lines and requests it has

@@ -8,6 +8,7 @@ use Rattle.router_cli.proofs.Endings.{IsDetermined, day_completed}
 use Rattle.router_cli.proofs.Claims.{claim_unread, none_taken, verify_completed}
 use Rattle.router_cli.proofs.LateEndings.{late_completed}
 use Rattle.router_cli.proofs.Lives.{live_completed}
+use Rattle.router_cli.proofs.Matrices.{matrix_completed, origins_unread}
 use Rattle.router_cli.proofs.Runs.{run_completed}
 use Rattle.command_line.specs.Cities.{CityRequestData}
 use Rattle.router_cli.specs.Cities.{IsCityText, IsNoCityText}
@@ -25,6 +26,7 @@ unread (Some (request.Late r)) s told faults = (refl, refl)
 unread (Some (request.Serve r)) s told faults = none_taken told
 unread (Some (request.Live r)) s told faults = none_taken told
 unread (Some (request.Verify r)) s told faults = claim_unread s told faults
+unread (Some (request.Matrix r)) s told faults = origins_unread r.origins s told faults
 
 -- neither count rose
 none_rose : (a b c d : ℕ) → (a < b) ⊎ (c < d) → b ≡ a → d ≡ c → ⊥
@@ -69,6 +71,10 @@ completed determined (Some (request.Late r)) files told left s before now a b c 
 completed determined (Some (request.Live r)) files told left s before now a b c d e f promise read write =
     λ shown read_still take_still write_still day is.
     live_completed determined files shown a b told left r s before now promise
+    (λ h. none_rose a b c d (read h) read_still take_still) (λ h. not_risen e f (write h) write_still) day is
+completed determined (Some (request.Matrix r)) files told left s before now a b c d e f promise read write =
+    λ shown read_still take_still write_still day is.
+    matrix_completed determined files shown told r s before now promise
     (λ h. none_rose a b c d (read h) read_still take_still) (λ h. not_risen e f (write h) write_still) day is
 completed determined (Some (request.Serve r)) files None left s before now a b c d e f promise read write =
     λ shown read_still take_still write_still. tt

@@ -4,6 +4,7 @@ pub mod Runs
 pub mod Lives
 pub mod Claims
 pub mod LateEndings
+pub mod Matrices
 pub mod LastEdition
 pub mod Completed
 pub mod Written

@@ -24,6 +24,7 @@ no_usage : (files : Option FileList) (told : Option (List ℕ)) (r : Request) �
 no_usage files told (request.Day r) h = h
 no_usage files told (request.Serve r) h = h
 no_usage files told (request.Live r) h = h
+no_usage files told (request.Matrix r) h = h
 no_usage files told (request.City r) h = h
 no_usage files told (request.Verify r) h = h
 no_usage files told (request.Late r) h = h
@@ -32,6 +33,7 @@ not_done : (files : Option FileList) (told : Option (List ℕ)) (r : Request) �
 not_done files told (request.Day r) h = h
 not_done files told (request.Serve r) h = h
 not_done files told (request.Live r) h = h
+not_done files told (request.Matrix r) h = h
 not_done files told (request.City r) h = h
 not_done files told (request.Verify r) h = h
 not_done files told (request.Late r) h = h
@@ -40,6 +42,7 @@ not_begun : (files : Option FileList) (told : Option (List ℕ)) (r : Request) �
 not_begun files told (request.Day r) h = h
 not_begun files told (request.Serve r) h = h
 not_begun files told (request.Live r) h = h
+not_begun files told (request.Matrix r) h = h
 not_begun files told (request.City r) h = h
 not_begun files told (request.Verify r) h = h
 not_begun files told (request.Late r) h = h
@@ -103,6 +106,7 @@ promised files faults risen told left r text s before now is refused written = b
   by : (q : Request) → IfErr text IsUnwritten → IfOk text (λ v. IsRequestAnswer files told q v.items) → IfErr text (IsNoRequestAnswer files told q) →
       IsRequestOutcome files faults risen told left q s before now
   by (request.Live q) none is refused = no_text text is refused
+  by (request.Matrix q) none is refused = no_text text is refused
   by (request.Day q) none is refused = promised_by (IsRequestAnswer files told (request.Day q)) (IsNoRequestAnswer files told (request.Day q)) text s before now none is refused written
   by (request.Serve q) none is refused = promised_by (IsRequestAnswer files told (request.Serve q)) (IsNoRequestAnswer files told (request.Serve q)) text s before now none is refused written
   by (request.City q) none is refused = promised_by (IsRequestAnswer files told (request.City q)) (IsNoRequestAnswer files told (request.City q)) text s before now none is refused written
@@ -150,6 +154,7 @@ not_refused f (inr is) = cc
 pub first_in_part : (told : Option (List ℕ)) (r : Request) → TellsFirst told r status.Done → TellsFirst told r status.WriteFault
 first_in_part told (request.Day r) h = h
 first_in_part told (request.Live r) h = h
+first_in_part told (request.Matrix r) h = h
 first_in_part told (request.City r) h = h
 first_in_part told (request.Verify r) h = h
 first_in_part told (request.Late r) h = h
@@ -161,6 +166,7 @@ left_in_part : (r : Request) (before now : Option (List ℕ)) (faults risen : �
 left_in_part (request.Day r) before now faults risen h = h
 left_in_part (request.Serve r) before now faults risen h = h
 left_in_part (request.Live r) before now faults risen h = h
+left_in_part (request.Matrix r) before now faults risen h = h
 left_in_part (request.City r) before now faults risen h = h
 left_in_part (request.Verify r) before now faults risen h = h
 left_in_part (request.Late r) before now faults risen h = h
@@ -185,6 +191,7 @@ or_live (inr b) = inr (inl b)
 pub read_behind : (files : Option FileList) (told left : Option (List ℕ)) (r : Request) (text : Text) (before now : Option (List ℕ)) →
     IfOk text (λ v. IsRequestAnswer files told r v.items) → IfErr text (IsNoRequestAnswer files told r) → ReadsBehind files r → HasReadBehind files told left r before now
 read_behind files told left (request.Live q) text before now is refused h = no_text text is refused
+read_behind files told left (request.Matrix q) text before now is refused h = no_text text is refused
 read_behind files told left (request.Day q) text before now is refused h = h
 read_behind files told left (request.Serve q) text before now is refused h = h
 read_behind files told left (request.City q) text before now is refused h = h

@@ -5,5 +5,6 @@ pub mod Serving
 pub mod Living
 pub mod Verifying
 pub mod LateTrips
+pub mod Matrices
 pub mod Promise
 pub mod Refusals

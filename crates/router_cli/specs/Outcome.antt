@@ -45,6 +45,7 @@ script_fault_text (fault.TooManyLanes n) = codes "2 TooManyLanes line " ++ decim
 script_fault_text (fault.TooManyLines n) = codes "3 TooManyLines line " ++ decimal n
 script_fault_text (fault.BadTime n) = codes "4 BadTime line " ++ decimal n
 script_fault_text fault.TooLong = codes "5 TooLong"
+script_fault_text fault.MissingFile = codes "6 MissingFile"
 
 -- the same of a claim's fault
 abbrev pub journey_fault_text : JourneyFault → List ℕ
@@ -58,7 +59,7 @@ abbrev pub status_text : Status → List ℕ
 status_text status.Done = []
 status_text status.Usage =
     codes "usage: router [--change SECS] [--station SECS] [--close] [--workers N] [--plain]"
-    ++ codes " [--lanes N] [--mirror] COMMAND WORDS\n"
+    ++ codes " [--lanes N] [--mirror] [--csv] COMMAND WORDS\n"
 status_text (status.FeedRefused f) = codes "router: feed refused: " ++ fault_text f ++ codes "\n"
 status_text status.ReadFault = codes "router: read fault\n"
 status_text status.WriteFault = codes "router: write fault\n"

@@ -13,6 +13,7 @@ use Rattle.lane_serve.specs.Served.{FirstGives}
 use Rattle.router_cli.specs.Cities.{IsCityText, IsNoCityText}
 use Rattle.router_cli.specs.LateTrips.{IsLateAnswer, IsLateEnding, IsNoLateAnswer}
 use Rattle.router_cli.specs.Living.{IsLiveOutcome, first_items, mode_of}
+use Rattle.router_cli.specs.Matrices.{HasMatrixDay, IsMatrixEnding, IsMatrixOutcome, LeavesOrigins, naming_bytes}
 use Rattle.router_cli.specs.Outcome.{EndsBy, IsDayAnswer, IsDayEnding, IsDayOf, IsNoDayAnswer, Writes}
 use Rattle.router_cli.specs.Serving.{IsNoRunAnswer, IsRunAnswer, IsRunEnding, TellsScript, plan_of}
 use Rattle.router_cli.specs.Verifying.{HasDay, IsNoVerifyAnswer, IsVerifyAnswer, IsVerifyEnding, LeavesClaim}
@@ -20,9 +21,10 @@ use Rattle.router_cli.specs.declared.status.Status.{Status}
 use Rattle.router_cli.specs.declared.status.Status.TheVariants as status
 
 -- a request whose text is gathered before its first byte is written: any one but that for a
--- process that lives, which writes as it goes
+-- process that lives and that for a matrix, which write as they go
 abbrev pub IsGathered : Request → Type 0
 IsGathered (request.Live r) = ⊥
+IsGathered (request.Matrix r) = ⊥
 IsGathered r = ⊤
 
 -- the words ask for a process that lives
@@ -30,12 +32,19 @@ abbrev pub AskLive : Option Request → Type 0
 AskLive (Some (request.Live r)) = ⊤
 AskLive asked = ⊥
 
+-- the words ask for what is written as it is found
+abbrev pub WriteAsTheyGo : Option Request → Type 0
+WriteAsTheyGo (Some (request.Live r)) = ⊤
+WriteAsTheyGo (Some (request.Matrix r)) = ⊤
+WriteAsTheyGo asked = ⊥
+
 -- the bytes are what is written for a request whose text is gathered, by the files of a folder,
 -- where it tells them, and the bytes of a script, where its source tells them
 abbrev pub IsRequestAnswer : Option FileList → Option (List ℕ) → Request → List ℕ → Type 0
 IsRequestAnswer files told (request.Day r) = IsDayAnswer files r
 IsRequestAnswer files told (request.Serve r) = IsRunAnswer files told r
 IsRequestAnswer files told (request.Live r) = λ bytes. ⊥
+IsRequestAnswer files told (request.Matrix r) = λ bytes. ⊥
 IsRequestAnswer files told (request.City r) = IsCityText r.json r.side
 IsRequestAnswer files told (request.Verify r) = IsVerifyAnswer files told r
 IsRequestAnswer files told (request.Late r) = IsLateAnswer files r
@@ -45,6 +54,7 @@ abbrev pub IsNoRequestAnswer : Option FileList → Option (List ℕ) → Request
 IsNoRequestAnswer files told (request.Day r) = IsNoDayAnswer files r
 IsNoRequestAnswer files told (request.Serve r) = IsNoRunAnswer files told r
 IsNoRequestAnswer files told (request.Live r) = λ s. ⊥
+IsNoRequestAnswer files told (request.Matrix r) = λ s. ⊥
 IsNoRequestAnswer files told (request.City r) = IsNoCityText
 IsNoRequestAnswer files told (request.Verify r) = IsNoVerifyAnswer files told r
 IsNoRequestAnswer files told (request.Late r) = IsNoLateAnswer files r
@@ -56,6 +66,7 @@ abbrev pub IsRequestOutcome : Option FileList → ℕ → ℕ → Option (List �
     → Status → Option (List ℕ) → Option (List ℕ) → Type 0
 IsRequestOutcome files faults risen told left (request.Live r) =
     IsLiveOutcome files r.options (mode_of r) (first_items r) faults risen told left
+IsRequestOutcome files faults risen told left (request.Matrix r) = IsMatrixOutcome files told r
 IsRequestOutcome files faults risen told left r =
     Writes (IsRequestAnswer files told r) (IsNoRequestAnswer files told r)
 
@@ -70,6 +81,9 @@ IsRequestEnding files told (request.Serve r) s = IfSome told (λ bytes.
 IsRequestEnding files told (request.Live r) s =
     (day : Result TimetableData FeedFault) → FirstGives files r.options (first_items r) day →
     IsDayEnding day s
+IsRequestEnding files told (request.Matrix r) s =
+    (day : Result TimetableData FeedFault) → IsDayOf files r.dir r.date r.options day →
+    IsMatrixEnding (naming_bytes files told r.origins) day s
 IsRequestEnding files told (request.City r) s = EndsBy status.Done s
 IsRequestEnding files told (request.Verify r) s =
     (day : Result TimetableData FeedFault) → IsDayOf files r.dir r.date r.options day →
@@ -83,9 +97,10 @@ abbrev pub TellsFirst : Option (List ℕ) → Request → Status → Type 0
 TellsFirst told (request.Serve r) s = TellsScript r.json told s
 TellsFirst told r s = ⊤
 
--- what holds where a source failed: a claim is read only once the day has a timetable
+-- what holds where a source failed: a claim and origins are read only once the day has a timetable
 abbrev pub ReadsBehind : Option FileList → Request → Type 0
 ReadsBehind files (request.Verify r) = HasDay files r
+ReadsBehind files (request.Matrix r) = HasMatrixDay files r
 ReadsBehind files r = ⊤
 
 -- The same by the bytes of the source before and now, and those that a sink held before and holds
@@ -98,7 +113,7 @@ HasReadBehind files told left (request.Live r) before now =
 HasReadBehind files told left r before now = ReadsBehind files r
 
 -- What is left of a source, and its count of faults, before and now: only a run, a process that
--- lives and a claim take bytes of it, or meet its faults.
+-- lives, a claim and origins take bytes of it, or meet its faults.
 abbrev pub LeavesScript : Option Request → Status → Option (List ℕ) → Option (List ℕ) → ℕ → ℕ
     → Type 0
 LeavesScript (Some (request.Serve r)) s before now faults risen =
@@ -107,4 +122,6 @@ LeavesScript (Some (request.Live r)) s before now faults risen =
     (bs : List ℕ) × Consumes before now bs
 LeavesScript (Some (request.Verify r)) s before now faults risen =
     LeavesClaim s before now faults risen
+LeavesScript (Some (request.Matrix r)) s before now faults risen =
+    LeavesOrigins r.origins s before now faults risen
 LeavesScript asked s before now faults risen = (now ≡ before) × (risen ≡ faults)

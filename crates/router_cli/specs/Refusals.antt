@@ -19,6 +19,7 @@ script_fault_json (fault.TooManyLanes n) = line_fault_json 2 (codes "TooManyLane
 script_fault_json (fault.TooManyLines n) = line_fault_json 3 (codes "TooManyLines") (Some n)
 script_fault_json (fault.BadTime n) = line_fault_json 4 (codes "BadTime") (Some n)
 script_fault_json fault.TooLong = line_fault_json 5 (codes "TooLong") None
+script_fault_json fault.MissingFile = line_fault_json 6 (codes "MissingFile") None
 
 -- a claim's fault
 abbrev pub journey_fault_json : JourneyFault → List ℕ
@@ -46,7 +47,7 @@ abbrev pub status_json : Status → List ℕ
 status_json status.Done = []
 status_json status.Usage =
     ending_json 2 (codes "usage: router [--change SECS] [--station SECS] [--close] [--workers N]"
-    ++ codes " [--plain] [--lanes N] [--mirror] [--json] COMMAND WORDS")
+    ++ codes " [--plain] [--lanes N] [--mirror] [--csv] [--json] COMMAND WORDS")
 status_json (status.FeedRefused f) = refusal_json 3 (codes "feed refused") (fault_json f)
 status_json status.ReadFault = ending_json 4 (codes "read fault")
 status_json status.WriteFault = ending_json 5 (codes "write fault")

@@ -13,6 +13,7 @@ mod day;
 mod late_trips;
 mod living;
 mod made_city;
+mod matrix;
 mod over_table;
 mod program;
 mod refusals;

@@ -2,12 +2,13 @@
 ghost use Rattle.std.specs.Prelude.{◌≡◌, ◌⊎◌, ◌<◌, ◌-◌, ◌^◌, Err, IfErr, IfOk, IfSome, IsSome, None, Some, map, string_bytes};
 ghost use Rattle.command_line.specs.Requests.{request_of};
 ghost use Rattle.router_cli.specs.Outcome.{LeavesOutside, status_of_text};
-ghost use Rattle.router_cli.specs.Promise.{AskLive, HasReadBehind, IsGathered, IsNoRequestAnswer, IsRequestAnswer, IsRequestEnding, IsRequestOutcome, LeavesScript, ReadsBehind, TellsFirst};
+ghost use Rattle.router_cli.specs.Promise.{AskLive, HasReadBehind, IsGathered, IsNoRequestAnswer, IsRequestAnswer, IsRequestEnding, IsRequestOutcome, LeavesScript, ReadsBehind, TellsFirst, WriteAsTheyGo};
 
 use crate::day::day_text;
 use crate::late_trips::late_text;
 use crate::living::live_status;
 use crate::made_city::city_text;
+use crate::matrix::matrix_status;
 use crate::serving::run_text;
 use crate::status::Status;
 use crate::verifying::verify_text;
@@ -53,7 +54,7 @@ fn request_text<R: Threads + Wait + Sync, F: Folder + Send, S: Source, G: Gate>(
             text
         }
         Request::Serve(request) => run_text(rt, alloc, request, folder, source, gate),
-        Request::Live(_) => unreachable!(),
+        Request::Live(_) | Request::Matrix(_) => unreachable!(),
         Request::City(request) => {
             let workers = request.workers;
             Ok(city_text(rt, alloc, request.json, request.side, workers, gate)?)
@@ -76,16 +77,17 @@ fn request_text<R: Threads + Wait + Sync, F: Folder + Send, S: Source, G: Gate>(
 ///
 /// `Usage` comes only where the words have no meaning, and there nothing comes but it and `Memory`.
 /// With any status but `Done` and `WriteFault` nothing is written, since the whole text is gathered
-/// before its first byte is written; with `WriteFault` a first part of it. `live` alone writes as it
-/// goes, as the lines of the script come. It is JSON where the
-/// words ask for that. Whatever the folder is, what is written is the answer over sound timetables;
-/// where it tells its contents, over those of the days. A script is read by a run of several days
-/// alone; its first fault comes before what the feeds give. A claim is read from the same source,
-/// and nothing of it where the feed is refused. Its faults, and those of late trips, come only
-/// where the day has a timetable. Where a read fails, it is of the folder or of the source, and
-/// never of both. `Memory` may come at any time, and no fault in another status tells of it. Where
-/// contents are told and no count of faults rises, the end is the first fault, or `Done` where
-/// there is none; or `Memory`.
+/// before its first byte is written; with `WriteFault` a first part of it. Only `live` and `matrix`
+/// write as they go: `live` as the lines of the script come, `matrix` as rows are found, so that with
+/// `Memory` those of some first origins may be written. It is JSON where the words ask for that.
+/// Whatever the folder is, what is written is the answer over sound timetables; where it tells its
+/// contents, over those of the days. A script is read by a run of several days alone; its first fault
+/// comes before what the feeds give. A claim is read from the same source, and so are origins that no
+/// file names, and nothing of them where the feed is refused. The faults of both, and those of late
+/// trips, come only where the day has a timetable. Where a read fails, it is of the folder or of the
+/// source, and never of both. `Memory` may come at any time, and no fault in another status tells of
+/// it. Where contents are told and no count of faults rises, the end is the first fault, or `Done`
+/// where there is none; or `Memory`.
 ///
 /// For `live`, where the script tells its bytes, what is written with `Done` is for each of its lines
 /// in order the text of the right reply by the edition of which it is, and these never go back; the
@@ -129,7 +131,7 @@ pub fn route<R: Threads + Wait + Sync, F: Folder + Send, S: Source, K: Sink, G: 
         (K.written out.old) (K.written out.new)) }
     ensures quiet { (result ≡ Status.Done) ⊎ (result ≡ Status.WriteFault)
         ⊎ (K.written out.new ≡ K.written out.old)
-        ⊎ AskLive (request_of (map string_bytes words.now)) }
+        ⊎ WriteAsTheyGo (request_of (map string_bytes words.now)) }
     ensures read { result ≡ Status.ReadFault → (F.faults folder.old < F.faults folder.new)
         ⊎ (S.faults script.old < S.faults script.new) }
     ensures alone { (F.faults folder.new ≡ F.faults folder.old)
@@ -154,6 +156,11 @@ pub fn route<R: Threads + Wait + Sync, F: Folder + Send, S: Source, K: Sink, G: 
     match request_of(alloc, words) {
         Ok(Some(Request::Live(request))) => {
             live_status(rt, alloc, request, folder, script, out, gate)
+        }
+        Ok(Some(Request::Matrix(request))) => {
+            let status = matrix_status(rt, alloc, &request, folder, script, out, gate);
+            drop(request);
+            status
         }
         Ok(Some(request)) => {
             let text = request_text(rt, alloc, request, folder, script, gate);

@@ -19,7 +19,7 @@ use std::str;
 use tb_base::Memory;
 
 const USAGE: &[u8] =
-    b"usage: router [--change SECS] [--station SECS] [--close] [--workers N] [--plain] [--lanes N] [--mirror] [--json] COMMAND WORDS";
+    b"usage: router [--change SECS] [--station SECS] [--close] [--workers N] [--plain] [--lanes N] [--mirror] [--csv] [--json] COMMAND WORDS";
 
 // Adds a fault of a script.
 fn add_script_fault(text: &mut Text, fault: ScriptFault) -> Result<(), Memory>
@@ -31,6 +31,7 @@ fn add_script_fault(text: &mut Text, fault: ScriptFault) -> Result<(), Memory>
         ScriptFault::TooManyLines(line) => add_line_fault(text, 3, b"TooManyLines", Some(line)),
         ScriptFault::BadTime(line) => add_line_fault(text, 4, b"BadTime", Some(line)),
         ScriptFault::TooLong => add_line_fault(text, 5, b"TooLong", None),
+        ScriptFault::MissingFile => add_line_fault(text, 6, b"MissingFile", None),
     }
 }
 

@@ -12,7 +12,7 @@ use std::alloc::Global;
 use tb_base::Memory;
 
 const USAGE: &[u8] =
-    b"usage: router [--change SECS] [--station SECS] [--close] [--workers N] [--plain] [--lanes N] [--mirror] COMMAND WORDS\n";
+    b"usage: router [--change SECS] [--station SECS] [--close] [--workers N] [--plain] [--lanes N] [--mirror] [--csv] COMMAND WORDS\n";
 
 /// How the program ends. No status but `Memory` tells of want of memory.
 #[derive(Debug, Drop)]
@@ -175,6 +175,7 @@ fn script_row(fault: ScriptFault) -> (&'static [u8], Option<u32>)
         ScriptFault::TooManyLines(line) => (b"3 TooManyLines".as_slice(), Some(line)),
         ScriptFault::BadTime(line) => (b"4 BadTime".as_slice(), Some(line)),
         ScriptFault::TooLong => (b"5 TooLong".as_slice(), None),
+        ScriptFault::MissingFile => (b"6 MissingFile".as_slice(), None),
     }
 }
 

@@ -26,6 +26,8 @@ returns c =
     ∙ ap₂ with_rule plain c.flag-3.ensures.rule in
     let json = c.in_ok-arg-8.ensures.shape c.flag-4.ensures.here
     ∙ ap₂ with_rule mirror c.flag-4.ensures.rule in
-    IfOk-weaker c.arg-9.result _ _
-    (λ command added. added.shape c.words.ensures.here ∙ ap₂ with_rule json c.words.ensures.rule)
-    c.arg-9.ensures
+    let csv = c.in_ok-arg-9.ensures.shape c.flag-5.ensures.here
+    ∙ ap₂ with_rule json c.flag-5.ensures.rule in
+    IfOk-weaker c.arg-10.result _ _
+    (λ command added. added.shape c.words.ensures.here ∙ ap₂ with_rule csv c.words.ensures.rule)
+    c.arg-10.ensures

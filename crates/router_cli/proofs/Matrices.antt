@@ -1,0 +1,203 @@
+-- How the program ends about a matrix, and what it leaves of the source.
+use Rattle.std.proofs.Common.{◌≡◌, ℕ, ◌<◌, ◌⊎◌, arith, inl, inr, List, length, true, Option, Some, None, Result, Ok, Err, ap, refl, sym, subst}
+use Rattle.std.specs.Prelude.{IfSome, IsSome, nat_lt}
+use Rattle.std.proofs.lemmas.Bool.Decides.{nat_tests}
+use Rattle.tb_base.specs.TimetableData.{TimetableData}
+use Rattle.gtfs_rows.specs.declared.fault.FeedFault.{FeedFault}
+use Rattle.tb_io.specs.Files.{FileList, file_at}
+use Rattle.trip_table.specs.Answers.{feed_of}
+use Rattle.command_line.specs.Matrices.{MatrixRequestData}
+use Rattle.command_line.specs.declared.request.OriginsNamed.{OriginsNamed}
+use Rattle.command_line.specs.declared.request.OriginsNamed.TheVariants as by
+use Rattle.lane_serve.specs.Origins.{origins_of}
+use Rattle.lane_serve.specs.declared.script.ScriptFault.{ScriptFault}
+use Rattle.lane_serve.specs.declared.script.ScriptFault.TheVariants as fault
+use Rattle.router_cli.proofs.Claims.{claim_unread}
+use Rattle.router_cli.proofs.Endings.{IsDetermined}
+use Rattle.router_cli.specs.Matrices.{IsMatrixEnding, IsMatrixOutcome, IsMatrixOver, IsOriginsEnding, IsTooLong, LeavesNaming, LeavesOrigins, NameNone, NameOrigins, Origins, WritesRows, naming_bytes, origins_in}
+use Rattle.router_cli.specs.Outcome.{GivesDay, IsDayOf, IsNoTable, LeavesOutside}
+use Rattle.router_cli.specs.Verifying.{LeavesClaim}
+use Rattle.router_cli.specs.declared.status.Status.{Status}
+use Rattle.router_cli.specs.declared.status.Status.TheVariants as status
+
+-- what the source tells is what was taken of it
+pub source_told : (files : Option FileList) (told : Option (List ℕ)) (bytes : List ℕ) → IfSome told (λ all. bytes ≡ all) → IfSome (naming_bytes files told by.Source) (λ found. Some bytes ≡ found)
+source_told files None bytes whole = tt
+source_told files (Some all) bytes whole = ap Some whole
+
+pub source_too_long : (files : Option FileList) (told : Option (List ℕ)) → IfSome told (λ bytes. 33554432 < length bytes) → IfSome (naming_bytes files told by.Source) IsTooLong
+source_too_long files None large = tt
+source_too_long files (Some bytes) large = large
+
+-- what the folder tells is what was taken of it
+pub file_told : (files : Option FileList) (told : Option (List ℕ)) (path : List ℕ) (taken : Option (List ℕ)) → IfSome files (λ fs. taken ≡ file_at fs path) →
+    IfSome (naming_bytes files told (by.File path)) (λ found. taken ≡ found)
+file_told None told path taken whole = tt
+file_told (Some fs) told path taken whole = whole
+
+large_one : (found : Option (List ℕ)) → IfSome found (λ bytes. 33554432 < length bytes) → IsSome found → IsTooLong found
+large_one None large there = absurd there
+large_one (Some bytes) large there = large
+
+pub file_too_long : (files : Option FileList) (told : Option (List ℕ)) (path : List ℕ) → IfSome files (λ fs. IfSome (file_at fs path) (λ bytes. 33554432 < length bytes)) →
+    IfSome files (λ fs. IsSome (file_at fs path)) → IfSome (naming_bytes files told (by.File path)) IsTooLong
+file_too_long None told path large there = tt
+file_too_long (Some fs) told path large there = large_one (file_at fs path) large there
+
+-- the origins of what was taken
+pub named : (naming : Option (Option (List ℕ))) (taken : Option (List ℕ)) (result : Origins) → IfSome naming (λ found. taken ≡ found) → origins_in taken ≡ result → NameOrigins naming result
+named None taken result whole is = tt
+named (Some found) taken result whole is = subst (λ f. origins_in f ≡ result) whole is
+
+too_long : (bytes : List ℕ) → 33554432 < length bytes → origins_of bytes ≡ Err fault.TooLong
+too_long bytes large =
+    let more : nat_lt 33554432 (length bytes) ≡ true = grind (arith, nat_tests, large) in
+    rw (more) refl
+
+pub too_long_named : (naming : Option (Option (List ℕ))) → IfSome naming IsTooLong → NameOrigins naming (Err fault.TooLong)
+too_long_named None large = tt
+too_long_named (Some None) large = absurd large
+too_long_named (Some (Some bytes)) large = too_long bytes large
+
+for_memory : (m : Origins) → IsOriginsEnding m status.Memory
+for_memory (Ok origins) = inr refl
+for_memory (Err f) = inr refl
+
+out_of_memory : (naming : Option (Option (List ℕ))) (day : Result TimetableData FeedFault) → IsMatrixEnding naming day status.Memory
+out_of_memory None (Ok T) = tt
+out_of_memory (Some found) (Ok T) = for_memory (origins_in found)
+out_of_memory naming (Err f) = inr refl
+
+with_origins : (naming : Option (Option (List ℕ))) (T : TimetableData) (origins : List (List ℕ)) → NameOrigins naming (Ok origins) → IsMatrixEnding naming (Ok T) status.Done
+with_origins None T origins h = tt
+with_origins (Some found) T origins h = subst (λ m. IsOriginsEnding m status.Done) (sym h) (inl refl)
+
+without_origins : (naming : Option (Option (List ℕ))) (T : TimetableData) (f : ScriptFault) → NameOrigins naming (Err f) → IsMatrixEnding naming (Ok T) (status.ScriptRefused f)
+without_origins None T f h = tt
+without_origins (Some found) T f h = subst (λ m. IsOriginsEnding m (status.ScriptRefused f)) (sym h) (inl refl)
+
+pub matrix_completed : IsDetermined → (files : Option FileList) → IsSome files → (told : Option (List ℕ)) (r : MatrixRequestData) (s : Status) (before now : Option (List ℕ)) →
+    IsMatrixOutcome files told r s before now → (s ≡ status.ReadFault → ⊥) → (s ≡ status.WriteFault → ⊥) →
+    (day : Result TimetableData FeedFault) → IsDayOf files r.dir r.date r.options day → IsMatrixEnding (naming_bytes files told r.origins) day s
+matrix_completed same files shown told r status.Done before now h read write day given =
+    subst (λ d. IsMatrixEnding (naming_bytes files told r.origins) d status.Done) (same (feed_of files r.dir) r.date r.options (Ok h.table) day (h.day.1 shown) given)
+    (with_origins (naming_bytes files told r.origins) h.table h.rows.origins h.rows.named)
+matrix_completed same files shown told r status.Usage before now h read write day given = absurd h
+matrix_completed same files shown told r (status.FeedRefused f) before now h read write day given =
+    subst (λ d. IsMatrixEnding (naming_bytes files told r.origins) d (status.FeedRefused f)) (same (feed_of files r.dir) r.date r.options (Err f) day (h.0.1 shown) given) (inl refl)
+matrix_completed same files shown told r status.ReadFault before now h read write day given = absurd (read refl)
+matrix_completed same files shown told r status.WriteFault before now h read write day given = absurd (write refl)
+matrix_completed same files shown told r status.Memory before now h read write day given = out_of_memory (naming_bytes files told r.origins) day
+matrix_completed same files shown told r (status.ScriptRefused f) before now h read write day given =
+    subst (λ d. IsMatrixEnding (naming_bytes files told r.origins) d (status.ScriptRefused f)) (same (feed_of files r.dir) r.date r.options (Ok h.0.0) day (h.0.1.1 shown) given)
+    (without_origins (naming_bytes files told r.origins) h.0.0 f h.1)
+matrix_completed same files shown told r (status.LateRefused f) before now h read write day given = absurd h
+matrix_completed same files shown told r (status.JourneyRefused f) before now h read write day given = absurd h
+
+-- over the timetable of the day
+pub over_day : (files : Option FileList) (told : Option (List ℕ)) (r : MatrixRequestData) (T : TimetableData) (s : Status) (before now : Option (List ℕ)) →
+    GivesDay files r.dir r.date r.options (Ok T) → IsMatrixOver r T (naming_bytes files told r.origins) s before now → IsMatrixOutcome files told r s before now
+over_day files told r T status.Done before now day h = record { table = T; day = day; rows = h }
+over_day files told r T status.WriteFault before now day h = record { table = T; day = day; rows = h }
+over_day files told r T status.Memory before now day (inl same) = inl same
+over_day files told r T status.Memory before now day (inr rows) = inr (record { table = T; day = day; rows = rows })
+over_day files told r T status.ReadFault before now day h = h
+over_day files told r T (status.ScriptRefused f) before now day h = ((T, day), h.0, h.1)
+over_day files told r T status.Usage before now day h = absurd h
+over_day files told r T (status.FeedRefused f) before now day h = absurd h
+over_day files told r T (status.LateRefused f) before now day h = absurd h
+over_day files told r T (status.JourneyRefused f) before now day h = absurd h
+
+-- what was written of origins that are named
+pub written_over : (r : MatrixRequestData) (T : TimetableData) (naming : Option (Option (List ℕ))) (origins : List (List ℕ)) (s : Status) (before now : Option (List ℕ)) → NameOrigins naming (Ok origins) →
+    ((s ≡ status.Memory) × (now ≡ before)) ⊎ WritesRows r T origins s before now → IsMatrixOver r T naming s before now
+written_over r T naming origins status.Done before now names (inl none) = absurd (let is = none.0 in cc)
+written_over r T naming origins status.Done before now names (inr rows) = record { origins = origins; named = names; written = rows }
+written_over r T naming origins status.Usage before now names (inl none) = absurd (let is = none.0 in cc)
+written_over r T naming origins status.Usage before now names (inr rows) = absurd rows
+written_over r T naming origins (status.FeedRefused f) before now names (inl none) = absurd (let is = none.0 in cc)
+written_over r T naming origins (status.FeedRefused f) before now names (inr rows) = absurd rows
+written_over r T naming origins status.ReadFault before now names (inl none) = absurd (let is = none.0 in cc)
+written_over r T naming origins status.ReadFault before now names (inr rows) = absurd rows
+written_over r T naming origins status.WriteFault before now names (inl none) = absurd (let is = none.0 in cc)
+written_over r T naming origins status.WriteFault before now names (inr rows) = record { origins = origins; named = names; written = rows }
+written_over r T naming origins status.Memory before now names (inl none) = inl none.1
+written_over r T naming origins status.Memory before now names (inr rows) = inr (record { origins = origins; named = names; written = rows })
+written_over r T naming origins (status.ScriptRefused f) before now names (inl none) = absurd (let is = none.0 in cc)
+written_over r T naming origins (status.ScriptRefused f) before now names (inr rows) = absurd rows
+written_over r T naming origins (status.LateRefused f) before now names (inl none) = absurd (let is = none.0 in cc)
+written_over r T naming origins (status.LateRefused f) before now names (inr rows) = absurd rows
+written_over r T naming origins (status.JourneyRefused f) before now names (inl none) = absurd (let is = none.0 in cc)
+written_over r T naming origins (status.JourneyRefused f) before now names (inr rows) = absurd rows
+
+-- no read fails once there are origins
+pub never_unread : (r : MatrixRequestData) (T : TimetableData) (origins : List (List ℕ)) (s : Status) (before now : Option (List ℕ)) → ((s ≡ status.Memory) × (now ≡ before)) ⊎ WritesRows r T origins s before now →
+    s ≡ status.ReadFault → ⊥
+never_unread r T origins s before now (inl none) is = let memory = none.0 in cc
+never_unread r T origins s before now (inr rows) is = subst (λ x. WritesRows r T origins x before now) is rows
+
+-- no origins are named
+pub unnamed_over : (r : MatrixRequestData) (T : TimetableData) (naming : Option (Option (List ℕ))) (s : Status) (before : Option (List ℕ)) → NameNone naming s → IsMatrixOver r T naming s before before
+unnamed_over r T naming status.Done before h = absurd h
+unnamed_over r T naming status.Usage before h = absurd h
+unnamed_over r T naming (status.FeedRefused f) before h = absurd h
+unnamed_over r T naming status.ReadFault before h = refl
+unnamed_over r T naming status.WriteFault before h = absurd h
+unnamed_over r T naming status.Memory before h = inl refl
+unnamed_over r T naming (status.ScriptRefused f) before h = (h, refl)
+unnamed_over r T naming (status.LateRefused f) before h = absurd h
+unnamed_over r T naming (status.JourneyRefused f) before h = absurd h
+
+-- what is left of the source that names origins
+leaves_named : (r : MatrixRequestData) (T : TimetableData) (naming : Option (Option (List ℕ))) (told left : Option (List ℕ)) (faults risen : ℕ) (s : Status) (before now : Option (List ℕ)) → IsMatrixOver r T naming s before now →
+    LeavesNaming by.Source (s ≡ status.ReadFault) told left faults risen → LeavesClaim s told left faults risen
+leaves_named r T naming told left faults risen status.Done before now h taken = taken.1
+leaves_named r T naming told left faults risen status.Usage before now h taken = absurd h
+leaves_named r T naming told left faults risen (status.FeedRefused f) before now h taken = absurd h
+leaves_named r T naming told left faults risen status.ReadFault before now h taken = (λ still. absurd (let rose = taken.0 refl in omega (arith, rose, still)), taken.1)
+leaves_named r T naming told left faults risen status.WriteFault before now h taken = taken.1
+leaves_named r T naming told left faults risen status.Memory before now h taken = taken.1
+leaves_named r T naming told left faults risen (status.ScriptRefused f) before now h taken = taken.1
+leaves_named r T naming told left faults risen (status.LateRefused f) before now h taken = absurd h
+leaves_named r T naming told left faults risen (status.JourneyRefused f) before now h taken = absurd h
+
+pub leaves_over : (o : OriginsNamed) (r : MatrixRequestData) (T : TimetableData) (naming : Option (Option (List ℕ))) (told left : Option (List ℕ)) (faults risen : ℕ) (s : Status) (before now : Option (List ℕ)) → IsMatrixOver r T naming s before now →
+    LeavesNaming o (s ≡ status.ReadFault) told left faults risen → LeavesOrigins o s told left faults risen
+leaves_over by.Source r T naming told left faults risen s before now h taken = leaves_named r T naming told left faults risen s before now h taken
+leaves_over (by.File path) r T naming told left faults risen s before now h same = same
+
+-- what is left of a source of which nothing was read
+pub origins_unread : (o : OriginsNamed) (s : Status) (told : Option (List ℕ)) (faults : ℕ) → LeavesOrigins o s told told faults faults
+origins_unread by.Source s told faults = claim_unread s told faults
+origins_unread (by.File path) s told faults = (refl, refl)
+
+-- what is left, by what tells of a read that failed
+pub left_as : (o : OriginsNamed) (Failed Other : Type 0) (told left : Option (List ℕ)) (faults risen : ℕ) → (Other → Failed) → LeavesNaming o Failed told left faults risen → LeavesNaming o Other told left faults risen
+left_as by.Source Failed Other told left faults risen from taken = (λ h. taken.0 (from h), taken.1)
+left_as (by.File path) Failed Other told left faults risen from same = same
+
+kept_as : {Failed Other Kept : Type 0} → (Failed → Other) → Failed ⊎ Kept → Other ⊎ Kept
+kept_as to (inl failed) = inl (to failed)
+kept_as to (inr kept) = inr kept
+
+pub outside_as : (Failed Other : Type 0) (files files_now : Option FileList) (folder folder_now source source_now : ℕ) → (Failed → Other) → (Other → Failed) → LeavesOutside Failed files files_now folder folder_now source source_now →
+    LeavesOutside Other files files_now folder folder_now source source_now
+outside_as Failed Other files files_now folder folder_now source source_now to from l = record {
+  files = l.files;
+  read = λ h. l.read (from h);
+  alone = l.alone;
+  folder_kept = kept_as to l.folder_kept;
+  source_kept = kept_as to l.source_kept;
+}
+
+-- a day that has no timetable
+pub without_day : (files : Option FileList) (told : Option (List ℕ)) (r : MatrixRequestData) (faults risen : ℕ) (s : Status) (before : Option (List ℕ)) → IsNoTable files r.dir r.date r.options faults risen s → IsMatrixOutcome files told r s before before
+without_day files told r faults risen status.Done before h = absurd h
+without_day files told r faults risen status.Usage before h = absurd h
+without_day files told r faults risen (status.FeedRefused f) before h = (h.0, refl)
+without_day files told r faults risen status.ReadFault before h = refl
+without_day files told r faults risen status.WriteFault before h = absurd h
+without_day files told r faults risen status.Memory before h = inl refl
+without_day files told r faults risen (status.ScriptRefused f) before h = absurd h
+without_day files told r faults risen (status.LateRefused f) before h = absurd h
+without_day files told r faults risen (status.JourneyRefused f) before h = absurd h
