@@ -1,7 +1,4 @@
-mod files;
-mod journeys;
-mod lanes;
+mod keys;
+mod machine;
 mod marks;
-mod readers;
-mod stores;
-mod workers;
+mod streams;

@@ -10,6 +10,8 @@
 //! - `between:DIR@DATE` holds them against one another over one day of a feed, between all of its
 //!   stops;
 //! - `late:COUNT` holds editions that late trips amend against editions that are built anew;
+//! - `callers:DIR@DATE:DIR@DATE` writes what callers are told of one day, and of another one that is
+//!   published then;
 //! - `METHOD:COUNT:DIR@DATE` measures so many random questions over one day of a feed.
 //!
 //! A COUNT of feeds is one of seeds, from 1 on, or from the one that stands behind, as in
@@ -19,6 +21,7 @@
 #![tactic(auto)]
 
 mod building;
+mod callers;
 mod cases;
 mod comparing;
 mod feed_day;
@@ -28,9 +31,11 @@ mod questions;
 mod stopped;
 mod ways;
 
+use callers::{tell, tell_alone};
 use cases::trial::CaseTally;
 use cases::try_cases;
 use comparing::{compare, compare_between};
+use feed_day::FeedDay;
 use made_feeds::words_of;
 use measuring::measure;
 use part::{Part, parts_of};
@@ -43,6 +48,16 @@ use std::thread::Threads;
 use std::time::CpuClock;
 use stopped::Stopped;
 
+fn tell_both<R: Threads + Wait + Sync + Files + Print + Eprint>(
+    rt: &R,
+    alloc: Global,
+    first: &FeedDay<'_>,
+    second: &FeedDay<'_>,
+) -> Result<(), Stopped> {
+    tell(rt, alloc, first, second)?;
+    tell_alone(rt, alloc, first)
+}
+
 fn try_part<R: Threads + Wait + Sync + Files + CpuClock + Print + Eprint>(
     rt: &R,
     alloc: Global,
@@ -54,6 +69,7 @@ fn try_part<R: Threads + Wait + Sync + Files + CpuClock + Print + Eprint>(
         Part::Cases(path) => try_cases(rt, alloc, path, tally),
         Part::Compared(comparison) => compare(rt, alloc, *comparison, desk),
         Part::Between(feed) => compare_between(rt, alloc, feed, desk),
+        Part::Told(first, second) => tell_both(rt, alloc, first, second),
         Part::Measured(measurement) => measure(rt, alloc, measurement, desk),
     }
 }
@@ -107,8 +123,9 @@ fn code_of<R: Threads + Wait + Sync + Files + CpuClock + Print + Eprint>(
 // Writes how the program is used, and says with which number to end then.
 fn write_usage(rt: &impl Eprint) -> u8 {
     let _ = eprintln!(rt;
-        "usage: trials PART.. (FILE, COMPARISON:COUNT[:SEED], between:DIR@DATE, METHOD:COUNT:DIR@DATE)"
+        "usage: trials PART.. (FILE, COMPARISON:COUNT[:SEED], between:DAY, callers:DAY:DAY, METHOD:COUNT:DAY)"
     );
+    let _ = eprintln!(rt; "DAY: DIR@DATE");
     let _ = eprintln!(rt; "COMPARISON: answers|broken|late");
     let _ = eprintln!(rt; "METHOD: search|plain|profile|reach|latest|pin|publish");
     2

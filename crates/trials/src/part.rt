@@ -14,8 +14,16 @@ pub enum Part<'a> {
     Compared(Comparison),
     /// Ways to an answer are compared over a day of a feed, between all of its stops.
     Between(FeedDay<'a>),
+    /// It is written what callers are told of a day of a feed, and then of another one.
+    Told(FeedDay<'a>, FeedDay<'a>),
     /// Questions are measured.
     Measured(Measurement<'a>),
+}
+
+// The part that two days of feeds name.
+fn told_of(text: &str) -> Option<Part<'_>> {
+    let (first, second) = text.split_once(':')?;
+    Some(Part::Told(FeedDay::of_text(first)?, FeedDay::of_text(second)?))
 }
 
 // The part of a word; none where it has no meaning.
@@ -27,6 +35,7 @@ fn part_of(word: &str) -> Option<Part<'_>> {
         "answers" => Some(Part::Compared(Comparison::Answers(Seeds::of_text(rest)?))),
         "between" => Some(Part::Between(FeedDay::of_text(rest)?)),
         "broken" => Some(Part::Compared(Comparison::Broken(Seeds::of_text(rest)?))),
+        "callers" => told_of(rest),
         "late" => Some(Part::Compared(Comparison::Late(Seeds::of_text(rest)?))),
         _ => Some(Part::Measured(Measurement::of_text(method_named(name)?, rest)?)),
     }

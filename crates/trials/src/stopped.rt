@@ -1,4 +1,5 @@
 //! Why the program ends early.
+use tb_base::Memory;
 
 /// Why the program ends before its last part is done, or with something wrong. All but a want of
 /// memory has been written.
@@ -22,5 +23,11 @@ impl Stopped {
             Stopped::NoTimetable => 3,
             Stopped::Memory => 6,
         }
+    }
+}
+
+impl From<Memory> for Stopped {
+    fn from(_memory: Memory) -> Stopped {
+        Stopped::Memory
     }
 }

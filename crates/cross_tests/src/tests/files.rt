@@ -1,6 +1,0 @@
-//! Files, output and scripts.
-mod breaking;
-mod keys;
-mod machine;
-mod pieces;
-mod streams;
