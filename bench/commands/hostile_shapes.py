@@ -3,15 +3,16 @@
 Writes each shape at one size, at twice and at four times that size, and runs over it the command
 that the shape makes costly. Prints status and first line, the processor seconds of each size, by
 how much they grow, and what `direct`, which only reads, takes over the largest one. Time that grows
-with the bytes doubles from size to size. With `--most`, names on standard error the shapes that
-grow by more, and ends with status 1. Shapes of keys that collide need a C compiler.
+with the bytes doubles from size to size. With `--most` or `--reading`, names on standard error the
+shapes that grow by more, or that take more beside reading, and ends with status 1. Shapes of keys
+that collide need a C compiler.
 """
 import argparse
 import os
 import sys
 import tempfile
 
-from feeds.shapes import SHAPES
+from feeds.shapes import GROUPS, SHAPES
 from harness import DAY, Run, Table, commit_of, count, known, megabytes_of, router
 
 # What takes less seconds than this tells nothing of growth.
@@ -19,11 +20,13 @@ LEAST = 0.05
 
 
 def add_arguments(parser):
-    names = " ".join(SHAPES)
-    parser.add_argument("names", metavar="NAME", nargs="*", help=f"of {names} (else all)")
+    names = f"of {' '.join([*SHAPES, *GROUPS])} (else all)"
+    parser.add_argument("names", metavar="NAME", nargs="*", help=names)
     larger = "makes all sizes so many times as great (else 1)"
     parser.add_argument("--scale", type=scale, default=1, help=larger)
     parser.add_argument("--most", type=scale, help="how many times as long twice the size may take")
+    reading = "how many times as long as reading the largest size may take"
+    parser.add_argument("--reading", type=scale, help=reading)
     limit = "seconds of processor time after which a run ends (else 60)"
     parser.add_argument("--limit", type=count, default=60, help=limit)
 
@@ -81,10 +84,19 @@ def growth(taken, least):
     return [later / max(least, sooner) for sooner, later in zip(taken, taken[1:])]
 
 
+def faults_of(taken, reading, words):
+    """What is wrong with these seconds, of what is asked for; where a run didn't end, all of it."""
+    ended = len(taken) == 3
+    if words.most and not (ended and max(growth(taken, LEAST)) <= words.most):
+        yield "grew by more"
+    if words.reading and not (ended and taken[-1] <= words.reading * max(LEAST, reading)):
+        yield "took more beside reading"
+
+
 def run(words):
-    names = known(words.names, SHAPES)
+    names = known([shape for name in words.names for shape in GROUPS.get(name, [name])], SHAPES)
     program = router()
-    grown_more = []
+    faults = {"grew by more": [], "took more beside reading": []}
     table = Table(
         commit_of(program),
         "shape",
@@ -111,8 +123,8 @@ def run(words):
             taken.append(ended.seconds)
             if ended.status == "SIGXCPU":
                 break
-        if words.most and (len(taken) < 3 or max(growth(taken, LEAST)) > words.most):
-            grown_more.append(name)
+        for fault in faults_of(taken, reading.seconds, words):
+            faults[fault].append(name)
         table.row(
             name.replace("_", " "),
             f"`{shape.command}`",
@@ -125,9 +137,10 @@ def run(words):
             f"{megabytes:.1f}",
             f"{ended.megabytes:.0f}",
         )
-    if grown_more:
-        print(f"bench: these grew by more: {' '.join(grown_more)}", file=sys.stderr)
-    return 1 if grown_more else 0
+    for fault, shapes in faults.items():
+        if shapes:
+            print(f"bench: these {fault}: {' '.join(shapes)}", file=sys.stderr)
+    return 1 if any(faults.values()) else 0
 
 
 def padded(cells, length):

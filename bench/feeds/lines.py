@@ -103,19 +103,46 @@ def overtaking_by_turns(folder, n):
     running(folder, n, calls)
 
 
-def overtaking_one_by_one(folder, n):
-    """The same; of 64 trips one is early at one stop, and one at another, so that the earliest times
-    of many lines don't tell whether one of them can be joined.
+def early_of(period):
+    """The calls of trips that overtake between their ends; of so many one is early at one stop, and
+    one at another, so that the earliest times of as many lines don't tell whether one of them can
+    be joined.
     """
 
     def calls(i):
         q, r = divmod(i, TIED)
         one, other = (240_000 - q, 242_000 + r), 310_000 - r
-        if i % 64 == 0:
+        if i % period == 0:
             one, other = (139_000 - q * 3 // 10, 242_000), 345_000
-        if i % 64 == 1:
+        if i % period == 1:
             one, other = (241_000, 242_000), 290_000 - q * 4 // 10
         return [(q, q, "A"), (*one, "C"), (other, 345_000, "D"), (359_000, 359_000, "B")]
+
+    return calls
+
+
+def overtaking_one_by_one(folder, n):
+    """Two of each 64 trips are early."""
+    running(folder, n, early_of(64))
+
+
+def overtaking_seldom(folder, n):
+    """Two of each 4,096 trips are early."""
+    running(folder, n, early_of(4096))
+
+
+def overtaking_where_lines_end_late(folder, n):
+    """Half of the trips open lines, and each other one joins the first that none of these has joined,
+    so that the lines behind which it comes begin early and end late.
+    """
+
+    def calls(i):
+        first, (arrival, departure, stop), _, last = between(i)
+        if i < n // 2:
+            arrival, other = arrival - 60_000, 230_000 - i % TIED
+        else:
+            arrival, departure, other = arrival + n // 10, 228_000, 235_000 - i % TIED
+        return [first, (arrival, departure, stop), (other, 235_000, "D"), last]
 
     running(folder, n, calls)
 
@@ -142,6 +169,18 @@ def random_throughout(folder, n):
         return [(time, time, "ACDB"[stop]) for stop, time in enumerate(times)]
 
     running(folder, n, calls)
+
+
+def random_on_long_trips(folder, n):
+    """Trips of ten stops, at each of which but their ends they stand in a random order."""
+    drawn = random.Random(7)
+
+    def calls(i):
+        times = [110_000 + stop * 15_000 + drawn.randrange(12_000) for stop in range(8)]
+        middle = [(time, time, f"P{stop}") for stop, time in enumerate(times)]
+        return [(i // TIED, i // TIED, "A"), *middle, (240_000 + i // TIED,) * 2 + ("B",)]
+
+    running(folder, n // 2, calls, stop_rows(8))
 
 
 def random_ends(folder, n):
@@ -306,16 +345,18 @@ def patterns_of_marks(folder, n):
     smallest.write_rows(folder, "stop_times.txt", TIMES, rows())
 
 
-SHAPES = (
-    in_order,
+OVERTAKING = (
     overtaking,
     overtaking_between,
     overtaking_with_equal_ends,
     overtaking_at_the_first_stop,
     overtaking_by_turns,
     overtaking_one_by_one,
+    overtaking_seldom,
+    overtaking_where_lines_end_late,
     random_between,
     random_throughout,
+    random_on_long_trips,
     random_ends,
     two_classes,
     many_classes,
@@ -325,6 +366,10 @@ SHAPES = (
     overtaking_late_on_long_trips,
     overtaking_in_rings,
     overtaking_in_many_patterns,
+)
+SHAPES = (
+    in_order,
+    *OVERTAKING,
     patterns_of_two_stops,
     patterns_that_collide,
     patterns_with_a_long_beginning,

@@ -371,3 +371,5 @@ SHAPES = {
     **{make.__name__: Shape(make, *how) for make, how in OTHERS.items()},
     "footpaths_between_all_to_close": Shape(footpaths_between_all, 250_000, "close"),
 }
+# A name for several shapes.
+GROUPS = {"trips_that_overtake": [make.__name__ for make in lines.OVERTAKING]}

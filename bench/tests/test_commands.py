@@ -1,4 +1,5 @@
 """Tests of what the commands share, with programs of the system in place of the proved ones."""
+import argparse
 import collections
 import contextlib
 import io
@@ -8,7 +9,7 @@ import sys
 import tempfile
 import unittest
 
-from commands import documents
+from commands import documents, hostile_shapes
 from feeds import city, collisions, network, shapes
 from harness import TOP, BenchError, Run, Table, commit, commit_of, done, limited, write
 
@@ -113,6 +114,23 @@ class Feeds(unittest.TestCase):
             hashes = (collisions.name_hash(name, start) for name in collisions.names(1000))
             most = collections.Counter(number % groups for number in hashes).most_common(1)
             self.assertLess(most[0][1], 40)
+
+
+class Hostile(unittest.TestCase):
+    def faults(self, taken, reading):
+        words = argparse.Namespace(most=2.3, reading=10)
+        return list(hostile_shapes.faults_of(taken, reading, words))
+
+    def test_what_is_too_slow(self):
+        self.assertEqual([], self.faults([1, 2, 4], 0.5))
+        self.assertEqual(["grew by more"], self.faults([1, 2, 5], 1))
+        self.assertEqual(["took more beside reading"], self.faults([1, 2, 4], 0.3))
+        self.assertEqual(2, len(self.faults([1, 2], 1)))
+        self.assertEqual([], self.faults([0.01, 0.02, 0.1], 0.01))
+
+    def test_a_name_for_several(self):
+        for names in shapes.GROUPS.values():
+            self.assertTrue(set(names) <= set(shapes.SHAPES))
 
 
 class Words(unittest.TestCase):
