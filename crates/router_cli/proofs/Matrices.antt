@@ -1,63 +1,20 @@
 -- How the program ends about a matrix, and what it leaves of the source.
-use Rattle.std.proofs.Common.{◌≡◌, ℕ, ◌<◌, ◌⊎◌, arith, inl, inr, List, length, true, Option, Some, None, Result, Ok, Err, ap, refl, sym, subst}
-use Rattle.std.specs.Prelude.{IfSome, IsSome, nat_lt}
-use Rattle.std.proofs.lemmas.Bool.Decides.{nat_tests}
+use Rattle.std.proofs.Common.{◌≡◌, ℕ, ◌⊎◌, inl, inr, List, Option, Some, None, Result, Ok, Err, refl, sym, subst}
+use Rattle.std.specs.Prelude.{IsSome}
 use Rattle.tb_base.specs.TimetableData.{TimetableData}
 use Rattle.gtfs_rows.specs.declared.fault.FeedFault.{FeedFault}
-use Rattle.tb_io.specs.Files.{FileList, file_at}
+use Rattle.tb_io.specs.Files.{FileList}
 use Rattle.trip_table.specs.Answers.{feed_of}
 use Rattle.command_line.specs.Matrices.{MatrixRequestData}
 use Rattle.command_line.specs.declared.request.OriginsNamed.{OriginsNamed}
 use Rattle.command_line.specs.declared.request.OriginsNamed.TheVariants as by
-use Rattle.lane_serve.specs.Origins.{origins_of}
 use Rattle.lane_serve.specs.declared.script.ScriptFault.{ScriptFault}
-use Rattle.lane_serve.specs.declared.script.ScriptFault.TheVariants as fault
 use Rattle.router_cli.proofs.Claims.{claim_unread}
 use Rattle.router_cli.proofs.Endings.{IsDetermined}
-use Rattle.router_cli.specs.Matrices.{IsMatrixEnding, IsMatrixOutcome, IsMatrixOver, IsOriginsEnding, IsTooLong, LeavesNaming, LeavesOrigins, NameNone, NameOrigins, Origins, WritesRows, naming_bytes, origins_in}
-use Rattle.router_cli.specs.Outcome.{GivesDay, IsDayOf, IsNoTable, LeavesOutside}
-use Rattle.router_cli.specs.Verifying.{LeavesClaim}
+use Rattle.router_cli.specs.Matrices.{IsMatrixEnding, IsMatrixOutcome, IsMatrixOver, IsOriginsEnding, LeavesOrigins, NameNone, NameOrigins, Origins, WritesRows, naming_bytes, origins_in}
+use Rattle.router_cli.specs.Outcome.{GivesDay, IsDayOf, IsNoTable}
 use Rattle.router_cli.specs.declared.status.Status.{Status}
 use Rattle.router_cli.specs.declared.status.Status.TheVariants as status
-
--- what the source tells is what was taken of it
-pub source_told : (files : Option FileList) (told : Option (List ℕ)) (bytes : List ℕ) → IfSome told (λ all. bytes ≡ all) → IfSome (naming_bytes files told by.Source) (λ found. Some bytes ≡ found)
-source_told files None bytes whole = tt
-source_told files (Some all) bytes whole = ap Some whole
-
-pub source_too_long : (files : Option FileList) (told : Option (List ℕ)) → IfSome told (λ bytes. 33554432 < length bytes) → IfSome (naming_bytes files told by.Source) IsTooLong
-source_too_long files None large = tt
-source_too_long files (Some bytes) large = large
-
--- what the folder tells is what was taken of it
-pub file_told : (files : Option FileList) (told : Option (List ℕ)) (path : List ℕ) (taken : Option (List ℕ)) → IfSome files (λ fs. taken ≡ file_at fs path) →
-    IfSome (naming_bytes files told (by.File path)) (λ found. taken ≡ found)
-file_told None told path taken whole = tt
-file_told (Some fs) told path taken whole = whole
-
-large_one : (found : Option (List ℕ)) → IfSome found (λ bytes. 33554432 < length bytes) → IsSome found → IsTooLong found
-large_one None large there = absurd there
-large_one (Some bytes) large there = large
-
-pub file_too_long : (files : Option FileList) (told : Option (List ℕ)) (path : List ℕ) → IfSome files (λ fs. IfSome (file_at fs path) (λ bytes. 33554432 < length bytes)) →
-    IfSome files (λ fs. IsSome (file_at fs path)) → IfSome (naming_bytes files told (by.File path)) IsTooLong
-file_too_long None told path large there = tt
-file_too_long (Some fs) told path large there = large_one (file_at fs path) large there
-
--- the origins of what was taken
-pub named : (naming : Option (Option (List ℕ))) (taken : Option (List ℕ)) (result : Origins) → IfSome naming (λ found. taken ≡ found) → origins_in taken ≡ result → NameOrigins naming result
-named None taken result whole is = tt
-named (Some found) taken result whole is = subst (λ f. origins_in f ≡ result) whole is
-
-too_long : (bytes : List ℕ) → 33554432 < length bytes → origins_of bytes ≡ Err fault.TooLong
-too_long bytes large =
-    let more : nat_lt 33554432 (length bytes) ≡ true = grind (arith, nat_tests, large) in
-    rw (more) refl
-
-pub too_long_named : (naming : Option (Option (List ℕ))) → IfSome naming IsTooLong → NameOrigins naming (Err fault.TooLong)
-too_long_named None large = tt
-too_long_named (Some None) large = absurd large
-too_long_named (Some (Some bytes)) large = too_long bytes large
 
 for_memory : (m : Origins) → IsOriginsEnding m status.Memory
 for_memory (Ok origins) = inr refl
@@ -130,12 +87,6 @@ written_over r T naming origins (status.LateRefused f) before now names (inr row
 written_over r T naming origins (status.JourneyRefused f) before now names (inl none) = absurd (let is = none.0 in cc)
 written_over r T naming origins (status.JourneyRefused f) before now names (inr rows) = absurd rows
 
--- no read fails once there are origins
-pub never_unread : (r : MatrixRequestData) (T : TimetableData) (origins : List (List ℕ)) (s : Status) (before now : Option (List ℕ)) → ((s ≡ status.Memory) × (now ≡ before)) ⊎ WritesRows r T origins s before now →
-    s ≡ status.ReadFault → ⊥
-never_unread r T origins s before now (inl none) is = let memory = none.0 in cc
-never_unread r T origins s before now (inr rows) is = subst (λ x. WritesRows r T origins x before now) is rows
-
 -- no origins are named
 pub unnamed_over : (r : MatrixRequestData) (T : TimetableData) (naming : Option (Option (List ℕ))) (s : Status) (before : Option (List ℕ)) → NameNone naming s → IsMatrixOver r T naming s before before
 unnamed_over r T naming status.Done before h = absurd h
@@ -148,47 +99,15 @@ unnamed_over r T naming (status.ScriptRefused f) before h = (h, refl)
 unnamed_over r T naming (status.LateRefused f) before h = absurd h
 unnamed_over r T naming (status.JourneyRefused f) before h = absurd h
 
--- what is left of the source that names origins
-leaves_named : (r : MatrixRequestData) (T : TimetableData) (naming : Option (Option (List ℕ))) (told left : Option (List ℕ)) (faults risen : ℕ) (s : Status) (before now : Option (List ℕ)) → IsMatrixOver r T naming s before now →
-    LeavesNaming by.Source (s ≡ status.ReadFault) told left faults risen → LeavesClaim s told left faults risen
-leaves_named r T naming told left faults risen status.Done before now h taken = taken.1
-leaves_named r T naming told left faults risen status.Usage before now h taken = absurd h
-leaves_named r T naming told left faults risen (status.FeedRefused f) before now h taken = absurd h
-leaves_named r T naming told left faults risen status.ReadFault before now h taken = (λ still. absurd (let rose = taken.0 refl in omega (arith, rose, still)), taken.1)
-leaves_named r T naming told left faults risen status.WriteFault before now h taken = taken.1
-leaves_named r T naming told left faults risen status.Memory before now h taken = taken.1
-leaves_named r T naming told left faults risen (status.ScriptRefused f) before now h taken = taken.1
-leaves_named r T naming told left faults risen (status.LateRefused f) before now h taken = absurd h
-leaves_named r T naming told left faults risen (status.JourneyRefused f) before now h taken = absurd h
-
-pub leaves_over : (o : OriginsNamed) (r : MatrixRequestData) (T : TimetableData) (naming : Option (Option (List ℕ))) (told left : Option (List ℕ)) (faults risen : ℕ) (s : Status) (before now : Option (List ℕ)) → IsMatrixOver r T naming s before now →
-    LeavesNaming o (s ≡ status.ReadFault) told left faults risen → LeavesOrigins o s told left faults risen
-leaves_over by.Source r T naming told left faults risen s before now h taken = leaves_named r T naming told left faults risen s before now h taken
-leaves_over (by.File path) r T naming told left faults risen s before now h same = same
+-- what is left is the same where the rows are written in part
+pub origins_in_part : (o : OriginsNamed) (before now : Option (List ℕ)) (faults risen : ℕ) → LeavesOrigins o status.Done before now faults risen → LeavesOrigins o status.WriteFault before now faults risen
+origins_in_part by.Source before now faults risen h = h
+origins_in_part (by.File path) before now faults risen h = h
 
 -- what is left of a source of which nothing was read
 pub origins_unread : (o : OriginsNamed) (s : Status) (told : Option (List ℕ)) (faults : ℕ) → LeavesOrigins o s told told faults faults
 origins_unread by.Source s told faults = claim_unread s told faults
 origins_unread (by.File path) s told faults = (refl, refl)
-
--- what is left, by what tells of a read that failed
-pub left_as : (o : OriginsNamed) (Failed Other : Type 0) (told left : Option (List ℕ)) (faults risen : ℕ) → (Other → Failed) → LeavesNaming o Failed told left faults risen → LeavesNaming o Other told left faults risen
-left_as by.Source Failed Other told left faults risen from taken = (λ h. taken.0 (from h), taken.1)
-left_as (by.File path) Failed Other told left faults risen from same = same
-
-kept_as : {Failed Other Kept : Type 0} → (Failed → Other) → Failed ⊎ Kept → Other ⊎ Kept
-kept_as to (inl failed) = inl (to failed)
-kept_as to (inr kept) = inr kept
-
-pub outside_as : (Failed Other : Type 0) (files files_now : Option FileList) (folder folder_now source source_now : ℕ) → (Failed → Other) → (Other → Failed) → LeavesOutside Failed files files_now folder folder_now source source_now →
-    LeavesOutside Other files files_now folder folder_now source source_now
-outside_as Failed Other files files_now folder folder_now source source_now to from l = record {
-  files = l.files;
-  read = λ h. l.read (from h);
-  alone = l.alone;
-  folder_kept = kept_as to l.folder_kept;
-  source_kept = kept_as to l.source_kept;
-}
 
 -- a day that has no timetable
 pub without_day : (files : Option FileList) (told : Option (List ℕ)) (r : MatrixRequestData) (faults risen : ℕ) (s : Status) (before : Option (List ℕ)) → IsNoTable files r.dir r.date r.options faults risen s → IsMatrixOutcome files told r s before before

@@ -6,6 +6,7 @@ use Rattle.tb_io.specs.Files.{FileList}
 use Rattle.command_line.specs.declared.request.Request.{Request}
 use Rattle.command_line.specs.declared.request.Request.TheVariants as request
 use Rattle.lane_serve.specs.declared.script.ScriptFault.{ScriptFault}
+use Rattle.router_cli.proofs.Matrices.{origins_in_part}
 use Rattle.router_cli.specs.Outcome.{IsUnwritten, Writes, WritesText, status_of_text}
 use Rattle.router_cli.specs.Promise.{HasReadBehind, IsNoRequestAnswer, IsRequestAnswer, IsRequestOutcome, LeavesScript, ReadsBehind, TellsFirst}
 use Rattle.router_cli.specs.declared.status.Status.{Status}
@@ -166,7 +167,7 @@ left_in_part : (r : Request) (before now : Option (List â„•)) (faults risen : â„
 left_in_part (request.Day r) before now faults risen h = h
 left_in_part (request.Serve r) before now faults risen h = h
 left_in_part (request.Live r) before now faults risen h = h
-left_in_part (request.Matrix r) before now faults risen h = h
+left_in_part (request.Matrix r) before now faults risen h = origins_in_part r.origins before now faults risen h
 left_in_part (request.City r) before now faults risen h = h
 left_in_part (request.Verify r) before now faults risen h = h
 left_in_part (request.Late r) before now faults risen h = h

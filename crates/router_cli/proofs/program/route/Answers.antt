@@ -79,3 +79,11 @@ returns-in-Ok-Some-Live-clause-complete g c =
     let done = c.live_status.ensures in
     rw (sym at.ensures, at.field-0-is, at.field-0-0-is)
     (completed c.timetable_determined.ensures (Some (request.Live at.request)) _ _ _ c.live_status.result _ _ _ _ _ _ _ _ done.outcome done.read done.write)
+
+pub returns-in-Ok-Some-Matrix-clause-complete : goal.returns-in-Ok-Some-Matrix-clause-complete
+returns-in-Ok-Some-Matrix-clause-complete g c =
+    let at = c.in-Ok-Some-Matrix in
+    let told = g.S.Source.left c.args.script.now in
+    let done = c.matrix_status-status.ensures in
+    rw (sym at.ensures, at.field-0-is, at.field-0-0-is)
+    (completed c.timetable_determined.ensures (Some (request.Matrix at.request)) _ told told c.matrix_status-status.result _ _ _ _ _ _ _ _ done.outcome done.read done.write)
