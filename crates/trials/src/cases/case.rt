@@ -1,7 +1,7 @@
 //! What a case says.
 use super::feeds;
 use super::feeds::Files;
-use super::question::{AskedOf, CaseQuestion, byte_of};
+use super::question::{AskedOf, CaseQuestion, byte_of, numbered};
 use super::untried::Untried;
 use gtfs_rows::number_of;
 use std::alloc::{AllocError, Global};
@@ -121,8 +121,7 @@ impl Case {
             return Ok(false);
         };
         for number in 0..count {
-            let number = format!(in alloc; "{number}")?;
-            let row = text.replace(alloc, "#", number.as_str())?;
+            let row = numbered(alloc, text, number)?;
             if !self.add_text(row.as_str(), "\n")? {
                 return Ok(false);
             }

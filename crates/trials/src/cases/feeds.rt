@@ -41,6 +41,24 @@ pub fn host_file<R: rt::Files>(
     }
 }
 
+// Adds a file of a feed where it is there, and says whether it is.
+fn add_file<R: rt::Files>(
+    rt: &R,
+    alloc: Global,
+    name: &str,
+    file: &str,
+    files: &mut Files,
+) -> Result<bool, Untried> {
+    let path = format!(in alloc; "feeds/{name}/{file}")?;
+    match host_file(rt, alloc, path.as_str())? {
+        Some(bytes) => {
+            files.push((format!(in alloc; "{name}/{file}")?, bytes))?;
+            Ok(true)
+        }
+        None => Ok(false),
+    }
+}
+
 /// Adds the files of a feed, and says how many it has.
 pub fn add_feed<R: rt::Files>(
     rt: &R,
@@ -50,9 +68,7 @@ pub fn add_feed<R: rt::Files>(
 ) -> Result<usize, Untried> {
     let mut count: usize = 0;
     for file in NAMES {
-        let path = format!(in alloc; "feeds/{name}/{file}")?;
-        if let Some(bytes) = host_file(rt, alloc, path.as_str())? {
-            files.push((format!(in alloc; "{name}/{file}")?, bytes))?;
+        if add_file(rt, alloc, name, file, files)? {
             count = count.saturating_add(1);
         }
     }

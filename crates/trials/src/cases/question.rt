@@ -135,6 +135,12 @@ fn turns_of(line: &str) -> Option<Turns> {
     })
 }
 
+/// A text with a number in place of each `#`.
+pub fn numbered(alloc: Global, text: &str, number: u32) -> Result<String, AllocError> {
+    let number = format!(in alloc; "{number}")?;
+    text.replace(alloc, "#", number.as_str())
+}
+
 impl CaseQuestion {
     /// The question of a line. As long as nothing else is said, nothing goes wrong, it has to end
     /// well, and to write nothing.
@@ -172,8 +178,7 @@ impl CaseQuestion {
             return Ok(false);
         };
         for number in 0..count {
-            let number = format!(in alloc; "{number}")?;
-            let line = text.replace(alloc, "#", number.as_str())?;
+            let line = numbered(alloc, text, number)?;
             self.add_script(line.as_str(), "\n")?;
         }
         Ok(self.asked == AskedOf::Program)

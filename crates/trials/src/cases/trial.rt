@@ -236,29 +236,95 @@ fn bad_ending<R: Threads + Wait + Sync>(
     bad_turn(rt, alloc, case, question, turns, turns.count)
 }
 
-// Writes what a question came to.
-fn write_ending(rt: &impl Print, question: &CaseQuestion, came: &Ending) {
+// Writes a word behind others.
+fn write_word(rt: &impl Print, word: &str) {
+    let _ = print!(rt; " {word}");
+}
+
+// Writes a line that begins with a word that says what it is.
+fn write_line(rt: &impl Print, what: &str, line: &str) {
+    let _ = println!(rt; "{what} {line}");
+}
+
+// Writes the lines of a text, each behind that word.
+fn write_lines(rt: &impl Print, what: &str, text: &str) {
+    for line in text.lines() {
+        write_line(rt, what, line);
+    }
+}
+
+// Writes what is asked, without the end of its line.
+fn write_question(rt: &impl Print, question: &CaseQuestion) {
     let asked = match question.asked {
         AskedOf::Program => "words",
         AskedOf::Paths => "paths",
     };
     let _ = print!(rt; "{asked}");
     for word in &question.words {
-        let _ = print!(rt; " {word}");
+        write_word(rt, word.as_str());
     }
-    for (hold, is_met) in question.holds.iter().zip(came.met.iter()) {
-        let word = if *is_met { "meets" } else { "misses" };
-        let _ = print!(rt; "\n{word} {}", hold.text);
+}
+
+// Writes the end of a line, and whether a piece of work was let on while it was held.
+fn write_hold(rt: &impl Print, hold: &Hold, is_met: bool) {
+    let word = if is_met { "meets" } else { "misses" };
+    let _ = print!(rt; "\n{word} {}", hold.text);
+}
+
+fn write_holds(rt: &impl Print, holds: &[Hold], met: &[bool]) {
+    for (hold, is_met) in holds.iter().zip(met.iter()) {
+        write_hold(rt, hold, *is_met);
     }
-    let _ = println!(rt; "\nstatus {}", came.code);
+}
+
+// Writes the end of a line, and the number with which a question ended.
+fn write_code(rt: &impl Print, code: u8) {
+    let _ = println!(rt; "\nstatus {code}");
+}
+
+// Writes what a question came to.
+fn write_ending(rt: &impl Print, question: &CaseQuestion, came: &Ending) {
+    write_question(rt, question);
+    write_holds(rt, question.holds.as_slice(), came.met.as_slice());
+    write_code(rt, came.code);
     if came.is_called_again {
-        let _ = println!(rt; "# something was called after it failed");
+        write_line(rt, "#", "something was called after it failed");
     }
-    for line in text_of(came.out.as_slice()).lines() {
-        let _ = println!(rt; "out {line}");
+    write_lines(rt, "out", text_of(came.out.as_slice()));
+    write_lines(rt, "err", text_of(came.err.as_slice()));
+}
+
+// Writes what a question came to, where it isn't as it has to be, and under which title if that isn't
+// written yet.
+fn write_bad(
+    rt: &impl Print,
+    title: &str,
+    is_written: bool,
+    question: &CaseQuestion,
+    came: &Ending,
+) {
+    if !is_written {
+        write_line(rt, "differs", title);
     }
-    for line in text_of(came.err.as_slice()).lines() {
-        let _ = println!(rt; "err {line}");
+    write_ending(rt, question, came);
+}
+
+// Tries a question, and writes what came where that isn't as it has to be. It says whether it is.
+fn try_question<R: Threads + Wait + Sync + Print>(
+    rt: &R,
+    alloc: Global,
+    case: &Case,
+    question: &CaseQuestion,
+    is_written: bool,
+) -> Result<bool, Memory> {
+    match bad_ending(rt, alloc, case, question) {
+        Ok(Some(came)) => {
+            write_bad(rt, case.title.as_str(), is_written, question, &came);
+            drop(came);
+            Ok(false)
+        }
+        Ok(None) => Ok(true),
+        Err(Memory) => Err(Memory),
     }
 }
 
@@ -270,19 +336,14 @@ pub fn try_case<R: Threads + Wait + Sync + Print>(
     case: &Case,
     tally: &mut CaseTally,
 ) -> Result<(), Untried> {
-    let title = case.title.as_str();
     let mut differs = false;
     for question in &case.questions {
-        if let Some(came) = bad_ending(rt, alloc, case, question)? {
-            if !differs {
-                let _ = println!(rt; "differs {title}");
-            }
+        if !try_question(rt, alloc, case, question, differs)? {
             differs = true;
-            write_ending(rt, question, &came);
         }
     }
     if !differs {
-        let _ = println!(rt; "ok {title}");
+        write_line(rt, "ok", case.title.as_str());
     }
     tally.add(case.questions.len(), differs);
     Ok(())
