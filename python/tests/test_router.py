@@ -298,6 +298,11 @@ class Updates(unittest.TestCase):
         self.assertFalse(os.path.exists(path))
 
 
+def state(pid):
+    """What the system says that a process does: T, if it is stopped."""
+    return Path(f"/proc/{pid}/stat").read_text().rpartition(")")[2].split()[0]
+
+
 class Threads(unittest.TestCase):
     def test_each_gets_its_own_answers(self):
         def ask(thread):
@@ -313,6 +318,9 @@ class Threads(unittest.TestCase):
         with router() as it, ThreadPoolExecutor(8) as threads:
             # a process that stands still reads what is there once it goes on
             os.kill(it.pid, signal.SIGSTOP)
+            end = time.monotonic() + LONG
+            while state(it.pid) != "T" and time.monotonic() < end:
+                time.sleep(0.01)
             asked = [threads.submit(it.reach, "turn", 0) for _ in range(8)]
             end = time.monotonic() + LONG
             while len(it._process._written) < 8 and time.monotonic() < end:

@@ -73,6 +73,7 @@ class Publication(Generic[V]):
         self._read = read
         self._refused = refused
         self._edition: Future[V] = Future()
+        self._remove: Callable[[], object] = lambda: None
 
     def wait(self, timeout: float | None = None) -> V:
         """The edition of the day, once it is there: what is asked from then on is answered by it or
@@ -90,11 +91,13 @@ class Publication(Generic[V]):
 
     def remove_behind(self, path: str) -> None:
         """Has a file that was made for it removed: once it is told, or nobody waits for it."""
-        removed = weakref.finalize(self, remove, path, os.getpid())
+        removed = self._remove = weakref.finalize(self, remove, path, os.getpid())
         self._edition.add_done_callback(lambda _: removed())
 
     def tell(self, said: Json) -> None:
         """What the process says of the day."""
+        # (before anybody who waits goes on)
+        self._remove()
         if "fault" in said:
             self._edition.set_exception(self._refused(said["fault"]))
         elif "message" in said:
