@@ -387,7 +387,7 @@ OTHERS = {
     publications_of_live: (1_000, "live"),
     updates_of_live: (1_000, "live"),
     origins: (50_000, "matrix"),
-    origins_of_long_names: (10_000, "matrix"),
+    origins_of_long_names: (8_000, "matrix"),
     remarks_between_origins: (4_000_000, "matrix"),
     rides_of_a_claim: (6_000, "verify"),
     rides_of_a_claim_on_one_trip: (6_000, "verify"),
