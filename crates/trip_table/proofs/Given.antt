@@ -7,7 +7,7 @@ use Rattle.tb_base.specs.Walking.{KeepsFootpathLaw}
 use Rattle.gtfs_rows.specs.Steps.{and_then, prepend}
 use Rattle.gtfs_rows.specs.Columns.{row_limit}
 use Rattle.gtfs_rows.specs.Faults.{wrong_after}
-use Rattle.gtfs_rows.specs.RawRows.{RawRow, shape, table, typed_rows}
+use Rattle.gtfs_rows.specs.RawRows.{RawRow, shape}
 use Rattle.gtfs_rows.specs.StopsFile.{StopData, stop_row, is_platform}
 use Rattle.gtfs_rows.specs.TransfersFile.{TakesAtMostADay, TransferData, transfer_row}
 use Rattle.gtfs_rows.specs.declared.fault.FeedFile.{FeedFile}
@@ -22,7 +22,7 @@ use Rattle.footpaths.specs.Law.{IsFirstBreach}
 use Rattle.tb_base.specs.Soundness.{IsSoundFootpaths}
 use Rattle.footpaths.proofs.Sound.{secs_day, sound_paths}
 use Rattle.tb_base.proofs.Lists.{length-filter_le}
-use Rattle.trip_table.specs.Feed.{Feed, sized, rows_in, file_rows, or_missing, required}
+use Rattle.trip_table.specs.Feed.{Feed, shaped, file_rows, or_missing, required}
 use Rattle.trip_table.specs.References.{Rows, rows_of, stops_of, services_of, trips_of, times_of, transfer_rows_of, transfers_of, frequencies_of}
 use Rattle.trip_table.specs.Day.{DayParts, day_parts, given_footpaths, trips_on, breach_fault, timetable, KeepTheLaw, AreClosedOrTested, IsTimetableOf, IsTimetableOfParts, Then}
 use Rattle.trip_table.proofs.DayTrips.{unless_wrong-value}
@@ -52,24 +52,19 @@ shape_few file read room [] xs e = let same : [] ≡ xs = cc in omega (arith, ap
 shape_few file read zero (raw ∷ rest) xs e = absurd (cc)
 shape_few file read (suc room) (raw ∷ rest) xs e = row_few (read raw) (shape file read room rest) xs room (shape_few file read room rest) e
 
-typed_few : {A : Type 0} (file : FeedFile) (read : RawRow → Result (Option A) FeedFault) (text : List ℕ) (xs : List A) → typed_rows file read text ≡ Ok xs → length xs ≤ row_limit file
-typed_few file read text xs e =
-    let raw_rows = stepped (table file text) (shape file read (row_limit file)) xs e in
-    shape_few file read (row_limit file) raw_rows.0 xs raw_rows.2
-
--- the bytes of which a file's rows come
-bytes_of : {A : Type 0} (file : FeedFile) (read : RawRow → Result (Option A) FeedFault) (bytes : Option (List ℕ)) (xs : List A) → rows_in file read bytes ≡ Ok (Some xs) → (text : List ℕ) × (typed_rows file read text ≡ Ok xs)
-bytes_of file read None xs e = absurd (let c : (let r : Result (Option (List _)) FeedFault = Ok None in r) ≡ Ok (Some xs) = e in cc)
-bytes_of file read (Some text) xs e =
-    let rows = stepped (typed_rows file read text) (λ rows. Ok (Some rows)) (Some xs) e in
+-- the rows of which a file's typed rows come
+shaped_of : {A : Type 0} (file : FeedFile) (read : RawRow → Result (Option A) FeedFault) (rows : Option (List RawRow)) (xs : List A) → shaped file read rows ≡ Ok (Some xs) → (raw_rows : List RawRow) × (shape file read (row_limit file) raw_rows ≡ Ok xs)
+shaped_of file read None xs e = absurd (let c : (let r : Result (Option (List _)) FeedFault = Ok None in r) ≡ Ok (Some xs) = e in cc)
+shaped_of file read (Some raw_rows) xs e =
+    let rows = stepped (shape file read (row_limit file) raw_rows) (λ rows. Ok (Some rows)) (Some xs) e in
     let some : Some rows.0 ≡ Some xs = one_value (Some rows.0) (Some xs) rows.2 in
     let same : rows.0 ≡ xs = cc in
-    (text, rows.1 ∙ ap Ok same)
+    (raw_rows, rows.1 ∙ ap Ok same)
 
-text_of : {A : Type 0} (feed : Feed) (file : FeedFile) (read : RawRow → Result (Option A) FeedFault) (xs : List A) → file_rows feed file read ≡ Ok (Some xs) → (text : List ℕ) × (typed_rows file read text ≡ Ok xs)
-text_of feed file read xs e =
-    let bytes = stepped (sized file (feed file)) (rows_in file read) (Some xs) e in
-    bytes_of file read bytes.0 xs bytes.2
+rows_of_file : {A : Type 0} (feed : Feed) (file : FeedFile) (read : RawRow → Result (Option A) FeedFault) (xs : List A) → file_rows feed file read ≡ Ok (Some xs) → (raw_rows : List RawRow) × (shape file read (row_limit file) raw_rows ≡ Ok xs)
+rows_of_file feed file read xs e =
+    let rows = stepped (feed file) (shaped file read) (Some xs) e in
+    shaped_of file read rows.0 xs rows.2
 
 there : {A : Type 0} (file : FeedFile) (o : Option (List A)) (xs : List A) → or_missing file o ≡ Ok xs → o ≡ Some xs
 there file None xs e = absurd (cc)
@@ -80,9 +75,9 @@ few_stops : (feed : Feed) (stops : List StopData) → stops_of feed ≡ Ok stops
 few_stops feed stops e =
     let rows = stepped (required feed file.Stops stop_row) check_stops stops e in
     let read = stepped (file_rows feed file.Stops stop_row) (or_missing file.Stops) rows.0 rows.1 in
-    let text = text_of feed file.Stops stop_row rows.0 (read.1 ∙ ap Ok (there file.Stops read.0 rows.0 read.2)) in
+    let raw_rows = rows_of_file feed file.Stops stop_row rows.0 (read.1 ∙ ap Ok (there file.Stops read.0 rows.0 read.2)) in
     let same : rows.0 ≡ stops = unless_wrong-value (wrong_after (wrong_stop rows.0) [] rows.0) rows.0 stops rows.2 in
-    let few : length rows.0 ≤ 100000 = typed_few file.Stops stop_row text.0 rows.0 text.1 in
+    let few : length rows.0 ≤ 100000 = shape_few file.Stops stop_row 100000 raw_rows.0 rows.0 raw_rows.1 in
     omega (arith, few, ap length same)
 
 stops_given : (feed : Feed) (rows : Rows) → rows_of feed ≡ Ok rows → stops_of feed ≡ Ok rows.stops
@@ -97,7 +92,7 @@ stops_given feed rows e =
 -- the rows of transfers.txt take at most a day
 short_option : (feed : Feed) (o : Option (List TransferData)) → file_rows feed file.Transfers transfer_row ≡ Ok o → All (λ r. TakesAtMostADay (TransferData.rule r)) (unwrap_or o [])
 short_option feed None e = All-nil (λ r. TakesAtMostADay (TransferData.rule r))
-short_option feed (Some rows) e = let text = text_of feed file.Transfers transfer_row rows e in rows_day text.0 rows text.1
+short_option feed (Some rows) e = let raw_rows = rows_of_file feed file.Transfers transfer_row rows e in rows_day (row_limit file.Transfers) raw_rows.0 rows raw_rows.1
 
 short : (feed : Feed) (stops : List StopData) (transfers : List TransferData) → transfers_of feed stops ≡ Ok transfers → All (λ r. TakesAtMostADay (TransferData.rule r)) transfers
 short feed stops transfers e =

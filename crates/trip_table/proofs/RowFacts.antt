@@ -20,7 +20,7 @@ row_all P (Ok (Some x)) (Err f) xs p q e = absurd (cc)
 row_all P (Ok None) (Ok ys) xs p q e = let same : ys ≡ xs = cc in subst (λ (zs : List _). All P zs) same (q ys refl)
 row_all P (Ok (Some x)) (Ok ys) xs p q e = let same : x ∷ ys ≡ xs = cc in subst (λ (zs : List _). All P zs) same (All-cons P x ys (p x refl) (q ys refl))
 
-shape_all : {A : Type 0} (P : A → Type 0) (file : FeedFile) (read : RawRow → Result (Option A) FeedFault) → ((raw : RawRow) (x : A) → read raw ≡ Ok (Some x) → P x)
+pub shape_all : {A : Type 0} (P : A → Type 0) (file : FeedFile) (read : RawRow → Result (Option A) FeedFault) → ((raw : RawRow) (x : A) → read raw ≡ Ok (Some x) → P x)
     → (room : ℕ) (raw_rows : List RawRow) (xs : List A) → shape file read room raw_rows ≡ Ok xs → All P xs
 shape_all P file read each room [] xs e = let same : [] ≡ xs = cc in subst (λ (zs : List _). All P zs) same (All-nil P)
 shape_all P file read each zero (raw ∷ rest) xs e = absurd (cc)

@@ -3,13 +3,13 @@ use Rattle.std.proofs.Common.{◌≡◌, ℕ, ◌≤◌, List, [], ◌∷◌, Op
 use Rattle.std.specs.Prelude.{◌==◌, Result, Ok, All, IfSome, nat_le}
 use Rattle.std.specs.Bool.{if◌then◌else◌}
 use Rattle.std.proofs.lemmas.Bool.Decides.{nat_tests}
-use Rattle.gtfs_rows.specs.RawRows.{RawRow, cell, typed_rows}
+use Rattle.gtfs_rows.specs.RawRows.{RawRow, cell, shape}
 use Rattle.gtfs_rows.specs.Numbers.{number_of}
 use Rattle.gtfs_rows.specs.Fields.{id_of, or_empty, secs_of, within_a_day, transfer_type}
 use Rattle.gtfs_rows.specs.TransfersFile.{TakesAtMostADay, TransferData, is_passed_over, rule_of, transfer_row}
 use Rattle.gtfs_rows.specs.declared.fault.FeedFile.TheVariants as file
 use Rattle.gtfs_rows.specs.declared.fault.FeedFault.{FeedFault}
-use Rattle.trip_table.proofs.RowFacts.{rows_all}
+use Rattle.trip_table.proofs.RowFacts.{shape_all}
 use Rattle.gtfs_rows.proofs.FileTimes.{chosen, followed, mapped}
 use Rattle.trip_table.proofs.GoodRows.{opened, inner}
 
@@ -58,5 +58,5 @@ row_day raw r e =
     let same = inner (record { row = raw.row; from = a.0; to = b.0; rule = rule_of k.0 c.0 }) r c.2 in
     Rattle.std.proofs.Common.subst (λ (x : TransferData). TakesAtMostADay x.rule) same (rule_day k.0 c.0 (secs_or_none (cell raw 4) c.0 c.1))
 
-pub rows_day : (text : List ℕ) (rows : List TransferData) → typed_rows file.Transfers transfer_row text ≡ Ok rows → All (λ r. TakesAtMostADay (TransferData.rule r)) rows
-rows_day = rows_all (λ r. TakesAtMostADay (TransferData.rule r)) file.Transfers transfer_row row_day
+pub rows_day : (room : ℕ) (raw_rows : List RawRow) (rows : List TransferData) → shape file.Transfers transfer_row room raw_rows ≡ Ok rows → All (λ r. TakesAtMostADay (TransferData.rule r)) rows
+rows_day = shape_all (λ r. TakesAtMostADay (TransferData.rule r)) file.Transfers transfer_row row_day

@@ -1,24 +1,29 @@
 -- The files of a feed, and the rows that they have.
 use Rattle.std.specs.Prelude.{ℕ, List, ◌++◌, length, codes, nat_le, Option, Some, None, Result, Ok, Err, if◌then◌else◌}
 use Rattle.tb_io.specs.Files.{FileList, file_at}
+use Rattle.gtfs_rows.specs.Columns.{row_limit}
 use Rattle.gtfs_rows.specs.Steps.{and_then}
 use Rattle.gtfs_rows.specs.FileNames.{file_name}
-use Rattle.gtfs_rows.specs.RawRows.{RawRow, typed_rows}
+use Rattle.gtfs_rows.specs.RawRows.{RawRow, shape, table, typed_rows}
 use Rattle.gtfs_rows.specs.declared.fault.FeedFile.{FeedFile}
 use Rattle.gtfs_rows.specs.declared.fault.FeedFault.{FeedFault}
 use Rattle.gtfs_rows.specs.declared.fault.FeedFault.TheVariants as fault
 
--- a feed: the bytes of each of its files that is there
+-- the rows of a file, none where it isn't there, or what is wrong with it as a whole
+abbrev pub FileRows : Type 0
+FileRows = Result (Option (List RawRow)) FeedFault
+
+-- a feed: the rows of each of its files
 abbrev pub Feed : Type 0
-Feed = FeedFile → Option (List ℕ)
+Feed = FeedFile → FileRows
 
 -- the path of a file: the directory, a slash and the file's name
 abbrev pub path_in : List ℕ → FeedFile → List ℕ
 path_in dir file = dir ++ codes "/" ++ file_name file
 
--- the feed in a directory of a folder
-abbrev pub feed_in : FileList → List ℕ → Feed
-feed_in files dir file = file_at files (path_in dir file)
+-- the bytes of a file in a directory of a folder, where it is there
+abbrev pub bytes_in : FileList → List ℕ → FeedFile → Option (List ℕ)
+bytes_in files dir file = file_at files (path_in dir file)
 
 abbrev pub check_size : FeedFile → List ℕ → Result (List ℕ) FeedFault
 check_size file bytes =
@@ -30,15 +35,30 @@ sized file None = Ok None
 sized file (Some bytes) = and_then (check_size file bytes) (λ text. Ok (Some text))
 
 -- the rows in a file's bytes, where it is there
+abbrev pub tabled : FeedFile → Option (List ℕ) → FileRows
+tabled file None = Ok None
+tabled file (Some text) = and_then (table file text) (λ rows. Ok (Some rows))
+
+-- the feed in a directory of a folder
+abbrev pub feed_in : FileList → List ℕ → Feed
+feed_in files dir file = and_then (sized file (bytes_in files dir file)) (tabled file)
+
+-- the typed rows of a file, where it is there
+abbrev pub shaped : {A : Type 0} → FeedFile → (RawRow → Result (Option A) FeedFault) →
+    Option (List RawRow) → Result (Option (List A)) FeedFault
+shaped file read None = Ok None
+shaped file read (Some rows) =
+    and_then (shape file read (row_limit file) rows) (λ typed. Ok (Some typed))
+
+abbrev pub file_rows : {A : Type 0} → Feed → FeedFile → (RawRow → Result (Option A) FeedFault) →
+    Result (Option (List A)) FeedFault
+file_rows feed file read = and_then (feed file) (shaped file read)
+
+-- the typed rows in a file's bytes, where it is there
 abbrev pub rows_in : {A : Type 0} → FeedFile → (RawRow → Result (Option A) FeedFault) →
     Option (List ℕ) → Result (Option (List A)) FeedFault
 rows_in file read None = Ok None
 rows_in file read (Some bytes) = and_then (typed_rows file read bytes) (λ rows. Ok (Some rows))
-
--- the typed rows of a file, where it is there
-abbrev pub file_rows : {A : Type 0} → Feed → FeedFile → (RawRow → Result (Option A) FeedFault) →
-    Result (Option (List A)) FeedFault
-file_rows feed file read = and_then (sized file (feed file)) (rows_in file read)
 
 abbrev pub or_missing : {A : Type 0} → FeedFile → Option (List A) → Result (List A) FeedFault
 or_missing file None = Err (fault.MissingFile file)

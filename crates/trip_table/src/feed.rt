@@ -1,15 +1,20 @@
 //! The files of a feed, taken from a folder.
 ghost use Rattle.std.specs.Prelude.{◌≡◌, ◌≤◌, ◌<◌, ◌-◌, ◌^◌, ℕ, List, Ok, Some, None, IfOk, IfSome, IsSome, option_map, length, string_bytes};
-ghost use Rattle.gtfs_rows.specs.Refused.{Yields};
-ghost use Rattle.gtfs_rows.specs.RawRows.{typed_rows};
+ghost use Rattle.gtfs_rows.specs.Steps.{and_then};
+ghost use Rattle.gtfs_rows.specs.Refused.{GivesOne, Yields};
+ghost use Rattle.gtfs_rows.specs.LeftOut.{Rise};
+ghost use Rattle.gtfs_rows.specs.RawRows.{RawRow, shape, typed_rows};
 ghost use Rattle.gtfs_rows.specs.Columns.{row_limit};
 ghost use Rattle.gtfs_rows.specs.Faults.{spot};
 ghost use Rattle.gtfs_rows.specs.Refused as rows;
-ghost use Rattle.trip_table.specs.Feed.{path_in, sized, rows_in, file_rows};
-ghost use Rattle.trip_table.specs.Answers.{IsRefused, Leaves, feed_of};
+ghost use Rattle.trip_table.specs.Feed.{path_in, sized, tabled, shaped, rows_in, file_rows};
+ghost use Rattle.trip_table.specs.Answers.{GivesSeen, IsRefused, Leaves, bytes_of, feed_of};
+ghost use Rattle.trip_table.specs.LeftFeed.{TellsFile};
 
 use crate::DayFault;
-use gtfs_rows::{FeedFault, FeedFile, RowReader, RowsFault, Spot, typed_rows};
+use gtfs_rows::{
+    FeedFault, FeedFile, RowReader, RowsFault, Spot, ToldFaults, sifted_rows, typed_rows,
+};
 use std::alloc::Global;
 use tb_base::Memory;
 use tb_io::{Folder, Taken, take_file};
@@ -44,7 +49,7 @@ fn take<F: Folder>(
     requires { F.faults folder.old < 2 ^ 64 - 1 }
     ensures told { IsSome (F.files folder.old) →
         Yields IsRefused result (option_map (λ v. v.items))
-        (sized file (feed_of (F.files folder.old) dir.now file)) }
+        (sized file (bytes_of (F.files folder.old) dir.now file)) }
     ensures within { IfOk result (λ taken. IfSome taken (λ v. length v.items ≤ 1_073_741_824)) }
     ensures leaves { Leaves (F.files folder.old) (F.files folder.new) (F.faults folder.old)
         (F.faults folder.new) result }
@@ -106,4 +111,61 @@ pub fn file_rows<F: Folder, R: RowReader>(
         Err(fault) => return Err(fault),
     };
     Ok(rows_in(alloc, reader, bytes)?)
+}
+
+// The rows in a file's bytes, where it is there, without the bad ones if one is lenient.
+fn sifted_in<R: RowReader>(
+    alloc: Global,
+    reader: &R,
+    bytes: Option<Vec<u8>>,
+    lenient: bool,
+    told: &mut ToldFaults,
+) -> Result<Option<Vec<R::Row>>, RowsFault>
+    requires { IfSome bytes (λ v. length v.items ≤ 1_073_741_824) }
+    ensures told { GivesOne
+        (TellsFile lenient R.file (λ rows. and_then rows (shaped R.file (R.reading reader.now)))
+        (tabled R.file (option_map (λ v. v.items) bytes)) told.old told.new)
+        result (option_map (λ v. v.items)) }
+    ensures left { IfOk result (λ rows. IfSome rows
+        (λ v. (left : List RawRow) × Rise RawRow.row 0 left
+        × (shape R.file (R.reading reader.now) (row_limit R.file) left ≡ Ok v.items))) }
+    ensures few { IfOk result (λ rows. IfSome rows (λ v. length v.items ≤ row_limit R.file)) }
+{
+    let Some(bytes) = bytes else {
+        return Ok(None);
+    };
+    match sifted_rows(alloc, reader, bytes.as_slice(), lenient, told) {
+        Ok(rows) => Ok(Some(rows)),
+        Err(fault) => Err(fault),
+    }
+}
+
+/// The rows of a file, where it is there. For one who is lenient its bad rows are left out, and
+/// their faults are told; else the first one ends it.
+pub fn sifted_file<F: Folder, R: RowReader>(
+    alloc: Global,
+    folder: &mut F,
+    dir: &str,
+    reader: &R,
+    lenient: bool,
+    told: &mut ToldFaults,
+) -> Result<Option<Vec<R::Row>>, DayFault>
+    requires { F.faults folder.old < 2 ^ 64 - 1 }
+    ensures told { IsSome (F.files folder.old) →
+        GivesSeen
+        (TellsFile lenient R.file (λ rows. and_then rows (shaped R.file (R.reading reader.now)))
+        (feed_of (F.files folder.old) dir.now R.file) told.old told.new)
+        result (option_map (λ v. v.items)) }
+    ensures left { IfOk result (λ rows. IfSome rows
+        (λ v. (left : List RawRow) × Rise RawRow.row 0 left
+        × (shape R.file (R.reading reader.now) (row_limit R.file) left ≡ Ok v.items))) }
+    ensures few { IfOk result (λ rows. IfSome rows (λ v. length v.items ≤ row_limit R.file)) }
+    ensures leaves { Leaves (F.files folder.old) (F.files folder.new) (F.faults folder.old)
+        (F.faults folder.new) result }
+{
+    let bytes = match take(alloc, folder, dir, reader.file()) {
+        Ok(bytes) => bytes,
+        Err(fault) => return Err(fault),
+    };
+    Ok(sifted_in(alloc, reader, bytes, lenient, told)?)
 }

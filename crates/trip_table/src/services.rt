@@ -3,16 +3,24 @@ ghost use Rattle.std.specs.Prelude.{◌≡◌, ◌<◌, ◌-◌, ◌^◌, Ok, Er
 ghost use Rattle.gtfs_rows.specs.Refused.{Yields};
 ghost use Rattle.gtfs_rows.specs.Faults.{check_rows};
 ghost use Rattle.gtfs_rows.specs.Refused as rows;
-ghost use Rattle.trip_table.specs.Answers.{IsRefused, Leaves, feed_of};
-ghost use Rattle.trip_table.specs.References.{wrong_calendar, calendar_of, check_services, services_of};
+ghost use Rattle.gtfs_rows.specs.CalendarFile.{calendar_row};
+ghost use Rattle.gtfs_rows.specs.Steps.{and_then};
+ghost use Rattle.gtfs_rows.specs.declared.fault.FeedFile.TheVariants as file;
+ghost use Rattle.trip_table.specs.Answers.{GivesSeen, IsRefused, Leaves, feed_of};
+ghost use Rattle.trip_table.specs.Feed.{shaped};
+ghost use Rattle.trip_table.specs.LeftFeed.{TellsFile};
+ghost use Rattle.trip_table.specs.References.{wrong_calendar, calendar_of, check_calendar, check_services, services_of};
 
 use crate::DayFault;
-use crate::distinct::distinct_ids;
-use crate::feed::file_rows;
-use gtfs_rows::{CalendarReader, CalendarRow, DateReader, DateRow, FeedFault, FeedFile, RowsFault};
+use crate::distinct::{CalendarTest, distinct_ids};
+use crate::feed::{file_rows, sifted_file};
+use crate::sift::sift;
+use gtfs_rows::{
+    CalendarReader, CalendarRow, DateReader, DateRow, FeedFault, FeedFile, RowsFault, ToldFaults,
+};
 use std::alloc::Global;
 use std::marker::Model;
-use tb_base::HashKey;
+use tb_base::{HashKey, NameIndex};
 use tb_io::Folder;
 
 /// The rows that say which services run.
@@ -68,6 +76,37 @@ fn read_calendar<F: Folder>(
     };
     check_calendar(alloc, folder.key(), &calendar)?;
     Ok(calendar)
+}
+
+// The rows of calendar.txt, where it is there. For one who is lenient bad rows are left out, and
+// their faults are told; else the first one ends it.
+fn sifted_calendar<F: Folder>(
+    alloc: Global,
+    folder: &mut F,
+    dir: &str,
+    lenient: bool,
+    told: &mut ToldFaults,
+) -> Result<Option<Vec<CalendarRow>>, DayFault>
+    requires { F.faults folder.old < 2 ^ 64 - 1 }
+    ensures told { IsSome (F.files folder.old) →
+        GivesSeen
+        (TellsFile lenient file.Calendar
+        (λ rows. and_then (and_then rows (shaped file.Calendar calendar_row)) check_calendar)
+        (feed_of (F.files folder.old) dir.now file.Calendar) told.old told.new)
+        result (option_map (λ v. v.items)) }
+    ensures leaves { Leaves (F.files folder.old) (F.files folder.new) (F.faults folder.old)
+        (F.faults folder.new) result }
+{
+    let rows = match sifted_file(alloc, folder, dir, &CalendarReader, lenient, told) {
+        Ok(Some(rows)) => rows,
+        Ok(None) => return Ok(None),
+        Err(fault) => return Err(fault),
+    };
+    let mut test = CalendarTest {
+        ids: NameIndex::new(alloc),
+    };
+    let rows = sift(alloc, &mut test, rows, lenient, told)?;
+    Ok(Some(rows))
 }
 
 // The rows of both files, of which one has to be there.

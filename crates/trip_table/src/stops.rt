@@ -1,15 +1,22 @@
 //! The rows of stops.txt.
-ghost use Rattle.std.specs.Prelude.{◌≢◌, ◌<◌, ◌-◌, ◌^◌, [], All, IfOk, IsSome};
-ghost use Rattle.gtfs_rows.specs.Refused.{Yields};
+ghost use Rattle.std.specs.Prelude.{◌≡◌, ◌≢◌, ◌≤◌, ◌<◌, ◌-◌, ◌^◌, [], All, Err, IfOk, IsSome, List, Result, length};
+ghost use Rattle.footpaths.specs.Stops.{check_stops, IsStopsRefused};
+ghost use Rattle.gtfs_rows.specs.LeftOut.{IsBorneBy};
+ghost use Rattle.gtfs_rows.specs.Refused.{GivesOne, Yields};
+ghost use Rattle.gtfs_rows.specs.Sifted.{TellsTyped};
+ghost use Rattle.gtfs_rows.specs.declared.fault.FeedFile.TheVariants as file;
+ghost use Rattle.gtfs_rows.specs.declared.fault.FeedFault.{FeedFault};
 ghost use Rattle.gtfs_rows.specs.StopsFile.{StopData};
 ghost use Rattle.trip_table.specs.Answers.{IsRefused, Leaves, feed_of};
-ghost use Rattle.trip_table.specs.References.{stops_of};
+ghost use Rattle.trip_table.specs.References.{row_of_stop, stops_of};
 
 use crate::DayFault;
 use crate::feed::{file_rows, spot};
 use footpaths::{StopTable, StopsFault};
-use gtfs_rows::{FeedFault, FeedFile, StopReader};
+use gtfs_rows::columns::stops;
+use gtfs_rows::{FeedFault, FeedFile, RowsFault, StopReader, StopRow, ToldFaults};
 use std::alloc::Global;
+use tb_base::Memory;
 use tb_io::Folder;
 
 /// The rows of stops.txt, with a look-up by id.
@@ -43,5 +50,51 @@ pub fn read_stops<F: Folder>(
             3,
         )))),
         Err(StopsFault::Memory) => Err(DayFault::Memory),
+    }
+}
+
+// What is wrong with rows of stops.txt, and the number of the row that bears it.
+fn stop_fault(why: StopsFault) -> Result<(FeedFault, u32), Memory>
+    ensures { (checked : Result (List StopData) FeedFault) → IsStopsRefused checked why →
+        IfOk result (λ found.
+        (checked ≡ Err found.0) × IsBorneBy file.Stops found.1 found.0) }
+{
+    match why {
+        StopsFault::DuplicateId(row) => {
+            let at = spot(FeedFile::Stops, row, stops::STOP_ID);
+            Ok((FeedFault::DuplicateId(at), row))
+        }
+        StopsFault::UnknownStop(row) => {
+            let at = spot(FeedFile::Stops, row, stops::PARENT_STATION);
+            Ok((FeedFault::UnknownStop(at), row))
+        }
+        StopsFault::Memory => Err(Memory),
+    }
+}
+
+// The table of rows of stops.txt. For one who is lenient a row that has a fault is left out, its
+// fault is told, and the others are looked at anew; else the first fault ends it.
+fn sifted_table(
+    alloc: Global,
+    rows: Vec<StopRow>,
+    lenient: bool,
+    told: &mut ToldFaults,
+) -> Result<StopTable, RowsFault>
+    requires { length rows.items ≤ 100000 }
+    ensures { GivesOne
+        (TellsTyped lenient file.Stops row_of_stop check_stops rows.items told.old told.new) result
+        (λ x. x) }
+{
+    let mut rows = rows;
+    'looking: loop {
+        let (fault, row) = match StopTable::new(alloc, rows.as_slice()) {
+            Ok(table) => return Ok(table),
+            Err(why) => stop_fault(why)?,
+        };
+        if !lenient {
+            return Err(RowsFault::Feed(fault));
+        }
+        told.tell(fault)?;
+        rows.retain(|stop| stop.row != row);
     }
 }

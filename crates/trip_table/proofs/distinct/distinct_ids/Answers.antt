@@ -7,7 +7,7 @@ returns-in-Ok-false g c =
     let fresh = rw c.id.ensures at c.in-Ok-false.ensures.fresh in
     let next : IsNext g.R.Identified.id c.loop-row.ids c.args.rows.now c.loop-row.row-index c.row-item.result c.in-Ok-false.field-0 =
     record { ids_are = c.loop-row.invariant.ids; within = c.loop-row-test.true; here = c.row-item.is; told = fresh } in
-    rw c.duplicate.ensures (c.loop-row.invariant.right ∙ stands_twice g.R.Identified.id g.R.Identified.duplicate _ _ _ _ _ next c.in-Ok-false.field-0-test)
+    rw c.duplicate.ensures.told (c.loop-row.invariant.right ∙ stands_twice g.R.Identified.id g.R.Identified.duplicate _ _ _ _ _ next c.in-Ok-false.field-0-test)
 
 pub loop-row-preserved : goal.loop-row-preserved
 loop-row-preserved g c =
