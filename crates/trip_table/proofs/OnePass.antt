@@ -1,6 +1,6 @@
 -- In one pass each row is left out that is bad beside the rows that were kept before it.
 use Rattle.std.proofs.Common.{◌≡◌, ◌∙◌, sym, ap, refl, subst, ℕ, List, [], ◌∷◌, ◌++◌, Bool, true, false, append_assoc, append-nil}
-use Rattle.std.specs.Prelude.{Option, Some, None, Result, Ok, Err}
+use Rattle.std.specs.Prelude.{Option, Some, None, Ok, Err}
 use Rattle.gtfs_rows.specs.EachFault.{LeadTo, leave_if}
 use Rattle.gtfs_rows.specs.Faults.{unless_wrong, wrong_after, check_rows}
 use Rattle.gtfs_rows.specs.LeftOut.{IsBorneBy, Rise, leave_row}

@@ -4,7 +4,7 @@ use Rattle.std.specs.Prelude.{Option, Some, None, Result, Ok, Err, nat_le, lengt
 use Rattle.std.specs.Str.{is_utf8}
 use Rattle.gtfs_rows.specs.Records.{file_records}
 use Rattle.gtfs_rows.specs.Steps.{and_then}
-use Rattle.gtfs_rows.specs.RawRows.{RawRow, check_utf8, check_columns, missing_fault, header, raw_rows, table}
+use Rattle.gtfs_rows.specs.RawRows.{check_utf8, check_columns, missing_fault, header, raw_rows, table}
 use Rattle.gtfs_rows.specs.LeftOut.{bearer}
 use Rattle.gtfs_rows.specs.declared.fault.FeedFile.{FeedFile}
 use Rattle.gtfs_rows.specs.declared.fault.FeedFault.{FeedFault}
