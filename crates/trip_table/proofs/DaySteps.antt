@@ -32,7 +32,7 @@ fault_of close meant why.ReadFault h = tt
 fault_of close meant why.Memory h = tt
 
 -- what a folder tells after it was read, where its files stayed the same
-moved : (P : Option FileList → Type 0) (first second : Option FileList) → second ≡ first → (IsSome second → P second) → IsSome first → P first
+pub moved : (P : Option FileList → Type 0) (first second : Option FileList) → second ≡ first → (IsSome second → P second) → IsSome first → P first
 moved P first second same told = subst (λ (o : Option FileList). IsSome o → P o) same told
 
 read : (feed : Feed) (day : ℕ) (options : Options) (rows : Rows) → rows_of feed ≡ Ok rows → day_parts feed day options ≡ parts_after_rows feed day options rows

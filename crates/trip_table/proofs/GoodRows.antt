@@ -7,8 +7,9 @@ use Rattle.std.proofs.lemmas.List.Elements.{All-cons, All-nil}
 use Rattle.std.proofs.lemmas.List.Kept.{AllPairs-cons}
 use Rattle.tb_base.proofs.Ordered.{Member}
 use Rattle.gtfs_rows.specs.Steps.{and_then}
+use Rattle.gtfs_rows.specs.Columns.{row_limit}
 use Rattle.gtfs_rows.specs.Faults.{unless_wrong, wrong_after, fault_if, check_rows}
-use Rattle.gtfs_rows.specs.RawRows.{RawRow, cell, typed_rows}
+use Rattle.gtfs_rows.specs.RawRows.{RawRow, cell, shape, table, typed_rows}
 use Rattle.gtfs_rows.specs.Numbers.{IsFileTime, number_of, time_of}
 use Rattle.gtfs_rows.specs.Fields.{id_of, or_empty, mark_of}
 use Rattle.gtfs_rows.specs.StopsFile.{StopData}
@@ -21,7 +22,7 @@ use Rattle.service_trips.specs.declared.stop_time.StopTime.{StopTime}
 use Rattle.service_trips.specs.Times.{HasFileTimes}
 use Rattle.trip_table.specs.References.{numbered, numbered_row, wrong_names, wrong_time, repeats}
 use Rattle.trip_table.specs.GoodTimes.{AreGoodTimes}
-use Rattle.trip_table.proofs.RowFacts.{rows_all}
+use Rattle.trip_table.proofs.RowFacts.{rows_all, shape_all}
 use Rattle.gtfs_rows.proofs.FileTimes.{time_or_none}
 
 pub opened : {A B : Type 0} (o : Option A) (f : FeedFault) (next : A → Result B FeedFault) (y : B) → and_then (ok_or o f) next ≡ Ok y → (x : A) × (o ≡ Some x) × (next x ≡ Ok y)
@@ -51,6 +52,10 @@ row_times stops trips (Ok (Some t)) x h e =
     let same : numbered stops trips t ≡ x = inner (numbered stops trips t) x e in
     let both = h t refl in
     subst (λ (y : StopTime). HasFileTimes y) same (record { arr = both.0; dep = both.1 })
+
+-- the same of rows that are left
+left_timed : (stops : List StopData) (trips : List TripData) (room : ℕ) (raws : List RawRow) (rows : List StopTime) → shape file.StopTimes (numbered_row stops trips) room raws ≡ Ok rows → All HasFileTimes rows
+left_timed stops trips room raws rows = shape_all HasFileTimes file.StopTimes (numbered_row stops trips) (λ raw x e. row_times stops trips (time_row raw) x (time_parts raw) e) room raws rows
 
 -- stop times that are read have times of a file
 all_timed : (stops : List StopData) (trips : List TripData) (text : List ℕ) (rows : List StopTime) → typed_rows file.StopTimes (numbered_row stops trips) text ≡ Ok rows → All HasFileTimes rows
@@ -157,5 +162,21 @@ module _ (stops : List StopData) (trips : List TripData) where
         trip = λ k d b. (g k d b).trip;
         stop = λ k d b. (g k d b).stop;
         given = all_timed stops trips text rows read;
+        sequences = pairs [] rows c;
+      }
+
+  -- the same of rows that are left where some are passed over
+  pub good_left : (some : List RawRow → List RawRow) (found : Result (List RawRow) FeedFault) (rows : List StopTime) → length rows ≤ 20000000
+      → and_then found (λ all. shape file.StopTimes (numbered_row stops trips) (row_limit file.StopTimes) (some all)) ≡ Ok rows → check_rows (wrong_time stops trips) rows ≡ Ok rows → AreGoodTimes stops trips rows
+  unfolding Differs
+  good_left some (Err f) rows few read checked = absurd (cc)
+  good_left some (Ok all) rows few read checked =
+      let c = clean [] rows rows checked in
+      let g = good_rows [] rows c in
+      record {
+        few = few;
+        trip = λ k d b. (g k d b).trip;
+        stop = λ k d b. (g k d b).stop;
+        given = left_timed stops trips (row_limit file.StopTimes) (some all) rows read;
         sequences = pairs [] rows c;
       }

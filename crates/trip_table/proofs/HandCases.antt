@@ -68,7 +68,7 @@ abbrev good_stops : List RawRow
 good_stops = stop_row 2 (codes "A") [] [] ∷ stop_row 3 (codes "B") [] [] ∷ stop_row 4 (codes "C") [] [] ∷ []
 
 -- nothing is wrong
-no_fault : faults_of 5 (feed good_stops times [] []) ≡ []
+pub no_fault : faults_of 5 (feed good_stops times [] []) ≡ []
 no_fault = refl
 
 -- A stop is left out, so the trip that calls there is, and so is a row of frequencies.txt that names

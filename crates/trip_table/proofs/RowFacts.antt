@@ -58,3 +58,7 @@ named_row raw s e = id_filled (cell raw 1) s.id (stop_parts raw.row (cell raw 3)
 -- the ids of stops aren't empty
 pub stops_named : (text : List ℕ) (stops : List StopData) → typed_rows file.Stops stop_row text ≡ Ok stops → All (λ s. StopData.id s ≢ []) stops
 stops_named = rows_all (λ s. StopData.id s ≢ []) file.Stops stop_row named_row
+
+-- the same of rows that are left
+pub stops_named_left : (rows : List RawRow) (stops : List StopData) → shape file.Stops stop_row (row_limit file.Stops) rows ≡ Ok stops → All (λ s. StopData.id s ≢ []) stops
+stops_named_left rows stops e = shape_all (λ s. StopData.id s ≢ []) file.Stops stop_row named_row (row_limit file.Stops) rows stops e

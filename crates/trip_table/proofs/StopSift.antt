@@ -5,12 +5,7 @@ use Rattle.std.specs.List.{list_any}
 use Rattle.std.proofs.lemmas.Bool.Decides.{nat_tests}
 use Rattle.tb_base.proofs.Lists.{length-filter_le}
 use Rattle.gtfs_rows.specs.Faults.{fault_if, unless_wrong, wrong_after}
-use Rattle.gtfs_rows.specs.EachFault.{LeadTo, leave_if}
-use Rattle.gtfs_rows.specs.LeftOut.{bearer, IsBorneBy, without_number, leave_row}
-use Rattle.gtfs_rows.specs.Sifted.{AreChecked, TellsTyped}
-use Rattle.gtfs_rows.specs.Told.{Told, tell, tell_all}
-use Rattle.gtfs_rows.proofs.ToldLaws.{tell_more}
-use Rattle.gtfs_rows.proofs.Sifting.{told_more, leave_borne}
+use Rattle.gtfs_rows.specs.LeftOut.{bearer, IsBorneBy, without_number}
 use Rattle.gtfs_rows.specs.StopsFile.{StopData}
 use Rattle.gtfs_rows.specs.declared.fault.FeedFile.TheVariants as file
 use Rattle.gtfs_rows.specs.declared.fault.FeedFault.{FeedFault}
@@ -78,30 +73,3 @@ fewer_stops stops n f e borne =
     let bears = one.1 in
     let same : n ≡ one.0 = cc in
     fewer row_of_stop n stops (subst (λ k. HasNumber row_of_stop k stops) (sym same) one.2)
-
--- Where one stands: the faults that were told lead from all rows to those that are left.
-module _ (lenient : Bool) where
-  pub record Looks (rows left : List StopData) (before now : Told) : Type 0 where
-    pub faults : List FeedFault
-    pub told : now ≡ tell_all before faults
-    pub path : LeadTo (AreChecked check_stops) (leave_if lenient (leave_row file.Stops row_of_stop)) rows faults left
-
-  pub begin : (rows : List StopData) (before : Told) → Looks rows rows before before
-  begin rows before = record { faults = []; told = refl; path = refl }
-
-  -- a row with a fault is left out, and told
-  pub leave : (rows left : List StopData) (before now : Told) (n : ℕ) (f : FeedFault) → Looks rows left before now → lenient ≡ true → check_stops left ≡ Err f → IsBorneBy file.Stops n f → Looks rows (without_number row_of_stop left n) before (tell now f)
-  leave rows left before now n f s is e borne = record {
-    faults = s.faults ++ f ∷ [];
-    told = ap (λ t. tell t f) s.told ∙ sym (tell_more s.faults before f);
-    path = told_more (AreChecked check_stops) (leave_if lenient (leave_row file.Stops row_of_stop)) s.faults rows left (without_number row_of_stop left n) f s.path (sym e)
-        (rw is (leave_borne row_of_stop file.Stops left (without_number row_of_stop left n) n f borne refl));
-  }
-
-  -- the first fault ends it for one who is strict
-  pub refuse : (rows left : List StopData) (before now : Told) (f : FeedFault) → Looks rows left before now → lenient ≡ false → check_stops left ≡ Err f → TellsTyped lenient file.Stops row_of_stop check_stops rows before now (Err f)
-  refuse rows left before now f s is e = (s.faults, s.told, left, record { told = s.path; given = sym e; last = λ other. absurd (let both : true ≡ false = sym other ∙ is in cc) })
-
-  -- where nothing is wrong the rows that are left are given
-  pub end : (rows left : List StopData) (before now : Told) → Looks rows left before now → check_stops left ≡ Ok left → TellsTyped lenient file.Stops row_of_stop check_stops rows before now (Ok left)
-  end rows left before now s e = (s.faults, s.told, left, record { told = s.path; given = sym e; last = tt })

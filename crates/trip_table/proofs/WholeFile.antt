@@ -12,7 +12,7 @@ use Rattle.gtfs_rows.specs.declared.fault.FeedFault.TheVariants as fault
 use Rattle.trip_table.specs.Feed.{check_size, sized, tabled}
 
 -- what a step refuses, or what the next one refuses
-step_unborne : {A B : Type 0} (m : Result A FeedFault) (next : A → Result B FeedFault) (f : FeedFault) → ((g : FeedFault) → m ≡ Err g → bearer g ≡ None) → ((x : A) (g : FeedFault) → next x ≡ Err g → bearer g ≡ None) → and_then m next ≡ Err f → bearer f ≡ None
+pub step_unborne : {A B : Type 0} (m : Result A FeedFault) (next : A → Result B FeedFault) (f : FeedFault) → ((g : FeedFault) → m ≡ Err g → bearer g ≡ None) → ((x : A) (g : FeedFault) → next x ≡ Err g → bearer g ≡ None) → and_then m next ≡ Err f → bearer f ≡ None
 step_unborne (Ok x) next f h k e = k x f e
 step_unborne (Err g) next f h k e = let same : g ≡ f = cc in subst (λ (g : FeedFault). bearer g ≡ None) same (h g refl)
 

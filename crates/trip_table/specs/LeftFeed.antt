@@ -1,11 +1,11 @@
 -- What is left of a feed where the row that bears a fault is left out.
-use Rattle.std.specs.Prelude.{◌≡◌, ◌≤◌, ℕ, ◌==◌, not, List, [], ◌∷◌, filter, find, bytes_eq, Bool, true, false, Option, Some, None, option_map, Result, Ok, Err, if◌then◌else◌}
+use Rattle.std.specs.Prelude.{◌≡◌, ℕ, ◌==◌, not, List, [], filter, find, bytes_eq, Bool, true, false, Option, Some, None, option_map, Result, Ok, Err, if◌then◌else◌}
 use Rattle.tb_base.specs.TimetableData.{TimetableData}
-use Rattle.gtfs_rows.specs.FileNames.{file_place, is_file}
+use Rattle.gtfs_rows.specs.FileNames.{is_file}
 use Rattle.gtfs_rows.specs.RawRows.{RawRow, cell}
 use Rattle.gtfs_rows.specs.EachFault.{AreFaults, leave_if}
 use Rattle.gtfs_rows.specs.LeftOut.{bearer, without_number, leave_row}
-use Rattle.gtfs_rows.specs.Sifted.{AreFaultsOf, Tells}
+use Rattle.gtfs_rows.specs.Sifted.{Tells}
 use Rattle.gtfs_rows.specs.Told.{Told, tell_all}
 use Rattle.gtfs_rows.specs.declared.fault.FeedFile.{FeedFile}
 use Rattle.gtfs_rows.specs.declared.fault.FeedFile.TheVariants as file
@@ -37,9 +37,9 @@ fewer some (Ok (Some rows)) = Ok (Some (some rows))
 fewer some (Ok None) = Ok None
 fewer some (Err f) = Err f
 
--- A trip is left out: the rows of trips.txt and of stop_times.txt that have its id.
+-- A trip is left out: the rows of trips.txt and of stop_times.txt that name it.
 abbrev pub without_id : ℕ → List ℕ → List RawRow → List RawRow
-without_id column id rows = filter (λ raw. not (bytes_eq id (cell raw column))) rows
+without_id column id rows = filter (λ raw. not (bytes_eq (cell raw column) id)) rows
 
 abbrev pub without_trip : Feed → List ℕ → Feed
 without_trip feed id file.Stops = feed file.Stops
@@ -58,7 +58,7 @@ without_row false row rows = rows
 abbrev pub without_row_in : Feed → FeedFile → ℕ → Feed
 without_row_in feed there row here = without_row (is_file there here) row (feed here)
 
--- the id of the trip whose stop time a row is; nothing where the row names none
+-- what the row of a stop time names as its trip: nothing where it names none
 abbrev pub trip_in : Option RawRow → List ℕ
 trip_in None = []
 trip_in (Some raw) = cell raw stop_times.TRIP_ID
@@ -68,16 +68,12 @@ trip_of row (Ok (Some rows)) = trip_in (find (λ raw. RawRow.row raw == row) row
 trip_of row (Ok None) = []
 trip_of row (Err f) = []
 
--- What is left where the row at a spot is left out: if it is a stop time of a trip, the trip is left
--- out, and else the row alone.
-abbrev pub without_stop_time : Feed → ℕ → List ℕ → Feed
-without_stop_time feed row [] = without_row_in feed file.StopTimes row
-without_stop_time feed row (b ∷ id) = without_trip feed (b ∷ id)
-
+-- What is left where the row at a spot is left out: the row alone; but for a stop time its trip, with
+-- all rows that name it, or, like the row, name none.
 abbrev pub without_spot : Feed → Spot → Feed
 without_spot feed spot =
     if is_file spot.file file.StopTimes
-    then without_stop_time feed spot.row (trip_of spot.row (feed file.StopTimes))
+    then without_trip feed (trip_of spot.row (feed file.StopTimes))
     else without_row_in feed spot.file spot.row
 
 -- nothing is left out for a fault that no row bears
@@ -91,15 +87,9 @@ abbrev pub AreDayFaults : Bool → ℕ → Options → Feed → List FeedFault �
 AreDayFaults lenient day options =
     AreFaults (λ feed. IsTimetableOf feed day options) (leave_if lenient leave_bearer)
 
--- the files from a place on are as they were
-abbrev pub SameFrom : ℕ → Feed → Feed → Type 0
-SameFrom n feed left = (there : FeedFile) → n ≤ file_place there → left there ≡ feed there
-
--- Each fault of a feed, in order, told after earlier ones, where nothing is left out of the files from
--- a place on; and what is given in the end, or the fault that ends it.
-abbrev pub TellsFeed : {A : Type 0} → ℕ → Bool → (Feed → Result A FeedFault) → Feed → Told → Told →
-    Result A FeedFault → Type 0
-TellsFeed n lenient meant feed before now end =
+-- Each fault of a feed on a day, in order, told after earlier ones, where bad rows are left out; and
+-- the timetable of what is left, or the fault that ends it.
+abbrev pub TellsDay : ℕ → Options → Feed → Told → Told → Result TimetableData FeedFault → Type 0
+TellsDay day options feed before now end =
     (faults : List FeedFault) × (now ≡ tell_all before faults)
-    × (left : Feed) × SameFrom n feed left
-    × AreFaultsOf lenient meant leave_bearer feed faults left end
+    × (left : Feed) × AreDayFaults true day options feed faults left end

@@ -1,16 +1,21 @@
 //! The rows of frequencies.txt, by the numbers of their trips.
-ghost use Rattle.std.specs.Prelude.{◌≡◌, ◌≤◌, ◌<◌, ◌-◌, ◌^◌, All, Ok, Err, IfOk, IsSome, MatchOption, length, map};
+ghost use Rattle.std.specs.Prelude.{◌≡◌, ◌≤◌, ◌<◌, ◌-◌, ◌^◌, [], All, Ok, Err, IfOk, IsSome, MatchOption, length, map, true, unwrap_or};
+ghost use Rattle.gtfs_rows.specs.FrequenciesFile.{frequency_row};
+ghost use Rattle.gtfs_rows.specs.Steps.{and_then};
+ghost use Rattle.gtfs_rows.specs.declared.fault.FeedFile.TheVariants as file;
 ghost use Rattle.gtfs_rows.specs.Refused.{Yields};
 ghost use Rattle.gtfs_rows.specs.Refused as refusal;
 ghost use Rattle.service_trips.specs.Starts.{IsGoodFrequency};
-ghost use Rattle.trip_table.specs.Answers.{IsRefused, Leaves, feed_of};
+ghost use Rattle.trip_table.specs.Answers.{GivesSeen, IsRefused, Leaves, feed_of};
+ghost use Rattle.trip_table.specs.Feed.{shaped};
+ghost use Rattle.trip_table.specs.LeftFeed.{TellsFile};
 ghost use Rattle.trip_table.specs.References.{numbered_frequency, check_named, frequency_rows_of, frequencies_of};
 
 use crate::DayFault;
-use crate::feed::{file_rows, spot};
+use crate::feed::{file_rows, sifted_file, spot};
 use crate::trips::TripRowTable;
 use gtfs_rows::columns::frequencies;
-use gtfs_rows::{FeedFault, FeedFile, FrequencyReader, FrequencyRow, RowsFault};
+use gtfs_rows::{FeedFault, FeedFile, FrequencyReader, FrequencyRow, RowsFault, ToldFaults};
 use service_trips::{FrequencyTable, TripFrequency};
 use std::alloc::Global;
 use tb_base::Memory;
@@ -85,18 +90,18 @@ fn name_fault(trips: &TripRowTable, rows: &[TripFrequency]) -> Option<FeedFault>
     None
 }
 
-// The rows with a look-up by trip, or the first row that names no row of trips.txt.
-fn table_of(
+/// The rows with a look-up by trip, or the first row that names no row of trips.txt.
+pub fn table_of(
     alloc: Global,
     trips: &TripRowTable,
-    rows: Vec<FrequencyRow>,
+    rows: &[FrequencyRow],
 ) -> Result<FrequencyTable, RowsFault>
-    requires { length rows.items ≤ 200000 }
+    requires { length rows.now ≤ 200000 }
     ensures rows { Yields refusal.IsRefused result (λ table. table.rows)
-        (check_named trips.now (map (numbered_frequency trips.now) rows.items)) }
+        (check_named trips.now (map (numbered_frequency trips.now) rows.now)) }
     ensures trips { IfOk result (λ table. table.trips ≡ length trips.now) }
 {
-    let found = numbered_rows(alloc, trips, rows.as_slice())?;
+    let found = numbered_rows(alloc, trips, rows)?;
     if let Some(fault) = name_fault(trips, found.as_slice()) {
         return Err(RowsFault::Feed(fault));
     }
@@ -123,5 +128,31 @@ pub fn read_frequencies<F: Folder>(
         Ok(rows) => rows,
         Err(fault) => return Err(fault),
     };
-    Ok(table_of(alloc, trips, rows)?)
+    Ok(table_of(alloc, trips, rows.as_slice())?)
+}
+
+/// The rows of frequencies.txt, none where the file isn't there. Bad ones are told and left out.
+pub fn left_frequencies<F: Folder>(
+    alloc: Global,
+    folder: &mut F,
+    dir: &str,
+    told: &mut ToldFaults,
+) -> Result<Vec<FrequencyRow>, DayFault>
+    requires { F.faults folder.old < 2 ^ 64 - 1 }
+    ensures told { IsSome (F.files folder.old) →
+        GivesSeen
+        (TellsFile true file.Frequencies
+        (λ rows. and_then (and_then rows (shaped file.Frequencies frequency_row))
+        (λ rows. Ok (unwrap_or rows [])))
+        (feed_of (F.files folder.old) dir.now file.Frequencies) told.old told.new)
+        result (λ rows. rows.items) }
+    ensures few { IfOk result (λ rows. length rows.items ≤ 200000) }
+    ensures leaves { Leaves (F.files folder.old) (F.files folder.new) (F.faults folder.old)
+        (F.faults folder.new) result }
+{
+    match sifted_file(alloc, folder, dir, &FrequencyReader, true, told) {
+        Ok(Some(rows)) => Ok(rows),
+        Ok(None) => Ok(Vec::new(alloc)),
+        Err(fault) => Err(fault),
+    }
 }

@@ -13,6 +13,7 @@
 #![tactic(auto)]
 
 mod assemble;
+mod bearer;
 mod closing;
 mod day;
 mod day_fault;
@@ -22,6 +23,9 @@ mod feed;
 mod frequencies;
 mod law;
 pub mod laws;
+mod left_day;
+mod left_rows;
+mod left_times;
 mod paths;
 mod rows;
 mod seen;
@@ -34,4 +38,5 @@ mod trips;
 pub use day::read_day;
 pub use day_fault::DayFault;
 pub use footpaths::Options;
+pub use left_day::read_left_day;
 pub use service_day::{Day, day_of};

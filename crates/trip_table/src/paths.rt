@@ -1,22 +1,29 @@
 //! Change times and footpaths from transfers.txt.
-ghost use Rattle.std.specs.Prelude.{◌≡◌, ◌<◌, ◌-◌, ◌^◌, List, Ok, IfOk, IfSome, IsSome, MatchResult, length};
-ghost use Rattle.gtfs_rows.specs.Refused.{Yields};
+ghost use Rattle.std.specs.Prelude.{◌≡◌, ◌<◌, ◌-◌, ◌^◌, List, Ok, IfOk, IfSome, IsSome, MatchResult, length, true};
+ghost use Rattle.gtfs_rows.specs.Refused.{GivesOne, Yields};
+ghost use Rattle.gtfs_rows.specs.Sifted.{TellsTyped};
+ghost use Rattle.gtfs_rows.specs.Steps.{and_then};
+ghost use Rattle.gtfs_rows.specs.declared.fault.FeedFile.TheVariants as file;
 ghost use Rattle.gtfs_rows.specs.Refused as refusal;
-ghost use Rattle.gtfs_rows.specs.TransfersFile.{TransferData};
+ghost use Rattle.gtfs_rows.specs.TransfersFile.{TransferData, transfer_row};
 ghost use Rattle.footpaths.specs.Limits.{AreWithinADay};
 ghost use Rattle.footpaths.specs.Links.{check_transfers};
 ghost use Rattle.footpaths.specs.Stops.{platforms};
 ghost use Rattle.tb_base.specs.TimetableData.{FootpathData};
 ghost use Rattle.tb_base.specs.Soundness.{IsSoundFootpaths};
-ghost use Rattle.trip_table.specs.Answers.{IsCounted, IsRefused, Leaves, feed_of};
+ghost use Rattle.trip_table.specs.Answers.{GivesSeen, IsCounted, IsRefused, Leaves, feed_of};
 ghost use Rattle.trip_table.specs.Day.{given_footpaths};
-ghost use Rattle.trip_table.specs.References.{transfer_rows_of, transfers_of};
+ghost use Rattle.trip_table.specs.Feed.{shaped};
+ghost use Rattle.trip_table.specs.LeftFeed.{TellsFile};
+ghost use Rattle.trip_table.specs.References.{found_transfers, row_of_transfer, transfer_rows_of, transfers_of};
 
 use crate::DayFault;
-use crate::feed::{file_rows, spot};
+use crate::bearer::spot_of;
+use crate::feed::{file_rows, sifted_file, spot};
+use crate::left_rows::MOST_TURNS;
 use footpaths::{Options, Paths, PathsFault, StopTable, build_paths};
 use gtfs_rows::columns::transfers;
-use gtfs_rows::{FeedFault, FeedFile, RowsFault, TransferReader, TransferRow};
+use gtfs_rows::{FeedFault, FeedFile, RowsFault, ToldFaults, TransferReader, TransferRow};
 use std::alloc::Global;
 use tb_io::Folder;
 
@@ -40,8 +47,8 @@ fn transfer_rows_of<F: Folder>(
     }
 }
 
-// The change times and footpaths of good rows: None where they are too many.
-fn given_footpaths(
+/// The change times and footpaths of good rows: None where they are too many.
+pub(crate) fn given_footpaths(
     alloc: Global,
     rows: &[TransferRow],
     stops: &StopTable,
@@ -100,4 +107,73 @@ pub fn read_paths<F: Folder>(
         Err(fault) => return Err(fault),
     };
     Ok(given_footpaths(alloc, rows.as_slice(), stops, options)?)
+}
+
+// The rows of transfers.txt with which nothing is wrong. A row that has a fault is told and left out,
+// and the others are looked at anew.
+fn sifted_transfers(
+    alloc: Global,
+    rows: Vec<TransferRow>,
+    stops: &StopTable,
+    options: &Options,
+    told: &mut ToldFaults,
+) -> Result<Vec<TransferRow>, RowsFault>
+    requires { AreWithinADay options.now }
+    ensures { GivesOne
+        (TellsTyped true file.Transfers row_of_transfer (check_transfers stops.now) rows.items
+        told.old told.new)
+        result (λ v. v.items) }
+{
+    let mut rows = rows;
+    for _turn in 0..MOST_TURNS {
+        let fault = match given_footpaths(alloc, rows.as_slice(), stops, options) {
+            Ok(paths) => {
+                drop(paths);
+                return Ok(rows);
+            }
+            Err(RowsFault::Memory) => return Err(RowsFault::Memory),
+            Err(RowsFault::Feed(fault)) => fault,
+        };
+        let Some(spot) = spot_of(&fault) else {
+            return Err(RowsFault::Feed(fault));
+        };
+        // No fault of another file comes here.
+        if spot.file != FeedFile::Transfers {
+            return Err(RowsFault::Memory);
+        }
+        told.tell(fault)?;
+        rows.retain(|row| row.row != spot.row);
+    }
+    Err(RowsFault::Memory)
+}
+
+/// The rows of transfers.txt with which nothing is wrong, none where the file isn't there. Bad ones
+/// are told and left out.
+pub fn left_transfers<F: Folder>(
+    alloc: Global,
+    folder: &mut F,
+    dir: &str,
+    stops: &StopTable,
+    options: &Options,
+    told: &mut ToldFaults,
+) -> Result<Vec<TransferRow>, DayFault>
+    requires faults { F.faults folder.old < 2 ^ 64 - 1 }
+    requires options { AreWithinADay options.now }
+    ensures told { IsSome (F.files folder.old) →
+        GivesSeen
+        (TellsFile true file.Transfers
+        (λ rows. and_then (and_then rows (shaped file.Transfers transfer_row))
+        (found_transfers stops.now))
+        (feed_of (F.files folder.old) dir.now file.Transfers) told.old told.new)
+        result (λ rows. rows.items) }
+    ensures leaves { Leaves (F.files folder.old) (F.files folder.new) (F.faults folder.old)
+        (F.faults folder.new) result }
+{
+    let rows = match sifted_file(alloc, folder, dir, &TransferReader, true, told) {
+        Ok(Some(rows)) => rows,
+        Ok(None) => return Ok(Vec::new(alloc)),
+        Err(fault) => return Err(fault),
+    };
+    let rows = sifted_transfers(alloc, rows, stops, options, told)?;
+    Ok(rows)
 }

@@ -65,6 +65,45 @@ impl FeedRows {
         &self.trips
     }
 
+    /// The rows of these.
+    pub fn of_parts(
+        stops: StopTable,
+        services: ServiceRows,
+        trips: TripRowTable,
+        times: Vec<StopTime>,
+    ) -> FeedRows
+        requires good { AreGoodTimes stops trips times.items }
+        requires named { All (λ s. StopData.id s ≢ []) stops }
+        ensures stops { result.stops ≡ stops }
+        ensures services { result.services ≡ services }
+        ensures trips { result.trips ≡ trips }
+        ensures times { result.times ≡ times.items }
+    {
+        FeedRows {
+            stops,
+            services,
+            trips,
+            times,
+        }
+    }
+
+    /// All but the stop times.
+    pub fn without_times(self) -> (StopTable, ServiceRows, TripRowTable)
+        ensures stops { result.0 ≡ self.stops }
+        ensures services { result.1 ≡ self.services }
+        ensures trips { result.2 ≡ self.trips }
+        ensures named { All (λ s. StopData.id s ≢ []) self.stops }
+    {
+        let FeedRows {
+            stops,
+            services,
+            trips,
+            times,
+        } = self;
+        drop(times);
+        (stops, services, trips)
+    }
+
     /// The stop times.
     pub fn times(&self) -> &[StopTime]
         ensures times { result.now ≡ self.now.times }

@@ -1,5 +1,5 @@
 //! The rows of calendar.txt and calendar_dates.txt.
-ghost use Rattle.std.specs.Prelude.{◌≡◌, ◌<◌, ◌-◌, ◌^◌, Ok, Err, MatchResult, IsSome, option_map, unwrap_or, []};
+ghost use Rattle.std.specs.Prelude.{◌≡◌, ◌<◌, ◌-◌, ◌^◌, Ok, Err, MatchResult, IsSome, List, ℕ, option_map, unwrap_or, []};
 ghost use Rattle.gtfs_rows.specs.Refused.{Yields};
 ghost use Rattle.gtfs_rows.specs.Faults.{check_rows};
 ghost use Rattle.gtfs_rows.specs.Refused as rows;
@@ -7,7 +7,11 @@ ghost use Rattle.gtfs_rows.specs.CalendarFile.{calendar_row};
 ghost use Rattle.gtfs_rows.specs.Steps.{and_then};
 ghost use Rattle.gtfs_rows.specs.declared.fault.FeedFile.TheVariants as file;
 ghost use Rattle.trip_table.specs.Answers.{GivesSeen, IsRefused, Leaves, feed_of};
-ghost use Rattle.trip_table.specs.Feed.{shaped};
+ghost use Rattle.gtfs_rows.specs.StopsFile.{StopData};
+ghost use Rattle.gtfs_rows.specs.Told.{Told};
+ghost use Rattle.footpaths.specs.declared.paths.Options.{Options};
+ghost use Rattle.trip_table.specs.Feed.{Feed, shaped};
+ghost use Rattle.trip_table.specs.Leaving.{AfterServices, AfterStops, Leads, Reached};
 ghost use Rattle.trip_table.specs.LeftFeed.{TellsFile};
 ghost use Rattle.trip_table.specs.References.{wrong_calendar, calendar_of, check_calendar, check_services, services_of};
 
@@ -103,7 +107,7 @@ fn sifted_calendar<F: Folder>(
         Err(fault) => return Err(fault),
     };
     let mut test = CalendarTest {
-        ids: NameIndex::new(alloc),
+        ids: NameIndex::new(alloc, folder.key()),
     };
     let rows = sift(alloc, &mut test, rows, lenient, told)?;
     Ok(Some(rows))
@@ -152,6 +156,38 @@ pub fn read_services<F: Folder>(
         Err(fault) => return Err(fault),
     };
     let dates = match file_rows(alloc, folder, dir, &DateReader) {
+        Ok(rows) => rows,
+        Err(fault) => return Err(fault),
+    };
+    match services(alloc, calendar, dates) {
+        Ok(services) => Ok(services),
+        Err(fault) => Err(DayFault::Feed(fault)),
+    }
+}
+
+/// The rows of calendar.txt and calendar_dates.txt, of which bad ones are left out and their faults
+/// are told. One of the two files has to be there.
+pub fn left_services<F: Folder>(
+    alloc: Global,
+    folder: &mut F,
+    dir: &str,
+    told: &mut ToldFaults,
+) -> Result<ServiceRows, DayFault>
+    requires { F.faults folder.old < 2 ^ 64 - 1 }
+    ensures told { IsSome (F.files folder.old) →
+        (day : ℕ) (options : Options) (feed last : Feed) (before : Told) (stops : List StopData) →
+        Reached day options feed last before told.old →
+        AfterStops (feed_of (F.files folder.old) dir.now) last stops →
+        Leads day options feed before told.new result
+        (λ left services. AfterServices (feed_of (F.files folder.old) dir.now) left stops services) }
+    ensures leaves { Leaves (F.files folder.old) (F.files folder.new) (F.faults folder.old)
+        (F.faults folder.new) result }
+{
+    let calendar = match sifted_calendar(alloc, folder, dir, true, told) {
+        Ok(rows) => rows,
+        Err(fault) => return Err(fault),
+    };
+    let dates = match sifted_file(alloc, folder, dir, &DateReader, true, told) {
         Ok(rows) => rows,
         Err(fault) => return Err(fault),
     };

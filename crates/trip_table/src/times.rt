@@ -64,9 +64,9 @@ impl Guesses {
     }
 }
 
-// Reads the rows of stop_times.txt, and numbers what their ids name.
+/// Reads the rows of stop_times.txt, and numbers what their ids name.
 #[derive(Drop)]
-struct StopTimeReader<'a> {
+pub struct StopTimeReader<'a> {
     stops: &'a StopTable,
     trips: &'a TripRowTable,
     guesses: Guesses,
@@ -131,10 +131,10 @@ fn platform_number(count: u32, found: &Option<Found>) -> u32
     }
 }
 
-// Refuses the first row that names no trip or no platform, or whose trip has had its
-// `stop_sequence`. The rows of a trip mostly stand in order, and as long as they do, one number a
-// trip tells: the least that its next row may have.
-fn check_times(
+/// Refuses the first row that names no trip or no platform, or whose trip has had its
+/// `stop_sequence`. The rows of a trip mostly stand in order, and as long as they do, one number a
+/// trip tells: the least that its next row may have.
+pub(crate) fn check_times(
     alloc: Global,
     stops: &StopTable,
     trips: &TripRowTable,
@@ -230,6 +230,23 @@ fn key_of(row: &StopTime) -> SequenceKey
         trip_row: row.trip_row,
         sequence: row.sequence,
     }
+}
+
+/// A reader of the rows of stop_times.txt over these stops and trips.
+pub fn time_reader<'a>(
+    alloc: Global,
+    stops: &'a StopTable,
+    trips: &'a TripRowTable,
+) -> Result<StopTimeReader<'a>, Memory>
+    ensures stops { IfOk result (λ reader. reader.stops.now ≡ stops.now) }
+    ensures trips { IfOk result (λ reader. reader.trips.now ≡ trips.now) }
+{
+    let guesses = Guesses::new(alloc, stops.platforms())?;
+    Ok(StopTimeReader {
+        stops,
+        trips,
+        guesses,
+    })
 }
 
 /// The rows of stop_times.txt by the numbers of their trips and platforms.
