@@ -53,12 +53,13 @@ def words_for(command, folder):
         "serve": ["serve", f"{folder}@{DAY}"],
         "live": ["live", f"{folder}@{DAY}"],
         "verify": ["verify", folder, *ask],
+        "matrix": ["matrix", folder, DAY, "-", "08:00:00", "08:00:00", "60"],
     }[command]
 
 
 def given_in(folder):
-    """What comes by standard input: a script or a claim, where the shape has one."""
-    for name in ("script", "claim"):
+    """What comes by standard input: a script, a claim or origins, where the shape has them."""
+    for name in ("script", "claim", "origins"):
         path = os.path.join(folder, name)
         if os.path.exists(path):
             with open(path, "rb") as file:

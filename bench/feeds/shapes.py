@@ -299,6 +299,29 @@ def publications_of_live(folder, n):
     write(folder, "script", f"publish {folder}@{DAY}\nask A B 08:00:00\n" * n)
 
 
+def updates_of_live(folder, n):
+    """Of one day, and a request behind each."""
+    feed(folder)
+    write(folder, "late", "late t0 0 60\n")
+    write(folder, "script", f"late {folder}/late\nask A B 08:00:00\n" * n)
+
+
+def origins(folder, n):
+    feed(folder)
+    write(folder, "origins", "A\n" * n)
+
+
+def origins_of_long_names(folder, n):
+    """None of which is there, each of some hundred quotes."""
+    feed(folder)
+    write(folder, "origins", ('"' + '""' * 490 + '"\n') * n)
+
+
+def remarks_between_origins(folder, n):
+    feed(folder)
+    write(folder, "origins", "A\n" + "#\n" * n)
+
+
 def rides_of_a_claim(folder, n):
     """Rides on the last of as many trips."""
     smallest.make(folder, trips=(f"S,t{i}\n" for i in range(n)), times=smallest.times_of(n, 2))
@@ -362,6 +385,10 @@ OTHERS = {
     lines_of_live_that_are_refused: (100_000, "live"),
     one_line_of_live: (250_000, "live"),
     publications_of_live: (1_000, "live"),
+    updates_of_live: (1_000, "live"),
+    origins: (50_000, "matrix"),
+    origins_of_long_names: (10_000, "matrix"),
+    remarks_between_origins: (4_000_000, "matrix"),
     rides_of_a_claim: (6_000, "verify"),
     rides_of_a_claim_on_one_trip: (6_000, "verify"),
 }

@@ -17,6 +17,7 @@ COMMANDS = (
     "latest",
     "reach",
     "times",
+    "matrix",
     "verify",
     "late",
     "build",
@@ -93,8 +94,10 @@ class Draw:
         files = {f"f/{name}": data for name, data in self.changed_feed().items()}
         if command in ("serve", "live"):
             files.update((f"g/{name}", data) for name, data in self.feed.items())
-        if command == "late":
+        if command in ("late", "serve", "live"):
             files["late"] = self.sometimes_changed(self.lates())
+        if command == "matrix":
+            files["origins"] = self.sometimes_changed(self.origins())
         return Case(words, files, given)
 
     def options(self):
@@ -108,7 +111,8 @@ class Draw:
             if self.often(0.2):
                 value = self.drawn.choice(wrong if self.often(0.03) else values)
                 words += [f"{name}={value}"] if self.often(0.3) else [name, value]
-        return words + [word for word in ("--close", "--plain", "--mirror") if self.often(0.25)]
+        flags = ("--close", "--plain", "--mirror", "--csv")
+        return words + [word for word in flags if self.often(0.25)]
 
     def words_behind(self, command):
         time, later = self.two_times()
@@ -116,14 +120,20 @@ class Draw:
         day = ["f", self.drawn.choice(DATES)]
         if command in ("serve", "live"):
             days = [f"{folder}@{self.drawn.choice(DATES)}" for folder in ("f", "g", "f", "g")]
-            return days[: self.drawn.choice((1, 1, 2, 4))]
+            items = [self.updates() if self.often(0.3) else day for day in days[1:]]
+            return [days[0], *items][: self.drawn.choice((1, 1, 2, 4))]
         return {
             "profile": [*day, *ends, time, later],
             "reach": [*day, ends[0], time],
             "times": [*day, ends[0], *self.departures()],
+            "matrix": [*day, self.drawn.choice(("-", "origins")), *self.departures()],
             "late": [*day, "late", *ends, time],
             "build": [*day, *(["list"] if self.often(0.5) else [])],
         }.get(command, [*day, *ends, time])
+
+    def updates(self):
+        """An item of a file of updates, which may not be there."""
+        return "late:none" if self.often(0.1) else "late:late"
 
     def departures(self):
         """FIRST, LAST, a step by which there are some dozens, and at times a limit on rides."""
@@ -163,7 +173,7 @@ class Draw:
 
     def known_words(self):
         options = ("--close", "--plain", "--change", "--station=60", "--workers", "--help", "-h")
-        others = ("--", "-", "f", "g", "late", "list", f"f@{DAY}", "city")
+        others = ("--", "-", "f", "g", "late", "list", f"f@{DAY}", "late:late", "city")
         return (*options, *others, *COMMANDS, *DATES, *TIMES, *self.stops)
 
     def frequencies(self):
@@ -206,6 +216,8 @@ class Draw:
             return self.sometimes_changed(self.lines())
         if command == "verify":
             return self.sometimes_changed(self.claim())
+        if command == "matrix":
+            return self.sometimes_changed(self.origins())
         return b""
 
     def ride(self, start=None):
@@ -252,15 +264,22 @@ class Draw:
         return "\n".join(lines).encode() + b"\n"
 
     def lines(self):
-        """Lines of `live`: those of a script but for the begin of a lane, and days to publish."""
+        """Lines of `live`: those of a script but for the begin of a lane, and items to publish."""
         lines = self.script().split(b"\n")
         if lines[0].startswith(b"lane ") and self.often(0.9):
             lines = lines[1:]
         for _ in range(self.drawn.randrange(3)):
             folder = self.drawn.choice(("f", "g", "g", "h"))
-            line = f"publish {folder}@{self.drawn.choice(DATES)}".encode()
-            lines.insert(self.drawn.randrange(len(lines)), line)
+            line = f"publish {folder}@{self.drawn.choice(DATES)}"
+            if self.often(0.3):
+                line = self.updates().replace(":", " ")
+            lines.insert(self.drawn.randrange(len(lines)), line.encode())
         return b"\n".join(lines)
+
+    def origins(self):
+        """A file of origins: some stops, and at times a name that is none, or a remark."""
+        names = (*self.stops, *self.stops, "nowhere", "# remark", "")
+        return "\n".join(self.drawn.choices(names, k=self.drawn.randrange(6))).encode()
 
     def lates(self):
         if self.often(0.2):

@@ -1,7 +1,8 @@
 """What a run of a case may come to, by the documents, and whether it did."""
 import os
 
-from said import answers, claims, feeds, lived, replies, served, texts, words as command_lines
+from said import answers, claims, feeds, lived, matrix, replies, served, texts
+from said import words as command_lines
 from said.journeys import Options, Timetable
 from said.words import time_of
 
@@ -29,14 +30,18 @@ class Judge:
         self.case, self.folder = case, folder
         self.events = 0
         self.is_valid = command_lines.are_valid(case.words)
-        self.command, self.rest, self.options, self.is_mirrored = "", [], Options(), False
+        self.command, self.rest, self.options = "", [], Options()
+        self.is_mirrored = self.is_table = False
         self.feed = self.timetable = None
-        self.days, self.feeds, self.claim = [], [], None
+        self.items, self.feeds, self.claim, self.origins = [], [], None, None
+        # the last published day of `serve` or `live`, with its feed, where it is small
+        self.last_day = None
         if self.is_valid:
             plain = [word.decode() for word in case.words]
             self.command, *self.rest = command_lines.without_options(plain)
             self.options = options_of(plain)
             self.is_mirrored = "--mirror" in before_rest(plain)
+            self.is_table = "--csv" in before_rest(plain)
 
     def wrong(self, ended):
         """What is wrong with what came, or None."""
@@ -79,10 +84,12 @@ class Judge:
             return None
         if not answers.is_answer(self.command, out):
             return "the answer has another form"
-        if self.command == "serve" and self.days:
+        if self.command == "serve" and self.items:
             return self.wrong_served(out)
-        if self.command == "live" and self.days:
+        if self.command == "live" and self.items:
             return self.wrong_lived(out)
+        if self.command == "matrix" and self.timetable:
+            return self.wrong_matrix(out)
         if self.command not in answers.PLACES:
             return None
         asked = self.rest[3 if self.command == "late" else 2 :]
@@ -107,18 +114,28 @@ class Judge:
 
     def wrong_served(self, out):
         try:
-            served.Reader(out, self.days, self.is_known).read(served.lanes_of(self.case.given))
+            served.Reader(out, self.items, self.is_known).read(served.lanes_of(self.case.given))
         except served.Wrong as wrong:
             return f"it served {wrong}"
         return None
 
     def wrong_lived(self, out):
-        reader = lived.Reader(out, self.days, self.is_known)
+        reader = lived.Reader(out, self.items, self.is_known)
         try:
             reader.read_all(lived.lines_of(self.case.given), self.is_mirrored)
         except served.Wrong as wrong:
             return f"it wrote {wrong}"
         return None
+
+    def wrong_matrix(self, out):
+        def is_known(name):
+            return is_place(self.feed, name)
+
+        wanted = matrix.wanted(self.origins, self.rest[3:], self.timetable, is_known)
+        told = matrix.rows_told(out) if self.is_table else matrix.told(out)
+        if self.is_table:
+            wanted = list(matrix.rows_wanted(wanted, self.timetable.stops))
+        return None if told == wanted else f"the matrix isn't {wanted}"
 
     def allowed(self):
         """The statuses that may come, each with the fault that is shown, or the begin of it."""
@@ -145,11 +162,12 @@ class Judge:
 
     def allowed_of_serve(self):
         fault = texts.script_fault(self.case.given)
-        days = [self.read_day(day) for day in self.rest]
+        words = [(word, command_lines.late_path(word)) for word in self.rest]
+        items = [self.read_item(*item) for item in words]
         self.events *= 1 + self.case.given.count(b"\n")
-        found = days[0]
-        if all(days) and not fault and isinstance(found, Timetable):
-            self.days = list(zip(self.rest, (as_shown(day) for day in days)))
+        found = items[0]
+        if all(items) and not fault and isinstance(found, Timetable):
+            self.items = [item_of(*it, found) for it, found in zip(words, items)]
         if found and not isinstance(found, Timetable):
             return [found, *([(7, fault)] if fault else [])]
         allowed = [(7, fault)] if fault else [(0, "")]
@@ -157,27 +175,57 @@ class Judge:
 
     def allowed_of_live(self):
         lines = lived.lines_of(self.case.given)
-        words = [*self.rest, *filter(None, map(lived.published, lines))]
-        days = [self.read_day(word) for word in words]
+        words = [(word, command_lines.late_path(word)) for word in self.rest]
+        words += filter(None, map(lived.published, lines))
+        items = [self.read_item(*item) for item in words]
         self.events *= 1 + len(lines)
-        found = days[0]
+        found = items[0]
         if found and not isinstance(found, Timetable):
             return [found]
-        if all(days):
-            self.days = [(word, as_shown(day) or "read fault") for word, day in zip(words, days)]
+        if all(items):
+            self.items = [item_of(*it, found) for it, found in zip(words, items)]
         return [(0, "")] if found else [(0, ""), *self.allowed_of_law()]
 
-    def read_day(self, word):
-        """The timetable of a day of `serve` or `live`, if it is small, or how the program ends without it."""
+    def read_item(self, word, path):
+        """The timetable of an item of `serve` or `live`, if it is small, or how the program ends
+        without it.
+        """
+        if path is not None:
+            return self.read_updates(path)
         folder, _, date = word.rpartition("@")
         found = self.read_feed(folder)
-        if found or not self.is_small():
+        if found:
             return found
+        if not self.is_small():
+            self.last_day = None
+            return None
         timetable = Timetable(self.feed, date, self.options)
         if timetable.fault:
             return 3, timetable.fault
+        self.last_day = self.feed, date
         self.feeds.append(self.feed)
         return timetable
+
+    def read_updates(self, path):
+        """The last day amended by a file, or the fault of that."""
+        if self.last_day is None:
+            return None
+        feed, date = self.last_day
+        timetable = Timetable(feed, date, self.options)
+        try:
+            data = self.bytes_at(path)
+        except OSError:
+            return 4, ""
+        fault = "6 MissingFile" if data is None else texts.late_fault(data)
+        fault = fault or replies.amend(timetable.trips, data)
+        if fault:
+            return 8, fault
+        self.events += feed.events
+        self.feeds.append(feed)
+        return timetable
+
+    def bytes_at(self, path):
+        return feeds.bytes_of(os.path.join(self.folder, path))
 
     def is_small(self):
         return self.feed.events <= FEW_EVENTS and len(self.feed.stops) <= FEW_STOPS
@@ -185,6 +233,8 @@ class Judge:
     def allowed_of_texts(self):
         if self.command == "late":
             return self.allowed_of_late()
+        if self.command == "matrix":
+            return self.allowed_of_matrix()
         if self.command != "verify":
             return [(0, "")]
         fault = texts.claim_fault(self.case.given)
@@ -196,7 +246,7 @@ class Judge:
 
     def allowed_of_late(self):
         try:
-            data = feeds.bytes_of(os.path.join(self.folder, self.rest[2]))
+            data = self.bytes_at(self.rest[2])
         except OSError:
             return [(4, "")]
         fault = "6 MissingFile" if data is None else texts.late_fault(data)
@@ -205,6 +255,18 @@ class Judge:
             return [(8, fault)] if fault else [(0, "")]
         names = ("1 UnknownTrip", "2 TimeRunsBack", "3 OutOfRange", "4 BadEvent")
         return [(8, fault)] if fault else [(0, ""), *((8, name) for name in names)]
+
+    def allowed_of_matrix(self):
+        try:
+            data = self.case.given if self.rest[2] == "-" else self.bytes_at(self.rest[2])
+        except OSError:
+            return [(4, "")]
+        fault = "6 MissingFile" if data is None else texts.origins_fault(data)
+        if fault:
+            return [(7, fault)]
+        self.origins = matrix.origins_of(data)
+        self.events *= 1 + len(self.origins)
+        return [(0, "")]
 
     def read_feed(self, folder):
         """How the program ends if the feed has a fault, and what is in it else."""
@@ -229,9 +291,11 @@ def is_place(feed, name):
     return kind in (*feeds.PLATFORM, feeds.STATION)
 
 
-def as_shown(day):
-    """A timetable, or the fault of a day without one."""
-    return day if isinstance(day, Timetable) else day[1]
+def item_of(word, path, found):
+    """What became of an item: its timetable, or how the program would end without it."""
+    if isinstance(found, Timetable):
+        return served.Item(word, path is None, found)
+    return served.Item(word, path is None, fault=found[1] or "read fault")
 
 
 def before_rest(words):

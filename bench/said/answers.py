@@ -23,12 +23,14 @@ RULES = (
     "BadNumber|TwoWalks|NoWalk|NoBoarding|NoAlighting|WrongStart|TooEarly|Apart|TooLate|WrongEnd"
 )
 COUNTS = r"trips \d+ lines \d+ kept \d+\n"
+ITEM = rf"edition \d+ .+ (?:{COUNTS}|touched \d+ kept \d+\n)|refused .+\n"
 REACHED = rf"(?:.+(?: -|(?: {TIME}/\d+)+)\n)*"
 TRAVEL = rf"(?:.+ \d+/\d+(?: -| {TIME}){{7}}\n)*"
 DEPARTURES = rf"(?:{NO_JOURNEY}|(?:leave {TIME} rides \d+\n(?:{LEG})*)+)"
 ANSWER = rf"{CHOICES}|{OFFERS}|{DEPARTURES}|unknown stop .*\n|{REACHED}|{TRAVEL}"
 REPLY = rf"\d+ edition \d+\n(?:deferred \d+\n|{ANSWER})"
 LANES = rf"(?:lane .*\n(?:{REPLY})*)*"
+ROW = "from,to,reached,departures,least,p5,p25,p50,p75,p95,greatest"
 # What each command may write.
 FORMS = {
     "direct": rf"arrive {TIME}\n|{NO_JOURNEY}",
@@ -37,10 +39,11 @@ FORMS = {
     "latest": DEPARTURES,
     "reach": REACHED,
     "times": TRAVEL,
+    "matrix": rf"(?:from .*\n(?:unknown stop .*\n|{TRAVEL})\n)*|{ROW}\r?\n(?:.*\n)*",
     "verify": rf"yes\n|no (?:{RULES}) leg \d+\n|no value arrive {TIME} rides \d+\n",
     "late": rf"edition 2 redone \d+ kept \d+\n{CHOICES}",
     "build": rf"{SIZES}(?:{END} {END}\n)*",
-    "serve": rf"(?:edition \d+ .+ {COUNTS}|refused .+\n)+{LANES}closing edition \d+\n{LANES}",
+    "serve": rf"(?:{ITEM})+{LANES}closing edition \d+\n{LANES}",
     "live": rf"edition 1 .+ {COUNTS}(?:.*\n)*",
     "city": rf"{SIZES}{CHOICES}",
 }
@@ -77,12 +80,13 @@ LATE_FAULT = (
     r"(?:1 UnknownTrip|2 TimeRunsBack|3 OutOfRange|4 BadEvent|5 BadLine) line \d+|"
     "6 MissingFile|7 TooLarge"
 )
+ORIGINS_FAULT = r"1 BadLine line \d+|5 TooLong|6 MissingFile"
 CLAIM_FAULT = r"(?:1 BadLine|2 UnknownStop|3 NoSuchRide) line \d+|4 TooLong"
-# What stands before a fault on standard error, by status, with the form of the fault.
+# What stands before a fault on standard error, by status, with the form of the fault by command.
 REFUSALS = {
-    7: ("router: script refused: ", SCRIPT_FAULT, ("serve",)),
-    8: ("router: late refused: ", LATE_FAULT, ("late",)),
-    9: ("router: journey refused: ", CLAIM_FAULT, ("verify",)),
+    7: ("router: script refused: ", {"serve": SCRIPT_FAULT, "matrix": ORIGINS_FAULT}),
+    8: ("router: late refused: ", {"late": LATE_FAULT}),
+    9: ("router: journey refused: ", {"verify": CLAIM_FAULT}),
 }
 READ_FAULT = "router: read fault"
 FEED_REFUSED = "router: feed refused: "
@@ -97,8 +101,8 @@ def fault_in(status, line, command):
     if status == 3:
         fault = line[len(FEED_REFUSED) :] if line.startswith(FEED_REFUSED) else ""
         return fault if feeds.is_fault(fault) else None
-    before, form, commands = REFUSALS.get(status, ("", "", ()))
-    if command in commands and line.startswith(before):
+    before, forms = REFUSALS.get(status, ("", {}))
+    if command in forms and line.startswith(before):
         fault = line[len(before) :]
-        return fault if re.fullmatch(form, fault) else None
+        return fault if re.fullmatch(forms[command], fault) else None
     return None

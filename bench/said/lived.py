@@ -1,5 +1,5 @@
 """What `live` has to write, as docs/FORMATS.md says, but for the legs of journeys, for which edition
-answers a request, and for where it is told what became of days: these hang on how fast the days are
+answers a request, and for where it is told what became of items: these hang on how fast they are
 built.
 """
 import re
@@ -17,9 +17,11 @@ def lines_of(text):
 
 
 def published(words):
-    """The day that a line names, if it does."""
-    named = words is not None and words[0] == "publish" and len(words) == 2 and is_day(words[1])
-    return words[1] if named else None
+    """The word of the item that a line names, if it does, and the file of updates, if it is one."""
+    kind, name = words if words and len(words) == 2 else ("", "")
+    if kind == "publish" and is_day(name):
+        return name, None
+    return (f"late:{name}", name) if kind == "late" and name else None
 
 
 def refusal(words, is_mirrored):
@@ -32,11 +34,11 @@ def refusal(words, is_mirrored):
 
 
 class Reader(served.Reader):
-    """Reads lines, over the timetables of the editions of all days in order."""
+    """Reads lines, over the timetables of the editions of all items in order."""
 
-    def __init__(self, out, days, is_place):
-        super().__init__(out, days, is_place)
-        # how many days were told of, and the last edition of these and of replies
+    def __init__(self, out, items, is_place):
+        super().__init__(out, items, is_place)
+        # how many items were told of, and the last edition of these and of replies
         self.told = self.last = 0
 
     def read_all(self, lines, is_mirrored):
@@ -54,21 +56,18 @@ class Reader(served.Reader):
                 self.read_answer(number, words)
             self.take("")
         self.read_news()
-        if self.at < len(self.lines) or self.told < len(self.days):
+        if self.at < len(self.lines) or self.told < len(self.items):
             raise served.Wrong(f"{self.lines[self.at:]} in place of the end")
 
     def read_news(self):
-        """Reads what became of days, as far as it stands here."""
+        """Reads what became of items, as far as it stands here."""
         while self.at < len(self.lines) and self.lines[self.at].startswith(("edition ", "refused ")):
-            word, found = self.days[self.told] if self.told < len(self.days) else ("", "")
+            if self.told == len(self.items):
+                raise served.Wrong(f"{self.lines[self.at]!r} after all items")
+            self.read_item(self.told)
             self.told += 1
-            if isinstance(found, str):
-                self.take(re.escape(f"refused {word} {found}"))
-                continue
-            number = sum(not isinstance(it, str) for _, it in self.days[: self.told])
+            number = sum(self.items[i].timetable is not None for i in range(self.told))
             self.last = max(self.last, number)
-            begin = f"edition {number} {word} trips {len(found.trips)} lines "
-            self.take(rf"{re.escape(begin)}\d+ kept \d+")
 
     def read_answer(self, number, words):
         edition = int(self.take(rf"{number} edition (\d+)")[1])

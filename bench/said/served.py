@@ -1,7 +1,8 @@
 """What `serve` has to write, as docs/FORMATS.md says, but for the legs of journeys, and for which
-edition answers a request, which hangs on how fast the days are built.
+edition answers a request, which hangs on how fast the items are built.
 """
 import re
+import typing
 
 from said import replies, texts
 from said.words import number_of
@@ -26,6 +27,15 @@ def lanes_of(text):
     return lanes
 
 
+class Item(typing.NamedTuple):
+    """What became of an item: its timetable, or its fault; a file of updates touches trips."""
+
+    word: str
+    is_day: bool
+    timetable: object = None
+    fault: str = ""
+
+
 class Wrong(Exception):
     """What another line stands in the place of."""
 
@@ -33,10 +43,10 @@ class Wrong(Exception):
 class Reader:
     """Reads lines, over the timetables of the editions."""
 
-    def __init__(self, out, days, is_place):
+    def __init__(self, out, items, is_place):
         self.lines, self.at = out.split("\n")[:-1], 0
-        self.days, self.is_place = days, is_place
-        self.timetables = [found for _, found in days if not isinstance(found, str)]
+        self.items, self.is_place = items, is_place
+        self.timetables = [it.timetable for it in items if it.timetable]
 
     def take(self, form):
         """The next line, which has to match."""
@@ -48,7 +58,8 @@ class Reader:
         return found
 
     def read(self, lanes):
-        self.read_days()
+        for place in range(len(self.items)):
+            self.read_item(place)
         deferred = [self.read_lane(*lane) for lane in lanes]
         last = len(self.timetables)
         self.take(f"closing edition {last}")
@@ -60,15 +71,16 @@ class Reader:
         if self.at < len(self.lines):
             raise Wrong(f"{self.lines[self.at]!r} in place of the end")
 
-    def read_days(self):
-        number = 0
-        for word, found in self.days:
-            if isinstance(found, str):
-                self.take(re.escape(f"refused {word} {found}"))
-            else:
-                number += 1
-                begin = f"edition {number} {word} trips {len(found.trips)} lines "
-                self.take(rf"{re.escape(begin)}\d+ kept \d+")
+    def read_item(self, place):
+        """Reads what became of the item of that place."""
+        word, is_day, found, fault = self.items[place]
+        if not found:
+            self.take(re.escape(f"refused {word} {fault}"))
+            return
+        number = sum(it.timetable is not None for it in self.items[: place + 1])
+        counts = f"trips {len(found.trips)} lines " if is_day else "touched "
+        begin = re.escape(f"edition {number} {word} {counts}")
+        self.take(rf"{begin}\d+ kept \d+")
 
     def read_lane(self, name, requests):
         """Reads the replies of a lane; the numbers of the requests that the closing answers."""

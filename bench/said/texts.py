@@ -135,6 +135,17 @@ def late_fault(text):
     return None
 
 
+def origins_fault(text):
+    """The first line of a file of origins that is bad, or that it is too long, or None."""
+    if len(text) > MOST_BYTES:
+        return "5 TooLong"
+    for number, line in lines_of(text):
+        words = words_of(line)
+        if words is None or len(words) > 1:
+            return f"1 BadLine line {number}"
+    return None
+
+
 def is_shown_time(text):
     """Whether it is a time as it is shown, from -24:00:00 to 123:59:59."""
     found = re.fullmatch(r"(-?)([0-9]{2,3}):([0-5][0-9]):([0-5][0-9])", text)

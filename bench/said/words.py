@@ -84,6 +84,16 @@ def is_latest_time(text):
     return is_time(text) and time_of(text) <= LATEST
 
 
+def late_path(word):
+    """The file of updates that an item of a plan names, or None where it names none."""
+    return word[len("late:") :] if word.startswith("late:") else None
+
+
+def is_item(word):
+    path = late_path(word)
+    return is_day(word) if path is None else bool(path)
+
+
 def is_day(word):
     folder, at, date = word.rpartition("@")
     return bool(at and folder) and is_date(date)
@@ -129,10 +139,13 @@ def are_valid(words):
         return are_of_day(rest[:2], rest[2:], anything, *CHECKS["ask"])
     if name == "times":
         return are_of_day(rest[:2], []) and times_fault(rest[2:]) is None
+    if name == "matrix":
+        return are_of_day(rest[:2], []) and times_fault(rest[2:]) is None
     if name == "build":
         return are_of_day(rest[:2], [], *()) and rest[2:] in ([], ["list"])
     if name in ("serve", "live"):
-        return 1 <= len(rest) <= 100 and all(map(is_day, rest))
+        begins = bool(rest) and late_path(rest[0]) is None
+        return begins and len(rest) <= 100 and all(map(is_item, rest))
     if name == "city":
         return len(rest) == 1 and 2 <= (number_of(rest[0]) or 0) <= 40
     return False

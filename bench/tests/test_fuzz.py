@@ -10,6 +10,27 @@ from said import answers, claims, feeds, replies, served, texts, words
 from said.journeys import Options, Timetable
 
 
+MATRIX = """from B
+A 0/4 - - - - - - -
+B 4/4 00:00:00 00:00:00 00:00:00 00:00:00 00:00:00 00:00:00 00:00:00
+C 4/4 00:10:00 00:10:00 00:10:00 00:15:00 00:20:00 00:25:00 00:25:00
+D 4/4 00:20:00 00:20:00 00:20:00 00:25:00 00:30:00 00:35:00 00:35:00
+E 0/4 - - - - - - -
+
+from X
+unknown stop X
+
+"""
+TABLE = """from,to,reached,departures,least,p5,p25,p50,p75,p95,greatest
+B,A,0,4,,,,,,,
+B,B,4,4,0,0,0,0,0,0,0
+B,C,4,4,600,600,600,900,1200,1500,1500
+B,D,4,4,1200,1200,1200,1500,1800,2100,2100
+B,E,0,4,,,,,,,
+X,,,,,,,,,,
+"""
+
+
 class Cases(unittest.TestCase):
     def test_the_same_seed_makes_the_same_cases(self):
         one, other = ([Maker(seed).case(number) for number in range(50)] for seed in ("1", "1"))
@@ -124,7 +145,8 @@ class Journeys(unittest.TestCase):
 class Served(unittest.TestCase):
     def read(self, out):
         timetable = Timetable(feeds.check(FEEDS, "f1"), DAY, Options())
-        reader = served.Reader(out, [("f@1", timetable)], lambda _, name: name in timetable.stops)
+        items = [served.Item("f@1", True, timetable)]
+        reader = served.Reader(out, items, lambda _, name: name in timetable.stops)
         reader.read(served.lanes_of(SCRIPT.encode()))
 
     def test_what_is_served(self):
@@ -165,6 +187,21 @@ class Judging(unittest.TestCase):
             case = Case(words, files, b"")
             lay_out(case, folder)
             return Judge(case, folder).wrong(Ended(status, out, err, 0.01))
+
+    def matrix(self, out, *options):
+        words = [*options, "matrix", f"{FEEDS}/f1", DAY, "-", "07:55:00", "08:10:00", "300"]
+        with tempfile.TemporaryDirectory() as folder:
+            case = Case([word.encode() for word in words], {}, b"B\nX\n")
+            lay_out(case, folder)
+            return Judge(case, folder).wrong(Ended(0, out, "", 0.01))
+
+    def test_a_matrix(self):
+        self.assertIsNone(self.matrix(MATRIX))
+        self.assertIsNotNone(self.matrix(MATRIX.replace("00:25:00", "00:25:01")))
+        self.assertIsNotNone(self.matrix(MATRIX.replace("from X\nunknown stop X\n\n", "")))
+        self.assertIsNone(self.matrix(TABLE, "--csv"))
+        self.assertIsNotNone(self.matrix(TABLE.replace("1500", "1501"), "--csv"))
+        self.assertIsNotNone(self.matrix(TABLE))
 
     def test_what_may_come(self):
         self.assertIsNone(self.wrong(0, BEST, ""))

@@ -98,14 +98,18 @@ class Cells(unittest.TestCase):
 
 
 class Judged(unittest.TestCase):
-    DAYS = [("d", Nowhere()), ("e", "1 MissingFile stops.txt"), ("f", Nowhere())]
-    GIVEN = b"ask A A 08:00:00\n# x\nlatest A A 08:00:00\n\npublish f@20260302\nsince 3 reach A 8\n"
+    ITEMS = [
+        served.Item("d", True, Nowhere()),
+        served.Item("e", True, fault="1 MissingFile stops.txt"),
+        served.Item("late:f", False, Nowhere()),
+    ]
+    GIVEN = b"ask A A 08:00:00\n# x\nlatest A A 08:00:00\n\nlate f\nsince 3 reach A 8\n"
     BEGIN = "edition 1 d trips 0 lines 0 kept 0\n1 edition 1\nno journey\n\n"
     END = "3 queued\n\nrefused e 1 MissingFile stops.txt\n4 bad time\n\n"
-    LAST = "edition 2 f trips 0 lines 0 kept 0\n"
+    LAST = "edition 2 late:f touched 0 kept 0\n"
 
     def judge(self, out, is_mirrored=False):
-        reader = lived.Reader(out, self.DAYS, lambda edition, name: True)
+        reader = lived.Reader(out, self.ITEMS, lambda edition, name: True)
         reader.read_all(lived.lines_of(self.GIVEN), is_mirrored)
 
     def test_what_may_come(self):
