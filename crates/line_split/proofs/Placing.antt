@@ -196,3 +196,9 @@ bucketed_yet T numbers n = record {
   trips = λ l below. absurd (omega (arith, below));
   there = λ l below. absurd (omega (arith, below));
 }
+
+-- the last trip of a line that a trip was put behind
+pub last_pushed : (line : List ℕ) (t : ℕ) → last_trip (line ++ t ∷ []) ≡ t
+last_pushed line t =
+    let long : length line ≡ length (line ++ t ∷ []) - 1 = omega (arith, length_push line t) in
+    get_or_push line t 0 (length (line ++ t ∷ []) - 1) long

@@ -1,12 +1,14 @@
 //! Floors of blocks of lines, for a quick look at many lines.
-ghost use Rattle.std.specs.Prelude.{◌≡◌, ◌≢◌, ◌*◌, ◌+◌, ◌/◌, ◌<◌, ◌≤◌, ℕ, [], IfOk, OnOk, length, replicate, slice_index_or};
+ghost use Rattle.std.specs.Prelude.{◌≡◌, ◌≢◌, ◌*◌, ◌+◌, ◌/◌, ◌%◌, ◌<◌, ◌≤◌, ℕ, [], IfOk, OnOk, All, length, replicate, slice_index_or};
 ghost use Rattle.std.specs.Bool.{OnFalse};
+ghost use Rattle.line_split.specs.Bitmaps.{AreBitmapsOf, ArePicked, IsOut};
 ghost use Rattle.line_split.specs.Floors.{AreBelow, AreNoLater, AreNoted, IsEarlier, IsLower, IsNoted, no_floor};
 
+use super::bitmaps::{Bitmap, bitmaps_of, out_from, picked_for};
 use super::nested::Nested;
 use std::alloc::Global;
 use std::marker::Model;
-use tb_base::{Event, Memory};
+use tb_base::{Event, Memory, Timetable, TripNo};
 
 /// How many lines have one floor, and how many floors have one below them.
 const BLOCK: usize = 64;
@@ -14,19 +16,30 @@ const BLOCK: usize = 64;
 /// Before so few lines no floor is looked at.
 const FEW: usize = 8;
 
-/// The floors of a bucket's lines: one of each block of lines, and one of each block of these.
+/// From so many lines on a bucket has bitmaps.
+const MANY: usize = 1024;
+
+/// Bitmaps are made anew behind a trip for so many lines.
+const PART: usize = 16;
+
+/// The floors of a bucket's lines: one of each block of lines, and one of each block of these; and
+/// bitmaps of them as they were some trips ago.
 #[derive(Drop)]
 pub(crate) struct Floors {
     near: Nested<Event>,
     far: Nested<Event>,
+    bitmaps: Vec<Bitmap>,
+    // how many trips were placed since
+    placed: usize,
 }
 
 impl Model for Floors {
-    ghost use Rattle.line_split.specs.Floors.{FloorsData};
+    ghost use Rattle.line_split.specs.Bitmaps.{AreBitmapsOf, ArePicked, IsOut};
+ghost use Rattle.line_split.specs.Floors.{FloorsData};
 
     ghost Value = { FloorsData };
 
-    ghost view = { λ f. record { near = f.near; far = f.far } };
+    ghost view = { λ f. record { near = f.near; far = f.far; bitmaps = f.bitmaps.items } };
 }
 
 impl Floors {
@@ -37,7 +50,58 @@ impl Floors {
         Floors {
             near: Nested::new(alloc),
             far: Nested::new(alloc),
+            bitmaps: Vec::new(alloc),
+            placed: 0,
         }
+    }
+
+    /// The places of the bitmaps that tell most of some events.
+    pub(crate) fn picked_for(
+        &self,
+        alloc: Global,
+        events: &[Event],
+    ) -> Result<Vec<usize>, Memory>
+        ensures { IfOk result (λ picked. ArePicked self.now.bitmaps events.now picked.items) }
+    {
+        picked_for(alloc, self.bitmaps.as_slice(), events)
+    }
+
+    /// How many lines from a place on are later than the events that these places were picked for.
+    pub(crate) fn out_from(&self, picked: &[usize], place: usize) -> usize
+        requires { (n : ℕ) → n < length picked.now →
+            slice_index_or picked.now n 0 < length self.now.bitmaps }
+        ensures most { result ≤ 4096 }
+        ensures out { (k : ℕ) → place ≤ k → k < place + result →
+            IsOut self.now.bitmaps picked.now (k / 64) (k % 64) }
+    {
+        out_from(self.bitmaps.as_slice(), picked, place)
+    }
+
+    /// Makes the bitmaps of these lines anew, if they are many and it is time.
+    fn renew(
+        &mut self,
+        alloc: Global,
+        table: &Timetable,
+        lines: &Nested<TripNo>,
+        among: &[usize],
+    ) -> Result<(), Memory>
+        requires lines { All (λ l. l < length lines.now) among.now }
+        requires bitmaps { AreBitmapsOf table.now lines.now among.now self.old.bitmaps }
+        ensures near { self.new.near ≡ self.old.near }
+        ensures far { self.new.far ≡ self.old.far }
+        ensures bitmaps { OnOk result
+            (AreBitmapsOf table.now lines.now among.now self.new.bitmaps) }
+    {
+        if among.len() < MANY {
+            return Ok(());
+        }
+        if self.placed < among.len() / PART {
+            self.placed += 1;
+            return Ok(());
+        }
+        self.placed = 0;
+        self.bitmaps = bitmaps_of(alloc, table, lines, among)?;
+        Ok(())
     }
 
     /// How many lines from a place on, of so many that are left, are later than some events.
@@ -97,6 +161,32 @@ pub(crate) fn is_below(floor: &[Event], events: &[Event]) -> bool
         }
     }
     true
+}
+
+/// Makes the bitmaps of a bucket's lines anew, if they are many and it is time.
+pub(crate) fn renew_in(
+    alloc: Global,
+    floors: &mut [Floors],
+    bucket: usize,
+    table: &Timetable,
+    lines: &Nested<TripNo>,
+    among: &[usize],
+) -> Result<(), Memory>
+    requires bucket { bucket < length floors.old }
+    requires lines { All (λ l. l < length lines.now) among.now }
+    requires bitmaps { AreBitmapsOf table.now lines.now among.now
+        (slice_index_or floors.old bucket no_floor).bitmaps }
+    ensures many { length floors.new ≡ length floors.old }
+    ensures near { (slice_index_or floors.new bucket no_floor).near
+        ≡ (slice_index_or floors.old bucket no_floor).near }
+    ensures far { (slice_index_or floors.new bucket no_floor).far
+        ≡ (slice_index_or floors.old bucket no_floor).far }
+    ensures bitmaps { OnOk result (AreBitmapsOf table.now lines.now among.now
+        (slice_index_or floors.new bucket no_floor).bitmaps) }
+    ensures others { (b : ℕ) → b ≢ bucket →
+        slice_index_or floors.new b no_floor ≡ slice_index_or floors.old b no_floor }
+{
+    floors[bucket].renew(alloc, table, lines, among)
 }
 
 /// Notes a line in a bucket, behind so many, that begins with these events.

@@ -6,8 +6,8 @@ ghost use Rattle.line_split.specs.Patterns.{AreNumbered};
 ghost use Rattle.line_split.specs.Buckets.{AreBucketed};
 ghost use Rattle.line_split.specs.Floors.{AreFloors, AreFloorsOf};
 
-use super::events::{events_of, may_follow};
-use super::floors::{Floors, no_floors, note_in};
+use super::events::{events_of, last_trip, may_follow};
+use super::floors::{Floors, no_floors, note_in, renew_in};
 use super::nested::Nested;
 use super::patterns::patterns_of;
 use std::alloc::Global;
@@ -64,7 +64,8 @@ fn place(
     ensures floors { OnOk result (AreFloors table.now lines.new buckets.new floors.new) }
 {
     let bucket = numbers[trip.index()];
-    match first_line(table, lines, buckets.row(bucket), &floors[bucket], trip) {
+    renew_in(alloc, floors, bucket, table, lines, buckets.row(bucket))?;
+    match first_line(alloc, table, lines, buckets.row(bucket), &floors[bucket], trip)? {
         Some(line) => lines.add(line, trip),
         None => {
             let count = buckets.row(bucket).len();
@@ -75,42 +76,37 @@ fn place(
     }
 }
 
-// The last trip of a line.
-fn last_trip(trips: &[TripNo]) -> TripNo
-    ensures { result ≡ last_trip trips.now }
-{
-    if trips.is_empty() {
-        return TripNo(0);
-    }
-    trips[trips.len() - 1]
-}
-
-// The first of these lines that a trip may join. Blocks of lines are passed over whose floor is later
-// than the trip at some event.
+// The first of these lines that a trip may join. Lines are passed over that are later than the trip
+// by bitmaps or by the floor of their block.
 fn first_line(
+    alloc: Global,
     table: &Timetable,
     lines: &Nested<TripNo>,
     among: &[usize],
     floors: &Floors,
     trip: TripNo,
-) -> Option<usize>
+) -> Result<Option<usize>, Memory>
     requires lines { All (λ l. l < length lines.now) among.now }
     requires floors { AreFloorsOf table.now lines.now among.now floors.now }
-    ensures { result ≡ find (λ l.
+    ensures { IfOk result (λ line. line ≡ find (λ l.
         may_follow (events_of table.now (last_trip (slice_index_or lines.now l [])))
-        (events_of table.now trip)) among.now }
+        (events_of table.now trip)) among.now) }
 {
     let events = events_of(table, trip);
+    let picked = floors.picked_for(alloc, events)?;
     let mut place = 0;
     while place < among.len() {
+        let out = floors.out_from(picked.as_slice(), place);
         let later = floors.later_from(place, among.len() - place, events);
-        if later > 0 {
+        if out > 0 {
+            place += out;
+        } else if later > 0 {
             place += later;
         } else if may_follow(events_of(table, last_trip(lines.row(among[place]))), events) {
-            return Some(among[place]);
+            return Ok(Some(among[place]));
         } else {
             place += 1;
         }
     }
-    None
+    Ok(None)
 }
