@@ -20,7 +20,7 @@ when_false : (P Q : Type 0) (b : Bool) → b ≡ false → MatchBool b P Q → Q
 when_false P Q false is h = h
 when_false P Q true is h = absurd (false≢true (sym is))
 
-lines_more : (turns : List (List (List ℕ))) (lines : List (List ℕ)) → lines_in (turns ++ lines ∷ []) ≡ lines_in turns ++ lines
+pub lines_more : (turns : List (List (List ℕ))) (lines : List (List ℕ)) → lines_in (turns ++ lines ∷ []) ≡ lines_in turns ++ lines
 lines_more [] lines = append-nil lines
 lines_more (t ∷ turns) lines = ap (λ l. t ++ l) (lines_more turns lines) ∙ sym (append_assoc t (lines_in turns) lines)
 
@@ -44,7 +44,7 @@ first_taken None now bytes c = tt
 first_taken (Some bs) None bytes c = absurd c
 first_taken (Some bs) (Some rest) bytes c = (rest, c)
 
-mapped : (o : Option (List ℕ)) (P Q : List ℕ → Type 0) → ((x : List ℕ) → P x → Q x) → IfSome o P → IfSome o Q
+pub mapped : (o : Option (List ℕ)) (P Q : List ℕ → Type 0) → ((x : List ℕ) → P x → Q x) → IfSome o P → IfSome o Q
 mapped None P Q f p = tt
 mapped (Some x) P Q f p = f x p
 
@@ -130,7 +130,7 @@ module _ {A : Type 0} (Answers : A → List (List ℕ) → List ℕ → A → Ty
       }
 
   -- the lines so far begin the lines of the source
-  begins : (most : ℕ) (left mid : Option (List ℕ)) (i : IntakeData) (w1 w2 : Option (List ℕ)) (a b : A) (h : IsSoFar most left mid i w1 w2 a b) → IfSome left (λ bytes. (rest : List (List ℕ)) × (kept_lines most bytes ≡ lines_in h.turns ++ rest))
+  pub begins : (most : ℕ) (left mid : Option (List ℕ)) (i : IntakeData) (w1 w2 : Option (List ℕ)) (a b : A) (h : IsSoFar most left mid i w1 w2 a b) → IfSome left (λ bytes. (rest : List (List ℕ)) × (kept_lines most bytes ≡ lines_in h.turns ++ rest))
   begins most left mid i w1 w2 a b h = mapped left _ _ (λ bs t. let f = front_lines most h.bytes t.0 in (f.0, ap (kept_lines most) t.1 ∙ f.1 ∙ ap (λ l. l ++ f.0) (sym h.lines))) (first_taken left mid h.bytes h.taken)
 
   -- nothing more was written
@@ -145,6 +145,15 @@ module _ {A : Type 0} (Answers : A → List (List ℕ) → List ℕ → A → Ty
     written = subst (λ w. Appends w1 w (take (length h.text) h.text)) (sym e) (subst (λ t. Appends w1 w2 t) (sym (take_all (length h.text) h.text (omega arith))) h.written);
   }
 
+  -- the lines so far, and those that come next, begin the lines of the source
+  pub next_begins : (most : ℕ) (left mid now : Option (List ℕ)) (i j : IntakeData) (w1 w2 : Option (List ℕ)) (a b : A) (lines : List (List ℕ)) (more : Bool) → (h : IsSoFar most left mid i w1 w2 a b) → ComeNext mid now i j lines more
+      → IfSome left (λ bytes. (rest : List (List ℕ)) × (kept_lines most bytes ≡ lines_in (h.turns ++ lines ∷ []) ++ rest))
+  next_begins most left mid now i j w1 w2 a b lines true h t =
+      let all = lines_taken most left mid now i j w1 w2 a b lines h t in
+      mapped left _ _ (λ bs u. let r = front_lines most (h.bytes ++ t.piece) u.0 in (r.0, ap (kept_lines most) u.1 ∙ r.1 ∙ ap (λ l. l ++ r.0) (sym all))) (first_taken left now (h.bytes ++ t.piece) (consumes_more left mid now h.bytes t.piece h.taken t.taken))
+  next_begins most left mid now i j w1 w2 a b lines false h e =
+      mapped left _ _ (λ bs same. ([], sym same ∙ sym (append-nil (lines_in (h.turns ++ lines ∷ []))))) (whole most left mid now i j w1 w2 a b lines h e.0 e.1)
+
   -- a first part of a turn's text was written
   pub cut_within : (most : ℕ) (left mid now : Option (List ℕ)) (i j : IntakeData) (w1 w2 w3 : Option (List ℕ)) (a b : A) → IsSoFar most left mid i w1 w2 a b → Fails Answers mid now i j w2 w3 b → IsCutRun Answers most left w1 w3 a
   cut_within most left mid now i j w1 w2 w3 a b h f = record {
@@ -152,16 +161,10 @@ module _ {A : Type 0} (Answers : A → List (List ℕ) → List ℕ → A → Ty
     text = h.text ++ f.text;
     count = length h.text + f.count;
     by = f.by;
-    lines = by_next f.more f.next;
+    lines = next_begins most left mid now i j w1 w2 a b f.lines f.more h f.next;
     answered = follow_more a b f.by h.turns f.lines h.text f.text h.answered f.answered;
     written = subst (λ t. Appends w1 w3 t) (sym (take-append-add h.text f.text f.count)) (appends_more w1 w2 w3 h.text (take f.count f.text) h.written f.written);
-  } where
-    by_next : (more : Bool) → ComeNext mid now i j f.lines more → IfSome left (λ bytes. (rest : List (List ℕ)) × (kept_lines most bytes ≡ lines_in (h.turns ++ f.lines ∷ []) ++ rest))
-    by_next true t =
-        let all = lines_taken most left mid now i j w1 w2 a b f.lines h t in
-        mapped left _ _ (λ bs u. let r = front_lines most (h.bytes ++ t.piece) u.0 in (r.0, ap (kept_lines most) u.1 ∙ r.1 ∙ ap (λ l. l ++ r.0) (sym all))) (first_taken left now (h.bytes ++ t.piece) (consumes_more left mid now h.bytes t.piece h.taken t.taken))
-    by_next false e =
-        mapped left _ _ (λ bs same. ([], sym same ∙ sym (append-nil (lines_in (h.turns ++ f.lines ∷ []))))) (whole most left mid now i j w1 w2 a b f.lines h e.0 e.1)
+  }
 
   -- it was answered up to here, and all of its text is written
   pub cut_here_at : (most : ℕ) (left mid : Option (List ℕ)) (i : IntakeData) (w1 w2 w3 : Option (List ℕ)) (a b : A) → (h : IsSoFar most left mid i w1 w2 a b) → w3 ≡ w2

@@ -1,4 +1,5 @@
-ghost use Rattle.std.specs.Prelude.{◌≡◌, ◌∷◌, ◌++◌, [], OnOk, true};
+ghost use Rattle.std.specs.Prelude.{◌≡◌, ◌⊎◌, ◌∷◌, ◌++◌, [], IfErr, OnOk, true};
+ghost use Rattle.history.specs.Lists.{StartsWith};
 ghost use Rattle.live_turns.specs.Handed.{IsLast};
 
 use crate::handed::Handed;
@@ -45,7 +46,9 @@ impl<T: Drop, J: Naming> Giver<T, J> {
     /// where nobody takes any more: the thing is lost then, and it isn't said whether it counts as
     /// given.
     pub fn give<R: Wait>(&mut self, rt: &R, item: T) -> Result<(), Memory>
-        ensures { OnOk result (self.new ≡ self.old ++ item ∷ []) }
+        ensures given { OnOk result (self.new ≡ self.old ++ item ∷ []) }
+        ensures refused { IfErr result
+            (λ _. (self.new ≡ self.old) ⊎ (self.new ≡ self.old ++ item ∷ [])) }
     {
         let Some(number) = self.given.checked_add(1) else {
             drop(item);
@@ -88,6 +91,14 @@ impl<T: Drop, J: Naming> Model for Given<T, J> {
 }
 
 impl<T: Drop, J: Naming> Given<T, J> {
+    /// What was taken is a first part of what was given. Changes nothing.
+    pub fn covers(&mut self, taker: &Taker<T, J>)
+        ensures covers { StartsWith self.old taker.now }
+        ensures same { self.new ≡ self.old }
+    {
+        self.history.covers(&taker.known);
+    }
+
     /// Whether all that was given was taken, as the counts say.
     pub fn were_taken(&mut self, taker: &Taker<T, J>) -> bool
         ensures all { result ≡ true → taker.now ≡ self.old }
