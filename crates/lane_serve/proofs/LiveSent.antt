@@ -8,14 +8,16 @@ use denote.Param.Send.{IsSend, IsSync, sendable}
 use denote.Param.SendFields.{FieldsHave, as_row_send, declared_send}
 use Rattle.std.proofs.Crossing.{crosses}
 use Rattle.std.specs.contracts.alloc.Global as global
+use Rattle.std.specs.contracts.marker.PhantomData as mark
 use Rattle.std.specs.contracts.impls.GlobalAllocator.TheImpl as allocates
 use Rattle.std.specs.contracts.option.Option as option
 use Rattle.history.specs.declared.law.Naming.{Ghosts}
 use Rattle.left_right.proofs.writer.Writer.TheSendSync as writers
 use Rattle.left_right.specs.contracts.writer.Writer as writer
-use Rattle.edition_store.proofs.Sent.{content_send, content_sync, publishing_send}
+use Rattle.edition_store.proofs.Sent.{content_send, content_sync, last_send, last_sync, publishing_send}
 use Rattle.edition_store.specs.contracts.content.Content as content
 use Rattle.edition_store.specs.contracts.content.ContentAbsorb.TheImpl as absorbs
+use Rattle.edition_store.specs.contracts.pinned.Last as last
 use Rattle.edition_store.specs.contracts.publisher.Publishing as publishing
 use Rattle.edition_store.specs.contracts.publisher.WriterContentContentViewKeptShows.TheImpl as shows
 use Rattle.edition_store.specs.contracts.rule.Kept as kept
@@ -54,11 +56,14 @@ news_send = let i = news_inside_send in record { owned = λ d vs x. (i.owned x.0
 pub slot_send : (A : RattleType) → IsSend A → IsSend (option.the_row A)
 slot_send A a = search sendable depth 12
 
--- ten captures, each of which may go
-pub ten_send : (A B C D E F G H I J : RattleType) → IsSend A → IsSend B → IsSend C → IsSend D → IsSend E → IsSend F → IsSend G → IsSend H → IsSend I → IsSend J → IsSend (TupleAt [] (A ∷ B ∷ C ∷ D ∷ E ∷ F ∷ G ∷ H ∷ I ∷ J ∷ []))
-ten_send A B C D E F G H I J a b c d e f g h i j =
-    declared_send (type_at [] (A ∷ B ∷ C ∷ D ∷ E ∷ F ∷ G ∷ H ∷ I ∷ J ∷ []))
-    (as_row_send (row_field A) a, (as_row_send (row_field B) b, (as_row_send (row_field C) c, (as_row_send (row_field D) d, (as_row_send (row_field E) e, (as_row_send (row_field F) f, (as_row_send (row_field G) g, (as_row_send (row_field H) h, (as_row_send (row_field I) i, (as_row_send (row_field J) j, tt))))))))))
+pub mark_sync : (T : RattleType) → IsSync (mark.the_row T)
+mark_sync T = search (sendable, crosses) depth 12
+
+-- eleven captures, each of which may go
+pub eleven_send : (A B C D E F G H I J K : RattleType) → IsSend A → IsSend B → IsSend C → IsSend D → IsSend E → IsSend F → IsSend G → IsSend H → IsSend I → IsSend J → IsSend K → IsSend (TupleAt [] (A ∷ B ∷ C ∷ D ∷ E ∷ F ∷ G ∷ H ∷ I ∷ J ∷ K ∷ []))
+eleven_send A B C D E F G H I J K a b c d e f g h i j k =
+    declared_send (type_at [] (A ∷ B ∷ C ∷ D ∷ E ∷ F ∷ G ∷ H ∷ I ∷ J ∷ K ∷ []))
+    (as_row_send (row_field A) a, (as_row_send (row_field B) b, (as_row_send (row_field C) c, (as_row_send (row_field D) d, (as_row_send (row_field E) e, (as_row_send (row_field F) f, (as_row_send (row_field G) g, (as_row_send (row_field H) h, (as_row_send (row_field I) i, (as_row_send (row_field J) j, (as_row_send (row_field K) k, tt)))))))))))
 
 -- the publisher of a list of editions: the search does not find its row by itself
 module _ (A : RattleType) (g : Ghosts A.Denot) (d : Dict) where
@@ -70,3 +75,9 @@ module _ (A : RattleType) (g : Ghosts A.Denot) (d : Dict) where
 
   pub publisher_send : IsSend (publishing.the_row A writing g (shows.ghosts A g d))
   publisher_send = publishing_send A g writing (shows.ghosts A g d) writing_send
+
+  pub left_send : IsSend (last.the_row A g)
+  left_send = last_send A g
+
+  pub left_sync : IsSync (last.the_row A g)
+  left_sync = last_sync A g

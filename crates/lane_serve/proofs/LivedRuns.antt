@@ -1,6 +1,7 @@
 -- The run of a process that lives, from its sides.
-use Rattle.std.proofs.Common.{◌≡◌, ◌⊎◌, inl, inr, ℕ, suc, ◌+◌, ◌<◌, ◌≤◌, List, [], ◌∷◌, ◌++◌, drop, take, length, refl, sym, ap, subst, ◌∙◌, Option, Some, None, Result, Ok, Err, Bool, false, get_or, arith, append_assoc}
-use Rattle.std.specs.Prelude.{IfSome, flat_map}
+use Rattle.std.proofs.Common.{◌≡◌, ◌⊎◌, inl, inr, ℕ, suc, ◌+◌, ◌<◌, ◌≤◌, List, [], ◌∷◌, ◌++◌, drop, take, length, refl, sym, ap, subst, ◌∙◌, Option, Some, None, Result, Ok, Err, Bool, true, false, get_or, arith, append_assoc}
+use Rattle.std.specs.Prelude.{IfErr, IfOk, IfSome, MatchResult, OnOk, flat_map}
+use Rattle.std.proofs.lemmas.Bool.{false≢true}
 use Rattle.std.proofs.lemmas.List.{append-nil, length-append, take_all}
 use Rattle.std.proofs.Math.Seq.{take-append-add}
 use Rattle.std.specs.Io.KnownBytes.{Appends, Consumes}
@@ -9,7 +10,7 @@ use Rattle.tb_io.specs.Files.{FileList}
 use Rattle.footpaths.specs.declared.paths.Options.{Options}
 use Rattle.edition_store.specs.Editions.{EditionData}
 use Rattle.history.specs.Lists.{Extends, Shown, StartsWith}
-use Rattle.history.proofs.Lists.{starts_self}
+use Rattle.history.proofs.Lists.{rest_of, starts_more, starts_self, starts_trans}
 use Rattle.live_turns.specs.Runs.{Tells, TextRunsFrom}
 use Rattle.live_turns.specs.Turns.{IsWholeRun}
 use Rattle.live_turns.proofs.Joined.{lowered, told_last}
@@ -21,14 +22,15 @@ use Rattle.lane_serve.specs.declared.live.running.LinesFault.TheVariants as cut
 use Rattle.lane_serve.specs.declared.live.saying.LiveMode.{LiveMode}
 use Rattle.lane_serve.specs.Live.{ArePublished, BeginsWithFirst, HasAnEdition, HasBecome, HasFailed, HasFailedBehind, HasLived, HasLivedUntil, IsNewsOf, IsTextOf, ReadFaultsRose}
 use Rattle.lane_serve.specs.LiveLines.{live_counts, live_gives}
-use Rattle.lane_serve.specs.LivePublisher.{HavePublished, items_taken}
+use Rattle.lane_serve.specs.LivePublisher.{ArePublishedSoFar, HavePublished, items_taken}
 use Rattle.lane_serve.specs.LiveReplies.{LiveReplies}
-use Rattle.lane_serve.specs.LiveSides.{BeginsLive, FailsToTellFirst, FailsToTellRest, HasCutLines, HasRunLines, HaveClosed, TellsRest, told_as}
+use Rattle.lane_serve.specs.LiveSides.{BeginsLive, FailsToTellFirst, FailsToTellRest, HasCutLines, HasRunLines, HaveClosed, HaveMet, TellsRest, told_as}
 use Rattle.lane_serve.specs.LiveTexts.{NewsData, news_shown}
 use Rattle.lane_serve.specs.LiveTurns.{CutTurnsAreOneRun, IsCutBy, IsLiveRun, IsLiveText, IsLiveTurn, LineSideData, TurnsAreOneRun, before_lines}
 use Rattle.lane_serve.specs.Plans.{ItemData, outcome_of}
 use Rattle.lane_serve.specs.declared.live.news.Became.TheVariants as became
 use Rattle.lane_serve.proofs.FirstDay.{source_first}
+use Rattle.lane_serve.proofs.LivePublisher.{published_all, starts_take}
 use Rattle.lane_serve.proofs.Told.{so_far_first}
 
 -- the text of a side that begins with the first news told, at its first line
@@ -60,10 +62,10 @@ mapped None P Q f p = tt
 mapped (Some x) P Q f p = f x p
 
 -- all lines are the first ones
-all_first : (left : Option (List ℕ)) (lines : List (List ℕ)) → IfSome left (λ bytes. lines ≡ lines_of bytes) → IfSome left (λ bytes. (more : List (List ℕ)) × (lines_of bytes ≡ lines ++ more))
-all_first left lines h = mapped left _ _ (λ bytes same. ([], sym same ∙ sym (append-nil lines))) h
+all_first : (left : Option (List ℕ)) (lines : List (List ℕ)) → IfSome left (λ bytes. lines ≡ lines_of bytes) → IfSome left (λ bytes. (more : List (List ℕ)) × (lines_of bytes ≡ (lines ++ []) ++ more))
+all_first left lines h = mapped left _ _ (λ bytes same. ([], sym same ∙ sym (append-nil lines) ∙ sym (append-nil (lines ++ [])))) h
 
-none_first : (left : Option (List ℕ)) → IfSome left (λ bytes. (more : List (List ℕ)) × (lines_of bytes ≡ [] ++ more))
+none_first : (left : Option (List ℕ)) → IfSome left (λ bytes. (more : List (List ℕ)) × (lines_of bytes ≡ ([] ++ []) ++ more))
 none_first None = tt
 none_first (Some bytes) = (lines_of bytes, refl)
 
@@ -82,32 +84,89 @@ whole_as : (cause : LinesFault) (count : ℕ) (text : List ℕ) → (cause ≡ c
 whole_as cause count text (inl e) = inl (ap told_as e)
 whole_as cause count text (inr e) = inr e
 
+none_as : (cause : LinesFault) (heard : List (List ℕ)) → (cause ≡ cut.Memory) ⊎ (heard ≡ []) → (told_as cause ≡ fault.Memory) ⊎ (heard ≡ [])
+none_as cause heard (inl e) = inl (ap told_as e)
+none_as cause heard (inr h) = inr h
+
+more_taken : (words given taken : List ItemData) → StartsWith given taken → StartsWith (items_taken words given) (items_taken words taken)
+more_taken words given [] s = subst (λ l. StartsWith (words ++ drop 1 given) l) (sym (append-nil words)) (starts_more words (drop 1 given))
+more_taken words given (t ∷ ts) s =
+    let rest = drop (length (t ∷ ts)) given in
+    let is : given ≡ (t ∷ ts) ++ rest = rest_of given (t ∷ ts) s in
+    let more : words ++ drop 1 given ≡ (words ++ ts) ++ rest = ap (λ l. words ++ drop 1 l) is ∙ sym (append_assoc words ts rest) in
+    subst (λ l. StartsWith l (words ++ ts)) (sym more) (starts_more (words ++ ts) rest)
+
+-- the two sides have met: some first items of those that were given are published, and what is told are first news of them
+pub met_so_far : (files : Option FileList) (options : Options) (mirrored : Bool) (words taken given : List ItemData) (news told : List NewsData) (es : List EditionData) (known : Shown EditionData) →
+    HaveMet es known taken given news told → ArePublishedSoFar files options mirrored (items_taken words taken) news es → ArePublishedSoFar files options mirrored (items_taken words given) told es
+met_so_far files options mirrored words taken given news told es known met p = record {
+  items = p.items;
+  news = p.news;
+  first = starts_trans p.items (items_taken words taken) (items_taken words given) (more_taken words given taken met.items) p.first;
+  tells = starts_trans told news p.news p.tells met.tells;
+  published = p.published;
+}
+
+-- the list that is left of who publishes, who may have been refused
+module _ (es : List EditionData) (all : Bool) where
+  abbrev Lists : Type 0
+  Lists = Result (List EditionData) (List EditionData)
+
+  abbrev IsLeft : Lists → Type 0
+  IsLeft r = MatchResult r (λ p. (es ≡ p) × (all ≡ true)) (λ p. (es ≡ p) × (all ≡ false))
+
+  pub all_left : (r : Lists) (P : List EditionData → Type 0) → IsLeft r → IfOk r P → all ≡ true → P es
+  all_left (Ok p) P m h is = subst P (sym m.0) h
+  all_left (Err p) P m h is = absurd (false≢true (sym m.1 ∙ is))
+
+  pub on_all_left : (r : Lists) (P : Type 0) → IsLeft r → OnOk r P → all ≡ true → P
+  on_all_left (Ok p) P m h is = h
+  on_all_left (Err p) P m h is = absurd (false≢true (sym m.1 ∙ is))
+
+  pub so_far_left : (r : Lists) (files : Option FileList) (options : Options) (mirrored : Bool) (items : List ItemData) (news : List NewsData) → IsLeft r →
+      IfOk r (λ p. ArePublished files options mirrored items news p) → IfErr r (λ p. ArePublishedSoFar files options mirrored items news p) → ArePublishedSoFar files options mirrored items news es
+  so_far_left (Ok p) files options mirrored items news m h k = subst (λ l. ArePublishedSoFar files options mirrored items news l) (sym m.0) record {
+    items = items;
+    news = news;
+    first = starts_self items;
+    tells = starts_self news;
+    published = h;
+  }
+  so_far_left (Err p) files options mirrored items news m h k = subst (λ l. ArePublishedSoFar files options mirrored items news l) (sym m.0) k
+
 longer : (cause : LiveFault) (line text : List ℕ) (count : ℕ) → (cause ≡ fault.WriteFault) ⊎ (count ≡ length text) → (cause ≡ fault.WriteFault) ⊎ (length line + count ≡ length (line ++ text))
 longer cause line text count (inl e) = inl e
 longer cause line text count (inr e) = inr (omega (arith, e, length-append line text))
 
 module _ (files : Option FileList) (options : Options) (mode : LiveMode) (words : List ItemData) (es0 : List EditionData) (day0 : EditionData) (items0 : List ItemData) (news0 : List NewsData) (side : LineSideData)
     (b : BeginsLive files options mode words es0 day0 items0 news0 side) (left before mid : Option (List ℕ)) (kept : Shown EditionData) where
-  kept_begins : Extends kept side.live.kept → BeginsWithFirst files options mode.mirrored words kept.list
-  kept_begins later = first_is files options mode words es0 kept.list b.one b.good (subst (λ l. StartsWith kept.list l) b.kept_is later.0)
+  list_begins : (es : List EditionData) → StartsWith es kept.list → Extends kept side.live.kept → BeginsWithFirst files options mode.mirrored words es
+  list_begins es s later = first_is files options mode words es0 es b.one b.good (starts_trans es0 kept.list es s (subst (λ l. StartsWith kept.list l) b.kept_is later.0))
 
   module _ (law : TurnsAreOneRun mode) (given : List ItemData) (told : List NewsData) (r : HasRunLines side.mode left before mid side kept given told) where
     run_over : (es : List EditionData) → StartsWith es kept.list → IsLiveRun mode es left before mid side r.end
     run_over es s = law es left before mid side r.end (subst (λ m. IsWholeRun (IsLiveTurn m) 1026 left before mid side r.end) b.mode_is r.run)
         (subst (λ (k : Shown EditionData). StartsWith es k.list) (sym r.kept_is) s)
 
+    given_over : (es : List EditionData) (s : StartsWith es kept.list) → given ≡ take 1 words ++ flat_map (live_gives mode) (run_over es s).lines
+    given_over es s =
+        let run = run_over es s in
+        sym r.given_is ∙ run.given ∙ ap (λ l. l ++ flat_map (live_gives mode) run.lines) (b.given_is ∙ b.items_are)
+
+    given_more : (es : List EditionData) (s : StartsWith es kept.list) → given ≡ take 1 words ++ flat_map (live_gives mode) ((run_over es s).lines ++ [])
+    given_more es s = subst (λ l. given ≡ take 1 words ++ flat_map (live_gives mode) l) (sym (append-nil (run_over es s).lines)) (given_over es s)
+
     right_over : (es : List EditionData) (s : StartsWith es kept.list) → IsTextOf mode es news0 (run_over es s).lines (run_over es s).text told
     right_over es s = begun_text mode es side news0 told (run_over es s).lines (run_over es s).text es0 b.one b.kept_is b.next_is b.told_is
         (subst (λ t. IsLiveText mode es side (run_over es s).lines (run_over es s).text t) r.told_is (run_over es s).right)
 
     -- all lines are answered, and all news are told
-    pub whole_run : (now : Option (List ℕ)) (start end : ℕ) (es : List EditionData) (taken : List ItemData) (news : List NewsData) (note : List ℕ) → 0 < length words →
-        ArePublished files options mode.mirrored (items_taken words taken) news es → ReadFaultsRose start end news → HaveClosed mode.json es kept taken given news told note → Appends mid now note →
+    pub whole_run : (now : Option (List ℕ)) (start end : ℕ) (es : List EditionData) (taken : List ItemData) (news : List NewsData) (note : List ℕ) → 0 < length words → StartsWith es kept.list →
+        ArePublished files options mode.mirrored (items_taken words taken) news es → ReadFaultsRose start end news → HaveClosed mode.json taken given news told note → Appends mid now note →
         HasLived files options mode words news0 start end left before now
-    whole_run now start end es taken news note some p rose closed w =
-        let run = run_over es closed.starts in
-        let all : given ≡ take 1 words ++ flat_map (live_gives mode) run.lines = sym r.given_is ∙ run.given ∙ ap (λ l. l ++ flat_map (live_gives mode) run.lines) (b.given_is ∙ b.items_are) in
-        let is = named_items words taken (flat_map (live_gives mode) run.lines) some (closed.items ∙ all) in
+    whole_run now start end es taken news note some starts p rose closed w =
+        let run = run_over es starts in
+        let is = named_items words taken (flat_map (live_gives mode) run.lines) some (closed.items ∙ given_over es starts) in
         record {
           lines = run.lines;
           news = news;
@@ -116,79 +175,106 @@ module _ (files : Option FileList) (options : Options) (mode : LiveMode) (words 
           all = run.all;
           published = subst (λ l. ArePublished files options mode.mirrored l news es) is p;
           rose = rose;
-          right = told_last (LiveReplies mode) (live_counts mode) (news_shown mode.json) es 1 1 news0 told news run.lines run.text note (right_over es closed.starts) closed.tells;
+          right = told_last (LiveReplies mode) (live_counts mode) (news_shown mode.json) es 1 1 news0 told news run.lines run.text note (right_over es starts) closed.tells;
           written = appends_more before mid now run.text note run.written w;
         }
 
     -- all lines are answered, and memory is wanting then
-    pub short_run : (rest now : Option (List ℕ)) → now ≡ mid → HasLivedUntil fault.Memory files options mode words news0 left rest before now
-    short_run rest now same =
-        let s = starts_self kept.list in
-        let run = run_over kept.list s in
+    pub short_run : (rest now : Option (List ℕ)) (es : List EditionData) → 0 < length words → StartsWith es kept.list → ArePublishedSoFar files options mode.mirrored (items_taken words given) told es → now ≡ mid →
+        HasLivedUntil fault.Memory files options mode words news0 left rest before now
+    short_run rest now es some s p same =
+        let run = run_over es s in
         record {
           lines = run.lines;
           news = told;
-          editions = kept.list;
+          editions = es;
+          heard = [];
+          items = p.items;
+          became = p.news;
           text = run.text;
           count = length run.text;
           first = all_first left run.lines run.all;
           came = λ e. absurd (cc e);
-          begins = kept_begins r.later;
-          right = right_over kept.list s;
+          begins = list_begins es s r.later;
+          none = inr refl;
+          taken = subst (λ l. StartsWith l p.items) (named_items words given (flat_map (live_gives mode) (run.lines ++ [])) some (given_more es s)) p.first;
+          published = p.published;
+          tells = p.tells;
+          right = right_over es s;
           whole = inr refl;
           written = subst (λ n. Appends before n (take (length run.text) run.text)) (sym same) (subst (λ t. Appends before mid t) (sym (take_all (length run.text) run.text (omega arith))) run.written);
         }
 
     -- all lines are answered, and the sink fails where the rest of the news is written
-    pub cut_note : (rest now : Option (List ℕ)) (es : List EditionData) (taken : List ItemData) (news : List NewsData) (note : List ℕ) (n : ℕ) → HaveClosed mode.json es kept taken given news told note →
+    pub cut_note : (rest now : Option (List ℕ)) (es : List EditionData) (taken : List ItemData) (news : List NewsData) (note : List ℕ) (n : ℕ) → 0 < length words → StartsWith es kept.list →
+        ArePublished files options mode.mirrored (items_taken words taken) news es → HaveClosed mode.json taken given news told note →
         Appends mid now (take n note) → HasLivedUntil fault.WriteFault files options mode words news0 left rest before now
-    cut_note rest now es taken news note n closed w =
-        let s = starts_self kept.list in
-        let run = run_over kept.list s in
+    cut_note rest now es taken news note n some s p closed w =
+        let run = run_over es s in
+        let named = flat_map (live_gives mode) (run.lines ++ []) in
+        let is = named_items words taken named some (closed.items ∙ given_more es s) in
         record {
           lines = run.lines;
           news = news;
-          editions = kept.list;
+          editions = es;
           text = run.text ++ note;
           count = length run.text + n;
+          heard = [];
+          items = words ++ named;
+          became = news;
           first = all_first left run.lines run.all;
           came = λ e. absurd (cc e);
-          begins = kept_begins r.later;
-          right = told_last (LiveReplies mode) (live_counts mode) (news_shown mode.json) kept.list 1 1 news0 told news run.lines run.text note (right_over kept.list s) closed.tells;
+          begins = list_begins es s r.later;
+          none = inr refl;
+          taken = starts_self (words ++ named);
+          published = subst (λ l. ArePublished files options mode.mirrored l news es) is p;
+          tells = starts_self news;
+          right = told_last (LiveReplies mode) (live_counts mode) (news_shown mode.json) es 1 1 news0 told news run.lines run.text note (right_over es s) closed.tells;
           whole = inl refl;
           written = subst (λ t. Appends before now t) (sym (take-append-add run.text note n)) (appends_more before mid now run.text (take n note) run.written w);
         }
 
     -- all lines are answered, and the rest of the news is told
-    pub whole_rest : (now : Option (List ℕ)) (start end : ℕ) (es : List EditionData) (taken : List ItemData) (news : List NewsData) → 0 < length words →
-        ArePublished files options mode.mirrored (items_taken words taken) news es → ReadFaultsRose start end news → TellsRest mode.json es kept taken given news told mid now →
+    pub whole_rest : (now : Option (List ℕ)) (start end : ℕ) (es : List EditionData) (taken : List ItemData) (news : List NewsData) → 0 < length words → StartsWith es kept.list →
+        ArePublished files options mode.mirrored (items_taken words taken) news es → ReadFaultsRose start end news → TellsRest mode.json taken given news told mid now →
         HasLived files options mode words news0 start end left before now
-    whole_rest now start end es taken news some p rose t = whole_run now start end es taken news t.0 some p rose t.1 t.2
+    whole_rest now start end es taken news some s p rose t = whole_run now start end es taken news t.0 some s p rose t.1 t.2
 
     -- all lines are answered, and the rest of the news fails to be told
-    pub failed_rest : (rest now : Option (List ℕ)) (es : List EditionData) (taken : List ItemData) (news : List NewsData) (cause : LiveFault) →
-        FailsToTellRest mode.json es kept taken given news told mid now cause → HasFailedBehind files options mode words news0 left rest before now cause
-    failed_rest rest now es taken news (fault.Feed f) t = absurd t
-    failed_rest rest now es taken news fault.ReadFault t = absurd t
-    failed_rest rest now es taken news fault.WriteFault t = cut_note rest now es taken news t.0 t.1 t.2 t.3
-    failed_rest rest now es taken news fault.Memory t = short_run rest now t
+    pub failed_rest : (rest now : Option (List ℕ)) (es : List EditionData) (taken : List ItemData) (news : List NewsData) → 0 < length words → StartsWith es kept.list →
+        ArePublished files options mode.mirrored (items_taken words taken) news es → ArePublishedSoFar files options mode.mirrored (items_taken words given) told es → (cause : LiveFault) →
+        FailsToTellRest mode.json taken given news told mid now cause → HasFailedBehind files options mode words news0 left rest before now cause
+    failed_rest rest now es taken news some s p q (fault.Feed f) t = absurd t
+    failed_rest rest now es taken news some s p q fault.ReadFault t = absurd t
+    failed_rest rest now es taken news some s p q fault.WriteFault t = cut_note rest now es taken news t.0 t.1 some s p t.2 t.3
+    failed_rest rest now es taken news some s p q fault.Memory t = short_run rest now es some s q t
 
   -- the lines are cut off by a fault
-  pub cut_lines : (law : CutTurnsAreOneRun mode) (rest : Option (List ℕ)) (cause : LinesFault) → HasCutLines cause side.mode left rest before mid side kept →
+  pub cut_lines : (law : CutTurnsAreOneRun mode) (rest : Option (List ℕ)) (cause : LinesFault) (given : List ItemData) (told : List NewsData) → HasCutLines cause side.mode left rest before mid side kept given told →
+      0 < length words → (es : List EditionData) → StartsWith es kept.list → ArePublishedSoFar files options mode.mirrored (items_taken words given) told es →
       HasLivedUntil (told_as cause) files options mode words news0 left rest before mid
-  cut_lines law rest cause h =
-      let s : StartsWith kept.list h.end.live.kept.list = subst (λ (k : Shown EditionData). StartsWith kept.list k.list) (sym h.kept_is) (starts_self kept.list) in
-      let run = law cause kept.list left rest before mid side h.end (subst (λ m. IsCutBy cause m 1026 left rest before mid side h.end) b.mode_is h.run) s in
+  cut_lines law rest cause given told h some es starts p =
+      let s : StartsWith es h.end.live.kept.list = subst (λ (k : Shown EditionData). StartsWith es k.list) (sym h.kept_is) starts in
+      let run = law cause es left rest before mid side h.end (subst (λ m. IsCutBy cause m 1026 left rest before mid side h.end) b.mode_is h.run) s in
+      let named = flat_map (live_gives mode) (run.lines ++ run.heard) in
+      let is : given ≡ take 1 words ++ named = sym h.given_is ∙ run.given ∙ ap (λ l. l ++ named) (b.given_is ∙ b.items_are) in
       record {
         lines = run.lines;
         news = run.told;
-        editions = kept.list;
+        editions = es;
         text = run.text;
         count = run.count;
+        heard = run.heard;
+        items = p.items;
+        became = p.news;
         first = run.first;
         came = λ e. run.came (told_once cause cut.ReadFault e);
-        begins = kept_begins h.later;
-        right = begun_text mode kept.list side news0 run.told run.lines run.text es0 b.one b.kept_is b.next_is b.told_is run.right;
+        begins = list_begins es starts h.later;
+        none = none_as cause run.heard run.none;
+        taken = subst (λ l. StartsWith l p.items) (named_items words given named some is) p.first;
+        published = p.published;
+        tells = starts_trans run.told told p.news p.tells (subst (λ l. StartsWith l run.told) h.told_is run.news);
+        right = begun_text mode es side news0 run.told run.lines run.text es0 b.one b.kept_is b.next_is b.told_is run.right;
         whole = whole_as cause run.count run.text run.whole;
         written = run.written;
       }
@@ -241,9 +327,16 @@ module _ (files : Option FileList) (options : Options) (mode : LiveMode) (words 
     editions = h.editions;
     text = line ++ h.text;
     count = length line + h.count;
+    heard = h.heard;
+    items = h.items;
+    became = h.became;
     first = h.first;
     came = h.came;
     begins = h.begins;
+    none = h.none;
+    taken = h.taken;
+    published = h.published;
+    tells = h.tells;
     right = right_first h.editions h.lines h.text h.news h.right;
     whole = longer cause line h.text h.count h.whole;
     written = subst (λ t. Appends before now t) (sym (take-append-add line h.text h.count)) (appends_more before mid now line (take h.count h.text) w h.written);
@@ -267,27 +360,6 @@ module _ (files : Option FileList) (options : Options) (mode : LiveMode) (words 
     pub read_behind : (rest : Option (List ℕ)) → HasFailedBehind files options mode words told left rest mid now fault.ReadFault → HasLivedUntil fault.ReadFault files options mode words [] left rest before now
     read_behind rest h = lived_until rest now fault.ReadFault (subst (λ t. HasLivedUntil fault.ReadFault files options mode words t left rest mid now) one h)
 
--- the first news can't be told
-pub failed_first : (files : Option FileList) (options : Options) (mode : LiveMode) (words : List ItemData) (e : EditionData) (first : NewsData) (left rest before now : Option (List ℕ)) (cause : LiveFault) →
-    BeginsWithFirst files options mode.mirrored words (e ∷ []) → rest ≡ left → FailsToTellFirst (news_shown mode.json first) before now cause → HasFailed files options mode words left rest before now cause
-failed_first files options mode words e first left rest before now (fault.Feed f) good same h = absurd h
-failed_first files options mode words e first left rest before now fault.ReadFault good same h = absurd h
-failed_first files options mode words e first left rest before now fault.WriteFault good same h =
-    record {
-      lines = [];
-      news = first ∷ [];
-      editions = e ∷ [];
-      text = news_shown mode.json first;
-      count = h.0;
-      first = none_first left;
-      came = λ k. absurd (cc k);
-      begins = good;
-      right = (first ∷ [], refl, sym (append-nil (news_shown mode.json first)));
-      whole = inl refl;
-      written = h.1;
-    }
-failed_first files options mode words e first left rest before now fault.Memory good same h = inl (h, same)
-
 -- what fails to be told is no fault of a source
 pub no_read : {A : Type 0} (line : List ℕ) (before now : Option (List ℕ)) (cause : LiveFault) (result : Result A LiveFault) (P : Type 0) → FailsToTellFirst line before now cause → result ≡ Err cause → result ≡ Err fault.ReadFault → P
 no_read line before now (fault.Feed f) result P h is e = absurd h
@@ -309,6 +381,35 @@ first_published files options mirrored (v ∷ words) w e x one is h =
       outcomes = so_far_first (IsNewsOf files options mirrored) v x e (word, subst (λ c. HasBecome files options mirrored None 0 v c (e ∷ [])) (sym b) first.0) first.1;
       first = subst (λ c. HasAnEdition c) (sym b) tt;
     }
+
+-- the first news can't be told
+pub failed_first : (files : Option FileList) (options : Options) (mode : LiveMode) (words : List ItemData) (w : ItemData) (e : EditionData) (first : NewsData) (left rest before now : Option (List ℕ)) (cause : LiveFault) →
+    take 1 words ≡ w ∷ [] → first ≡ record { word = w.word; became = became.Outcome (outcome_of 1 e) } →
+    BeginsWithFirst files options mode.mirrored words (e ∷ []) → rest ≡ left → FailsToTellFirst (news_shown mode.json first) before now cause → HasFailed files options mode words left rest before now cause
+failed_first files options mode words w e first left rest before now (fault.Feed f) one is good same h = absurd h
+failed_first files options mode words w e first left rest before now fault.ReadFault one is good same h = absurd h
+failed_first files options mode words w e first left rest before now fault.WriteFault one is good same h =
+    record {
+      lines = [];
+      news = first ∷ [];
+      editions = e ∷ [];
+      text = news_shown mode.json first;
+      count = h.0;
+      heard = [];
+      items = take 1 words;
+      became = first ∷ [];
+      first = none_first left;
+      came = λ k. absurd (cc k);
+      begins = good;
+      none = inr refl;
+      taken = subst (λ l. StartsWith l (take 1 words)) (sym (append-nil words)) (starts_take words 1);
+      published = published_all files options mode.mirrored (take 1 words) (first ∷ []) (e ∷ []) e (first_published files options mode.mirrored words w e first one is good);
+      tells = starts_self (first ∷ []);
+      right = (first ∷ [], refl, sym (append-nil (news_shown mode.json first)));
+      whole = inl refl;
+      written = h.1;
+    }
+failed_first files options mode words w e first left rest before now fault.Memory one is good same h = inl (h, same)
 
 -- what a run begins with, before its first line
 pub begins_live : (files : Option FileList) (options : Options) (mode : LiveMode) (words : List ItemData) (w : ItemData) (e : EditionData) (x : NewsData) (es : List EditionData) (day : EditionData)

@@ -5,6 +5,7 @@ use Rattle.tb_io.specs.Causes.{Rose}
 use Rattle.tb_io.specs.Files.{FileList}
 use Rattle.footpaths.specs.declared.paths.Options.{Options}
 use Rattle.edition_store.specs.Editions.{EditionData}
+use Rattle.history.specs.Lists.{StartsWith}
 use Rattle.live_turns.specs.Coming.{ended}
 use Rattle.live_turns.specs.Runs.{TextRunsFrom}
 use Rattle.text_lines.specs.LineWords.{line_words}
@@ -101,7 +102,8 @@ BeginsWithFirst files options mirrored (item ∷ items) (e ∷ es) =
 
 -- The text for some first lines of the source was written, with some news, or a first part of it,
 -- where the sink failed; with a fault of the source these are the lines that ended before, by their
--- words. Of the editions no more is said than that the first one is the first item's.
+-- words. The editions are those of the lawful ones among some first items, of which news are told:
+-- those of the words, then those that these lines name; for want of memory also lines behind them.
 pub record HasLivedUntil (cause : LiveFault) (files : Option FileList) (options : Options)
     (mode : LiveMode) (words : List ItemData) (told : List NewsData)
     (left rest before now : Option (List ℕ)) : Type 0 where
@@ -110,10 +112,18 @@ pub record HasLivedUntil (cause : LiveFault) (files : Option FileList) (options 
   pub editions : List EditionData
   pub text : List ℕ
   pub count : ℕ
-  pub first : IfSome left (λ bytes. (more : List (List ℕ)) × (lines_of bytes ≡ lines ++ more))
+  pub heard : List (List ℕ)
+  pub items : List ItemData
+  pub became : List NewsData
+  pub first : IfSome left (λ bytes. (more : List (List ℕ))
+      × (lines_of bytes ≡ (lines ++ heard) ++ more))
   pub came : cause ≡ fault.ReadFault → (bytes : List ℕ) × Consumes left rest bytes
       × (map line_words lines ≡ map line_words (ended 1026 [] bytes))
   pub begins : BeginsWithFirst files options mode.mirrored words editions
+  pub none : (cause ≡ fault.Memory) ⊎ (heard ≡ [])
+  pub taken : StartsWith (words ++ flat_map (live_gives mode) (lines ++ heard)) items
+  pub published : ArePublished files options mode.mirrored items became editions
+  pub tells : StartsWith became news
   pub right : IsTextOf mode editions told lines text news
   pub whole : (cause ≡ fault.WriteFault) ⊎ (count ≡ length text)
   pub written : Appends before now (take count text)

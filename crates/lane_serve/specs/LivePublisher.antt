@@ -1,12 +1,13 @@
 -- The publisher of a process that lives, item by item.
-use Rattle.std.specs.Prelude.{◌≡◌, ℕ, ◌+◌, List, [], ◌∷◌, ◌++◌, drop, length, Bool, Option, Some, option_to_list}
+use Rattle.std.specs.Prelude.{◌≡◌, ◌⊎◌, ℕ, ◌+◌, List, [], ◌∷◌, ◌++◌, drop, length, Bool, Option, Some, option_to_list}
 use Rattle.tb_io.specs.Causes.{Rose}
 use Rattle.tb_io.specs.Files.{FileList}
 use Rattle.footpaths.specs.declared.paths.Options.{Options}
 use Rattle.edition_store.specs.Editions.{EditionData}
+use Rattle.history.specs.Lists.{StartsWith}
 use Rattle.lane_serve.specs.declared.live.news.Became.{Became}
 use Rattle.lane_serve.specs.declared.live.news.Became.TheVariants as became
-use Rattle.lane_serve.specs.Live.{BeginsWithEdition, HasBecome, IsNewsOf}
+use Rattle.lane_serve.specs.Live.{ArePublished, BeginsWithEdition, HasBecome, IsNewsOf}
 use Rattle.lane_serve.specs.LiveTexts.{NewsData}
 use Rattle.lane_serve.specs.Plans.{AreSoFar, ItemData, day_after}
 
@@ -40,3 +41,22 @@ TakesItem files options mirrored item before after es now day next told news =
 -- first one, which is the first word's
 abbrev pub items_taken : List ItemData → List ItemData → List ItemData
 items_taken words handed = words ++ drop 1 handed
+
+-- Where an item was not taken to its end: it added nothing, or its edition was published; and there
+-- is no news of it, or there is.
+abbrev pub StopsAt : Option FileList → Options → Bool → ItemData → List EditionData →
+    List EditionData → EditionData → List NewsData → List NewsData → Type 0
+StopsAt files options mirrored item es now day told news =
+    ((now ≡ es) × (news ≡ told))
+    ⊎ ((b : Became) × (added : List EditionData) × (now ≡ es ++ added)
+    × HasBecome files options mirrored (Some day) (length es) item b added
+    × ((news ≡ told) ⊎ (news ≡ told ++ record { word = item.word; became = b } ∷ [])))
+
+-- the editions are those of some first ones of these items, and these are first news of them
+pub record ArePublishedSoFar (files : Option FileList) (options : Options) (mirrored : Bool)
+    (all : List ItemData) (told : List NewsData) (editions : List EditionData) : Type 0 where
+  pub items : List ItemData
+  pub news : List NewsData
+  pub first : StartsWith all items
+  pub tells : StartsWith news told
+  pub published : ArePublished files options mirrored items news editions

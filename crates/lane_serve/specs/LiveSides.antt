@@ -32,11 +32,13 @@ pub record HasRunLines (mode : LiveMode) (left before now : Option (List ℕ)) (
 -- the same up to a fault
 pub record HasCutLines (cause : LinesFault) (mode : LiveMode)
     (left rest before now : Option (List ℕ)) (a : LineSideData) (kept : Shown EditionData)
-    : Type 0 where
+    (given : List ItemData) (told : List NewsData) : Type 0 where
   pub end : LineSideData
   pub run : IsCutBy cause mode 1026 left rest before now a end
   pub later : Extends kept a.live.kept
   pub kept_is : end.live.kept ≡ kept
+  pub given_is : end.given ≡ given
+  pub told_is : end.live.told ≡ told
 
 -- what holds of the side that parts make, and of what it ends with, where all these are there
 abbrev pub OfParts : LiveMode → ℕ → ℕ → Option (Shown EditionData) → Option (List ItemData) →
@@ -55,10 +57,16 @@ told_as lines.WriteFault = fault.WriteFault
 told_as lines.Memory = fault.Memory
 
 -- both sides are at their ends: the list of editions begins with what was known to the other side,
--- what was given was taken, and the text tells the rest of the news
-pub record HaveClosed (json : Bool) (es : List EditionData) (known : Shown EditionData)
-    (taken given : List ItemData) (news told : List NewsData) (note : List ℕ) : Type 0 where
+-- and what was taken is a first part of what was given
+pub record HaveMet (es : List EditionData) (known : Shown EditionData)
+    (taken given : List ItemData) (news told : List NewsData) : Type 0 where
   pub starts : StartsWith es known.list
+  pub items : StartsWith given taken
+  pub tells : StartsWith news told
+
+-- what was given was taken, and the text tells the rest of the news
+pub record HaveClosed (json : Bool) (taken given : List ItemData) (news told : List NewsData)
+    (note : List ℕ) : Type 0 where
   pub items : taken ≡ given
   pub tells : Tells (news_shown json) told news note
 
@@ -85,21 +93,19 @@ FailsToTellFirst line before now fault.ReadFault = ⊥
 FailsToTellFirst line before now fault.WriteFault = (n : ℕ) × Appends before now (take n line)
 FailsToTellFirst line before now fault.Memory = now ≡ before
 
--- both sides are at their ends, and the rest of the news was written
-abbrev pub TellsRest : Bool → List EditionData → Shown EditionData → List ItemData →
-    List ItemData → List NewsData → List NewsData → Option (List ℕ) → Option (List ℕ) → Type 0
-TellsRest json es known taken given news told before now =
-    (note : List ℕ) × HaveClosed json es known taken given news told note
-    × Appends before now note
+-- all was taken, and the rest of the news was written
+abbrev pub TellsRest : Bool → List ItemData → List ItemData → List NewsData → List NewsData →
+    Option (List ℕ) → Option (List ℕ) → Type 0
+TellsRest json taken given news told before now =
+    (note : List ℕ) × HaveClosed json taken given news told note × Appends before now note
 
 -- how the rest of the news fails to be told: the sink failed, or memory was wanting and nothing is
 -- written
-abbrev pub FailsToTellRest : Bool → List EditionData → Shown EditionData → List ItemData →
-    List ItemData → List NewsData → List NewsData → Option (List ℕ) → Option (List ℕ) →
-    LiveFault → Type 0
-FailsToTellRest json es known taken given news told before now (fault.Feed f) = ⊥
-FailsToTellRest json es known taken given news told before now fault.ReadFault = ⊥
-FailsToTellRest json es known taken given news told before now fault.WriteFault =
-    (note : List ℕ) × (n : ℕ) × HaveClosed json es known taken given news told note
+abbrev pub FailsToTellRest : Bool → List ItemData → List ItemData → List NewsData →
+    List NewsData → Option (List ℕ) → Option (List ℕ) → LiveFault → Type 0
+FailsToTellRest json taken given news told before now (fault.Feed f) = ⊥
+FailsToTellRest json taken given news told before now fault.ReadFault = ⊥
+FailsToTellRest json taken given news told before now fault.WriteFault =
+    (note : List ℕ) × (n : ℕ) × HaveClosed json taken given news told note
     × Appends before now (take n note)
-FailsToTellRest json es known taken given news told before now fault.Memory = now ≡ before
+FailsToTellRest json taken given news told before now fault.Memory = now ≡ before

@@ -1,12 +1,12 @@
 -- The turns of a process that lives.
-use Rattle.std.specs.Prelude.{◌≡◌, ◌⊎◌, ℕ, List, [], ◌++◌, Option, IfSome, length, map, take, flat_map, Vec}
+use Rattle.std.specs.Prelude.{◌≡◌, ◌⊎◌, ℕ, List, [], ◌++◌, Bool, Option, IfSome, length, map, take, flat_map, Vec}
 use Rattle.std.specs.declared.alloc.Global.{Global}
 use Rattle.std.specs.Io.KnownBytes.{Appends, Consumes}
 use Rattle.edition_store.specs.Editions.{EditionData}
 use Rattle.history.specs.Lists.{Extends, Shown, StartsWith}
 use Rattle.live_turns.specs.Runs.{Gives, IsTurn, LiveData, TextRunsFrom}
-use Rattle.live_turns.specs.Intakes.{IntakeData}
-use Rattle.live_turns.specs.Coming.{ended}
+use Rattle.live_turns.specs.Intakes.{ComeNext, IntakeData}
+use Rattle.live_turns.specs.Coming.{ended, kept_lines}
 use Rattle.live_turns.specs.Turns.{Fails, IsCutRun, IsWholeRun, lines_in}
 use Rattle.text_lines.specs.LineWords.{line_words}
 use Rattle.text_lines.specs.Lines.{lines_of}
@@ -73,14 +73,30 @@ pub record IsPartlyTold (mode : LiveMode) (before now : Option (List ℕ)) (a b 
   pub turn : IsLiveTurn mode a lines text b
   pub written : Appends before now (take count text)
 
+-- some first ones of these lines were heard: the items that they name were given; and no news that
+-- were told are lost
+pub record HearsSome (mode : LiveMode) (a b : LineSideData) (lines : List (List ℕ)) : Type 0 where
+  pub count : ℕ
+  pub given : b.given ≡ a.given ++ flat_map (live_gives mode) (take count lines)
+  pub told : StartsWith b.live.told a.live.told
+
 -- How a turn of these lines fails: with a fault of the sink a first part of its text was written;
--- with want of memory nothing, and the editions that are known only grew. No source is read.
+-- with want of memory nothing, the editions that are known only grew, and some lines were heard. No
+-- source is read.
 abbrev pub FailsToTell : LinesFault → LiveMode → Option (List ℕ) → Option (List ℕ) →
     LineSideData → LineSideData → List (List ℕ) → Type 0
 FailsToTell fault.WriteFault mode before now a b lines = IsPartlyTold mode before now a b lines
 FailsToTell fault.ReadFault mode before now a b lines = ⊥
 FailsToTell fault.Memory mode before now a b lines =
-    (now ≡ before) × Extends b.live.kept a.live.kept
+    (now ≡ before) × Extends b.live.kept a.live.kept × HearsSome mode a b lines
+
+-- some first ones of the lines that come next were heard, or there are none
+pub record HearsNext (mode : LiveMode) (left rest : Option (List ℕ)) (old new : IntakeData)
+    (a b : LineSideData) : Type 0 where
+  pub lines : List (List ℕ)
+  pub more : Bool
+  pub come : (lines ≡ []) ⊎ ComeNext left rest old new lines more
+  pub hears : HearsSome mode a b lines
 
 -- how the next turn fails: with a fault of the source nothing was taken of it, and nothing is done
 abbrev pub FailsToGoOn : LinesFault → LiveMode → Option (List ℕ) → Option (List ℕ) →
@@ -91,11 +107,12 @@ FailsToGoOn fault.WriteFault mode left rest old new before now a b =
 FailsToGoOn fault.ReadFault mode left rest old new before now a b =
     (now ≡ before) × (b ≡ a) × Consumes left rest []
 FailsToGoOn fault.Memory mode left rest old new before now a b =
-    (now ≡ before) × Extends b.live.kept a.live.kept
+    (now ≡ before) × Extends b.live.kept a.live.kept × HearsNext mode left rest old new a b
 
 -- What was written before a fault: with one of the sink a first part of the text of some turns, else
 -- all of it; with one of the source these are all turns whose lines ended before. No edition of them
--- is later than those that are known; but for want of memory nothing was done behind them.
+-- is later than those that are known; but for want of memory nothing was done behind them, else some
+-- lines were heard.
 pub record IsCutBy (cause : LinesFault) (mode : LiveMode) (most : ℕ)
     (left rest before now : Option (List ℕ)) (a b : LineSideData) : Type 0 where
   pub cut : IsCutRun (IsLiveTurn mode) most left before now a
@@ -104,6 +121,12 @@ pub record IsCutBy (cause : LinesFault) (mode : LiveMode) (most : ℕ)
       × (lines_in cut.turns ≡ ended most [] bytes)
   pub later : Extends b.live.kept cut.by.live.kept
   pub same : (cause ≡ fault.Memory) ⊎ (cut.by ≡ b)
+  pub heard : List (List ℕ)
+  pub lines : IfSome left (λ bytes. (more : List (List ℕ))
+      × (kept_lines most bytes ≡ (lines_in cut.turns ++ heard) ++ more))
+  pub given : b.given ≡ cut.by.given ++ flat_map (live_gives mode) heard
+  pub told : StartsWith b.live.told cut.by.live.told
+  pub none : (cause ≡ fault.Memory) ⊎ (heard ≡ [])
 
 -- The text has for each line in order its right reply by an edition of the list, and the editions
 -- never go back; news are told in between, and in the end.
@@ -124,21 +147,23 @@ pub record IsLiveRun (mode : LiveMode) (es : List EditionData)
   pub written : Appends before now text
 
 -- The text for some first lines of a source was written, or with a fault of the sink a first part
--- of it; with a fault of the source these are the lines that ended before, by their words. But for
--- want of memory the items that they name were given, and no more was told.
+-- of it; with a fault of the source these are the lines that ended before, by their words. The items
+-- that they name were given; for want of memory also those of some lines behind them.
 pub record IsCutLiveRun (cause : LinesFault) (mode : LiveMode) (es : List EditionData)
     (left rest before now : Option (List ℕ)) (a b : LineSideData) : Type 0 where
   pub lines : List (List ℕ)
   pub text : List ℕ
   pub told : List NewsData
   pub count : ℕ
-  pub first : IfSome left (λ bytes. (more : List (List ℕ)) × (lines_of bytes ≡ lines ++ more))
+  pub heard : List (List ℕ)
+  pub first : IfSome left (λ bytes. (more : List (List ℕ))
+      × (lines_of bytes ≡ (lines ++ heard) ++ more))
   pub came : cause ≡ fault.ReadFault → (bytes : List ℕ) × Consumes left rest bytes
       × (map line_words lines ≡ map line_words (ended 1026 [] bytes))
   pub right : IsLiveText mode es a lines text told
-  pub given : (cause ≡ fault.Memory)
-      ⊎ (b.given ≡ a.given ++ flat_map (live_gives mode) lines)
-  pub news : (cause ≡ fault.Memory) ⊎ (b.live.told ≡ told)
+  pub given : b.given ≡ a.given ++ flat_map (live_gives mode) (lines ++ heard)
+  pub none : (cause ≡ fault.Memory) ⊎ (heard ≡ [])
+  pub news : StartsWith b.live.told told
   pub whole : (cause ≡ fault.WriteFault) ⊎ (count ≡ length text)
   pub written : Appends before now (take count text)
 

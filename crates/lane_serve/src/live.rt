@@ -4,6 +4,7 @@
 //! publisher are told, the published list is pinned once, each line has its reply by the last
 //! edition of it, and the text is written before the next piece is read.
 
+mod issuing;
 pub(crate) mod laws;
 mod lending;
 mod lived;

@@ -148,8 +148,12 @@ fn publish<P: Publishes, G: Gate, R: Wait>(
     published
 }
 
-// Keeps the edition of an item as that of the last day, where the item is a day.
-fn keep_day(source: &ItemSource, edition: &Shared, day: &mut Shared) -> Result<(), Memory>
+/// Keeps the edition of an item as that of the last day, where the item is a day.
+pub(crate) fn keep_day(
+    source: &ItemSource,
+    edition: &Shared,
+    day: &mut Shared,
+) -> Result<(), Memory>
     ensures { OnOk result
         (day_after (Some day.old) source.now (edition.now ∷ []) ≡ Some day.new) }
 {

@@ -97,9 +97,10 @@ fn request_text<R: Threads + Wait + Sync, F: Folder + Send, S: Source, G: Gate>(
 /// written, and nothing read of the script. With `ReadFault` neither, where the folder failed before
 /// the first day was published; else what is written is that of the lines before the fault. With
 /// `Memory` neither, or what is written is that of some first lines; with `WriteFault` a first part
-/// of such. Of the editions of a run that ends so it is said that the first one is that of the first
-/// day. A day behind the first one that can't be read, or for which there is no memory, ends nothing:
-/// so the folder's count of faults may rise there with any status.
+/// of such. The editions of a run that ends so are those of the lawful ones among some first days, of
+/// the words and of the lines that it read, in that order, and it told what became of first ones of
+/// these. A day behind the first one that can't be read, or for which there is no memory, ends
+/// nothing: so the folder's count of faults may rise there with any status.
 ///
 /// That the gate is told of the pieces that workers reduce, and of the publications and requests of
 /// a run, is tested and in no clause. Its own work ends; it joins the workers that it starts. A

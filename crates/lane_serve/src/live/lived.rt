@@ -1,13 +1,12 @@
 //! A process that lives, from its first edition to the end of its lines.
-ghost use Rattle.std.specs.Prelude.{◌≡◌, ◌≢◌, ◌⊎◌, ◌<◌, ◌≤◌, ◌-◌, ◌^◌, ◌∷◌, [], ℕ, List, Err, IfErr, IfOk, IsSome, OnErr, OnOk, Ok, false, true, length, slice_get, take, vec_len};
+ghost use Rattle.std.specs.Prelude.{◌≡◌, ◌≢◌, ◌⊎◌, ◌<◌, ◌≤◌, ◌-◌, ◌^◌, ◌∷◌, [], ℕ, List, Err, IfErr, IfOk, IsSome, MatchResult, OnErr, OnOk, Ok, false, true, length, slice_get, take, vec_len};
 ghost use Rattle.std.specs.Io.KnownBytes.{Appends, Consumes};
 ghost use Rattle.footpaths.specs.Limits.{AreWithinADay};
 ghost use Rattle.gtfs_rows.specs.declared.fault.FeedFault.{FeedFault};
-ghost use Rattle.history.specs.Lists.{StartsWith};
 ghost use Rattle.tb_base.specs.Workers.{AreWorkers};
 ghost use Rattle.live_turns.specs.Runs.{Tells};
 ghost use Rattle.lane_serve.specs.Live.{BeginsWithFirst, HasFailed, HasFailedBehind, HasLived, HasLivedUntil, ReadFaultsRose};
-ghost use Rattle.lane_serve.specs.LiveSides.{BeginsLive, FailsToTellFirst, FailsToTellRest, HaveClosed, TellsRest, told_as};
+ghost use Rattle.lane_serve.specs.LiveSides.{BeginsLive, FailsToTellFirst, FailsToTellRest, HaveClosed, HaveMet, TellsRest, told_as};
 ghost use Rattle.lane_serve.specs.LiveTexts.{news_shown};
 ghost use Rattle.lane_serve.specs.LiveTurns.{before_lines};
 ghost use Rattle.lane_serve.specs.Plans.{BeginsWithDay, IsGoodBuilding, ItemData, outcome_of};
@@ -20,9 +19,8 @@ use crate::live::saying::LiveMode;
 use crate::live::sides::{LinesEnd, both_sides};
 use crate::live::turn::{LineSide, desks_for};
 use crate::plan::{PlanItem, first_day};
-use crate::publishing::Publishes;
 use answer_text::Text;
-use edition_store::{Edition, Naming, Opened, Publisher, Seat, Shared, Store};
+use edition_store::{Edition, Last, Naming, Opened, Publisher, Seat, Shared, Store};
 use footpaths::Options;
 use gtfs_rows::FeedFault;
 use live_turns::{Given, Giver, Taker, open};
@@ -73,7 +71,7 @@ fn seat_one<J: Naming, R: Wait>(
         Ok((publisher, seats)) => match last_of(seats) {
             Some(seat) => Ok((publisher, seat)),
             None => {
-                publisher.end(rt);
+                drop(publisher.finish(rt));
                 Err(Memory)
             }
         },
@@ -117,21 +115,38 @@ fn hand_overs<K: Naming, L: Naming>(
     }
 }
 
-// The list of a publisher begins with what a seat keeps. Refused only for want of memory.
-fn cover<J: Naming>(publisher: &mut Publisher<J>, seat: Seat<J>) -> Result<(), Memory>
-    ensures starts { OnOk result (StartsWith publisher.old seat.list) }
-    ensures same { publisher.new ≡ publisher.old }
+// Both sides are at their ends: the list of editions begins with what a seat keeps, and what was
+// taken is a first part of what was given.
+fn settle<J: Naming, K: Naming, L: Naming>(
+    last: Last<J>,
+    seat: Seat<J>,
+    items: &Taker<PlanItem, K>,
+    given: &mut Given<PlanItem, K>,
+    news: &Taker<News, L>,
+    told: &mut Given<News, L>,
+)
+    ensures met { HaveMet last seat items.now given.old told.old news.now }
+    ensures given { given.new ≡ given.old }
+    ensures told { told.new ≡ told.old }
 {
-    let mut seat = seat;
-    let pinned = seat.pin();
+    last.covers_seat(&seat);
+    drop(last);
     drop(seat);
-    match pinned {
-        Ok(pinned) => {
-            publisher.covers(&pinned);
-            drop(pinned);
-            Ok(())
-        }
-        Err(Memory) => Err(Memory),
+    given.covers(items);
+    told.covers(news);
+}
+
+// The whole list of editions, and whether no publication was refused.
+fn last_of_all<J: Naming, R: Wait>(
+    rt: &R,
+    published: Result<Publisher<J>, Last<J>>,
+) -> (Last<J>, bool)
+    ensures { MatchResult published (λ p. (result.0 ≡ p) × (result.1 ≡ true))
+        (λ l. (result.0 ≡ l) × (result.1 ≡ false)) }
+{
+    match published {
+        Ok(publisher) => (publisher.finish(rt), true),
+        Err(last) => (last, false),
     }
 }
 
@@ -151,12 +166,12 @@ fn rest_of_news<L: Naming, R: Wait>(
     rt: &R,
     alloc: Global,
     json: bool,
-    tells: Giver<News, L>,
+    told: Given<News, L>,
     news: Taker<News, L>,
 ) -> Result<Vec<u8>, Memory>
-    ensures { IfOk result (λ v. Tells (news_shown json) news tells v.items) }
+    ensures { IfOk result (λ v. Tells (news_shown json) news told v.items) }
 {
-    let mut told = tells.end();
+    let mut told = told;
     let mut news = news;
     let mut text = Text::new(alloc);
     let polled = tell_news(rt, alloc, json, &mut news, &mut text);
@@ -171,27 +186,21 @@ fn rest_of_news<L: Naming, R: Wait>(
     }
 }
 
-// The rest of the news, once both sides are at their ends, and no list is published any more.
-fn closing_note<J: Naming, K: Naming, L: Naming, R: Wait>(
+// The rest of the news, where all that was given was taken.
+fn closing_note<K: Naming, L: Naming, R: Wait>(
     rt: &R,
     alloc: Global,
     json: bool,
-    publisher: Publisher<J>,
     items: &Taker<PlanItem, K>,
-    tells: Giver<News, L>,
-    seat: Seat<J>,
     given: Given<PlanItem, K>,
+    told: Given<News, L>,
     news: Taker<News, L>,
 ) -> Result<Vec<u8>, Memory>
-    ensures { IfOk result (λ v.
-        HaveClosed json publisher seat items.now given tells news v.items) }
+    ensures { IfOk result (λ v. HaveClosed json items.now given told news v.items) }
 {
-    let mut publisher = publisher;
-    let covered = cover(&mut publisher, seat);
-    publisher.end(rt);
     let taken = all_taken(given, items);
-    let note = rest_of_news(rt, alloc, json, tells, news);
-    if taken && covered.is_ok() {
+    let note = rest_of_news(rt, alloc, json, told, news);
+    if taken {
         note
     } else {
         drop(note);
@@ -210,37 +219,27 @@ fn told_as(cause: LinesFault) -> LiveFault
     }
 }
 
-// Ends a list of editions, where there is one.
-fn end_all<P: Publishes, R: Wait>(rt: &R, published: Result<P, Memory>) {
-    match published {
-        Ok(publisher) => publisher.end(rt),
-        Err(Memory) => {}
-    }
-}
-
-// Writes the rest of the news, once both sides are at their ends.
-fn write_rest<J: Naming, K: Naming, L: Naming, O: Sink, R: Wait>(
+// Writes the rest of the news, where all that was given was taken.
+fn write_rest<K: Naming, L: Naming, O: Sink, R: Wait>(
     rt: &R,
     alloc: Global,
     json: bool,
-    publisher: Publisher<J>,
     items: &Taker<PlanItem, K>,
-    tells: Giver<News, L>,
-    seat: Seat<J>,
     given: Given<PlanItem, K>,
+    told: Given<News, L>,
     news: Taker<News, L>,
     sink: &mut O,
 ) -> Result<(), LiveFault>
     requires { O.faults sink.old < 2 ^ 64 - 1 }
-    ensures written { OnOk result (TellsRest json publisher seat items.now given tells news
+    ensures written { OnOk result (TellsRest json items.now given told news
         (O.written sink.old) (O.written sink.new)) }
-    ensures failed { IfErr result (FailsToTellRest json publisher seat items.now given tells news
+    ensures failed { IfErr result (FailsToTellRest json items.now given told news
         (O.written sink.old) (O.written sink.new)) }
     ensures write { result ≡ Err LiveFault.WriteFault → O.faults sink.old < O.faults sink.new }
     ensures sink { (result ≡ Err LiveFault.WriteFault)
         ⊎ (O.faults sink.new ≡ O.faults sink.old) }
 {
-    match closing_note(rt, alloc, json, publisher, items, tells, seat, given, news) {
+    match closing_note(rt, alloc, json, items, given, told, news) {
         Ok(note) => match put_all(sink, note.as_slice()) {
             Ok(()) => Ok(()),
             Err(Put::WriteFault) => Err(LiveFault::WriteFault),
@@ -313,17 +312,19 @@ fn run_sides<
         given,
         news,
     } = end;
+    let mut given = given;
+    let mut told = tells.end();
+    let (last, all) = last_of_all(rt, published);
+    settle(last, seat, &items, &mut given, &news, &mut told);
     match ended {
-        Ok(()) => match published {
-            Ok(publisher) => write_rest(
-                rt, alloc, mode.json, publisher, &items, tells, seat, given, news, sink,
-            ),
-            Err(Memory) => Err(LiveFault::Memory),
-        },
-        Err(cause) => {
-            end_all(rt, published);
-            Err(told_as(cause))
+        Ok(()) => {
+            if all {
+                write_rest(rt, alloc, mode.json, &items, given, told, news, sink)
+            } else {
+                Err(LiveFault::Memory)
+            }
         }
+        Err(cause) => Err(told_as(cause)),
     }
 }
 
@@ -506,7 +507,7 @@ fn live_from<
                 source, sink,
             ),
             Err(fault) => {
-                publisher.end(rt);
+                drop(publisher.finish(rt));
                 drop(day);
                 drop(items);
                 drop(tells);

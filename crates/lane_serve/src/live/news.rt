@@ -1,5 +1,6 @@
 //! News of the publisher.
 ghost use Rattle.std.specs.Prelude.{◌≡◌, ◌++◌, List, OnOk, IfOk, ℕ};
+ghost use Rattle.history.specs.Lists.{StartsWith};
 ghost use Rattle.live_turns.specs.Runs.{Tells};
 ghost use Rattle.lane_serve.specs.LiveTexts.{became_json, became_text, failed_json, failed_text, news_shown};
 
@@ -118,8 +119,9 @@ pub(crate) fn tell_news<L: Naming, R: Wait>(
     news: &mut Taker<News, L>,
     text: &mut Text,
 ) -> Result<(), Memory>
-    ensures { OnOk result ((note : List ℕ) × Tells (news_shown json) news.old news.new note
+    ensures told { OnOk result ((note : List ℕ) × Tells (news_shown json) news.old news.new note
         × (text.new ≡ text.old ++ note)) }
+    ensures later { StartsWith news.new news.old }
 {
     for _turn in rt.forever() {
         match news.poll(rt) {

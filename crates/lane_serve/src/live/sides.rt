@@ -3,26 +3,27 @@ ghost use Rattle.std.specs.Prelude.{◌≡◌, ◌≢◌, ◌⊎◌, ◌<◌, �
 ghost use Rattle.std.specs.Io.KnownBytes.{Consumes};
 ghost use Rattle.std.specs.Thread.{IsSync};
 ghost use Rattle.lane_serve.specs.Live.{ArePublished, ReadFaultsRose};
-ghost use Rattle.lane_serve.specs.LivePublisher.{HavePublished, items_taken};
+ghost use Rattle.lane_serve.specs.LivePublisher.{ArePublishedSoFar, HavePublished, items_taken};
 ghost use Rattle.lane_serve.specs.LiveSides.{HasCutLines, HasRunLines, OfParts};
 ghost use Rattle.lane_serve.specs.LiveTurns.{LineSideData};
 ghost use Rattle.lane_serve.specs.Plans.{IsGoodBuilding};
 ghost use Rattle.lane_serve.specs.declared.live.running.LinesFault.TheVariants as fault;
 
 use crate::building::Building;
+use crate::live::issuing::{Ends, Issues};
 use crate::live::news::News;
 use crate::live::publisher::publish_all;
 use crate::live::running::{LinesFault, run_turns};
 use crate::live::turn::{Bench, Hands, LineSide};
 use crate::plan::PlanItem;
-use crate::publishing::Publishes;
 use edition_store::{Naming, Seat, Shared};
 use live_turns::{Given, Giver, Taker};
 use std::alloc::Global;
+use std::marker::PhantomData;
 use std::mem;
 use std::sync::Wait;
 use std::thread::{Threads, join_mut};
-use tb_base::{Gate, Memory};
+use tb_base::Gate;
 use tb_io::{Folder, Sink, Source};
 
 /// How the side of lines ended: its seat, the items that it gave, and who takes news.
@@ -59,7 +60,7 @@ fn run_lines<
         result.news) }
     ensures cut { IfErr result.ended (λ cause. HasCutLines cause side.mode
         (S.left source.old) (S.left source.new) (O.written sink.old) (O.written sink.new)
-        side result.seat) }
+        side result.seat result.given result.news) }
     ensures bytes { (bytes : List ℕ) × Consumes (S.left source.old) (S.left source.new) bytes }
     ensures read { result.ended ≡ Err fault.ReadFault →
         S.faults source.old < S.faults source.new }
@@ -80,8 +81,17 @@ fn run_lines<
     }
 }
 
-// Takes the publisher out of its place, which is empty afterwards, and publishes.
-fn publish_side<P: Publishes, K: Naming, L: Naming, F: Folder, G: Gate, R: Threads + Wait + Sync>(
+// Takes the publisher out of its place, which is empty afterwards, and publishes. (The proof of a
+// closure asks that it captures something of each type that it names, so there is a mark of `E`.)
+fn publish_side<
+    P: Issues<E>,
+    E: Ends,
+    K: Naming,
+    L: Naming,
+    F: Folder,
+    G: Gate,
+    R: Threads + Wait + Sync,
+>(
     rt: &R,
     alloc: Global,
     gate: &G,
@@ -92,7 +102,8 @@ fn publish_side<P: Publishes, K: Naming, L: Naming, F: Folder, G: Gate, R: Threa
     items: &mut Taker<PlanItem, K>,
     news: &mut Giver<News, L>,
     day: &mut Shared,
-) -> Result<P, Memory>
+    _left: &PhantomData<E>,
+) -> Result<P, E>
     requires building { IsGoodBuilding building.now }
     requires some { 0 < length words.now }
     requires one { length items.old ≡ 1 }
@@ -105,6 +116,9 @@ fn publish_side<P: Publishes, K: Naming, L: Naming, F: Folder, G: Gate, R: Threa
     ensures published { IfOk result (λ p. ArePublished (F.files folder.old)
         building.now.options building.now.mirrored (items_taken words.now items.new) news.new
         (P.list p)) }
+    ensures so_far { IfErr result (λ l. ArePublishedSoFar (F.files folder.old)
+        building.now.options building.now.mirrored (items_taken words.now items.new) news.new
+        (E.list l)) }
     ensures rose { OnOk result
         (ReadFaultsRose (F.faults folder.old) (F.faults folder.new) news.new) }
     ensures taken { IsNone slot.new }
@@ -120,7 +134,8 @@ fn publish_side<P: Publishes, K: Naming, L: Naming, F: Folder, G: Gate, R: Threa
 // Publishes, and does something beside it: at once, where a thread can be started; else what is
 // beside comes first.
 fn publish_beside<
-    P: Publishes + Send,
+    P: Issues<E> + Send,
+    E: Ends + Drop + Send + Sync,
     K: Naming + Send + Sync,
     L: Naming + Send + Sync,
     F: Folder + Send,
@@ -140,7 +155,7 @@ fn publish_beside<
     news: &mut Giver<News, L>,
     day: &mut Shared,
     beside: &mut B,
-) -> (Result<P, Memory>, T)
+) -> (Result<P, E>, T)
     requires building { IsGoodBuilding building.now }
     requires some { 0 < length words.now }
     requires one { length items.old ≡ 1 }
@@ -155,13 +170,17 @@ fn publish_beside<
     ensures published { IfOk result.0 (λ p. ArePublished (F.files folder.old)
         building.now.options building.now.mirrored (items_taken words.now items.new) news.new
         (P.list p)) }
+    ensures so_far { IfErr result.0 (λ l. ArePublishedSoFar (F.files folder.old)
+        building.now.options building.now.mirrored (items_taken words.now items.new) news.new
+        (E.list l)) }
     ensures rose { OnOk result.0
         (ReadFaultsRose (F.faults folder.old) (F.faults folder.new) news.new) }
     ensures taken { IsNone slot.new }
 {
+    let left = PhantomData;
     join_mut(
         rt,
-        &mut || -> Result<P, Memory>
+        &mut || -> Result<P, E>
             requires { IsSync R.row × IsGoodBuilding building.now × (0 < length words.now)
                 × (length items.now ≡ 1) × IsSome slot.now
                 × IfSome slot.now (λ p. HavePublished (F.files folder.now)
@@ -172,12 +191,15 @@ fn publish_beside<
                 × IfOk result (λ p. ArePublished (F.files folder.entry.now)
                 building.entry.now.options building.entry.now.mirrored
                 (items_taken words.entry.now items.exit.now) news.exit.now (P.list p))
+                × IfErr result (λ l. ArePublishedSoFar (F.files folder.entry.now)
+                building.entry.now.options building.entry.now.mirrored
+                (items_taken words.entry.now items.exit.now) news.exit.now (E.list l))
                 × OnOk result (ReadFaultsRose (F.faults folder.entry.now)
                 (F.faults folder.exit.now) news.exit.now)
                 × IsNone slot.exit.now }
         {
             publish_side(
-                rt, alloc, gate, building, words, folder, slot, items, news, day,
+                rt, alloc, gate, building, words, folder, slot, items, news, day, &left,
             )
         },
         beside,
@@ -185,11 +207,11 @@ fn publish_beside<
 }
 
 // A publisher's place, from which it was taken.
-fn let_go<P: Publishes, R: Wait>(rt: &R, slot: Option<P>)
+fn let_go<P: Issues<E>, E: Ends + Drop, R: Wait>(rt: &R, slot: Option<P>)
     requires { IsNone slot }
 {
     if let Some(publisher) = slot {
-        publisher.end(rt);
+        drop(publisher.end(rt));
     }
 }
 
@@ -228,7 +250,7 @@ fn line_side<
         bench.old.next bench.old.seat hands.old.giver hands.old.news bench.new.seat
         hands.new.given hands.new.news (λ s kept given told. HasCutLines cause
         (LineSideData.mode s) (S.left source.old) (S.left source.new) (O.written sink.old)
-        (O.written sink.new) s kept)) }
+        (O.written sink.new) s kept given told)) }
     ensures bytes { (bytes : List ℕ) × Consumes (S.left source.old) (S.left source.new) bytes }
     ensures read { result ≡ Err fault.ReadFault → S.faults source.old < S.faults source.new }
     ensures source { (result ≡ Err fault.ReadFault)
@@ -263,7 +285,8 @@ fn line_side<
 // The two sides, with what each of them is in places. The proof of a closure asks that no two things
 // that it meets stand on one type parameter, so the hand-overs have other names at each side.
 fn both_beside<
-    P: Publishes + Send,
+    P: Issues<E> + Send,
+    E: Ends + Drop + Send + Sync,
     J: Naming,
     K: Naming + Send + Sync,
     L: Naming + Send + Sync,
@@ -289,7 +312,7 @@ fn both_beside<
     hands: &mut Hands<M, N>,
     source: &mut S,
     sink: &mut O,
-) -> (Result<P, Memory>, Result<(), LinesFault>)
+) -> (Result<P, E>, Result<(), LinesFault>)
     requires building { IsGoodBuilding building.now }
     requires some { 0 < length words.now }
     requires one { length items.old ≡ 1 }
@@ -308,6 +331,9 @@ fn both_beside<
     ensures published { IfOk result.0 (λ p. ArePublished (F.files folder.old)
         building.now.options building.now.mirrored (items_taken words.now items.new) news.new
         (P.list p)) }
+    ensures so_far { IfErr result.0 (λ l. ArePublishedSoFar (F.files folder.old)
+        building.now.options building.now.mirrored (items_taken words.now items.new) news.new
+        (E.list l)) }
     ensures rose { OnOk result.0
         (ReadFaultsRose (F.faults folder.old) (F.faults folder.new) news.new) }
     ensures taken { IsNone slot.new }
@@ -321,7 +347,7 @@ fn both_beside<
         bench.old.next bench.old.seat hands.old.giver hands.old.news bench.new.seat
         hands.new.given hands.new.news (λ s kept given told. HasCutLines cause
         (LineSideData.mode s) (S.left source.old) (S.left source.new) (O.written sink.old)
-        (O.written sink.new) s kept)) }
+        (O.written sink.new) s kept given told)) }
     ensures bytes { (bytes : List ℕ) × Consumes (S.left source.old) (S.left source.new) bytes }
     ensures read { result.1 ≡ Err fault.ReadFault → S.faults source.old < S.faults source.new }
     ensures source { (result.1 ≡ Err fault.ReadFault)
@@ -359,7 +385,7 @@ fn both_beside<
                 hands.exit.now.given hands.exit.now.news (λ s kept given told. HasCutLines
                 cause (LineSideData.mode s) (S.left source.entry.now)
                 (S.left source.exit.now) (O.written sink.entry.now)
-                (O.written sink.exit.now) s kept))
+                (O.written sink.exit.now) s kept given told))
                 × ((bytes : List ℕ) × Consumes (S.left source.entry.now)
                 (S.left source.exit.now) bytes)
                 × (result ≡ Err fault.ReadFault →
@@ -376,7 +402,8 @@ fn both_beside<
 
 /// The two sides, at once where a thread can be started; else the publisher comes behind the lines.
 pub(crate) fn both_sides<
-    P: Publishes + Send,
+    P: Issues<E> + Send,
+    E: Ends + Drop + Send + Sync,
     J: Naming,
     K: Naming + Send + Sync,
     L: Naming + Send + Sync,
@@ -399,7 +426,7 @@ pub(crate) fn both_sides<
     side: LineSide<J, K, L>,
     source: &mut S,
     sink: &mut O,
-) -> (Result<P, Memory>, LinesEnd<J, K, L>)
+) -> (Result<P, E>, LinesEnd<J, K, L>)
     requires building { IsGoodBuilding building.now }
     requires some { 0 < length words.now }
     requires one { length items.old ≡ 1 }
@@ -413,6 +440,9 @@ pub(crate) fn both_sides<
     ensures published { IfOk result.0 (λ p. ArePublished (F.files folder.old)
         building.now.options building.now.mirrored (items_taken words.now items.new) news.new
         (P.list p)) }
+    ensures so_far { IfErr result.0 (λ l. ArePublishedSoFar (F.files folder.old)
+        building.now.options building.now.mirrored (items_taken words.now items.new) news.new
+        (E.list l)) }
     ensures rose { OnOk result.0
         (ReadFaultsRose (F.faults folder.old) (F.faults folder.new) news.new) }
     ensures whole { OnOk result.1.ended (HasRunLines side.mode (S.left source.old)
@@ -420,7 +450,7 @@ pub(crate) fn both_sides<
         result.1.news) }
     ensures cut { IfErr result.1.ended (λ cause. HasCutLines cause side.mode
         (S.left source.old) (S.left source.new) (O.written sink.old) (O.written sink.new) side
-        result.1.seat) }
+        result.1.seat result.1.given result.1.news) }
     ensures bytes { (bytes : List ℕ) × Consumes (S.left source.old) (S.left source.new) bytes }
     ensures read { result.1.ended ≡ Err fault.ReadFault →
         S.faults source.old < S.faults source.new }
@@ -437,7 +467,7 @@ pub(crate) fn both_sides<
         rt, alloc, gate, building, words, folder, &mut slot, items, news, day, &mut bench,
         &mut hands, source, sink,
     );
-    let_go(rt, slot);
+    let_go::<P, E, R>(rt, slot);
     let Bench { seat, desks, .. } = bench;
     drop(desks);
     let Hands { giver, given, news } = hands;

@@ -1,9 +1,9 @@
 //! One turn of lines.
-ghost use Rattle.std.specs.Prelude.{◌≡◌, ◌<◌, ◌+◌, ◌++◌, ◌∷◌, [], All, Some, IfOk, OnOk, flat_map, length, sum_by, vec_len};
+ghost use Rattle.std.specs.Prelude.{◌≡◌, ◌⊎◌, ◌<◌, ◌+◌, ◌++◌, ◌∷◌, [], ℕ, All, Some, IfErr, IfOk, OnOk, flat_map, length, sum_by, take, vec_len};
 ghost use Rattle.edition_store.specs.Editions.{EditionData};
 ghost use Rattle.history.specs.Lists.{Extends};
 ghost use Rattle.lane_serve.specs.LiveLines.{HasSaidTimes, HasWantedTimes, asked_from, item_said, live_counts, live_gives, live_said, wanted};
-ghost use Rattle.lane_serve.specs.LiveTurns.{before_lines, IsLiveTurn, LineSideData, joined_texts, side_of};
+ghost use Rattle.lane_serve.specs.LiveTurns.{before_lines, HearsSome, IsLiveTurn, LineSideData, joined_texts, side_of};
 
 use crate::live::news::{News, tell_news};
 use crate::live::office::answer_asked;
@@ -183,6 +183,8 @@ fn hand_over<K: Naming, R: Wait>(
     ensures wanted { IfOk result (λ w. w ≡ wanted saying) }
     ensures times { IfOk result HasWantedTimes }
     ensures given { OnOk result (giver.new ≡ giver.old ++ item_said saying) }
+    ensures refused { IfErr result (λ _. (giver.new ≡ giver.old)
+        ⊎ (giver.new ≡ giver.old ++ item_said saying)) }
 {
     match saying {
         Saying::Nothing => Ok(Wanted::Nothing),
@@ -211,6 +213,8 @@ fn hear<K: Naming, R: Wait>(
     ensures times { IfOk result (λ (a : Asked). HasWantedTimes a.wanted) }
     ensures next { OnOk result (next.new ≡ next.old + live_counts mode line.now) }
     ensures given { OnOk result (giver.new ≡ giver.old ++ live_gives mode line.now) }
+    ensures refused { IfErr result (λ _. (giver.new ≡ giver.old)
+        ⊎ (giver.new ≡ giver.old ++ live_gives mode line.now)) }
 {
     let saying = live_said(alloc, mode, line.bytes())?;
     let number = *next;
@@ -238,6 +242,8 @@ fn hear_all<K: Naming, R: Wait>(
         (next.new ≡ next.old + sum_by (live_counts mode) lines.now) }
     ensures given { OnOk result
         (giver.new ≡ giver.old ++ flat_map (live_gives mode) lines.now) }
+    ensures refused { IfErr result (λ _. (n : ℕ)
+        × (giver.new ≡ giver.old ++ flat_map (live_gives mode) (take n lines.now))) }
 {
     let mut asked = Vec::new(alloc);
     for line in lines {
@@ -261,7 +267,7 @@ fn add_texts(text: &mut Text, texts: &[Vec<u8>]) -> Result<(), Memory>
 
 /// The text of one turn: what is new, and a reply to each line in order, all by the edition that is
 /// the last one when the turn begins. Items that lines name are given to the publisher. Refused
-/// only for want of memory.
+/// only for want of memory: those of some first lines are given then.
 pub(crate) fn take_turn<J: Naming, K: Naming, L: Naming, G: Gate, R: Threads + Wait + Sync>(
     rt: &R,
     gate: &G,
@@ -271,6 +277,7 @@ pub(crate) fn take_turn<J: Naming, K: Naming, L: Naming, G: Gate, R: Threads + W
     requires { 0 < side.old.lanes }
     ensures turn { IfOk result (λ v.
         IsLiveTurn side.old.mode side.old lines.now v.items side.new) }
+    ensures refused { IfErr result (λ _. HearsSome side.old.mode side.old side.new lines.now) }
     ensures mode { side.new.mode ≡ side.old.mode }
     ensures lanes { OnOk result (side.new.lanes ≡ side.old.lanes) }
     ensures later { Extends side.new.live.kept side.old.live.kept }

@@ -60,6 +60,10 @@ returns-in-Ok-begin-clause-failed g c =
     let options = c.args.building.now.options in
     let words = c.args.words.now in
     let left = g.S.Source.left c.args.source.now in
+    let w = c.index-words-0.result in
+    let x = c.in-Ok.news in
+    let one : take 1 words ≡ w ∷ [] = take_one words w w c.requires.some c.index-words-0.is in
+    let is : x ≡ record { word = w.word; became = became.Outcome (outcome_of 1 c.args.first) } = search rules in
     let good = subst (λ m. BeginsWithFirst files options m words (c.args.first ∷ [])) c.requires.mirrored c.requires.first in
-    failed_first files options c.args.mode words c.args.first c.in-Ok.news left left (g.O.Sink.written c.args.sink.now) (g.O.Sink.written c.write_news.new.sink) c.in-Err-write_news.fault
-    good refl c.in-Err-write_news.ensures.failed
+    failed_first files options c.args.mode words w c.args.first x left left (g.O.Sink.written c.args.sink.now) (g.O.Sink.written c.write_news.new.sink) c.in-Err-write_news.fault
+    one is good refl c.in-Err-write_news.ensures.failed

@@ -1,6 +1,8 @@
-use Rattle.std.proofs.Common.{◌∙◌, arith, subst, sym}
-use Rattle.lane_serve.specs.LivePublisher.{HavePublished, items_taken}
-use Rattle.lane_serve.proofs.LivePublisher.{handed_more, handed_some, published_all, published_more, rose_more}
+use Rattle.std.proofs.Common.{◌∙◌, ◌++◌, ◌∷◌, [], ap, arith, subst, sym}
+use Rattle.history.specs.Lists.{StartsWith}
+use Rattle.history.proofs.Lists.{starts_self}
+use Rattle.lane_serve.specs.LivePublisher.{ArePublishedSoFar, HavePublished, items_taken}
+use Rattle.lane_serve.proofs.LivePublisher.{handed_more, handed_some, published_all, published_more, rose_more, so_far_here, stops_at}
 use Rattle.lane_serve.proofs.live.publisher.publish_named.Goals as goal
 
 pub loop-turn-preserved : goal.loop-turn-preserved
@@ -16,8 +18,8 @@ loop-turn-preserved g c =
     let old = c.loop-turn.items in
     let new = c.take.new.self in
     let item = c.in-Next.item in
-    let es = g.P.Publishes.list c.loop-turn.publisher in
-    let gone = g.P.Publishes.list c.in-Ok.next in
+    let es = g.P.Issues.list c.loop-turn.publisher in
+    let gone = g.P.Issues.list c.in-Ok.next in
     let day = c.loop-turn.day in
     let next = c.publish_item.new.day in
     let told = c.loop-turn.news in
@@ -44,8 +46,8 @@ loop-turn-preserved-in-Ok g c =
     let old = c.loop-turn.items in
     let new = c.take.new.self in
     let item = c.in-Next.item in
-    let es = g.P.Publishes.list c.loop-turn.publisher in
-    let gone = g.P.Publishes.list c.in-Ok.next in
+    let es = g.P.Issues.list c.loop-turn.publisher in
+    let gone = g.P.Issues.list c.in-Ok.next in
     let day = c.loop-turn.day in
     let next = c.publish_item.new.day in
     let told = c.loop-turn.news in
@@ -65,6 +67,30 @@ returns-in-End-clause-published g c =
     let options = c.args.building.options in
     let mirrored = c.args.building.mirrored in
     let words = c.args.words.now in
-    let es = g.P.Publishes.list c.loop-turn.publisher in
+    let es = g.P.Issues.list c.loop-turn.publisher in
     let all = subst (λ l. HavePublished files options mirrored (items_taken words l) c.loop-turn.news es c.loop-turn.day) (sym c.in-End.ensures) c.loop-turn.invariant.0 in
     published_all files options mirrored (items_taken words c.take.new.self) c.loop-turn.news es c.loop-turn.day all
+
+pub returns-in-OutOfTurn-clause-so_far : goal.returns-in-OutOfTurn-clause-so_far
+returns-in-OutOfTurn-clause-so_far g c =
+    let words = c.args.words.now in
+    let files = g.F.Folder.files c.args.folder.now in
+    let options = c.args.building.options in
+    let mirrored = c.args.building.mirrored in
+    let all = items_taken words c.take.new.self in
+    let news = c.loop-turn.news in
+    subst (λ l. ArePublishedSoFar files options mirrored all news l) (sym c.end.ensures)
+    (so_far_here files options mirrored all (items_taken words c.loop-turn.items) news (g.P.Issues.list c.loop-turn.publisher) c.loop-turn.day
+    (ap (λ l. items_taken words l) c.in-OutOfTurn.ensures) c.loop-turn.invariant.0)
+
+pub returns-in-Err-clause-so_far : goal.returns-in-Err-clause-so_far
+returns-in-Err-clause-so_far g c =
+    let inv = c.loop-turn.invariant in
+    let words = c.args.words.now in
+    let old = c.loop-turn.items in
+    let new = c.take.new.self in
+    let item = c.in-Next.item in
+    let behind = items_taken words old ++ item ∷ [] in
+    let first = subst (λ l. StartsWith l behind) (sym (handed_more words old new item inv.1 c.in-Next.ensures)) (starts_self behind) in
+    stops_at (g.F.Folder.files c.args.folder.now) (g.F.Folder.files c.loop-turn.folder) c.args.building.options c.args.building.mirrored (items_taken words new) (items_taken words old) item
+    (g.P.Issues.list c.loop-turn.publisher) (g.E.Ends.list c.in-Err.left) c.loop-turn.day c.loop-turn.news c.publish_item.new.news inv.2 first inv.0 c.in-Err.ensures.refused

@@ -5,7 +5,7 @@ use Rattle.lane_serve.proofs.live.publisher.publish_named.Given as goal
 
 abbrev pub invariant-loop-turn : goal.invariant-loop-turn
 invariant-loop-turn g l =
-    HavePublished (g.F.Folder.files l.fn.folder) l.building.options l.building.mirrored (items_taken l.words l.items) l.news (g.P.Publishes.list l.publisher) l.day
+    HavePublished (g.F.Folder.files l.fn.folder) l.building.options l.building.mirrored (items_taken l.words l.items) l.news (g.P.Issues.list l.publisher) l.day
     × (0 < length l.items)
     × (g.F.Folder.files l.folder ≡ g.F.Folder.files l.fn.folder)
     × (g.F.Folder.faults l.fn.folder ≤ g.F.Folder.faults l.folder)

@@ -5,7 +5,7 @@ use denote.Param.Send.{mut_send, shr_send, shr_slice_send}
 use Rattle.std.proofs.Crossing as heap
 use Rattle.edition_store.proofs.Sent.{shared_send}
 use Rattle.live_turns.proofs.Sent.{giver_send, taker_send}
-use Rattle.lane_serve.proofs.LiveSent.{building_sync, item_send, item_sync, news_send, ten_send, slot_send}
+use Rattle.lane_serve.proofs.LiveSent.{building_sync, eleven_send, item_send, item_sync, mark_sync, news_send, slot_send}
 use Rattle.lane_serve.proofs.Sent.{quiet_either}
 use Rattle.lane_serve.specs.contracts.live.news.News as news
 use Rattle.lane_serve.specs.contracts.plan.PlanItem as item
@@ -13,9 +13,9 @@ use Rattle.lane_serve.proofs.live.sides.publish_beside.Goals as goal
 
 pub join_mut-requires-send-F : goal.join_mut-requires-send-F
 join_mut-requires-send-F g c κs within = record {
-  owned = (ten_send _ _ _ _ _ _ _ _ _ _
+  owned = (eleven_send _ _ _ _ _ _ _ _ _ _ _
       (shr_send erased _ _ c.type_bounds.sync-R) (shr_send erased [] _ heap.sync) (shr_send erased _ _ c.type_bounds.sync-G) (shr_send erased _ _ building_sync)
       (shr_slice_send erased _ _ item_sync) (mut_send erased [] _ c.type_bounds.send-F) (mut_send erased [] _ (slot_send _ c.type_bounds.send-P))
-      (mut_send erased [] _ (taker_send item.the_row (param 1 g.row.K) g.K.Naming item_send)) (mut_send erased [] _ (giver_send news.the_row (param 2 g.row.L) g.L.Naming news_send)) (mut_send erased [] _ shared_send)).owned;
+      (mut_send erased [] _ (taker_send item.the_row (param 2 g.row.K) g.K.Naming item_send)) (mut_send erased [] _ (giver_send news.the_row (param 3 g.row.L) g.L.Naming news_send)) (mut_send erased [] _ shared_send) (shr_send erased [] _ (mark_sync (param 1 g.row.E)))).owned;
   leaving = λ k. quiet_either (k (of_param 1)) _ (λ x w. (tt, (tt, (tt, (tt, (tt, (tt, (tt, (tt, (tt, (tt, tt)))))))))));
 }

@@ -1,7 +1,9 @@
+use Rattle.std.proofs.Common.{◌+◌}
 use Rattle.std.proofs.lemmas.List.Elements.{All-push}
 use Rattle.lane_serve.specs.declared.live.saying.Asked.{Asked}
 use Rattle.lane_serve.specs.LiveLines.{HasWantedTimes}
-use Rattle.lane_serve.proofs.LiveRuns.{counts_more, gives_more, heard_more}
+use Rattle.lane_serve.proofs.LivePublisher.{where_err}
+use Rattle.lane_serve.proofs.LiveRuns.{counts_more, gives_more, heard_more, hears_line}
 use Rattle.lane_serve.proofs.live.turn.hear_all.Goals as goal
 
 pub loop-line-preserved : goal.loop-line-preserved
@@ -18,4 +20,17 @@ loop-line-preserved g c =
       rw c.in-Ok.ensures.items (All-push (λ (a : Asked). HasWantedTimes a.wanted) c.loop-line.asked.items one i.1 c.in_ok-one.ensures.times),
       counts_more mode c.args.next.now lines at line line c.loop-line.next c.hear.new.next lt is i.2 c.in_ok-one.ensures.next,
       gives_more mode lines at line line c.args.giver.now c.loop-line.giver c.hear.new.giver lt is i.3 c.in_ok-one.ensures.given,
+    )
+
+pub returns-in_err-one-clause-refused : goal.returns-in_err-one-clause-refused
+returns-in_err-one-clause-refused g c =
+    let line = c.line-item.result in
+    where_err c.from_residual.result _
+    (hears_line c.args.mode c.args.lines.now c.loop-line.line-index line line c.args.giver.now c.loop-line.giver c.hear.new.giver c.loop-line-test.true c.line-item.is c.loop-line.invariant.3 c.in_err-one.ensures.refused)
+
+pub returns-in_default-clause-refused : goal.returns-in_default-clause-refused
+returns-in_default-clause-refused g c =
+    let line = c.line-item.result in (
+      c.loop-line.line-index + 1,
+      gives_more c.args.mode c.args.lines.now c.loop-line.line-index line line c.args.giver.now c.loop-line.giver c.hear.new.giver c.loop-line-test.true c.line-item.is c.loop-line.invariant.3 c.in_ok-one.ensures.given,
     )
