@@ -1,8 +1,9 @@
 -- Lists that are copied element by element.
-use Rattle.std.proofs.Common.{◌≡◌, ◌∙◌, sym, ap, ℕ, ◌+◌, ◌<◌, List, [], ◌∷◌, ◌++◌, length, map, take, Some, None, Option, Bool}
+use Rattle.std.proofs.Common.{◌≡◌, ◌∙◌, sym, ap, ℕ, ◌+◌, ◌<◌, List, [], ◌∷◌, ◌++◌, length, map, take, Some, None, Option}
 use Rattle.std.specs.Prelude.{slice_get}
 use Rattle.std.proofs.lemmas.List.{map-append, take_more}
 use Rattle.std.proofs.lemmas.Option.{get_or_from_slice_get, slice_get_within, slice_get-get_or}
+use Rattle.tb_base.specs.declared.days.ServiceDay.{ServiceDay}
 use Rattle.tb_base.specs.declared.table.Event.{Event}
 use Rattle.tb_base.specs.TimetableData.{StationData, TimetableData, TripData}
 use Rattle.tb_base.specs.Walking.{change}
@@ -31,5 +32,5 @@ pub station_is : (x : StationData) (name stops : List ℕ) → name ≡ x.name �
 station_is x name stops n s = λ i. record { name = n i; stops = s i }
 
 -- a trip that is made of its parts
-pub trip_is : (x : TripData) (name : List ℕ) (before : Bool) (events : List Event) → name ≡ x.name → before ≡ x.before → events ≡ x.events → record { name = name; before = before; events = events } ≡ x
-trip_is x name before events n b e = λ i. record { name = n i; before = b i; events = e i }
+pub trip_is : (x : TripData) (name : List ℕ) (day : ServiceDay) (events : List Event) → name ≡ x.name → day ≡ x.day → events ≡ x.events → record { name = name; day = day; events = events } ≡ x
+trip_is x name day events n d e = λ i. record { name = n i; day = d i; events = e i }

@@ -45,13 +45,9 @@ impl Timetable {
         for t in 0..self.trip_count() {
             let trip = self.trip(TripNo(t));
             let name = Name::new(alloc, trip.name.bytes())?;
-            let before = trip.before;
+            let day = trip.day;
             let events = Vec::from_slice(alloc, trip.events.as_slice())?;
-            trips.push(Trip {
-                name,
-                before,
-                events,
-            })?;
+            trips.push(Trip { name, day, events })?;
         }
         Ok(trips)
     }

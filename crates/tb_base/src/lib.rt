@@ -11,6 +11,7 @@
 
 mod clock;
 mod copies;
+mod days;
 mod gate;
 mod groups;
 mod hash_key;
@@ -28,6 +29,7 @@ mod timetable;
 mod transfer;
 
 pub use clock::{add_time, time_text};
+pub use days::{Horizon, ServiceDay};
 pub use gate::{Gate, IdleGate, Work};
 pub use groups::Groups;
 pub use hash_key::HashKey;

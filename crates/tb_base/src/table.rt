@@ -1,5 +1,6 @@
 ghost use Rattle.std.specs.Prelude.{◌≡◌, IfOk};
 
+use super::days::ServiceDay;
 use super::memory::Memory;
 use super::numbers::{Sec, StopNo};
 use std::alloc::Global;
@@ -59,12 +60,12 @@ pub struct Path {
     pub secs: u32,
 }
 
-/// A trip: its name, whether it began on the day before (GTFS Schedule: times beyond 24:00:00), and
-/// its events in order.
+/// A trip: its name, its service day, and its events in order. Its times are those of the date of
+/// the timetable.
 #[derive(Drop)]
 pub struct Trip {
     pub name: Name,
-    pub before: bool,
+    pub day: ServiceDay,
     pub events: Vec<Event>,
 }
 
@@ -75,7 +76,7 @@ impl Model for Trip {
 
     ghost view = { λ t. record {
       name = t.name;
-      before = t.before;
+      day = t.day;
       events = t.events.items;
     } };
 }
