@@ -1,12 +1,13 @@
 //! Days of service.
-ghost use Rattle.std.specs.Prelude.{◌≡◌, ◌<◌, true, Some, None, MatchResult, MatchOption, ◌-ℤ◌, pos};
+ghost use Rattle.std.specs.Prelude.{◌≡◌, ◌<◌, true, Some, None, MatchResult, MatchOption, ◌-ℤ◌, ◌+ℤ◌, pos};
 ghost use Rattle.gtfs_rows.specs.Dates.{date_of, day_number, is_date, weekday_of};
-ghost use Rattle.service_day.specs.DayBefore.{day_before};
+ghost use Rattle.service_day.specs.NearDays.{date_of_day, day_after, day_before};
 
-use crate::before::date_before;
+use crate::near_days::{date_after, date_before};
 use gtfs_rows::date_of;
 use jiff::civil;
 use std::marker::Model;
+use tb_base::ServiceDay;
 
 /// A day of the Gregorian calendar in the years 0001 to 9999, seen as the number that its eight
 /// digits YYYYMMDD write.
@@ -82,6 +83,34 @@ impl Day {
         match date_before(self.date) {
             Some(date) => Some(Day::of(date)),
             None => None,
+        }
+    }
+
+    /// The day after: `None` for 31 December of the year 9999 alone. No memory is taken.
+    pub fn after(&self) -> Option<Day>
+        ensures after { result ≡ day_after self.now }
+        ensures number { MatchOption result (self.now ≡ 99991231)
+            (λ day. day_number day ≡ day_number self.now +ℤ pos 1) }
+    {
+        match date_after(self.date) {
+            Some(date) => Some(Day::of(date)),
+            None => None,
+        }
+    }
+
+    /// The date of a service day of the timetable of this day: `None` where the years 1 to 9999 have
+    /// no such date. No memory is taken.
+    pub fn of_service_day(&self, day: ServiceDay) -> Option<Day>
+        ensures { result ≡ date_of_day day self.now }
+    {
+        match day {
+            ServiceDay::Before => self.before(),
+            ServiceDay::Date => Some(Day::of(self.date)),
+            ServiceDay::After => self.after(),
+            ServiceDay::SecondAfter => match self.after() {
+                Some(after) => after.after(),
+                None => None,
+            },
         }
     }
 }

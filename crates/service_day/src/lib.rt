@@ -7,8 +7,8 @@
 //! above asks [`Services::runs`] for one service.
 #![tactic(auto)]
 
-mod before;
 mod day;
+mod near_days;
 mod services;
 
 pub use day::{BadDate, Day, day_of};

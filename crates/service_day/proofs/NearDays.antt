@@ -1,7 +1,6 @@
--- The parts of a date, and the day before it.
-use Rattle.std.proofs.Common.{◌≡◌, ◌∙◌, sym, ap, refl, ℕ, ◌+◌, ◌-◌, ◌*◌, ◌/◌, ◌%◌, ◌<◌, ◌≤◌, Bool, true, false, nat_le, ◌&&◌, arith, ℤ, pos, lit≤, zero}
+-- The parts of a date, and the days near it.
+use Rattle.std.proofs.Common.{◌≡◌, refl, ℕ, ◌+◌, ◌-◌, ◌*◌, ◌/◌, ◌%◌, ◌<◌, ◌≤◌, true, arith, pos}
 use Rattle.std.specs.Prelude.{◌-ℤ◌, ◌+ℤ◌}
-use Rattle.std.proofs.lemmas.Bool.{and_from, and_parts}
 use Rattle.std.proofs.lemmas.Bool.Decides.{nat_tests}
 use Rattle.std.proofs.lemmas.Nat.{div-mul-add, mod-mul-add, div-add-mod'}
 use Rattle.jiff_core.specs.Calendar.{days_in_month, days_from_civil}
@@ -9,7 +8,7 @@ use Rattle.jiff_core.proofs.CalendarLemmas.{days_in_month_bounds}
 use Rattle.jiff_core.proofs.DateLemmas.{days_from_civil-day, days_from_civil-next_month, days_from_civil-next_year}
 use Rattle.jiff_core.proofs.SignedLemmas.{signed_arith}
 use Rattle.gtfs_rows.specs.Dates.{is_date, day_number}
-use Rattle.service_day.specs.DayBefore.{last_of}
+use Rattle.service_day.specs.NearDays.{last_of, first_of}
 
 -- the year, month and day of a date
 pub record IsMade (date year month day : ℕ) : Type 0 where
@@ -100,3 +99,55 @@ earlier_year date h first first_month more =
     let january : date / 100 % 100 ≡ 1 = omega (arith, first_month, g.month_low) in
     let step = days_from_civil-next_year (pos (date / 10000 - 1)) (pos (date / 10000)) (omega (arith, signed_arith)) (omega (arith, signed_arith, more)) in
     rw (n, one, january) (omega (arith, signed_arith, step))
+
+-- a day that its month's last one follows
+pub next_day : (date : ℕ) → is_date date ≡ true → date < last_of (date / 10000) (date / 100 % 100) → day_number (date + 1) ≡ day_number date +ℤ pos 1
+next_day date h less =
+    let g = good date h in
+    let long = days_in_month_bounds (pos (date / 10000)) (date / 100 % 100) in
+    let parts = split date in
+    let e : date + 1 ≡ date / 10000 * 10000 + date / 100 % 100 * 100 + (date % 100 + 1) = omega (arith, parts) in
+    let n = number_of (date / 10000) (date / 100 % 100) (date % 100 + 1) (omega (arith, g.month_high)) (omega (arith, less, parts, long)) in
+    let step = days_from_civil-day (pos (date / 10000)) (date / 100 % 100) (date % 100) (date % 100 + 1) (omega (arith, g.day_low)) (omega arith) in
+    rw (e, n) (omega (arith, signed_arith, step))
+
+pub next_known : (date : ℕ) → is_date date ≡ true → date < last_of (date / 10000) (date / 100 % 100) → is_date (date + 1) ≡ true
+next_known date h less =
+    let g = good date h in
+    let long = days_in_month_bounds (pos (date / 10000)) (date / 100 % 100) in
+    let whole = split date in
+    let e : date + 1 ≡ date / 10000 * 10000 + date / 100 % 100 * 100 + (date % 100 + 1) = omega (arith, whole) in
+    let in_month : date % 100 + 1 ≤ days_in_month (pos (date / 10000)) (date / 100 % 100) = omega (arith, less, whole) in
+    let parts = made (date / 10000) (date / 100 % 100) (date % 100 + 1) (omega (arith, g.month_high)) (omega (arith, in_month, long)) in
+    let year_low = g.year_low in
+    let year_high = g.year_high in
+    let month_low = g.month_low in
+    let month_high = g.month_high in
+    rw (e, parts.year_is, parts.month_is, parts.day_is) (grind (arith, nat_tests, in_month, year_low, year_high, month_low, month_high))
+
+-- the last day of its month is that month's last one
+pub is_last : (date : ℕ) → is_date date ≡ true → last_of (date / 10000) (date / 100 % 100) ≤ date → date % 100 ≡ days_in_month (pos (date / 10000)) (date / 100 % 100)
+is_last date h past =
+    let g = good date h in
+    let whole = split date in
+    let high = g.day_high in
+    omega (arith, past, whole, high)
+
+pub next_month : (date : ℕ) → is_date date ≡ true → last_of (date / 10000) (date / 100 % 100) ≤ date → date / 100 % 100 < 12
+    → day_number (first_of (date / 10000) (date / 100 % 100 + 1)) ≡ day_number date +ℤ pos 1
+next_month date h past more =
+    let g = good date h in
+    let last = is_last date h past in
+    let n = number_of (date / 10000) (date / 100 % 100 + 1) 1 (omega (arith, more)) (omega arith) in
+    let step = days_from_civil-next_month (pos (date / 10000)) (date / 100 % 100) _ g.month_low refl in
+    rw (n, last) (omega (arith, signed_arith, step))
+
+pub next_year : (date : ℕ) → is_date date ≡ true → last_of (date / 10000) (date / 100 % 100) ≤ date → 12 ≤ date / 100 % 100
+    → day_number (first_of (date / 10000 + 1) 1) ≡ day_number date +ℤ pos 1
+next_year date h past whole_year =
+    let g = good date h in
+    let last = is_last date h past in
+    let december : date / 100 % 100 ≡ 12 = omega (arith, whole_year, g.month_high) in
+    let n = number_of (date / 10000 + 1) 1 1 (omega arith) (omega arith) in
+    let step = days_from_civil-next_year (pos (date / 10000)) (pos (date / 10000 + 1)) (omega (arith, signed_arith)) (omega (arith, signed_arith, g.year_low)) in
+    rw (n, last, december) (omega (arith, signed_arith, step))

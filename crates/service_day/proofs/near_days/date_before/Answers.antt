@@ -1,6 +1,6 @@
 use Rattle.std.proofs.Common.{arith, ◌-◌, ◌/◌, ◌%◌}
-use Rattle.service_day.proofs.DayBefore.{good, earlier_day, earlier_month, earlier_year, last_known}
-use Rattle.service_day.proofs.before.date_before.Goals as goal
+use Rattle.service_day.proofs.NearDays.{good, earlier_day, earlier_month, earlier_year, last_known}
+use Rattle.service_day.proofs.near_days.date_before.Goals as goal
 
 pub returns-then-date-gt1-clause-number : goal.returns-then-date-gt1-clause-number
 returns-then-date-gt1-clause-number c = earlier_day c.args.date c.requires c.if-date-gt1.true
