@@ -19,6 +19,7 @@ pub mod Counts
 pub mod FrequencyRows
 pub mod Rows
 pub mod SizeSteps
+pub mod DaySteps
 pub mod BeyondStarts
 pub mod BeyondRows
 pub mod SoundTrips

@@ -1,16 +1,36 @@
 -- What a timetable shows of the trips of a service day.
-use Rattle.std.proofs.Common.{◌≡◌, ◌∙◌, sym, ap, refl, ℕ, List, [], ◌∷◌, ◌++◌, map, Bool, true, false, inl, inr, arith}
-use Rattle.std.specs.Prelude.{filter, codes, nat_le, ℤ, pos, negsuc, ◌+ℤ◌, ◌-ℤ◌}
+use Rattle.std.proofs.Common.{◌≡◌, ◌∙◌, sym, ap, refl, ℕ, List, [], ◌∷◌, ◌++◌, map, Bool, inl, inr, arith}
+use Rattle.std.specs.Prelude.{filter, codes, ℤ, pos, ◌+ℤ◌, ◌-ℤ◌}
 use Rattle.std.proofs.lemmas.Int.{ints}
 use Rattle.std.proofs.lemmas.Bool.{cases_Bool}
 use Rattle.std.proofs.lemmas.List.{map-append}
 use Rattle.std.proofs.lemmas.List.Elements.{filter-append}
+use Rattle.tb_base.specs.declared.days.ServiceDay.{ServiceDay}
+use Rattle.tb_base.specs.declared.days.ServiceDay.TheVariants as day
 use Rattle.tb_base.specs.declared.table.Event.{Event}
-use Rattle.tb_base.specs.TimetableData.{TripData}
 use Rattle.tb_base.specs.Clock.{time_text}
+use Rattle.tb_base.specs.ServiceDays.{seconds_after}
+use Rattle.tb_base.specs.TimetableData.{TripData}
+use Rattle.service_trips.specs.declared.starts.StartSpan.{StartSpan}
+use Rattle.service_trips.specs.Starts.{is_in}
 use Rattle.service_trips.specs.ServiceDay.{moved, first_departure, trip_starting_at}
-use Rattle.service_trips.specs.DayBefore.{shown, lowered, is_under_way}
-use Rattle.service_trips.specs.ShownRides.{is_shown, as_shown, shift}
+use Rattle.service_trips.specs.TimetableTrips.{is_shown, reckoned, shown}
+use Rattle.service_trips.specs.ShownRides.{shift}
+
+-- events moved by nothing
+moved_none : (events : List Event) → map (moved (pos 0)) events ≡ events
+moved_none [] = refl
+moved_none (x ∷ xs) =
+    let arr : x.arr +ℤ pos 0 ≡ x.arr = omega (arith, ints) in
+    let dep : x.dep +ℤ pos 0 ≡ x.dep = omega (arith, ints) in
+    let rest = moved_none xs in
+    λ i. record { stop = x.stop; arr = arr i; dep = dep i; board = x.board; alight = x.alight } ∷ rest i
+
+-- a trip of the date stays as it is
+pub of_date : (name : List ℕ) (events : List Event) → record { name = name; day = day.Date; events = events } ≡ reckoned day.Date (record { name = name; day = day.Date; events = events })
+of_date name events =
+    let e = moved_none events in
+    λ i. record { name = name; day = day.Date; events = sym e i }
 
 -- events moved twice
 pub moved_twice : (a b c : ℤ) (events : List Event) → a +ℤ b ≡ c → map (moved b) (map (moved a) events) ≡ map (moved c) events
@@ -21,38 +41,31 @@ moved_twice a b c (x ∷ xs) e =
     let rest = moved_twice a b c xs e in
     λ i. record { stop = x.stop; arr = arr i; dep = dep i; board = x.board; alight = x.alight } ∷ rest i
 
--- a trip by a start, as it is shown
-pub starts_shown : (before : Bool) (id : List ℕ) (ride : List Event) (start : ℕ) →
-    record { name = id ++ codes "#" ++ time_text (pos start); before = before; events = map (moved (shift before ride start)) ride } ≡ as_shown before (trip_starting_at id ride start)
-starts_shown false id ride start = refl
-starts_shown true id ride start =
-    let e = moved_twice (pos start -ℤ first_departure ride) (negsuc 86399) (shift true ride start) ride (omega (arith, ints)) in
-    λ i. record { name = id ++ codes "#" ++ time_text (pos start); before = true; events = sym e i }
+-- a trip by a start, in the reckoning of the date
+starts_shown : (d : ServiceDay) (id : List ℕ) (ride : List Event) (start : ℕ) →
+    record { name = id ++ codes "#" ++ time_text (pos start); day = d; events = map (moved (shift d ride start)) ride } ≡ reckoned d (trip_starting_at id ride start)
+starts_shown d id ride start =
+    let e = moved_twice (pos start -ℤ first_departure ride) (seconds_after d) (shift d ride start) ride refl in
+    λ i. record { name = id ++ codes "#" ++ time_text (pos start); day = d; events = sym e i }
 
-pub shown-append : (before : Bool) (xs ys : List TripData) → shown before (xs ++ ys) ≡ shown before xs ++ shown before ys
-shown-append false xs ys = refl
-shown-append true xs ys = ap (map lowered) (filter-append is_under_way xs ys) ∙ map-append lowered (filter is_under_way xs) (filter is_under_way ys)
+-- a trip of these parts is one by a start, in the reckoning of the date
+pub trip_made : (d : ServiceDay) (id : List ℕ) (ride : List Event) (start : ℕ) (name : List ℕ) (events : List Event) (secs : ℤ) →
+    name ≡ id ++ codes "#" ++ time_text (pos start) → events ≡ map (moved secs) ride → secs ≡ shift d ride start →
+    record { name = name; day = d; events = events } ≡ reckoned d (trip_starting_at id ride start)
+trip_made d id ride start name events secs n e s = rw (n, e, s) (starts_shown d id ride start)
 
-pub shown-nil : (before : Bool) → shown before [] ≡ []
-shown-nil false = refl
-shown-nil true = refl
+pub shown-append : (d : ServiceDay) (xs ys : List TripData) → shown d (xs ++ ys) ≡ shown d xs ++ shown d ys
+shown-append d xs ys =
+    let p : TripData → Bool = λ t. is_shown d t.events in
+    ap (map (reckoned d)) (filter-append p xs ys) ∙ map-append (reckoned d) (filter p xs) (filter p ys)
 
--- the trips that are shown are those that start late enough
-pub late_starts : (before : Bool) (least : ℕ) (f : ℕ → TripData) (xs : List ℕ) → ((start : ℕ) → nat_le least start ≡ is_shown before (TripData.events (f start)))
-    → map (λ start. as_shown before (f start)) (filter (nat_le least) xs) ≡ shown before (map f xs)
-late_starts before least f [] late = sym (shown-nil before)
-late_starts false least f (x ∷ xs) late =
-    let here : nat_le least x ≡ true = late x in
-    rw here (ap (λ rest. f x ∷ rest) (late_starts false least f xs late))
-late_starts true least f (x ∷ xs) late =
-    let here : nat_le least x ≡ is_under_way (f x) = late x in
-    elim (cases_Bool (is_under_way (f x))) [
-      | inl t ↦ rw (here, t) (ap (λ rest. lowered (f x) ∷ rest) (late_starts true least f xs late))
-      | inr e ↦ rw (here, e) (late_starts true least f xs late)
+-- the trips that are shown are those that start within a span
+pub late_starts : (d : ServiceDay) (span : StartSpan) (f : ℕ → TripData) (xs : List ℕ) → ((start : ℕ) → is_in span start ≡ is_shown d (TripData.events (f start)))
+    → map (λ start. reckoned d (f start)) (filter (is_in span) xs) ≡ shown d (map f xs)
+late_starts d span f [] late = refl
+late_starts d span f (x ∷ xs) late =
+    let here = late x in
+    elim (cases_Bool (is_shown d (TripData.events (f x)))) [
+      | inl t ↦ rw (here, t) (ap (λ rest. reckoned d (f x) ∷ rest) (late_starts d span f xs late))
+      | inr e ↦ rw (here, e) (late_starts d span f xs late)
     ]
-
--- a trip of these parts is one by a start, as it is shown
-pub trip_made : (before : Bool) (id : List ℕ) (ride : List Event) (start : ℕ) (name : List ℕ) (events : List Event) (secs : ℤ) →
-    name ≡ id ++ codes "#" ++ time_text (pos start) → events ≡ map (moved secs) ride → secs ≡ shift before ride start →
-    record { name = name; before = before; events = events } ≡ as_shown before (trip_starting_at id ride start)
-trip_made before id ride start name events secs n e s = rw (n, e, s) (starts_shown before id ride start)

@@ -1,22 +1,25 @@
 -- The trips of a timetable are sound.
-use Rattle.std.proofs.Common.{◌≡◌, ◌∙◌, sym, ap, ℕ, zero, suc, ◌<◌, List, [], ◌∷◌, map, length, get_or, Bool, true, false, ◌||◌, arith, inl, inr}
-use Rattle.std.specs.Prelude.{All, filter, ◌==◌, Ok, ℤ, pos, negsuc, ◌+ℤ◌, ◌-ℤ◌, ◌≤ℤ◌, slice_index_or}
+use Rattle.std.proofs.Common.{◌≡◌, ◌∙◌, sym, ap, refl, ℕ, zero, suc, ◌-◌, ◌<◌, List, [], ◌∷◌, map, length, get_or, Bool, true, false, ◌||◌, arith, inl, inr}
+use Rattle.std.specs.Prelude.{All, filter, ◌==◌, not, int_lt, Ok, ℤ, pos, negsuc, ◌+ℤ◌, ◌-ℤ◌, ◌≤ℤ◌, slice_index_or}
 use Rattle.std.specs.List.{list_any, flat_map, range_with_len}
 use Rattle.std.proofs.lemmas.Int.{ints}
 use Rattle.std.proofs.lemmas.Bool.{cases_Bool}
 use Rattle.std.proofs.lemmas.Bool.Decides.{nat_tests}
 use Rattle.std.proofs.lemmas.List.{length-map, get_or-map}
-use Rattle.std.proofs.lemmas.List.Elements.{All-append, All-cons, All-filter, All-head, All-nil, All-tail}
+use Rattle.std.proofs.lemmas.List.Elements.{All-append, All-cons, All-head, All-nil, All-tail}
 use Rattle.std.proofs.lemmas.List.Folds.{list_any_at}
+use Rattle.tb_base.specs.declared.days.ServiceDay.{ServiceDay}
+use Rattle.tb_base.specs.declared.days.ServiceDay.TheVariants as day
 use Rattle.tb_base.specs.declared.table.Event.{Event}
-use Rattle.tb_base.specs.TimetableData.{TripData}
+use Rattle.tb_base.specs.ServiceDays.{seconds_after}
+use Rattle.tb_base.specs.TimetableData.{TripData, no_event}
 use Rattle.tb_base.specs.Soundness.{IsSoundTrip}
 use Rattle.gtfs_rows.specs.Faults.{unless_wrong}
 use Rattle.service_trips.specs.Rides.{AreSoundEvents, IsSoundRide}
 use Rattle.service_trips.specs.declared.frequency.TripFrequency.{TripFrequency}
 use Rattle.service_trips.specs.Starts.{names_trip, starts}
 use Rattle.service_trips.specs.ServiceDay.{FeedTrips, ride_of, id_of, moved, first_departure, starting_at, trip_starting_at, trips_of, trips_where, trips_at, service_trips}
-use Rattle.service_trips.specs.DayBefore.{shown, lowered, is_under_way, timetable_trips}
+use Rattle.service_trips.specs.TimetableTrips.{DayRunsData, is_shown, last_departure, reckoned, shown, timetable_trips}
 use Rattle.service_trips.specs.ShownRides.{IsRideOrNone}
 use Rattle.service_trips.specs.Limits.{has_beyond, is_beyond, moves_beyond, wrong_frequency, check_frequencies}
 
@@ -99,7 +102,7 @@ all_within ride (f ∷ fs) keeps =
 
 row_sound : (n : ℕ) (id : List ℕ) (fs : List TripFrequency) (ride : List Event) → IsSoundRide n ride → All (KeepsWithin ride) fs → All (HasSound n) (trips_of id fs ride)
 row_sound n id fs [] sound keeps = All-nil (HasSound n)
-row_sound n id [] (e ∷ es) sound keeps = All-cons (HasSound n) (record { name = id; before = false; events = e ∷ es }) [] (sound (omega arith)) (All-nil (HasSound n))
+row_sound n id [] (e ∷ es) sound keeps = All-cons (HasSound n) (record { name = id; day = day.Date; events = e ∷ es }) [] (sound (omega arith)) (All-nil (HasSound n))
 row_sound n id (f ∷ fs) (e ∷ es) sound keeps = starts_sound n id (e ∷ es) (flat_map starts (f ∷ fs)) (sound (omega arith)) (all_within (e ∷ es) (f ∷ fs) keeps)
 
 where_sound : (n : ℕ) (runs : Bool) (id : List ℕ) (fs : List TripFrequency) (ride : List Event) → IsSoundRide n ride → All (KeepsWithin ride) fs → All (HasSound n) (trips_where runs id fs ride)
@@ -141,43 +144,90 @@ rows_sound n feed runs (k ∷ ks) sound keeps =
     (where_sound n (slice_index_or runs k false) (id_of feed k) (filter (names_trip k) feed.frequencies) (ride_of feed k) (sound_ride_at n feed.rides k sound) (of_trip_within feed k feed.frequencies keeps))
     (rows_sound n feed runs ks sound keeps)
 
-own_sound : (n : ℕ) (trips : List TripData) → All (HasSound n) trips → All (IsSoundTrip n) trips
-own_sound n trips sound i d below =
-    let s = sound i d below in
-    record { long = s.long; events = s.events; onward = s.onward }
+-- an item of a list, whatever stands for one that is not there
+same_at : (xs : List Event) (i : ℕ) (d e : Event) → i < length xs → get_or xs i d ≡ get_or xs i e
+same_at [] i d e below = absurd (omega (arith, below))
+same_at (x ∷ xs) zero d e below = refl
+same_at (x ∷ xs) (suc i) d e below = same_at xs i d e (omega (arith, below))
 
-lowered_sound : (n : ℕ) (t : TripData) → HasSound n t → IsSoundTrip n (lowered t)
-lowered_sound n t s =
+-- no event is left after the last one is left
+left_by_end : (n : ℕ) (ride : List Event) (i : ℕ) (d : Event) → AreSoundEvents n ride → i < length ride → Event.dep (get_or ride i d) ≤ℤ last_departure ride
+left_by_end n ride i d s below =
+    let k = length ride - 1 in
+    let at : Event.dep (get_or ride i d) ≡ Event.dep (get_or ride i no_event) = ap Event.dep (same_at ride i d no_event below) in
+    elim (cases_Bool (i == k)) [
+      | inl t ↦
+          let is : i ≡ k = grind (arith, nat_tests, t) in
+          let same : Event.dep (get_or ride i no_event) ≡ last_departure ride = ap (λ j. Event.dep (get_or ride j no_event)) is in
+          omega (arith, ints, at, same)
+      | inr f ↦
+          let earlier : i < k = grind (arith, nat_tests, f, below) in
+          let on = s.onward i k no_event earlier (omega (arith, below)) in
+          let e = s.events k no_event (omega (arith, below)) in
+          let waits = e.waits in
+          omega (arith, ints, at, on, waits)
+    ]
+
+-- times of a trip that is shown are those of a timetable when they are told as times of the date
+gains_low : (d : ServiceDay) (x : ℤ) → pos 0 ≤ℤ x → negsuc 86399 ≤ℤ (x +ℤ seconds_after d)
+gains_low day.Before x low = omega (arith, ints, low)
+gains_low day.Date x low = omega (arith, ints, low)
+gains_low day.After x low = omega (arith, ints, low)
+gains_low day.SecondAfter x low = omega (arith, ints, low)
+
+over : (limit end x : ℤ) → not (int_lt limit end) ≡ true → x ≤ℤ end → x ≤ℤ limit
+over limit end x shown before = grind (arith, ints, shown, before)
+
+gains_high : (d : ServiceDay) (ride : List Event) (x : ℤ) → x ≤ℤ pos 359999 → x ≤ℤ last_departure ride → is_shown d ride ≡ true → (x +ℤ seconds_after d) ≤ℤ pos 359999
+gains_high day.Before ride x high before shown = omega (arith, ints, high)
+gains_high day.Date ride x high before shown = omega (arith, ints, high)
+gains_high day.After ride x high before shown = let h = over (pos 273599) (last_departure ride) x shown before in omega (arith, ints, h)
+gains_high day.SecondAfter ride x high before shown = let h = over (pos 187199) (last_departure ride) x shown before in omega (arith, ints, h)
+
+reckoned_sound : (n : ℕ) (d : ServiceDay) (t : TripData) → HasSound n t → is_shown d t.events ≡ true → IsSoundTrip n (reckoned d t)
+reckoned_sound n d t s shown =
     let ride = t.events in
-    let secs = negsuc 86399 in
+    let secs = seconds_after d in
     let many = length-map ride (moved secs) in
     record {
       long = let long = s.long in omega (arith, long, many);
-      events = λ i d below.
+      events = λ i x below.
           let within : i < length ride = omega (arith, below, many) in
-          let at : get_or (map (moved secs) ride) i d ≡ moved secs (get_or ride i d) = get_or-map (moved secs) ride i d d within in
-          let e = s.events i d within in
-          let since = s.since i d within in
+          let at : get_or (map (moved secs) ride) i x ≡ moved secs (get_or ride i x) = get_or-map (moved secs) ride i x x within in
+          let e = s.events i x within in
           let waits = e.waits in
-          let latest = e.latest in
-          rw at (record { stop = e.stop; earliest = omega (arith, ints, since); waits = omega (arith, ints, waits); latest = omega (arith, ints, latest) });
-      onward = λ i j d before below.
+          rw at (record {
+            stop = e.stop;
+            earliest = gains_low d (Event.arr (get_or ride i x)) (s.since i x within);
+            waits = omega (arith, ints, waits);
+            latest = gains_high d ride (Event.dep (get_or ride i x)) e.latest (left_by_end n ride i x s within) shown;
+          });
+      onward = λ i j x before below.
           let within : j < length ride = omega (arith, below, many) in
-          let at : get_or (map (moved secs) ride) i d ≡ moved secs (get_or ride i d) = get_or-map (moved secs) ride i d d (omega (arith, within, before)) in
-          let to : get_or (map (moved secs) ride) j d ≡ moved secs (get_or ride j d) = get_or-map (moved secs) ride j d d within in
-          let on = s.onward i j d before within in
+          let at : get_or (map (moved secs) ride) i x ≡ moved secs (get_or ride i x) = get_or-map (moved secs) ride i x x (omega (arith, within, before)) in
+          let to : get_or (map (moved secs) ride) j x ≡ moved secs (get_or ride j x) = get_or-map (moved secs) ride j x x within in
+          let on = s.onward i j x before within in
           rw (at, to) (omega (arith, ints, on));
     }
 
-all_lowered_sound : (n : ℕ) (trips : List TripData) → All (HasSound n) trips → All (IsSoundTrip n) (map lowered trips)
-all_lowered_sound n [] sound = All-nil (IsSoundTrip n)
-all_lowered_sound n (t ∷ ts) sound = All-cons (IsSoundTrip n) (lowered t) (map lowered ts) (lowered_sound n t (All-head (HasSound n) t ts sound)) (all_lowered_sound n ts (All-tail (HasSound n) t ts sound))
+shown_sound : (n : ℕ) (d : ServiceDay) (trips : List TripData) → All (HasSound n) trips → All (IsSoundTrip n) (shown d trips)
+shown_sound n d [] sound = All-nil (IsSoundTrip n)
+shown_sound n d (t ∷ ts) sound =
+    let rest = shown_sound n d ts (All-tail (HasSound n) t ts sound) in
+    elim (cases_Bool (is_shown d t.events)) [
+      | inl y ↦ rw y (All-cons (IsSoundTrip n) (reckoned d t) (shown d ts) (reckoned_sound n d t (All-head (HasSound n) t ts sound) y) rest)
+      | inr f ↦ rw f rest
+    ]
+
+days_sound : (n : ℕ) (feed : FeedTrips) (days : List DayRunsData) → ((runs : List Bool) → All (HasSound n) (service_trips feed runs)) → All (IsSoundTrip n) (timetable_trips feed days)
+days_sound n feed [] all = All-nil (IsSoundTrip n)
+days_sound n feed (d ∷ days) all =
+    All-append (IsSoundTrip n) (shown d.day (service_trips feed d.runs)) (timetable_trips feed days)
+    (shown_sound n d.day (service_trips feed d.runs) (all d.runs))
+    (days_sound n feed days all)
 
 -- the trips of a timetable are sound where its rides are, and no row moves a time beyond the limits
-pub timetable_sound : (n : ℕ) (feed : FeedTrips) (runs runs_before : List Bool) → All (IsSoundRide n) feed.rides → check_frequencies feed ≡ Ok feed.frequencies → All (IsSoundTrip n) (timetable_trips feed runs runs_before)
-timetable_sound n feed runs runs_before sound ok =
+pub timetable_sound : (n : ℕ) (feed : FeedTrips) (days : List DayRunsData) → All (IsSoundRide n) feed.rides → check_frequencies feed ≡ Ok feed.frequencies → All (IsSoundTrip n) (timetable_trips feed days)
+timetable_sound n feed days sound ok =
     let keeps = checked feed feed.frequencies feed.frequencies feed.frequencies ok in
-    let all : (runs : List Bool) → All (HasSound n) (service_trips feed runs) = λ runs. rows_sound n feed runs (range_with_len 0 (length feed.rows)) sound keeps in
-    All-append (IsSoundTrip n) (service_trips feed runs) (shown true (service_trips feed runs_before))
-    (own_sound n (service_trips feed runs) (all runs))
-    (all_lowered_sound n (filter is_under_way (service_trips feed runs_before)) (All-filter is_under_way (HasSound n) (service_trips feed runs_before) (all runs_before)))
+    days_sound n feed days (λ runs. rows_sound n feed runs (range_with_len 0 (length feed.rows)) sound keeps)

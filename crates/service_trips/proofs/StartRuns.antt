@@ -1,12 +1,13 @@
 -- The starts of a row are a run of headways.
-use Rattle.std.proofs.Common.{◌≡◌, ◌∙◌, sym, ap, refl, ℕ, suc, ◌+◌, ◌-◌, ◌*◌, ◌/◌, ◌<◌, ◌≤◌, [], map, Bool, true, false, ◌&&◌, inl, inr, arith}
+use Rattle.std.proofs.Common.{◌≡◌, ◌∙◌, sym, ap, refl, subst, ℕ, zero, suc, ◌+◌, ◌-◌, ◌*◌, ◌/◌, ◌<◌, ◌≤◌, List, [], ◌∷◌, map, min, Bool, true, false, ◌&&◌, inl, inr, arith}
 use Rattle.std.specs.Prelude.{filter, nat_lt, nat_le}
 use Rattle.std.specs.List.{range_with_len}
 use Rattle.std.proofs.Math.Nat.{div-mul-le_self, lt-div-mul-add, mul-le-mul_right, le-mul_of_pos_right}
 use Rattle.std.proofs.lemmas.Bool.{cases_Bool}
 use Rattle.std.proofs.lemmas.Bool.Decides.{nat_tests}
 use Rattle.service_trips.specs.declared.frequency.TripFrequency.{TripFrequency}
-use Rattle.service_trips.specs.Starts.{IsGoodFrequency, starts_from, headways_to, first_from}
+use Rattle.service_trips.specs.declared.starts.StartSpan.TheVariants as span
+use Rattle.service_trips.specs.Starts.{IsGoodFrequency, cut_at, starts_from, starts_in, headways_to, first_from}
 use Rattle.service_trips.proofs.Runs.{none_of_run, filter_run, map_runs, filters_map}
 
 abbrev start_at : TripFrequency → ℕ → ℕ
@@ -108,3 +109,44 @@ no_starts_by least f first good is past = no_starts least f good (omega (arith, 
 pub some_starts_by : (least : ℕ) (f : TripFrequency) (first : ℕ) → IsGoodFrequency f → first ≡ first_from least f → first < f.end
     → map (λ k. first + k * f.headway) (range_with_len 0 ((f.end - 1 - first) / f.headway + 1)) ≡ starts_from least f
 some_starts_by least f first good is fits = rw is (some_starts least f good (omega (arith, is, fits)))
+
+-- numbers that pass a test that none from a number on passes
+passes_below : (p : ℕ → Bool) (i m n : ℕ) → m ≤ n → ((k : ℕ) → i + m ≤ k → p k ≡ false) → filter p (range_with_len i m) ≡ filter p (range_with_len i n)
+passes_below p i zero n h none = sym (none_of_run p i n (λ k low. none k (omega (arith, low))))
+passes_below p i (suc m) zero h none = absurd (omega (arith, h))
+passes_below p i (suc m) (suc n) h none =
+    let rest = passes_below p (i + 1) m n (omega (arith, h)) (λ k low. none k (omega (arith, low))) in
+    elim (cases_Bool (p i)) [
+      | inl t ↦ rw t (ap (λ xs. i ∷ xs) rest)
+      | inr f ↦ rw f rest
+    ]
+
+same_passes : (p q : ℕ → Bool) (xs : List ℕ) → ((x : ℕ) → p x ≡ q x) → filter p xs ≡ filter q xs
+same_passes p q [] same = refl
+same_passes p q (x ∷ xs) same =
+    let rest = same_passes p q xs same in
+    elim (cases_Bool (q x)) [
+      | inl t ↦ rw (same x, t) (ap (λ ys. x ∷ ys) rest)
+      | inr f ↦ rw (same x, f) rest
+    ]
+
+-- the starts of a row that is cut at a time are those before it
+cut_starts : (end : ℕ) (f : TripFrequency) → IsGoodFrequency f → starts_from 0 (cut_at end f) ≡ starts_in (span.Until end) f
+cut_starts end f good =
+    let m = min f.end end in
+    let early : ℕ → Bool = λ k. nat_lt (start_at f k) m && nat_le 0 (start_at f k) in
+    let both : ℕ → Bool = λ k. nat_lt (start_at f k) f.end && nat_lt (start_at f k) end in
+    let same : (k : ℕ) → early k ≡ both k = λ k. grind (arith, nat_tests) in
+    let late : (k : ℕ) → 0 + m ≤ k → early k ≡ false =
+    λ k low.
+    let wide = le-mul_of_pos_right k good.headway in
+    and_left (nat_lt (start_at f k) m) (nat_le 0 (start_at f k)) (grind (arith, nat_tests, wide, low)) in
+    filters_map (nat_le 0) (λ start. nat_lt start m) (start_at f) (range_with_len 0 m)
+    ∙ ap (map (start_at f)) (passes_below early 0 m f.end (omega arith) late ∙ same_passes early both (range_with_len 0 f.end) same)
+    ∙ sym (filters_map (λ start. nat_lt start end) (λ start. nat_lt start f.end) (start_at f) (range_with_len 0 f.end))
+
+pub cut_run : (end first count : ℕ) (f g : TripFrequency) → IsGoodFrequency f → g ≡ cut_at end f → map (λ k. first + k * g.headway) (range_with_len 0 count) ≡ starts_from 0 g
+    → map (λ k. first + k * f.headway) (range_with_len 0 count) ≡ starts_in (span.Until end) f
+cut_run end first count f g good is run =
+    let cut : map (λ k. first + k * f.headway) (range_with_len 0 count) ≡ starts_from 0 (cut_at end f) = subst (λ (h : TripFrequency). map (λ k. first + k * h.headway) (range_with_len 0 count) ≡ starts_from 0 h) is run in
+    cut ∙ cut_starts end f good

@@ -6,7 +6,7 @@ pub mod Rides
 pub mod Chains
 pub mod Starts
 pub mod ServiceDay
-pub mod DayBefore
+pub mod TimetableTrips
 pub mod ShownRides
 pub mod Sizes
 pub mod Limits

@@ -11,7 +11,7 @@ use Rattle.gtfs_rows.specs.declared.fault.FeedFault.TheVariants as fault
 use Rattle.service_trips.specs.declared.frequency.TripFrequency.{TripFrequency}
 use Rattle.service_trips.specs.Starts.{starts}
 use Rattle.service_trips.specs.ServiceDay.{FeedTrips, ride_of, starting_at}
-use Rattle.service_trips.specs.DayBefore.{timetable_trips}
+use Rattle.service_trips.specs.TimetableTrips.{DayRunsData, timetable_trips}
 use Rattle.service_trips.specs.Sizes.{check_size}
 use Rattle.gtfs_rows.specs.declared.columns.frequencies.TheConstants as frequencies
 
@@ -40,7 +40,7 @@ check_frequencies feed =
 
 -- The trips of a timetable, or the first thing that is wrong: a row of frequencies.txt that moves a
 -- time beyond the limits, whether its trip runs or not; then too many trips; then too many events.
-unfoldable pub checked_trips : FeedTrips → List Bool → List Bool → Result (List TripData) FeedFault
-checked_trips feed runs runs_before =
+unfoldable pub checked_trips : FeedTrips → List DayRunsData → Result (List TripData) FeedFault
+checked_trips feed days =
     and_then (check_frequencies feed) (λ _.
-    check_size (timetable_trips feed runs runs_before))
+    check_size (timetable_trips feed days))

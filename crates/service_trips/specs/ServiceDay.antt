@@ -1,6 +1,7 @@
--- The trips of a service day.
+-- The trips of a service day, in its own reckoning.
 use Rattle.std.specs.Prelude.{ℕ, ◌++◌, List, [], ◌∷◌, length, map, filter, codes, slice_index_or, Bool, true, false, ℤ, pos, ◌+ℤ◌, ◌-ℤ◌}
 use Rattle.std.specs.List.{flat_map, range_with_len}
+use Rattle.tb_base.specs.declared.days.ServiceDay.TheVariants as day
 use Rattle.tb_base.specs.declared.table.Event.{Event}
 use Rattle.tb_base.specs.TimetableData.{TripData, no_event}
 use Rattle.gtfs_rows.specs.TripsFile as row
@@ -47,7 +48,7 @@ starting_at events start = map (moved (pos start -ℤ first_departure events)) e
 abbrev pub trip_starting_at : List ℕ → List Event → ℕ → TripData
 trip_starting_at id events start = record {
   name = id ++ codes "#" ++ time_text (pos start);
-  before = false;
+  day = day.Date;
   events = starting_at events start;
 }
 
@@ -56,7 +57,7 @@ trip_starting_at id events start = record {
 abbrev pub trips_of : List ℕ → List TripFrequency → List Event → List TripData
 trips_of id frequencies [] = []
 trips_of id [] (e ∷ events) =
-    record { name = id; before = false; events = e ∷ events } ∷ []
+    record { name = id; day = day.Date; events = e ∷ events } ∷ []
 trips_of id (f ∷ others) (e ∷ events) =
     map (trip_starting_at id (e ∷ events)) (flat_map starts (f ∷ others))
 

@@ -1,9 +1,10 @@
--- The events of trips, as a timetable shows them.
-use Rattle.std.specs.Prelude.{ℕ, ◌-◌, ◌<◌, ◌≤◌, List, length, slice_index_or, All, AllPairs, Bool, true, false, not, ℤ, pos, int_lt, ◌≤ℤ◌, ◌-ℤ◌, ◌+ℤ◌}
+-- The events of trips, in the reckoning of their own day.
+use Rattle.std.specs.Prelude.{◌≡◌, ℕ, ◌-◌, ◌<◌, ◌≤◌, List, length, slice_index_or, All, AllPairs, ℤ, pos, ◌≤ℤ◌, ◌-ℤ◌, ◌+ℤ◌}
+use Rattle.tb_base.specs.declared.days.ServiceDay.{ServiceDay}
 use Rattle.tb_base.specs.declared.table.Event.{Event}
-use Rattle.tb_base.specs.TimetableData.{TripData, no_event}
+use Rattle.tb_base.specs.ServiceDays.{seconds_after}
+use Rattle.tb_base.specs.TimetableData.{no_event}
 use Rattle.service_trips.specs.ServiceDay.{first_departure}
-use Rattle.service_trips.specs.DayBefore.{last_arrival, lowered}
 
 -- an event within the limits of a file's times, not left before it is reached
 pub record IsDayEvent (e : Event) : Type 0 where
@@ -21,20 +22,15 @@ pub record IsRide (ride : List Event) : Type 0 where
 abbrev pub IsRideOrNone : List Event → Type 0
 IsRideOrNone ride = 0 < length ride → IsRide ride
 
--- a timetable shows events: those of its day, and those of the day before that are under way
-abbrev pub is_shown : Bool → List Event → Bool
-is_shown false events = true
-is_shown true events = not (int_lt (last_arrival events) (pos 86400))
+-- the seconds by which a trip of a service day is moved that starts at a time, told as times of the
+-- date
+abbrev pub shift : ServiceDay → List Event → ℕ → ℤ
+shift d ride start = pos start -ℤ first_departure ride +ℤ seconds_after d
 
--- a trip as it is shown: lowered, where it is one of the day before
-abbrev pub as_shown : Bool → TripData → TripData
-as_shown false t = t
-as_shown true t = lowered t
-
--- the seconds by which a trip is moved that starts at a time, and is shown
-abbrev pub shift : Bool → List Event → ℕ → ℤ
-shift false ride start = pos start -ℤ first_departure ride
-shift true ride start = pos start -ℤ first_departure ride -ℤ pos 86400
+-- a number that stands for a time, and for one before the day its begin
+pub record IsFromZero (time : ℤ) (n : ℕ) : Type 0 where
+  pub none : time ≤ℤ pos 0 → n ≡ 0
+  pub same : pos 0 ≤ℤ time → pos n ≡ time
 
 -- when a trip that starts at a time arrives at its first stop, and departs from its last
 abbrev pub begin_from : List Event → ℕ → ℤ

@@ -1,8 +1,10 @@
 -- The rows of frequencies.txt, and when trips start by them.
-use Rattle.std.specs.Prelude.{◌≡◌, ℕ, ◌+◌, ◌*◌, ◌-◌, ◌/◌, ◌==◌, ◌<◌, ◌≤◌, All, List, [], length, map, filter, get_or, slice_index_or, nat_lt, nat_le, Bool}
+use Rattle.std.specs.Prelude.{◌≡◌, ℕ, ◌+◌, ◌*◌, ◌-◌, ◌/◌, ◌==◌, ◌<◌, ◌≤◌, All, List, [], length, map, filter, get_or, slice_index_or, nat_lt, nat_le, min, Bool}
 use Rattle.std.specs.List.{range_with_len}
 use Rattle.tb_base.specs.KeyPlaces.{places_of}
 use Rattle.service_trips.specs.declared.frequency.TripFrequency.{TripFrequency}
+use Rattle.service_trips.specs.declared.starts.StartSpan.{StartSpan}
+use Rattle.service_trips.specs.declared.starts.StartSpan.TheVariants as span
 
 -- the rows of frequencies.txt, whose trips are named by numbers below a number of trips
 pub record Frequencies : Type 0 where
@@ -42,6 +44,25 @@ pub record AreIndexed (rows : List TripFrequency) (by_trip : List (List ℕ)) : 
 -- the starts that are not before a time
 abbrev pub starts_from : ℕ → TripFrequency → List ℕ
 starts_from least f = filter (λ start. nat_le least start) (starts f)
+
+-- a start is not before the time of a span, or is before it
+abbrev pub is_in : StartSpan → ℕ → Bool
+is_in (span.From least) start = nat_le least start
+is_in (span.Until end) start = nat_lt start end
+
+-- the starts of a span
+abbrev pub starts_in : StartSpan → TripFrequency → List ℕ
+starts_in s f = filter (is_in s) (starts f)
+
+-- the row with an end that is no later than a time
+abbrev pub cut_at : ℕ → TripFrequency → TripFrequency
+cut_at end f = record {
+  row = f.row;
+  trip_row = f.trip_row;
+  start = f.start;
+  end = min f.end end;
+  headway = f.headway;
+}
 
 -- how many headways after the first start a time has passed
 abbrev pub headways_to : ℕ → TripFrequency → ℕ

@@ -5,7 +5,7 @@ ghost use Rattle.service_trips.specs.Starts.{IsGoodFrequency};
 ghost use Rattle.service_trips.specs.ShownRides.{IsRide, IsRideOrNone, begin_from, end_from};
 ghost use Rattle.service_trips.specs.Limits.{moves_beyond, check_frequencies};
 
-use crate::moved_rides::shift;
+use crate::moved_rides::to_start;
 use crate::starts::starts_from;
 use crate::{FrequencyTable, TripFrequency};
 use gtfs_rows::columns::frequencies;
@@ -21,7 +21,7 @@ fn begin_from(ride: &[Event], start: u32) -> Sec
     requires start { start ≤ 359999 }
     ensures { result ≡ begin_from ride.now start }
 {
-    ride[0].arr + shift(ride, start, false)
+    ride[0].arr + to_start(ride, start)
 }
 
 // When it departs from its last stop.
@@ -30,7 +30,7 @@ fn end_from(ride: &[Event], start: u32) -> Sec
     requires start { start ≤ 359999 }
     ensures { result ≡ end_from ride.now start }
 {
-    ride[ride.len() - 1].dep + shift(ride, start, false)
+    ride[ride.len() - 1].dep + to_start(ride, start)
 }
 
 // Whether some start of a row moves a time beyond the limits: the first one the first arrival, or

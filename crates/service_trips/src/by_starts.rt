@@ -2,16 +2,16 @@
 ghost use Rattle.std.specs.Prelude.{◌≡◌, ◌<◌, ◌≤◌, ◌++◌, IfOk, OnOk, map, filter, pos, codes};
 ghost use Rattle.std.specs.List.{flat_map};
 ghost use Rattle.tb_base.specs.Clock.{time_text};
-ghost use Rattle.service_trips.specs.ShownRides.{IsRide, as_shown};
+ghost use Rattle.service_trips.specs.ShownRides.{IsRide};
 ghost use Rattle.service_trips.specs.Starts.{IsGoodFrequency, names_trip, starts};
 ghost use Rattle.service_trips.specs.ServiceDay.{trip_starting_at};
-ghost use Rattle.service_trips.specs.DayBefore.{shown};
+ghost use Rattle.service_trips.specs.TimetableTrips.{reckoned, shown};
 
-use crate::moved_rides::{least_start, moved_ride, shift};
-use crate::starts::starts_from;
+use crate::moved_rides::{moved_ride, shift, shown_starts};
+use crate::starts::starts_in;
 use crate::{FrequencyTable, TripFrequency};
 use std::alloc::Global;
-use tb_base::{Event, Memory, Name, Trip, time_text};
+use tb_base::{Event, Memory, Name, ServiceDay, Trip, time_text};
 
 // The name of a trip that starts at a time: the trip's id, `#` and the time.
 fn start_name(alloc: Global, id: &Name, start: u32) -> Result<Name, Memory>
@@ -25,26 +25,22 @@ fn start_name(alloc: Global, id: &Name, start: u32) -> Result<Name, Memory>
     Name::new(alloc, name.as_slice())
 }
 
-// The trip that starts at a time, as it is shown.
+// The trip of a service day that starts at a time, in the reckoning of the date.
 fn trip_starting_at(
     alloc: Global,
     id: &Name,
     ride: &[Event],
     start: u32,
-    before: bool,
+    day: ServiceDay,
 ) -> Result<Trip, Memory>
     requires ride { IsRide ride.now }
     requires start { start ≤ 359999 }
     ensures { IfOk result (λ trip.
-        trip ≡ as_shown before (trip_starting_at id.now ride.now start)) }
+        trip ≡ reckoned day (trip_starting_at id.now ride.now start)) }
 {
     let name = start_name(alloc, id, start)?;
-    let events = moved_ride(alloc, ride, shift(ride, start, before))?;
-    Ok(Trip {
-        name,
-        before,
-        events,
-    })
+    let events = moved_ride(alloc, ride, shift(ride, start, day))?;
+    Ok(Trip { name, day, events })
 }
 
 // Adds the trips of one row of frequencies.txt that are shown.
@@ -54,18 +50,18 @@ fn add_starts(
     id: &Name,
     ride: &[Event],
     frequency: &TripFrequency,
-    before: bool,
+    day: ServiceDay,
 ) -> Result<(), Memory>
     requires ride { IsRide ride.now }
     requires good { IsGoodFrequency frequency.now }
     ensures { OnOk result (trips.new.items
         ≡ trips.old.items
-        ++ shown before (map (trip_starting_at id.now ride.now) (starts frequency.now))) }
+        ++ shown day (map (trip_starting_at id.now ride.now) (starts frequency.now))) }
 {
-    let starts = starts_from(frequency, least_start(ride, before));
+    let starts = starts_in(frequency, shown_starts(ride, day));
     for k in 0..starts.count {
         let start = starts.first + k as u64 * frequency.headway as u64;
-        let trip = trip_starting_at(alloc, id, ride, start as u32, before)?;
+        let trip = trip_starting_at(alloc, id, ride, start as u32, day)?;
         trips.push(trip)?;
     }
     Ok(())
@@ -79,19 +75,19 @@ pub(crate) fn add_by_starts(
     ride: &[Event],
     table: &FrequencyTable,
     trip: usize,
-    before: bool,
+    day: ServiceDay,
 ) -> Result<(), Memory>
     requires ride { IsRide ride.now }
     requires trip { trip < table.now.trips }
     ensures { OnOk result (trips.new.items
-        ≡ trips.old.items ++ shown before
+        ≡ trips.old.items ++ shown day
         (map (trip_starting_at id.now ride.now)
         (flat_map starts (filter (names_trip trip) table.now.rows)))) }
 {
     let rows = table.rows();
     let places = table.places(trip);
     for place in places {
-        add_starts(alloc, trips, id, ride, &rows[*place as usize], before)?;
+        add_starts(alloc, trips, id, ride, &rows[*place as usize], day)?;
     }
     Ok(())
 }

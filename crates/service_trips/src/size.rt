@@ -2,17 +2,17 @@
 ghost use Rattle.std.specs.Prelude.{◌≡◌, ◌<◌, ◌++◌, ◌-◌, ◌^◌, ℕ, List, All, MatchOption, Ok, Err, filter, length, map, min, sum_by};
 ghost use Rattle.tb_base.specs.TimetableData.{TripData};
 ghost use Rattle.gtfs_rows.specs.TripsFile as row;
-ghost use Rattle.service_trips.specs.Starts.{names_trip, starts_from};
-ghost use Rattle.service_trips.specs.ShownRides.{IsRide, IsRideOrNone, is_shown};
+ghost use Rattle.service_trips.specs.Starts.{names_trip, starts_in};
+ghost use Rattle.service_trips.specs.ShownRides.{IsRide, IsRideOrNone};
 ghost use Rattle.service_trips.specs.ServiceDay.{trips_of, trips_where, service_trips};
-ghost use Rattle.service_trips.specs.DayBefore.{shown};
+ghost use Rattle.service_trips.specs.TimetableTrips.{shown};
 ghost use Rattle.service_trips.specs.Sizes.{IsSize, check_size};
 
 use crate::FrequencyTable;
-use crate::moved_rides::{DAY, last_arrival, least_start};
-use crate::starts::starts_from;
+use crate::moved_rides::{is_shown, shown_starts};
+use crate::starts::{StartSpan, starts_in};
 use gtfs_rows::{FeedFault, Many};
-use tb_base::Event;
+use tb_base::{Event, ServiceDay};
 
 const MOST_TRIPS: u64 = 500_000;
 
@@ -52,52 +52,50 @@ impl Size {
     }
 }
 
-// How many starts of a trip's rows in frequencies.txt are not before a time.
-fn count_starts(table: &FrequencyTable, trip: usize, least: u32) -> u64
+// How many starts of a trip's rows in frequencies.txt are in a span.
+fn count_starts(table: &FrequencyTable, trip: usize, span: StartSpan) -> u64
     requires { trip < table.now.trips }
     ensures { result
-        ≡ min (sum_by (λ f. length (starts_from least f)) (filter (names_trip trip) table.now.rows))
+        ≡ min (sum_by (λ f. length (starts_in span f)) (filter (names_trip trip) table.now.rows))
         (2 ^ 64 - 1) }
 {
     let rows = table.rows();
     let places = table.places(trip);
     let mut count: u64 = 0;
     for place in places {
-        let starts = starts_from(&rows[*place as usize], least);
+        let starts = starts_in(&rows[*place as usize], span);
         count = count.saturating_add(starts.count as u64);
     }
     count
 }
 
-// Whether a timetable shows the events.
-fn is_shown(ride: &[Event], before: bool) -> bool
-    requires { 0 < length ride.now }
-    ensures { result ≡ is_shown before ride.now }
-{
-    !before || last_arrival(ride) >= DAY
-}
-
 // How many trips of a row of trips.txt that runs are shown.
-fn count_trips(table: &FrequencyTable, trip: usize, ride: &[Event], before: bool) -> u64
+fn count_trips(table: &FrequencyTable, trip: usize, ride: &[Event], day: ServiceDay) -> u64
     requires ride { IsRide ride.now }
     requires trip { trip < table.now.trips }
     ensures { (id : List ℕ) →
-        result ≡ min (length (shown before
+        result ≡ min (length (shown day
         (trips_of id (filter (names_trip trip) table.now.rows) ride.now))) (2 ^ 64 - 1) }
 {
     if table.places(trip).is_empty() {
-        return is_shown(ride, before) as u64;
+        return is_shown(ride, day) as u64;
     }
-    count_starts(table, trip, least_start(ride, before))
+    count_starts(table, trip, shown_starts(ride, day))
 }
 
 // The size of the trips of a row of trips.txt that are shown.
-fn row_size(table: &FrequencyTable, trip: usize, ride: &[Event], runs: bool, before: bool) -> Size
+fn row_size(
+    table: &FrequencyTable,
+    trip: usize,
+    ride: &[Event],
+    runs: bool,
+    day: ServiceDay,
+) -> Size
     requires ride { IsRideOrNone ride.now }
     requires trip { trip < table.now.trips }
     ensures { (id : List ℕ) →
         IsSize
-        (shown before (trips_where runs id (filter (names_trip trip) table.now.rows) ride.now))
+        (shown day (trips_where runs id (filter (names_trip trip) table.now.rows) ride.now))
         result }
 {
     if !runs || ride.is_empty() {
@@ -106,7 +104,7 @@ fn row_size(table: &FrequencyTable, trip: usize, ride: &[Event], runs: bool, bef
             events: 0,
         };
     }
-    let trips = count_trips(table, trip, ride, before);
+    let trips = count_trips(table, trip, ride, day);
     Size {
         trips,
         events: trips.saturating_mul(ride.len() as u64),
@@ -118,14 +116,14 @@ pub(crate) fn service_size(
     rides: &[Vec<Event>],
     table: &FrequencyTable,
     runs: &[bool],
-    before: bool,
+    day: ServiceDay,
 ) -> Size
     requires runs { length runs.now ≡ length rides.now }
     requires trips { table.now.trips ≡ length rides.now }
     requires rides { All (λ ride. IsRideOrNone ride.items) rides.now }
     ensures { (rows : List row.TripData) → length rows ≡ length rides.now →
         IsSize
-        (shown before
+        (shown day
         (service_trips
         (record {
           rows = rows;
@@ -140,7 +138,7 @@ pub(crate) fn service_size(
         events: 0,
     };
     for trip in 0..rides.len() {
-        size = size.plus(row_size(table, trip, &rides[trip], runs[trip], before));
+        size = size.plus(row_size(table, trip, &rides[trip], runs[trip], day));
     }
     size
 }

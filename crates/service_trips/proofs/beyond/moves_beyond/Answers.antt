@@ -1,5 +1,5 @@
 use Rattle.std.proofs.Common.{◌∙◌, sym, rules, ◌-◌, w32, arith}
-use Rattle.std.specs.Prelude.{FitsSigned}
+use Rattle.std.specs.Prelude.{FitsSigned, nat_le}
 use Rattle.std.proofs.lemmas.Int.{to_z-of_z}
 use Rattle.std.proofs.lemmas.Bool.Decides.{nat_tests}
 use Rattle.service_trips.proofs.ByStarts.{start_below}
@@ -20,35 +20,35 @@ returns-then-starts-eq0 c =
 pub overflow_add-last : goal.overflow_add-last
 overflow_add-last c =
     let some = c.if-starts-eq0.false in
-    let below = start_below 0 c.starts_from-starts.result.first c.starts_from-starts.result.count (c.starts_from-starts.result.count - 1) c.args.frequency.now c.starts_from-starts.ensures.starts (grind (arith, nat_tests, some)) in
+    let below = start_below (nat_le 0) c.starts_from-starts.result.first c.starts_from-starts.result.count (c.starts_from-starts.result.count - 1) c.args.frequency.now c.starts_from-starts.ensures.starts (grind (arith, nat_tests, some)) in
     let end = c.requires.good.end in
     omega (arith, below, end)
 
 pub overflow_cast-starts : goal.overflow_cast-starts
 overflow_cast-starts c =
     let some = c.if-starts-eq0.false in
-    let below = start_below 0 c.starts_from-starts.result.first c.starts_from-starts.result.count 0 c.args.frequency.now c.starts_from-starts.ensures.starts (grind (arith, nat_tests, some)) in
+    let below = start_below (nat_le 0) c.starts_from-starts.result.first c.starts_from-starts.result.count 0 c.args.frequency.now c.starts_from-starts.ensures.starts (grind (arith, nat_tests, some)) in
     let end = c.requires.good.end in
     omega (arith, below, end)
 
 pub begin_from-begin-requires-clause-start : goal.begin_from-begin-requires-clause-start
 begin_from-begin-requires-clause-start c =
     let some = c.if-starts-eq0.false in
-    let below = start_below 0 c.starts_from-starts.result.first c.starts_from-starts.result.count 0 c.args.frequency.now c.starts_from-starts.ensures.starts (grind (arith, nat_tests, some)) in
+    let below = start_below (nat_le 0) c.starts_from-starts.result.first c.starts_from-starts.result.count 0 c.args.frequency.now c.starts_from-starts.ensures.starts (grind (arith, nat_tests, some)) in
     let end = c.requires.good.end in
     omega (arith, below, end)
 
 pub overflow_cast-last-3 : goal.overflow_cast-last-3
 overflow_cast-last-3 c =
     let some = c.if-starts-eq0.false in
-    let below = start_below 0 c.starts_from-starts.result.first c.starts_from-starts.result.count (c.starts_from-starts.result.count - 1) c.args.frequency.now c.starts_from-starts.ensures.starts (grind (arith, nat_tests, some)) in
+    let below = start_below (nat_le 0) c.starts_from-starts.result.first c.starts_from-starts.result.count (c.starts_from-starts.result.count - 1) c.args.frequency.now c.starts_from-starts.ensures.starts (grind (arith, nat_tests, some)) in
     let end = c.requires.good.end in
     omega (arith, below, end)
 
 pub end_from-end-requires-clause-start : goal.end_from-end-requires-clause-start
 end_from-end-requires-clause-start c =
     let some = c.if-starts-eq0.false in
-    let below = start_below 0 c.starts_from-starts.result.first c.starts_from-starts.result.count (c.starts_from-starts.result.count - 1) c.args.frequency.now c.starts_from-starts.ensures.starts (grind (arith, nat_tests, some)) in
+    let below = start_below (nat_le 0) c.starts_from-starts.result.first c.starts_from-starts.result.count (c.starts_from-starts.result.count - 1) c.args.frequency.now c.starts_from-starts.ensures.starts (grind (arith, nat_tests, some)) in
     let end = c.requires.good.end in
     omega (arith, below, end)
 

@@ -5,4 +5,4 @@ use Rattle.service_trips.proofs.by_starts.add_by_starts.Given as goal
 
 abbrev pub invariant-loop-place : goal.invariant-loop-place
 invariant-loop-place l =
-    l.trips.items ≡ l.initial.trips.items ++ trips_of_rows l.before l.id l.ride (map (frequency_at l.table.rows) (take l.place-index l.places))
+    l.trips.items ≡ l.initial.trips.items ++ trips_of_rows l.day l.id l.ride (map (frequency_at l.table.rows) (take l.place-index l.places))

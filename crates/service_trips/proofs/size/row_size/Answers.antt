@@ -9,4 +9,4 @@ pub returns : goal.returns
 returns c = λ id.
     let test = c.is_empty.ensures in
     let some = c.if-is_empty.false in
-    rw c.if-not-runs.false (row_is c.args.before id (filter (names_trip c.args.trip) c.args.table.now.rows) c.args.ride.now _ (grind (arith, nat_tests, test, some)) (c.count_trips-trips.ensures id) c.saturating_mul.ensures)
+    rw c.if-not-runs.false (row_is c.args.day id (filter (names_trip c.args.trip) c.args.table.now.rows) c.args.ride.now _ (grind (arith, nat_tests, test, some)) (c.count_trips-trips.ensures id) c.saturating_mul.ensures)

@@ -1,5 +1,6 @@
-use Rattle.std.proofs.Common.{◌≡◌, ◌∙◌, refl, sym, ap, subst, length-set, map, get_or, false, [], arith, Vec, Global}
+use Rattle.std.proofs.Common.{◌≡◌, ◌∙◌, refl, sym, ap, subst, length-set, map, get_or, [], arith, Vec, Global}
 use Rattle.std.proofs.lemmas.List.{get_or-map}
+use Rattle.tb_base.specs.declared.days.ServiceDay.TheVariants as day
 use Rattle.tb_base.specs.declared.table.Event.{Event}
 use Rattle.gtfs_rows.specs.TripsFile.{TripData}
 use Rattle.service_trips.specs.ServiceDay.{FeedTrips}
@@ -8,7 +9,7 @@ use Rattle.service_trips.proofs.Rows.{no_trips, trips_added, row_at, id_at, left
 use Rattle.service_trips.proofs.trips.own_trips.Goals as goal
 
 pub loop-trip-init : goal.loop-trip-init
-loop-trip-init c = record { many = sym c.requires.rows; left = refl; trips = c.new-trips.ensures.items ∙ sym (no_trips false _ _) }
+loop-trip-init c = record { many = sym c.requires.rows; left = refl; trips = c.new-trips.ensures.items ∙ sym (no_trips day.Date _ _) }
 
 pub add_own-requires-clause-ride : goal.add_own-requires-clause-ride
 add_own-requires-clause-ride c =
@@ -34,8 +35,8 @@ loop-trip-preserved c =
     record {
       many = length-set _ _ _ ∙ many;
       left = left_more c.loop-trip.rides.items c.args.given.items c.loop-trip.trip _ c.loop-trip.invariant.left;
-      trips = trips_added false feed c.args.runs.now c.loop-trip.trip c.loop-trip.trips.items c.add_own.new.trips.items _ c.loop-trip.invariant.trips c.in_ok-add_own.ensures
-          (row_at false feed c.args.runs.now c.loop-trip.trip _ c.replace-ride.result.items id ride);
+      trips = trips_added day.Date feed c.args.runs.now c.loop-trip.trip c.loop-trip.trips.items c.add_own.new.trips.items _ c.loop-trip.invariant.trips c.in_ok-add_own.ensures
+          (row_at day.Date feed c.args.runs.now c.loop-trip.trip _ c.replace-ride.result.items id ride);
     }
 
 pub returns : goal.returns
@@ -43,4 +44,4 @@ returns c =
     let feed : FeedTrips = record { rows = c.args.rows.now; rides = map (λ (ride : Vec Event Global). ride.items) c.args.given.items; frequencies = c.args.table.now.rows } in
     let done = c.loop-trip-test.false in
     let most = c.loop-trip.auto.trip-end in
-    c.loop-trip.invariant.trips ∙ all_trips false feed c.args.runs.now c.loop-trip.trip (omega (arith, done, most))
+    c.loop-trip.invariant.trips ∙ all_trips day.Date feed c.args.runs.now c.loop-trip.trip (omega (arith, done, most))
