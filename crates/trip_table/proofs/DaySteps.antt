@@ -2,6 +2,7 @@
 use Rattle.std.proofs.Common.{◌≡◌, refl, sym, ap, subst, ℕ, List, Option}
 use Rattle.std.specs.Prelude.{Bool, Result, Ok, Err, IsSome}
 use Rattle.tb_io.specs.Files.{FileList}
+use Rattle.tb_base.specs.declared.days.Horizon.{Horizon}
 use Rattle.tb_base.specs.TimetableData.{TimetableData, FootpathData}
 use Rattle.gtfs_rows.specs.Steps.{and_then}
 use Rattle.gtfs_rows.specs.StopsFile.{StopData}
@@ -60,42 +61,42 @@ pub transfers_fault : (feed : Feed) (day : ℕ) (options : Options) (rows : Rows
     → IsFault (Then (parts_after_rows feed day options rows) (IsTimetableOfParts options.close)) f
 transfers_fault feed day options rows stops f are told =
     let h : IsRefused (transfers_of feed rows.stops) f = subst (λ (s : List StopData). IsRefused (transfers_of feed s) f) are told in
-    let next = λ (transfers : List TransferData). parts_after_paths feed day rows (given_footpaths rows.stops options transfers) in
+    let next = λ (transfers : List TransferData). parts_after_paths feed day options.horizon rows (given_footpaths rows.stops options transfers) in
     fault_of options.close (parts_after_rows feed day options rows) f (refused (transfers_of feed rows.stops) next f h)
 
 -- what the files after transfers.txt give is what those after the rows give
 pub transfers_are : (first second : Option FileList) (dir : List ℕ) (day : ℕ) (options : Options) (rows : Rows) (stops : List StopData) (transfers : List TransferData) (result : Result TimetableData DayFault) → second ≡ first → stops ≡ rows.stops
     → transfers_of (feed_of first dir) stops ≡ Ok transfers
-    → (IsSome second → Gives (Then (parts_after_paths (feed_of second dir) day rows (given_footpaths stops options transfers)) (IsTimetableOfParts options.close)) result) → IsSome first
+    → (IsSome second → Gives (Then (parts_after_paths (feed_of second dir) day options.horizon rows (given_footpaths stops options transfers)) (IsTimetableOfParts options.close)) result) → IsSome first
     → Gives (Then (parts_after_rows (feed_of first dir) day options rows) (IsTimetableOfParts options.close)) result
 transfers_are first second dir day options rows stops transfers result same are given told there =
     let feed = feed_of first dir in
     let Q = IsTimetableOfParts options.close in
-    let h : Gives (Then (parts_after_paths feed day rows (given_footpaths stops options transfers)) Q) result =
-    moved (λ (o : Option FileList). Gives (Then (parts_after_paths (feed_of o dir) day rows (given_footpaths stops options transfers)) Q) result) first second same told there in
-    let k : Gives (Then (parts_after_paths feed day rows (given_footpaths rows.stops options transfers)) Q) result = subst (λ (s : List StopData). Gives (Then (parts_after_paths feed day rows (given_footpaths s options transfers)) Q) result) are h in
+    let h : Gives (Then (parts_after_paths feed day options.horizon rows (given_footpaths stops options transfers)) Q) result =
+    moved (λ (o : Option FileList). Gives (Then (parts_after_paths (feed_of o dir) day options.horizon rows (given_footpaths stops options transfers)) Q) result) first second same told there in
+    let k : Gives (Then (parts_after_paths feed day options.horizon rows (given_footpaths rows.stops options transfers)) Q) result = subst (λ (s : List StopData). Gives (Then (parts_after_paths feed day options.horizon rows (given_footpaths s options transfers)) Q) result) are h in
     let g : transfers_of feed rows.stops ≡ Ok transfers = subst (λ (s : List StopData). transfers_of feed s ≡ Ok transfers) are given in
-    let e : parts_after_rows feed day options rows ≡ parts_after_paths feed day rows (given_footpaths rows.stops options transfers) =
-    ap (λ (r : Result (List TransferData) FeedFault). and_then r (λ transfers. parts_after_paths feed day rows (given_footpaths rows.stops options transfers))) g in
+    let e : parts_after_rows feed day options rows ≡ parts_after_paths feed day options.horizon rows (given_footpaths rows.stops options transfers) =
+    ap (λ (r : Result (List TransferData) FeedFault). and_then r (λ transfers. parts_after_paths feed day options.horizon rows (given_footpaths rows.stops options transfers))) g in
     subst (λ (m : Result DayParts FeedFault). Gives (Then m Q) result) (sym e) k
 
 -- a fault of frequencies.txt is a fault of the day, where nothing is wrong with the files before
-pub frequencies_fault : (feed : Feed) (day : ℕ) (close : Bool) (rows : Rows) (counted : Result FootpathData FeedFault) (trips : List row.TripData) (f : DayFault) → trips ≡ rows.trips → IsRefused (frequencies_of feed trips) f
-    → IsFault (Then (parts_after_paths feed day rows counted) (IsTimetableOfParts close)) f
-frequencies_fault feed day close rows counted trips f are told =
+pub frequencies_fault : (feed : Feed) (day : ℕ) (horizon : Horizon) (close : Bool) (rows : Rows) (counted : Result FootpathData FeedFault) (trips : List row.TripData) (f : DayFault) → trips ≡ rows.trips → IsRefused (frequencies_of feed trips) f
+    → IsFault (Then (parts_after_paths feed day horizon rows counted) (IsTimetableOfParts close)) f
+frequencies_fault feed day horizon close rows counted trips f are told =
     let h : IsRefused (frequencies_of feed rows.trips) f = subst (λ (ts : List row.TripData). IsRefused (frequencies_of feed ts) f) are told in
-    fault_of close (parts_after_paths feed day rows counted) f (refused (frequencies_of feed rows.trips) (λ frequencies. parts_on rows frequencies day counted) f h)
+    fault_of close (parts_after_paths feed day horizon rows counted) f (refused (frequencies_of feed rows.trips) (λ frequencies. parts_on rows frequencies day horizon counted) f h)
 
 -- what becomes of the parts of the day becomes of the files from frequencies.txt on
-pub frequencies_are : (feed : Feed) (day : ℕ) (close : Bool) (rows : Rows) (counted : Result FootpathData FeedFault) (trips : List row.TripData) (frequencies : List TripFrequency) (table : Result TimetableData FeedFault) → trips ≡ rows.trips
-    → frequencies_of feed trips ≡ Ok frequencies → Then (parts_on rows frequencies day counted) (IsTimetableOfParts close) table → Then (parts_after_paths feed day rows counted) (IsTimetableOfParts close) table
-frequencies_are feed day close rows counted trips frequencies table are given made =
+pub frequencies_are : (feed : Feed) (day : ℕ) (horizon : Horizon) (close : Bool) (rows : Rows) (counted : Result FootpathData FeedFault) (trips : List row.TripData) (frequencies : List TripFrequency) (table : Result TimetableData FeedFault) → trips ≡ rows.trips
+    → frequencies_of feed trips ≡ Ok frequencies → Then (parts_on rows frequencies day horizon counted) (IsTimetableOfParts close) table → Then (parts_after_paths feed day horizon rows counted) (IsTimetableOfParts close) table
+frequencies_are feed day horizon close rows counted trips frequencies table are given made =
     let g : frequencies_of feed rows.trips ≡ Ok frequencies = subst (λ (ts : List row.TripData). frequencies_of feed ts ≡ Ok frequencies) are given in
-    then_same close (parts_after_paths feed day rows counted) (parts_on rows frequencies day counted) table
-    (ap (λ (r : Result (List TripFrequency) FeedFault). and_then r (λ frequencies. parts_on rows frequencies day counted)) g) made
+    then_same close (parts_after_paths feed day horizon rows counted) (parts_on rows frequencies day horizon counted) table
+    (ap (λ (r : Result (List TripFrequency) FeedFault). and_then r (λ frequencies. parts_on rows frequencies day horizon counted)) g) made
 
 -- the same where nothing becomes of the parts
-pub frequencies_refused : (feed : Feed) (day : ℕ) (close : Bool) (rows : Rows) (counted : Result FootpathData FeedFault) (trips : List row.TripData) (frequencies : List TripFrequency) (f : RowsFault) → trips ≡ rows.trips
-    → frequencies_of feed trips ≡ Ok frequencies → IsRowsFault (Then (parts_on rows frequencies day counted) (IsTimetableOfParts close)) f → IsFault (Then (parts_after_paths feed day rows counted) (IsTimetableOfParts close)) (day_fault f)
-frequencies_refused feed day close rows counted trips frequencies (refusal.Feed g) are given made = frequencies_are feed day close rows counted trips frequencies (Err g) are given made
-frequencies_refused feed day close rows counted trips frequencies refusal.Memory are given made = tt
+pub frequencies_refused : (feed : Feed) (day : ℕ) (horizon : Horizon) (close : Bool) (rows : Rows) (counted : Result FootpathData FeedFault) (trips : List row.TripData) (frequencies : List TripFrequency) (f : RowsFault) → trips ≡ rows.trips
+    → frequencies_of feed trips ≡ Ok frequencies → IsRowsFault (Then (parts_on rows frequencies day horizon counted) (IsTimetableOfParts close)) f → IsFault (Then (parts_after_paths feed day horizon rows counted) (IsTimetableOfParts close)) (day_fault f)
+frequencies_refused feed day horizon close rows counted trips frequencies (refusal.Feed g) are given made = frequencies_are feed day horizon close rows counted trips frequencies (Err g) are given made
+frequencies_refused feed day horizon close rows counted trips frequencies refusal.Memory are given made = tt

@@ -57,7 +57,7 @@ tested_unique stops told (Err f) (Ok b) (breach, first, fault) (is, law) = absur
 tested_unique stops told (Err f) (Err g) (breach, first, fault) (other, also, by) =
     ap Err (fault ∙ ap (breach_fault stops) (first_unique told breach other first also) ∙ sym by)
 
-settled_unique : (close : Bool) (stops : List StopData) (told : FootpathData) (a b : Result FootpathData FeedFault) → AreClosedOrTested close stops told a → AreClosedOrTested close stops told b → a ≡ b
+pub settled_unique : (close : Bool) (stops : List StopData) (told : FootpathData) (a b : Result FootpathData FeedFault) → AreClosedOrTested close stops told a → AreClosedOrTested close stops told b → a ≡ b
 settled_unique true stops told a b p q = closing_unique stops told a b p q
 settled_unique false stops told a b p q = tested_unique stops told a b p q
 

@@ -25,18 +25,11 @@ use Rattle.tb_base.proofs.Lists.{length-filter_le}
 use Rattle.trip_table.specs.Feed.{Feed, sized, rows_in, file_rows, or_missing, required}
 use Rattle.trip_table.specs.References.{Rows, rows_of, stops_of, services_of, trips_of, times_of, transfer_rows_of, transfers_of, frequencies_of}
 use Rattle.trip_table.specs.Day.{DayParts, day_parts, given_footpaths, trips_on, breach_fault, timetable, KeepTheLaw, AreClosedOrTested, IsTimetableOf, IsTimetableOfParts, Then}
+use Rattle.trip_table.proofs.Steps.{one_value, stepped}
 use Rattle.trip_table.proofs.DayTrips.{unless_wrong-value}
 use Rattle.trip_table.proofs.TransferTimes.{rows_day}
 use Rattle.trip_table.proofs.FirstBreach.{kept_or_breached}
 use Rattle.trip_table.proofs.FirstFar.{closing_given}
-
--- a step that gives something, and then the next one
-stepped : {A B : Type 0} (m : Result A FeedFault) (next : A → Result B FeedFault) (y : B) → and_then m next ≡ Ok y → (x : A) × (m ≡ Ok x) × (next x ≡ Ok y)
-stepped (Err f) next y e = absurd (cc)
-stepped (Ok x) next y e = (x, refl, e)
-
-one_value : {A : Type 0} (x y : A) → (let r : Result A FeedFault = Ok x in r) ≡ Ok y → x ≡ y
-one_value x y e = cc
 
 -- a file has no more rows than its limit
 row_few : {A : Type 0} (row : Result (Option A) FeedFault) (rest : Result (List A) FeedFault) (xs : List A) (room : ℕ) → ((ys : List A) → rest ≡ Ok ys → length ys ≤ room)
@@ -123,7 +116,7 @@ parts_sound feed day options parts h k e =
     let transfers = stepped (transfers_of feed rows.0.stops) _ parts rows.2 in
     let frequencies = stepped (frequencies_of feed rows.0.trips) _ parts transfers.2 in
     let given = given_footpaths rows.0.stops options transfers.0 in
-    let trips = stepped (trips_on rows.0 frequencies.0 day) _ parts frequencies.2 in
+    let trips = stepped (trips_on rows.0 frequencies.0 day options.horizon) _ parts frequencies.2 in
     let footpaths = stepped given _ parts trips.2 in
     let same = one_value (record { stops = rows.0.stops; footpaths = footpaths.0; trips = trips.0 }) parts footpaths.2 in
     let sound = given_sound rows.0.stops options transfers.0 footpaths.0 h k (few_stops feed rows.0.stops (stops_given feed rows.0 rows.1)) (short feed rows.0.stops transfers.0 transfers.1) footpaths.1 in

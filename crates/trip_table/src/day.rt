@@ -33,7 +33,7 @@ fn timetable_of(
     frequencies: &FrequencyTable,
     told: Option<Paths>,
     day: &Day,
-    close: bool,
+    options: &Options,
 ) -> Result<Timetable, RowsFault>
     requires trips { frequencies.now.trips ≡ length rows.now.trips }
     requires sound { IfSome told IsSoundFootpaths }
@@ -41,17 +41,18 @@ fn timetable_of(
         (λ paths. length (FootpathData.change paths) ≡ length (platforms rows.now.stops)) }
     ensures { (counted : Result FootpathData FeedFault) → IsCounted counted told →
         GivesRows
-        (Then (parts_on rows.now frequencies.now.rows day.now counted) (IsTimetableOfParts close))
+        (Then (parts_on rows.now frequencies.now.rows day.now options.now.horizon counted)
+        (IsTimetableOfParts options.now.close))
         result }
 {
-    let trips = match trips_on(alloc, rows, frequencies, day) {
+    let trips = match trips_on(alloc, rows, frequencies, day, options.horizon) {
         Ok(trips) => trips,
         Err(fault) => return Err(fault),
     };
     let Some(told) = told else {
         return Err(RowsFault::Feed(FeedFault::TooMany(Many::Footpaths, 0)));
     };
-    let paths = match settled(alloc, rows.stops(), told, close) {
+    let paths = match settled(alloc, rows.stops(), told, options.close) {
         Ok(paths) => paths,
         Err(fault) => return Err(fault),
     };
@@ -70,7 +71,7 @@ fn timetable_after_paths<F: Folder>(
     rows: &FeedRows,
     told: Option<Paths>,
     day: &Day,
-    close: bool,
+    options: &Options,
 ) -> Result<Timetable, DayFault>
     requires count { F.faults folder.old < 2 ^ 64 - 1 }
     requires sound { IfSome told IsSoundFootpaths }
@@ -79,8 +80,9 @@ fn timetable_after_paths<F: Folder>(
     ensures told { IsSome (F.files folder.old) →
         (counted : Result FootpathData FeedFault) → IsCounted counted told →
         Gives
-        (Then (parts_after_paths (feed_of (F.files folder.old) dir.now) day.now rows.now counted)
-        (IsTimetableOfParts close))
+        (Then (parts_after_paths (feed_of (F.files folder.old) dir.now) day.now options.now.horizon
+        rows.now counted)
+        (IsTimetableOfParts options.now.close))
         result }
     ensures leaves { Leaves (F.files folder.old) (F.files folder.new) (F.faults folder.old)
         (F.faults folder.new) result }
@@ -89,7 +91,7 @@ fn timetable_after_paths<F: Folder>(
         Ok(frequencies) => frequencies,
         Err(fault) => return Err(fault),
     };
-    Ok(timetable_of(alloc, rows, &frequencies, told, day, close)?)
+    Ok(timetable_of(alloc, rows, &frequencies, told, day, options)?)
 }
 
 // The same, where the rows of the feed were read and its footpaths are yet to be read.
@@ -113,7 +115,7 @@ fn timetable_after_rows<F: Folder>(
         (F.faults folder.new) result }
 {
     match read_paths(alloc, folder, dir, rows.stops(), options) {
-        Ok(told) => timetable_after_paths(alloc, folder, dir, rows, told, day, options.close),
+        Ok(told) => timetable_after_paths(alloc, folder, dir, rows, told, day, options),
         Err(fault) => Err(fault),
     }
 }

@@ -1,4 +1,4 @@
-//! The trips of a day.
+//! The trips of the timetable of a day.
 ghost use Rattle.std.specs.Prelude.{◌≡◌, ◌≤◌, All, bytes_eq, IfOk, length, map, sum_by};
 ghost use Rattle.std.specs.List.{list_any};
 ghost use Rattle.tb_base.specs.Soundness.{IsSoundTrip};
@@ -7,14 +7,15 @@ ghost use Rattle.gtfs_rows.specs.TripsFile as row;
 ghost use Rattle.gtfs_rows.specs.Refused.{IsRefused, Yields};
 ghost use Rattle.footpaths.specs.Stops.{platforms};
 ghost use Rattle.service_trips.specs.Rides.{IsSoundRide};
-ghost use Rattle.trip_table.specs.Day.{runs_on, runs_before, rides_of, trips_on};
+ghost use Rattle.service_trips.specs.TimetableTrips.{DayRunsData};
+ghost use Rattle.trip_table.specs.Day.{runs_if, runs_on, runs_of, rides_of, trips_on};
 
 use crate::rows::FeedRows;
 use gtfs_rows::{RowsFault, TripRow};
 use service_day::{Day, Services, running};
-use service_trips::{FrequencyTable, rides_of, timetable_trips};
+use service_trips::{DayRuns, FrequencyTable, rides_of, timetable_trips};
 use std::alloc::Global;
-use tb_base::{Event, Memory, Trip};
+use tb_base::{Event, Horizon, Memory, ServiceDay, Trip};
 
 // Whether the service of each row runs.
 fn services_run(alloc: Global, services: &Services, trips: &[TripRow]) -> Result<Vec<bool>, Memory>
@@ -46,15 +47,44 @@ fn runs_on(alloc: Global, rows: &FeedRows, day: &Day) -> Result<Vec<bool>, Memor
     services_run(alloc, &services, rows.trips().rows())
 }
 
-// The same of the day before; where there is none, no service runs.
-fn runs_before(alloc: Global, rows: &FeedRows, day: &Day) -> Result<Vec<bool>, Memory>
-    ensures runs { IfOk result (λ runs. runs.items ≡ runs_before rows.now day.now) }
+// The same of a day that there may be; where there is none, no service runs.
+fn runs_if(alloc: Global, rows: &FeedRows, date: Option<Day>) -> Result<Vec<bool>, Memory>
+    ensures runs { IfOk result (λ runs. runs.items ≡ runs_if rows.now date) }
     ensures long { IfOk result (λ runs. length runs.items ≡ length rows.now.trips) }
 {
-    match day.before() {
-        Some(before) => runs_on(alloc, rows, &before),
+    match date {
+        Some(date) => runs_on(alloc, rows, &date),
         None => all_rows(alloc, rows, false),
     }
+}
+
+// A service day of the timetable of a date, and which rows of trips.txt have a service that runs on
+// it.
+fn runs_of(alloc: Global, rows: &FeedRows, date: &Day, day: ServiceDay) -> Result<DayRuns, Memory>
+    ensures runs { IfOk result (λ runs. runs ≡ runs_of rows.now date.now day) }
+    ensures long { IfOk result
+        (λ runs. length (DayRunsData.runs runs) ≡ length rows.now.trips) }
+{
+    let runs = runs_if(alloc, rows, date.of_service_day(day))?;
+    Ok(DayRuns { day, runs })
+}
+
+// The same of each of some service days.
+fn runs_of_days(
+    alloc: Global,
+    rows: &FeedRows,
+    date: &Day,
+    days: &[ServiceDay],
+) -> Result<Vec<DayRuns>, Memory>
+    ensures runs { IfOk result (λ runs. runs.items ≡ map (runs_of rows.now date.now) days.now) }
+    ensures long { IfOk result
+        (λ runs. All (λ d. length (DayRunsData.runs d) ≡ length rows.now.trips) runs.items) }
+{
+    let mut runs = Vec::new(alloc);
+    for day in days {
+        runs.push(runs_of(alloc, rows, date, *day)?)?;
+    }
+    Ok(runs)
 }
 
 // One answer for each row of trips.txt.
@@ -82,25 +112,26 @@ fn all_rides(alloc: Global, rows: &FeedRows) -> Result<Vec<Vec<Event>>, RowsFaul
     }
 }
 
-/// The trips of a day, or the first thing that is wrong with the times of a trip, with those that
-/// starts give, or with the size of the day.
+/// The trips of the timetable of a date, or the first thing that is wrong with the times of a trip,
+/// with those that starts give, or with the size of the timetable.
 pub(crate) fn trips_on(
     alloc: Global,
     rows: &FeedRows,
     frequencies: &FrequencyTable,
-    day: &Day,
+    date: &Day,
+    horizon: Horizon,
 ) -> Result<Vec<Trip>, RowsFault>
     requires { frequencies.now.trips ≡ length rows.now.trips }
     ensures trips { Yields IsRefused result (λ trips. trips.items)
-        (trips_on rows.now frequencies.now.rows day.now) }
+        (trips_on rows.now frequencies.now.rows date.now horizon) }
     ensures trip_count { IfOk result (λ trips. length trips.items ≤ 500000) }
     ensures event_count { IfOk result
         (λ trips. sum_by (λ t. length (TripData.events t)) trips.items ≤ 10000000) }
     ensures sound { IfOk result
         (λ trips. All (IsSoundTrip (length (platforms rows.now.stops))) trips.items) }
 {
-    let runs = runs_on(alloc, rows, day)?;
-    let before = runs_before(alloc, rows, day)?;
+    let runs = runs_on(alloc, rows, date)?;
+    let others = runs_of_days(alloc, rows, date, horizon.other_days())?;
     let rides = match all_rides(alloc, rows) {
         Ok(rides) => rides,
         Err(fault) => return Err(fault),
@@ -112,6 +143,6 @@ pub(crate) fn trips_on(
         rides,
         frequencies,
         runs.as_slice(),
-        before.as_slice(),
+        others.as_slice(),
     )
 }

@@ -1,9 +1,11 @@
 //! Laws of the timetable of a day. Each function does nothing: its contract is the law.
-ghost use Rattle.std.specs.Prelude.{◌≡◌, ℕ, Result};
+ghost use Rattle.std.specs.Prelude.{◌≡◌, ℕ, Ok, Result};
 ghost use Rattle.tb_base.specs.TimetableData.{TimetableData};
 ghost use Rattle.gtfs_rows.specs.declared.fault.FeedFault.{FeedFault};
 ghost use Rattle.footpaths.specs.Limits.{AreWithinADay};
 ghost use Rattle.footpaths.specs.declared.paths.Options.{Options};
+ghost use Rattle.tb_base.specs.Wider.{HasAllOf};
+ghost use Rattle.trip_table.specs.Farther.{IsNoNearer};
 ghost use Rattle.trip_table.specs.Feed.{Feed};
 ghost use Rattle.trip_table.specs.Day.{IsTimetableOf};
 
@@ -19,4 +21,12 @@ pub fn timetable_determined()
 pub fn timetable_given()
     ensures { (feed : Feed) (day : ℕ) (options : Options) → AreWithinADay options
         → (r : Result TimetableData FeedFault) × IsTimetableOf feed day options r }
+{}
+
+/// A farther horizon leaves nothing out: the timetable has the same stops, stations and footpaths,
+/// and all trips that the one of a nearer horizon has.
+pub fn farther_has_all()
+    ensures { (feed : Feed) (day : ℕ) (near far : Options) (T U : TimetableData) →
+        IsNoNearer near far → IsTimetableOf feed day near (Ok T) →
+        IsTimetableOf feed day far (Ok U) → HasAllOf U T }
 {}

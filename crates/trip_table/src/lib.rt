@@ -8,8 +8,9 @@
 //! trip, running or not; then those that the starts of frequencies.txt give; then the size of the
 //! day; then the number of footpaths; then, where footpaths are closed, their number again and
 //! pairs that are more than a day apart, and else the law that they keep. The trips of the day
-//! before that are still under way after midnight are part of the day. The definition of the whole
-//! is `IsTimetableOf` in specs/Day.antt.
+//! before that are still under way after midnight are part of the day, and where the options say so
+//! those of one or two days after it. The definition of the whole is `IsTimetableOf` in
+//! specs/Day.antt.
 #![tactic(auto)]
 
 mod assemble;
