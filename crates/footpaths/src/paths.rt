@@ -2,9 +2,9 @@ ghost use Rattle.std.specs.Prelude.{◌≡◌};
 ghost use Rattle.footpaths.specs.declared.paths.PathsFault.TheVariants as why;
 
 use std::marker::Model;
-use tb_base::{Memory, Path, StopNo, secs_between};
+use tb_base::{Horizon, Memory, Path, StopNo, secs_between};
 
-/// How changes and footpaths are made. Seconds.
+/// How the timetable of a day is made of a feed. Seconds.
 #[derive(Debug, Clone, Copy, PartialEq, Eq)]
 pub struct Options {
     /// The default change time.
@@ -13,6 +13,8 @@ pub struct Options {
     pub station: Option<u32>,
     /// Footpaths are closed over chains, in place of being tested.
     pub close: bool,
+    /// From how many service days the timetable has all trips.
+    pub horizon: Horizon,
 }
 
 /// The change time of each stop, and the footpaths that leave it.
