@@ -1,6 +1,7 @@
 -- The made city: a square grid of stops, with trips along its rows and its columns both ways.
-use Rattle.std.specs.Prelude.{ℕ, ◌+◌, ◌*◌, ◌-◌, ◌/◌, ◌%◌, List, [], ◌++◌, Some, pos, false, true, codes, flat_map, map, replicate}
+use Rattle.std.specs.Prelude.{ℕ, ◌+◌, ◌*◌, ◌-◌, ◌/◌, ◌%◌, List, [], ◌++◌, Some, pos, true, codes, flat_map, map, replicate}
 use Rattle.std.specs.Fmt.{decimal}
+use Rattle.tb_base.specs.declared.days.ServiceDay.TheVariants as day
 use Rattle.tb_base.specs.declared.table.Event.{Event}
 use Rattle.tb_base.specs.declared.table.Stop.{Stop}
 use Rattle.tb_base.specs.TimetableData.{TimetableData, TripData}
@@ -55,7 +56,7 @@ city_trip n heading k m = record {
   name =
       codes "D" ++ decimal (heading_number heading) ++ codes "K" ++ decimal k ++ codes "M"
       ++ decimal m;
-  before = false;
+  day = day.Date;
   events = map (city_event n heading k m) (numbers_below n);
 }
 

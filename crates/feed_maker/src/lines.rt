@@ -5,7 +5,7 @@ ghost use Rattle.feed_maker.specs.City.{city_event, city_trip, city_trips, stop_
 
 use crate::heading::Heading;
 use std::alloc::Global;
-use tb_base::{Event, Memory, Name, Sec, StopNo, Trip};
+use tb_base::{Event, Memory, Name, Sec, ServiceDay, StopNo, Trip};
 
 const TRIPS: u32 = 90;
 
@@ -94,7 +94,7 @@ impl Line {
         let name = format!(in alloc; "D{heading}K{lane}M{trip}")?;
         Ok(Trip {
             name: Name::new(alloc, name.as_bytes())?,
-            before: false,
+            day: ServiceDay::Date,
             events: self.events(alloc, trip)?,
         })
     }
