@@ -1,10 +1,12 @@
 -- What is built of a timetable, as texts.
-use Rattle.std.specs.Prelude.{ℕ, ◌<◌, List, ◌++◌, codes, flat_map, length}
+use Rattle.std.specs.Prelude.{ℕ, ◌<◌, List, [], ◌++◌, codes, flat_map, length}
 use Rattle.std.specs.Fmt.{decimal}
+use Rattle.tb_base.specs.declared.days.ServiceDay.{ServiceDay}
+use Rattle.tb_base.specs.declared.days.ServiceDay.TheVariants as day
 use Rattle.tb_base.specs.TimetableData.{TimetableData, event_total, path_total}
 use Rattle.tb_base.specs.declared.transfer.Transfer.{Transfer}
 use Rattle.answer_text.specs.declared.builds.BuildCounts.{BuildCounts}
-use Rattle.answer_text.specs.Journeys.{trip_name, day_mark}
+use Rattle.answer_text.specs.Journeys.{trip_day, trip_name}
 
 -- a label and a number
 abbrev pub labelled : List ℕ → ℕ → List ℕ
@@ -28,9 +30,16 @@ counts_text c =
 abbrev pub build_text : TimetableData → BuildCounts → List ℕ
 build_text T c = table_text T ++ counts_text c
 
--- `TRIP@I`, and `/before` after it where the trip began on the day before
+-- what stands behind an event of a trip of a service day: nothing where it is the date
+abbrev pub event_mark : ServiceDay → List ℕ
+event_mark day.Before = codes "/before"
+event_mark day.Date = []
+event_mark day.After = codes "/after"
+event_mark day.SecondAfter = codes "/+2"
+
+-- `TRIP@I`, and its service day after it where that isn't the date
 abbrev pub event_text : TimetableData → ℕ → ℕ → List ℕ
-event_text T t i = trip_name T t ++ codes "@" ++ decimal i ++ day_mark (codes "/before") T t
+event_text T t i = trip_name T t ++ codes "@" ++ decimal i ++ event_mark (trip_day T t)
 
 -- `TRIP@I TRIP@J`
 abbrev pub transfer_text : TimetableData → Transfer → List ℕ

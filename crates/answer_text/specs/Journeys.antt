@@ -1,6 +1,8 @@
 -- Journeys as texts.
-use Rattle.std.specs.Prelude.{ℕ, List, [], ◌∷◌, ◌++◌, codes, flat_map, slice_index_or, Option, Some, None, ℤ, Bool, if◌then◌else◌}
+use Rattle.std.specs.Prelude.{ℕ, List, [], ◌∷◌, ◌++◌, codes, flat_map, slice_index_or, Option, Some, None, ℤ}
 use Rattle.std.specs.Fmt.{decimal}
+use Rattle.tb_base.specs.declared.days.ServiceDay.{ServiceDay}
+use Rattle.tb_base.specs.declared.days.ServiceDay.TheVariants as day
 use Rattle.tb_base.specs.TimetableData.{TripData, TimetableData, stop_at, arrival_at, departure_at, no_trip}
 use Rattle.tb_base.specs.BestValues.{ChoiceData}
 use Rattle.tb_base.specs.Profiles.{OfferData}
@@ -25,13 +27,16 @@ walk_text T from to secs =
 abbrev pub place_text : TimetableData → ℕ → ℤ → List ℕ
 place_text T p time = (codes " " ++ stop_name T p) ++ codes " " ++ time_text time
 
--- whether a trip began on the day before
-abbrev pub is_before : TimetableData → ℕ → Bool
-is_before T t = TripData.before (slice_index_or T.trips t no_trip)
+-- the service day of a trip
+abbrev pub trip_day : TimetableData → ℕ → ServiceDay
+trip_day T t = TripData.day (slice_index_or T.trips t no_trip)
 
--- a mark, which only a trip of the day before gets
-abbrev pub day_mark : List ℕ → TimetableData → ℕ → List ℕ
-day_mark mark T t = if is_before T t then mark else []
+-- what stands behind a ride on a trip of a service day: nothing where it is the date
+abbrev pub ride_mark : ServiceDay → List ℕ
+ride_mark day.Before = codes " day-before"
+ride_mark day.Date = []
+ride_mark day.After = codes " day-after"
+ride_mark day.SecondAfter = codes " day+2"
 
 -- `  ride TRIP STOP DEPARTURE STOP ARRIVAL`
 abbrev pub ride_words : TimetableData → ℕ → ℕ → ℕ → List ℕ
@@ -40,10 +45,10 @@ ride_words T trip board alight =
     ++ place_text T (stop_at T trip board) (departure_at T trip board)
     ++ place_text T (stop_at T trip alight) (arrival_at T trip alight)
 
--- the same, and ` day-before` after it where the trip began on the day before
+-- the same, and its service day after it where that isn't the date
 abbrev pub ride_text : TimetableData → ℕ → ℕ → ℕ → List ℕ
 ride_text T trip board alight =
-    ride_words T trip board alight ++ day_mark (codes " day-before") T trip ++ codes "\n"
+    ride_words T trip board alight ++ ride_mark (trip_day T trip) ++ codes "\n"
 
 abbrev pub leg_text : TimetableData → Leg → List ℕ
 leg_text T (leg.Walk from to secs) = walk_text T from to secs

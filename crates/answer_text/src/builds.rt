@@ -1,10 +1,11 @@
 //! What is built of a timetable, as texts.
 ghost use Rattle.std.specs.Prelude.{◌≡◌, ◌++◌, ◌<◌, All, IfOk, OnOk, length, map};
-ghost use Rattle.answer_text.specs.Builds.{HasTrips, build_list_text, build_text, counts_text, event_text, labelled, table_text, transfer_text, transfers_text};
+ghost use Rattle.answer_text.specs.Builds.{HasTrips, build_list_text, build_text, counts_text, event_mark, event_text, labelled, table_text, transfer_text, transfers_text};
 
+use crate::journeys::trip_day;
 use crate::text::Text;
 use std::alloc::Global;
-use tb_base::{Memory, Timetable, Transfer, TripNo};
+use tb_base::{Memory, ServiceDay, Timetable, Transfer, TripNo};
 
 /// How many lines a timetable has, how many candidate transfers, how many of these are no U-turns,
 /// and how many are kept.
@@ -14,6 +15,18 @@ pub struct BuildCounts {
     pub generated: u64,
     pub after_uturn: u64,
     pub kept: u64,
+}
+
+// What stands behind an event of a trip of a service day.
+fn event_mark(day: ServiceDay) -> &'static [u8]
+    ensures { result.now ≡ event_mark day }
+{
+    match day {
+        ServiceDay::Before => b"/before",
+        ServiceDay::Date => b"",
+        ServiceDay::After => b"/after",
+        ServiceDay::SecondAfter => b"/+2",
+    }
 }
 
 impl Text {
@@ -63,7 +76,7 @@ impl Text {
         self.trip(table, trip)?;
         self.add(b"@")?;
         self.number(at)?;
-        self.day_mark(b"/before", table, trip)
+        self.add(event_mark(trip_day(table, trip)))
     }
 
     // Adds the line of a transfer.
@@ -99,8 +112,8 @@ pub fn build_text(alloc: Global, table: &Timetable, counts: BuildCounts) -> Resu
     Ok(text.into_bytes())
 }
 
-/// The same, and behind it `TRIP@I TRIP@J` for each transfer, list after list, an end at a trip that
-/// began on the day before as `TRIP@I/before`. The trips exist in the timetable.
+/// The same, and behind it `TRIP@I TRIP@J` for each transfer, list after list, an end at a trip
+/// whose service day isn't the date as `TRIP@I/before`, `TRIP@I/after` or `TRIP@I/+2`. The trips exist in the timetable.
 pub fn build_list_text(
     alloc: Global,
     table: &Timetable,

@@ -4,14 +4,37 @@ ghost use Rattle.tb_base.specs.TimetableData.{events_of};
 ghost use Rattle.tb_base.specs.BestValues.{ChoiceData};
 ghost use Rattle.tb_base.specs.Profiles.{OfferData};
 ghost use Rattle.tb_base.specs.JourneyRules.{HasNumbers};
-ghost use Rattle.answer_text.specs.Journeys.{stop_name, trip_name, day_mark, place_text, walk_text, ride_words, ride_text, leg_text, legs_text, journey_text, choice_text, choices_text, leave_text, offer_text, offers_text, arrival_text, unknown_text};
+ghost use Rattle.answer_text.specs.Journeys.{stop_name, trip_name, place_text, ride_mark, trip_day, walk_text, ride_words, ride_text, leg_text, legs_text, journey_text, choice_text, choices_text, leave_text, offer_text, offers_text, arrival_text, unknown_text};
 
 use crate::text::Text;
 use std::alloc::Global;
-use tb_base::{Choice, Event, Leg, Memory, Offer, Sec, Slot, StopNo, Timetable, TripNo, Value};
+use tb_base::{
+    Choice, Event, Leg, Memory, Offer, Sec, ServiceDay, Slot, StopNo, Timetable, TripNo, Value,
+};
 
 /// The line that stands for no choice at all.
 pub const NO_JOURNEY: &[u8] = b"no journey\n";
+
+/// The service day of a trip.
+pub(crate) fn trip_day(table: &Timetable, t: TripNo) -> ServiceDay
+    requires { t < length table.now.trips }
+    ensures { result ≡ trip_day table.now t }
+{
+    let trip = table.trip(t);
+    trip.day
+}
+
+// What stands behind a ride on a trip of a service day.
+fn ride_mark(day: ServiceDay) -> &'static [u8]
+    ensures { result.now ≡ ride_mark day }
+{
+    match day {
+        ServiceDay::Before => b" day-before",
+        ServiceDay::Date => b"",
+        ServiceDay::After => b" day-after",
+        ServiceDay::SecondAfter => b" day+2",
+    }
+}
 
 impl Text {
     // Adds the name of a stop, behind a space.
@@ -31,23 +54,6 @@ impl Text {
     {
         let trip = table.trip(t);
         self.add(trip.name.bytes())
-    }
-
-    // Adds a mark where a trip began on the day before.
-    pub(crate) fn day_mark(
-        &mut self,
-        mark: &[u8],
-        table: &Timetable,
-        t: TripNo,
-    ) -> Result<(), Memory>
-        requires { t < length table.now.trips }
-        ensures { OnOk result (self.new ≡ self.old ++ day_mark mark.now table.now t) }
-    {
-        let trip = table.trip(t);
-        if trip.before {
-            return self.add(mark);
-        }
-        Ok(())
     }
 
     // Adds the name of a stop and a time, each behind a space.
@@ -127,7 +133,7 @@ impl Text {
         ensures { OnOk result (self.new ≡ self.old ++ ride_text table.now trip board alight) }
     {
         self.ride_words(table, trip, board, alight)?;
-        self.day_mark(b" day-before", table, trip)?;
+        self.add(ride_mark(trip_day(table, trip)))?;
         self.add(b"\n")
     }
 
@@ -147,8 +153,8 @@ impl Text {
     }
 
     /// Adds one line a leg, in order: `  walk STOP STOP SECONDS`, or
-    /// `  ride TRIP STOP DEPARTURE STOP ARRIVAL`, followed by ` day-before` where the trip began on
-    /// the day before. The numbers of the legs exist in the timetable.
+    /// `  ride TRIP STOP DEPARTURE STOP ARRIVAL`, followed by ` day-before`,
+    /// ` day-after` or ` day+2` where the trip's service day isn't the date. The numbers of the legs exist in the timetable.
     pub fn legs(&mut self, table: &Timetable, legs: &[Leg]) -> Result<(), Memory>
         requires { All (HasNumbers table.now) legs.now }
         ensures { OnOk result (self.new ≡ self.old ++ legs_text table.now legs.now) }
