@@ -25,7 +25,7 @@ counts_json c =
 abbrev pub build_json : TimetableData → BuildCounts → List ℕ
 build_json T c = table_json T ++ counts_json c ++ codes "\n"
 
--- `{"trip":TRIP,"event":I}`, with `"day":-1` behind the name of a trip of the day before
+-- `{"trip":TRIP,"event":I}`, with its service day behind the trip's name where that isn't the date
 abbrev pub event_json : TimetableData → ℕ → ℕ → List ℕ
 event_json T t i =
     codes "{\"trip\":" ++ string_json (trip_name T t) ++ day_json T t

@@ -3,8 +3,10 @@ use Rattle.std.specs.Prelude.{ℕ, ℤ, List, [], ◌∷◌, ◌++◌, codes, fl
 use Rattle.std.specs.Fmt.{decimal, signed_decimal}
 use Rattle.json.specs.Print.{quoted}
 use Rattle.tb_base.specs.Clock.{time_text}
+use Rattle.tb_base.specs.declared.days.ServiceDay.{ServiceDay}
+use Rattle.tb_base.specs.declared.days.ServiceDay.TheVariants as day
 use Rattle.tb_base.specs.TimetableData.{TimetableData}
-use Rattle.answer_text.specs.Journeys.{day_mark}
+use Rattle.answer_text.specs.Journeys.{trip_day}
 use Rattle.answer_json.specs.declared.frame.Frame.{Frame}
 use Rattle.answer_json.specs.declared.frame.Frame.TheVariants as frame
 
@@ -27,9 +29,15 @@ moment name time =
     codes "\"" ++ name ++ codes "\":\"" ++ time_text time ++ codes "\",\"" ++ name
     ++ codes "_seconds\":" ++ signed_decimal time
 
--- the day of a trip that began on the day before
+-- the service day of a trip, in days after the date: nothing where it is the date
+abbrev pub day_member : ServiceDay → List ℕ
+day_member day.Before = codes ",\"day\":-1"
+day_member day.Date = []
+day_member day.After = codes ",\"day\":1"
+day_member day.SecondAfter = codes ",\"day\":2"
+
 abbrev pub day_json : TimetableData → ℕ → List ℕ
-day_json T t = day_mark (codes ",\"day\":-1") T t
+day_json T t = day_member (trip_day T t)
 
 -- what stands for no value, before the first, between two, and behind the last
 abbrev pub nothing : Frame → List ℕ

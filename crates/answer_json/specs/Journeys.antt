@@ -31,8 +31,8 @@ abbrev pub alighting_json : TimetableData → ℕ → ℕ → List ℕ
 alighting_json T trip i =
     codes ",\"to\":" ++ place_json T (stop_at T trip i) (codes "arrival") (arrival_at T trip i)
 
--- `{"trip":TRIP,"from":STOP,"departure":TIME,..,"to":STOP,"arrival":TIME,..}`, with `"day":-1`
--- behind the trip's name where it began on the day before
+-- `{"trip":TRIP,"from":STOP,"departure":TIME,..,"to":STOP,"arrival":TIME,..}`, with its
+-- service day behind the trip's name where that isn't the date
 abbrev pub ride_json : TimetableData → ℕ → ℕ → ℕ → List ℕ
 ride_json T trip board alight =
     codes "{\"trip\":" ++ string_json (trip_name T trip) ++ day_json T trip

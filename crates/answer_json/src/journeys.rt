@@ -5,7 +5,7 @@ ghost use Rattle.tb_base.specs.BestValues.{ChoiceData};
 ghost use Rattle.tb_base.specs.Profiles.{OfferData};
 ghost use Rattle.tb_base.specs.JourneyRules.{HasNumbers};
 ghost use Rattle.answer_text.specs.Journeys.{stop_name, trip_name};
-ghost use Rattle.answer_json.specs.Frames.{day_json, followers, string_json};
+ghost use Rattle.answer_json.specs.Frames.{day_json, day_member, followers, string_json};
 ghost use Rattle.answer_json.specs.Journeys.{alighting_json, arrival_json, boarding_json, choice_json, choices_json, departure_json, leg_json, legs_json, offer_json, offers_json, place_json, ride_json, rides_json, unknown_json, unknown_member, walk_json};
 ghost use Rattle.answer_json.specs.declared.frame.Frame.TheVariants as frame;
 
@@ -13,7 +13,9 @@ use crate::frame::{Frame, add_moment};
 use crate::strings::{add_count, add_member, add_string};
 use answer_text::Text;
 use std::alloc::Global;
-use tb_base::{Choice, Leg, Memory, Offer, Sec, Slot, StopNo, Timetable, TripNo, Value};
+use tb_base::{
+    Choice, Leg, Memory, Offer, Sec, ServiceDay, Slot, StopNo, Timetable, TripNo, Value,
+};
 
 // The name of a stop.
 pub(crate) fn stop_name(table: &Timetable, p: StopNo) -> &[u8]
@@ -41,19 +43,28 @@ fn trip_name(table: &Timetable, t: TripNo) -> &[u8]
     trip.name.bytes()
 }
 
-// Adds the day of a trip, where that is the day before.
+// The member of a service day, in days after the date: nothing where it is the date.
+fn day_member(day: ServiceDay) -> &'static [u8]
+    ensures { result.now ≡ day_member day }
+{
+    match day {
+        ServiceDay::Before => b",\"day\":-1",
+        ServiceDay::Date => b"",
+        ServiceDay::After => b",\"day\":1",
+        ServiceDay::SecondAfter => b",\"day\":2",
+    }
+}
+
+// Adds the service day of a trip, where that isn't the date.
 fn add_day(text: &mut Text, table: &Timetable, t: TripNo) -> Result<(), Memory>
     requires { t < length table.now.trips }
     ensures { OnOk result (text.new ≡ text.old ++ day_json table.now t) }
 {
     let trip = table.trip(t);
-    if trip.before {
-        return text.add(b",\"day\":-1");
-    }
-    Ok(())
+    text.add(day_member(trip.day))
 }
 
-// Adds the name of a trip, and its day where that is the day before.
+// Adds the name of a trip, and its service day where that isn't the date.
 pub(crate) fn add_trip(text: &mut Text, table: &Timetable, t: TripNo) -> Result<(), Memory>
     requires { t < length table.now.trips }
     ensures { OnOk result (text.new
@@ -227,8 +238,8 @@ fn add_later_choices(
 /// Adds each choice as `{"arrive":TIME,"arrive_seconds":N,"rides":N,"legs":[..]}`, a walk among
 /// its legs as `{"from":STOP,"to":STOP,"seconds":N}`, a ride as `{"trip":TRIP,"from":STOP,
 /// "departure":TIME,"departure_seconds":N,"to":STOP,"arrival":TIME,"arrival_seconds":N}`, with
-/// `"day":-1` behind a trip that began on the day before. The numbers of the legs exist in the
-/// timetable.
+/// `"day":N` behind a trip whose service day is N days after the date, where that is -1, 1 or 2. The
+/// numbers of the legs exist in the timetable.
 pub fn add_choices(
     text: &mut Text,
     frame: Frame,
