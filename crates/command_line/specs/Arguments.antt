@@ -29,9 +29,9 @@ no_arguments = without_name (new_app (codes "router"))
 
 abbrev pub with_options : App
 with_options =
-    with_rule (with_rule (with_rule (with_rule no_arguments
-    (option_rule (codes "change"))) (option_rule (codes "station"))) (option_rule (codes "workers")))
-    (option_rule (codes "lanes"))
+    with_rule (with_rule (with_rule (with_rule (with_rule no_arguments
+    (option_rule (codes "change"))) (option_rule (codes "station"))) (option_rule (codes "days")))
+    (option_rule (codes "workers"))) (option_rule (codes "lanes"))
 
 abbrev pub with_flags : App
 with_flags =

@@ -1,11 +1,13 @@
 -- What the options of a command line say.
-use Rattle.std.specs.Prelude.{ℕ, ◌<◌, ◌≤◌, ◌&&◌, nat_lt, nat_le, List, codes, bytes_eq, Bool, false, Option, Some, None, if◌then◌else◌}
+use Rattle.std.specs.Prelude.{ℕ, ◌<◌, ◌≤◌, ◌==◌, ◌&&◌, nat_lt, nat_le, List, codes, bytes_eq, Bool, false, Option, Some, None, if◌then◌else◌}
 use Rattle.std.specs.Option.{option_and_then, option_map}
 use Rattle.clap.specs.Words.{Row, Text, first_of}
 use Rattle.footpaths.specs.declared.paths.Options.{Options}
 use Rattle.footpaths.specs.Limits.{AreWithinADay}
 use Rattle.gtfs_rows.specs.Fields.{secs_of}
 use Rattle.gtfs_rows.specs.Numbers.{number_of}
+use Rattle.tb_base.specs.declared.days.Horizon.{Horizon}
+use Rattle.tb_base.specs.declared.days.Horizon.TheVariants as horizon
 use Rattle.tb_base.specs.Workers.{AreWorkers}
 use Rattle.command_line.specs.declared.settings.Settings.{Settings}
 use Rattle.command_line.specs.declared.settings.TheConstants.{DEFAULT_LANES, DEFAULT_WORKERS}
@@ -54,14 +56,29 @@ is_true (Some text) = bytes_eq text (codes "true")
 abbrev pub is_given : Text → List Row → Bool
 is_given name rows = is_true (first_of name rows)
 
--- what is said of footpaths
+-- from so many service days a timetable has all trips
+abbrev pub horizon_of : ℕ → Option Horizon
+horizon_of n =
+    if n == 1 then Some horizon.OneDay
+    else if n == 2 then Some horizon.TwoDays
+    else if n == 3 then Some horizon.ThreeDays
+    else None
+
+-- the horizon: one day without `--days`
+abbrev pub horizon_given : Option Text → Option Horizon
+horizon_given None = Some horizon.OneDay
+horizon_given (Some text) = option_and_then horizon_of (number_of text)
+
+-- how a timetable is made of a feed
 abbrev pub options_given : List Row → Option Options
 options_given rows =
-    option_and_then (λ change. option_map (λ station. record {
+    option_and_then (λ change. option_and_then (λ station. option_map (λ horizon. record {
       change = change;
       station = station;
       close = is_given (codes "close") rows;
-    }) (station_given (first_of (codes "station") rows)))
+      horizon = horizon;
+    }) (horizon_given (first_of (codes "days") rows)))
+    (station_given (first_of (codes "station") rows)))
     (change_given (first_of (codes "change") rows))
 
 -- what all options say; none has an effect where the command doesn't use it

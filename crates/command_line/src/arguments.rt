@@ -41,6 +41,7 @@ pub(crate) fn router_arguments<'a>(alloc: Global) -> Result<clap::Command<'a>, A
         .no_binary_name(true)
         .arg(option(alloc, "change"))?
         .arg(option(alloc, "station"))?
+        .arg(option(alloc, "days"))?
         .arg(option(alloc, "workers"))?
         .arg(option(alloc, "lanes"))?
         .arg(flag(alloc, "close"))?

@@ -5,11 +5,12 @@ ghost use Rattle.gtfs_rows.specs.Fields.{secs_of};
 ghost use Rattle.footpaths.specs.Limits.{AreWithinADay};
 ghost use Rattle.tb_base.specs.Workers.{AreWorkers};
 ghost use Rattle.command_line.specs.declared.settings.TheConstants.{LONGEST_WALK};
-ghost use Rattle.command_line.specs.Settings.{AreLanes, AreSettings, change_given, is_given, lanes_given, options_given, settings_given, station_given, thread_count, workers_given};
+ghost use Rattle.command_line.specs.Settings.{AreLanes, AreSettings, change_given, horizon_given, horizon_of, is_given, lanes_given, options_given, settings_given, station_given, thread_count, workers_given};
 
 use clap::ArgMatches;
 use footpaths::Options;
 use gtfs_rows::number_of;
+use tb_base::Horizon;
 
 /// The longest walk or change that an option can name, in seconds: a day.
 pub const LONGEST_WALK: u32 = 86_400;
@@ -123,17 +124,41 @@ fn is_given(matches: &ArgMatches<'_>, name: &str) -> bool
     }
 }
 
-// What is said of footpaths.
+// From so many service days a timetable has all trips: 1 to 3.
+fn horizon_of(days: u32) -> Option<Horizon>
+    ensures { result ≡ horizon_of days }
+{
+    match days {
+        1 => Some(Horizon::OneDay),
+        2 => Some(Horizon::TwoDays),
+        3 => Some(Horizon::ThreeDays),
+        _ => None,
+    }
+}
+
+// The horizon: one day where none is given.
+fn horizon_given(text: Option<&str>) -> Option<Horizon>
+    ensures { result ≡ horizon_given (option_map (λ t. t.now) text.entry) }
+{
+    match text {
+        None => Some(Horizon::OneDay),
+        Some(text) => horizon_of(number_of(text.as_bytes())?),
+    }
+}
+
+// How a timetable is made of a feed.
 fn options_given(matches: &ArgMatches<'_>) -> Option<Options>
     ensures options { result ≡ options_given (rows_of (found_of matches.now)) }
     ensures within { IfSome result AreWithinADay }
 {
     let change = change_given(value_of(matches, "change"))?;
     let station = station_given(value_of(matches, "station"))?;
+    let horizon = horizon_given(value_of(matches, "days"))?;
     Some(Options {
         change,
         station,
         close: is_given(matches, "close"),
+        horizon,
     })
 }
 

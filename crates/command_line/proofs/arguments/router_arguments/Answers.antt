@@ -13,21 +13,23 @@ returns c =
     c.in_ok-arg.ensures.shape c.option.ensures.here ∙ ap₂ with_rule start c.option.ensures.rule in
     let station = c.in_ok-arg-2.ensures.shape c.option-2.ensures.here
     ∙ ap₂ with_rule change c.option-2.ensures.rule in
-    let workers = c.in_ok-arg-3.ensures.shape c.option-3.ensures.here
+    let days = c.in_ok-arg-3.ensures.shape c.option-3.ensures.here
     ∙ ap₂ with_rule station c.option-3.ensures.rule in
-    let options : app_of c.in_ok-arg-4.field-0 ≡ with_options =
-    c.in_ok-arg-4.ensures.shape c.option-4.ensures.here
-    ∙ ap₂ with_rule workers c.option-4.ensures.rule in
-    let close = c.in_ok-arg-5.ensures.shape c.flag.ensures.here
+    let workers = c.in_ok-arg-4.ensures.shape c.option-4.ensures.here
+    ∙ ap₂ with_rule days c.option-4.ensures.rule in
+    let options : app_of c.in_ok-arg-5.field-0 ≡ with_options =
+    c.in_ok-arg-5.ensures.shape c.option-5.ensures.here
+    ∙ ap₂ with_rule workers c.option-5.ensures.rule in
+    let close = c.in_ok-arg-6.ensures.shape c.flag.ensures.here
     ∙ ap₂ with_rule options c.flag.ensures.rule in
-    let plain = c.in_ok-arg-6.ensures.shape c.flag-2.ensures.here
+    let plain = c.in_ok-arg-7.ensures.shape c.flag-2.ensures.here
     ∙ ap₂ with_rule close c.flag-2.ensures.rule in
-    let mirror = c.in_ok-arg-7.ensures.shape c.flag-3.ensures.here
+    let mirror = c.in_ok-arg-8.ensures.shape c.flag-3.ensures.here
     ∙ ap₂ with_rule plain c.flag-3.ensures.rule in
-    let json = c.in_ok-arg-8.ensures.shape c.flag-4.ensures.here
+    let json = c.in_ok-arg-9.ensures.shape c.flag-4.ensures.here
     ∙ ap₂ with_rule mirror c.flag-4.ensures.rule in
-    let csv = c.in_ok-arg-9.ensures.shape c.flag-5.ensures.here
+    let csv = c.in_ok-arg-10.ensures.shape c.flag-5.ensures.here
     ∙ ap₂ with_rule json c.flag-5.ensures.rule in
-    IfOk-weaker c.arg-10.result _ _
+    IfOk-weaker c.arg-11.result _ _
     (λ command added. added.shape c.words.ensures.here ∙ ap₂ with_rule csv c.words.ensures.rule)
-    c.arg-10.ensures
+    c.arg-11.ensures
