@@ -1,5 +1,6 @@
 -- Small feeds, on which the definitions are tried.
 use Rattle.std.proofs.Common.{◌≡◌, ℕ, List, [], ◌∷◌, ◌++◌, refl, true, false, inl, inr, Some, pos, fold, ◌*◌}
+use Rattle.tb_base.specs.declared.days.ServiceDay.TheVariants as day
 use Rattle.tb_base.specs.declared.table.Event.{Event}
 use Rattle.tb_base.specs.declared.table.Stop.{Stop}
 use Rattle.tb_base.specs.TimetableData.{TripData, TimetableData}
@@ -17,7 +18,7 @@ abbrev at : ℕ → ℕ → Event
 at stop minute = record { stop = stop; arr = pos (60 * minute); dep = pos (60 * minute); board = true; alight = true }
 
 abbrev trip : List Event → TripData
-trip es = record { name = []; before = false; events = es }
+trip es = record { name = []; day = day.Date; events = es }
 
 -- a stop whose name is one letter
 abbrev stop : ℕ → Stop

@@ -2,6 +2,7 @@ ghost use Rattle.std.specs.Prelude.{◌≡◌, List, All, AllPairs, Contains};
 ghost use Rattle.tb_base.specs.BestValues.{AreBestValues, IsAttained, IsBest, IsStep, IsNoWorse, QueryData};
 ghost use Rattle.tb_base.specs.Soundness.{IsSound};
 ghost use Rattle.tb_base.specs.TimetableData.{TimetableData};
+ghost use Rattle.tb_base.specs.Wider.{HasAllOf};
 ghost use Rattle.tb_base.specs.declared.query.Value.{Value};
 
 /// The best values are one list.
@@ -21,6 +22,14 @@ pub fn best_values_cover()
 pub fn no_best_is_absurd()
     ensures { (T : TimetableData) → IsSound T → (Q : QueryData) (w : Value) → IsAttained T Q w →
         ((v : Value) → IsBest T Q v → IsNoWorse v w → ⊥) → ⊥ }
+{}
+
+/// Further trips make nothing worse: what is attained in a timetable has a best value that is no
+/// worse in each one with the same stops, stations and footpaths, and with all its trips.
+pub fn wider_no_worse()
+    ensures { (T U : TimetableData) → IsSound U → HasAllOf U T → (Q : QueryData) (vs : List Value) →
+        AreBestValues U Q vs → (v : Value) →
+        IsAttained T Q v → (w : Value) × Contains vs w × IsNoWorse w v }
 {}
 
 /// Attained values with ever more rides and ever earlier arrivals, all best values among them, are
