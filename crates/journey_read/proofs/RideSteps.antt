@@ -4,6 +4,7 @@ use Rattle.std.specs.Prelude.{slice_get, if◌then◌else◌}
 use Rattle.std.specs.Option.{option_map, option_or}
 use Rattle.std.proofs.Math.Seq.{drop-cons}
 use Rattle.std.proofs.lemmas.Option.{get_or_from_slice_get}
+use Rattle.tb_base.specs.declared.days.ServiceDay.{ServiceDay}
 use Rattle.tb_base.specs.declared.query.Leg.{Leg}
 use Rattle.tb_base.specs.declared.table.Event.{Event}
 use Rattle.tb_base.specs.TimetableData.{TripData}
@@ -80,21 +81,21 @@ module _ (ends : Ends) (events : List Event) where
   none_found None at past h = rw (drop_past events at past) at h
   none_found (Some b) at past h = rw (drop_past events at past) at h
 
-module _ (name : List ℕ) (before : Bool) (ends : Ends) (trips : List TripData) where
+module _ (name : List ℕ) (day : ServiceDay) (ends : Ends) (trips : List TripData) where
   abbrev pub IsLookedForFrom : ℕ → Type 0
-  IsLookedForFrom t = ride_among name before ends t (drop t trips) ≡ ride_among name before ends 0 trips
+  IsLookedForFrom t = ride_among name day ends t (drop t trips) ≡ ride_among name day ends 0 trips
 
-  next_trip : (t : ℕ) (trip : TripData) → t < length trips → slice_get trips t ≡ Some trip → IsLookedForFrom t → option_or (ride_on name before ends t trip) (ride_among name before ends (t + 1) (drop (t + 1) trips)) ≡ ride_among name before ends 0 trips
+  next_trip : (t : ℕ) (trip : TripData) → t < length trips → slice_get trips t ≡ Some trip → IsLookedForFrom t → option_or (ride_on name day ends t trip) (ride_among name day ends (t + 1) (drop (t + 1) trips)) ≡ ride_among name day ends 0 trips
   next_trip t trip inside is h =
       let at : get_or trips t trip ≡ trip = get_or_from_slice_get trips t trip trip is in
       let rest : drop t trips ≡ trip ∷ drop (t + 1) trips = rw add-one (drop-cons trips t trip inside ∙ ap (λ y. y ∷ drop (suc t) trips) at) in
-      ap (ride_among name before ends t) (sym rest) ∙ h
+      ap (ride_among name day ends t) (sym rest) ∙ h
 
-  pub trip_has_none : (t : ℕ) (trip : TripData) → t < length trips → slice_get trips t ≡ Some trip → IsLookedForFrom t → ride_on name before ends t trip ≡ None → IsLookedForFrom (t + 1)
+  pub trip_has_none : (t : ℕ) (trip : TripData) → t < length trips → slice_get trips t ≡ Some trip → IsLookedForFrom t → ride_on name day ends t trip ≡ None → IsLookedForFrom (t + 1)
   trip_has_none t trip inside is h none = let o = next_trip t trip inside is h in rw none at o
 
-  pub trip_has_one : (t : ℕ) (trip : TripData) (leg : Leg) → t < length trips → slice_get trips t ≡ Some trip → IsLookedForFrom t → ride_on name before ends t trip ≡ Some leg → Some leg ≡ ride_among name before ends 0 trips
+  pub trip_has_one : (t : ℕ) (trip : TripData) (leg : Leg) → t < length trips → slice_get trips t ≡ Some trip → IsLookedForFrom t → ride_on name day ends t trip ≡ Some leg → Some leg ≡ ride_among name day ends 0 trips
   trip_has_one t trip leg inside is h some = let o = next_trip t trip inside is h in rw some at o
 
-  pub no_trip : (t : ℕ) → length trips ≤ t → IsLookedForFrom t → None ≡ ride_among name before ends 0 trips
+  pub no_trip : (t : ℕ) → length trips ≤ t → IsLookedForFrom t → None ≡ ride_among name day ends 0 trips
   no_trip t past h = rw (drop_past trips t past) at h

@@ -1,12 +1,14 @@
 -- What a text claims: the value of a journey, and its legs; or the first fault of its lines.
-use Rattle.std.specs.Prelude.{◌≡◌, ℕ, ◌+◌, List, [], ◌∷◌, length, codes, bytes_eq, nat_lt, position, ◌&&◌, Option, Some, None, Result, Ok, Err, MatchResult, if◌then◌else◌, Bool, true, false}
+use Rattle.std.specs.Prelude.{◌≡◌, ℕ, ◌+◌, List, [], ◌∷◌, length, codes, bytes_eq, nat_lt, position, ◌&&◌, Option, Some, None, Result, Ok, Err, MatchResult, if◌then◌else◌}
 use Rattle.std.specs.Option.{ok_or, option_and_then, option_map}
 use Rattle.gtfs_rows.specs.Numbers.{number_of}
 use Rattle.gtfs_rows.specs.Steps.{and_then, prepend}
 use Rattle.tb_base.specs.BestValues.{ChoiceData}
+use Rattle.tb_base.specs.ServiceDays.{day_by}
 use Rattle.text_lines.specs.LineWords.{line_words}
 use Rattle.tb_base.specs.Refusals.{IsRefused}
 use Rattle.tb_base.specs.TimetableData.{TimetableData}
+use Rattle.tb_base.specs.declared.days.ServiceDay.{ServiceDay}
 use Rattle.tb_base.specs.declared.query.Leg.{Leg}
 use Rattle.tb_base.specs.declared.query.Leg.TheVariants.{Walk as WalkLeg}
 use Rattle.tb_base.specs.declared.query.Value.{Value}
@@ -51,22 +53,17 @@ ends_of T n from departure to arrival =
     (λ p. and_then (stop_of T n to)
     (λ q. Ok (record { from = p; departure = d; to = q; arrival = a })))))
 
--- the ride that line n claims between these ends, on a trip with this name
-abbrev pub ride_named : TimetableData → ℕ → List ℕ → Bool → Ends → Result Leg JourneyFault
-ride_named T n trip before ends =
-    ok_or (ride_among trip before ends 0 T.trips) (fault.NoSuchRide n)
+-- the ride that line n claims between these ends, on a trip with this name and
+-- service day
+abbrev pub ride_named : TimetableData → ℕ → List ℕ → ServiceDay → Ends → Result Leg JourneyFault
+ride_named T n trip day ends =
+    ok_or (ride_among trip day ends 0 T.trips) (fault.NoSuchRide n)
 
--- what stands behind a ride: `day-before` where its trip began on the day before, else nothing
-abbrev pub before_of : List (List ℕ) → Option Bool
-before_of [] = Some false
-before_of (mark ∷ []) = if bytes_eq mark (codes "day-before") then Some true else None
-before_of (mark ∷ more ∷ words) = None
-
--- line n is `ride TRIP STOP TIME STOP TIME`, or the same with `day-before` behind it
+-- line n is `ride TRIP STOP TIME STOP TIME`, or the same with a service day behind it
 abbrev pub ride_of : TimetableData → ℕ → List (List ℕ) → Result Leg JourneyFault
 ride_of T n (trip ∷ from ∷ departure ∷ to ∷ arrival ∷ marks) =
-    and_then (good n (before_of marks))
-    (λ before. and_then (ends_of T n from departure to arrival) (ride_named T n trip before))
+    and_then (good n (day_by marks))
+    (λ day. and_then (ends_of T n from departure to arrival) (ride_named T n trip day))
 ride_of T n words = Err (fault.BadLine n)
 
 -- the leg that line n claims

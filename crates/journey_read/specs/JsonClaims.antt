@@ -1,6 +1,6 @@
 -- What a JSON text claims: the value of a journey, and its legs; or its first fault, by the line at
 -- which the same claim would have it in lines: the value is line 1, and a leg a line after it.
-use Rattle.std.specs.Prelude.{ℕ, ◌+◌, List, [], ◌∷◌, length, codes, bytes_eq, nat_lt, Option, Some, None, Result, Ok, Err, if◌then◌else◌, Bool, true, false}
+use Rattle.std.specs.Prelude.{ℕ, ◌+◌, List, [], ◌∷◌, length, codes, bytes_eq, nat_lt, Option, Some, None, Result, Ok, Err, if◌then◌else◌}
 use Rattle.std.specs.Option.{option_and_then}
 use Rattle.std.specs.Str.{is_utf8}
 use Rattle.json.specs.Find.{as_array, as_number, as_str, get}
@@ -8,6 +8,8 @@ use Rattle.json.specs.Json.{Items, Json, document, item, no_items}
 use Rattle.gtfs_rows.specs.Steps.{and_then, prepend}
 use Rattle.tb_base.specs.BestValues.{ChoiceData}
 use Rattle.tb_base.specs.TimetableData.{TimetableData}
+use Rattle.tb_base.specs.declared.days.ServiceDay.{ServiceDay}
+use Rattle.tb_base.specs.declared.days.ServiceDay.TheVariants as day
 use Rattle.tb_base.specs.declared.query.Leg.{Leg}
 use Rattle.tb_base.specs.declared.query.Value.{Value}
 use Rattle.journey_read.specs.Claims.{claim_with, ends_of, good, ride_named, value_shown, walk_between}
@@ -38,19 +40,25 @@ json_ends T n leg =
     (λ departure. and_then (good n (text_at (codes "to") leg))
     (λ to. and_then (good n (text_at (codes "arrival") leg)) (ends_of T n from departure to))))
 
--- whether a ride's trip began on the day before: `"day":-1`, or no such member
-abbrev pub before_in : Option Json → Option Bool
-before_in None = Some false
-before_in (Some day) =
-    option_and_then (λ number. if bytes_eq number (codes "-1") then Some true else None)
-    (as_number day)
+-- the service day that a number names, in days after the date
+abbrev pub day_numbered : List ℕ → Option ServiceDay
+day_numbered number =
+    if bytes_eq number (codes "-1") then Some day.Before
+    else if bytes_eq number (codes "1") then Some day.After
+    else if bytes_eq number (codes "2") then Some day.SecondAfter
+    else None
+
+-- the service day of a ride's trip: the date where there is no such member
+abbrev pub day_in : Option Json → Option ServiceDay
+day_in None = Some day.Date
+day_in (Some j) = option_and_then day_numbered (as_number j)
 
 -- `{"trip":TRIP,"from":STOP,"departure":TIME,"to":STOP,"arrival":TIME}`, or the same with a day
 abbrev pub json_ride : TimetableData → ℕ → Json → Json → Result Leg JourneyFault
 json_ride T n trip leg =
     and_then (good n (as_str trip))
-    (λ name. and_then (good n (before_in (get (codes "day") leg)))
-    (λ before. and_then (json_ends T n leg) (ride_named T n name before)))
+    (λ name. and_then (good n (day_in (get (codes "day") leg)))
+    (λ day. and_then (json_ends T n leg) (ride_named T n name day)))
 
 -- a leg: a ride where it has a trip, else a walk
 abbrev pub json_leg_by : TimetableData → ℕ → Option Json → Json → Result Leg JourneyFault

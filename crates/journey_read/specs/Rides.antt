@@ -1,10 +1,12 @@
 -- Which ride a trip's name, its day, two stops and two times stand for.
-use Rattle.std.specs.Prelude.{ℕ, ◌+◌, ◌==◌, ◌&&◌, Bool, true, false, not, List, [], ◌∷◌, bytes_eq, Option, Some, None, if◌then◌else◌}
+use Rattle.std.specs.Prelude.{ℕ, ◌+◌, ◌==◌, ◌&&◌, List, [], ◌∷◌, bytes_eq, Option, Some, None, if◌then◌else◌}
 use Rattle.std.specs.Option.{option_map, option_or}
 use Rattle.std.specs.Ordering.{int_eq}
+use Rattle.tb_base.specs.declared.days.ServiceDay.{ServiceDay}
 use Rattle.tb_base.specs.declared.query.Leg.{Leg}
 use Rattle.tb_base.specs.declared.query.Leg.TheVariants.{Ride as RideLeg}
 use Rattle.tb_base.specs.declared.table.Event.{Event}
+use Rattle.tb_base.specs.ServiceDays.{same_day}
 use Rattle.tb_base.specs.TimetableData.{TripData}
 use Rattle.journey_read.specs.declared.rides.Ends.{Ends}
 
@@ -30,20 +32,15 @@ ends_among ends i (e ∷ events) =
     (if departs ends e then option_map (λ j. (i, j)) (end_among ends (i + 1) events) else None)
     (ends_among ends (i + 1) events)
 
--- a trip began on the day before, or on the day itself, as is asked
-abbrev pub is_of_day : Bool → Bool → Bool
-is_of_day true before = before
-is_of_day false before = not before
-
--- the ride on a trip, if the trip has the name, began on the day asked for, and has two such events
-abbrev pub ride_on : List ℕ → Bool → Ends → ℕ → TripData → Option Leg
-ride_on name before ends t trip =
-    if bytes_eq name trip.name && is_of_day before trip.before
+-- the ride on a trip, if the trip has the name and the service day, and has two such events
+abbrev pub ride_on : List ℕ → ServiceDay → Ends → ℕ → TripData → Option Leg
+ride_on name day ends t trip =
+    if bytes_eq name trip.name && same_day day trip.day
     then option_map (λ at. RideLeg t at.0 at.1) (ends_among ends 0 trip.events)
     else None
 
 -- the ride on the lowest-numbered of these trips that has one; the first of them has number t
-abbrev pub ride_among : List ℕ → Bool → Ends → ℕ → List TripData → Option Leg
-ride_among name before ends t [] = None
-ride_among name before ends t (trip ∷ trips) =
-    option_or (ride_on name before ends t trip) (ride_among name before ends (t + 1) trips)
+abbrev pub ride_among : List ℕ → ServiceDay → Ends → ℕ → List TripData → Option Leg
+ride_among name day ends t [] = None
+ride_among name day ends t (trip ∷ trips) =
+    option_or (ride_on name day ends t trip) (ride_among name day ends (t + 1) trips)

@@ -25,8 +25,7 @@ pub enum JourneyFault {
     BadLine(u32),
     /// No stop has a name that the line gives.
     UnknownStop(u32),
-    /// No trip has the name, began on the day before exactly where the line says `day-before`, and
-    /// calls at the stops at the times, in order.
+    /// No trip has the name and the service day, and calls at the stops at the times, in order.
     NoSuchRide(u32),
     /// More than 1,048,576 bytes.
     TooLong,

@@ -3,7 +3,7 @@ ghost use Rattle.std.specs.Prelude.{◌≡◌, ◌<◌, ◌≤◌, ◌^◌, IfOk
 ghost use Rattle.json.specs.Find.{as_array, get};
 ghost use Rattle.json.specs.Value.{items_view, value_view};
 ghost use Rattle.tb_base.specs.Refusals.{Yields};
-ghost use Rattle.journey_read.specs.JsonClaims.{before_in, json_claim, json_claim_of, json_ends, json_leg, json_legs, json_ride, json_value, json_walk, number_at, text_at};
+ghost use Rattle.journey_read.specs.JsonClaims.{day_in, day_numbered, json_claim, json_claim_of, json_ends, json_leg, json_legs, json_ride, json_value, json_walk, number_at, text_at};
 
 use crate::claim::{Claimed, JourneyFault};
 use crate::legs::{ends_of, ride_named, value_shown, walk_between};
@@ -11,7 +11,7 @@ use crate::reader::MOST_BYTES;
 use crate::rides::Ends;
 use json::{Error, Scratch, Value as Json};
 use std::alloc::Global;
-use tb_base::{Leg, Refused, Timetable, Value};
+use tb_base::{Leg, Refused, ServiceDay, Timetable, Value};
 
 // The text of a member that is a string.
 fn text_at<'a>(object: &Json<'a>, name: &str) -> Option<&'a [u8]>
@@ -50,19 +50,28 @@ fn json_ends(table: &Timetable, line: u32, leg: &Json<'_>) -> Result<Ends, Journ
     ends_of(table, line, from, departure, to, arrival)
 }
 
-// Whether a ride's trip began on the day before: `"day":-1`, or no such member.
-fn before_in(leg: &Json<'_>) -> Option<bool>
-    ensures { result ≡ before_in (get (codes "day") (value_view leg.now)) }
+// The service day that a number names, in days after the date.
+fn day_numbered(number: &[u8]) -> Option<ServiceDay>
+    ensures { result ≡ day_numbered number.now }
+{
+    if number == b"-1".as_slice() {
+        Some(ServiceDay::Before)
+    } else if number == b"1".as_slice() {
+        Some(ServiceDay::After)
+    } else if number == b"2".as_slice() {
+        Some(ServiceDay::SecondAfter)
+    } else {
+        None
+    }
+}
+
+// The service day of a ride's trip: the date where there is no such member.
+fn day_in(leg: &Json<'_>) -> Option<ServiceDay>
+    ensures { result ≡ day_in (get (codes "day") (value_view leg.now)) }
 {
     match leg.get("day") {
-        None => Some(false),
-        Some(day) => {
-            if day.as_number()?.as_bytes() == b"-1".as_slice() {
-                Some(true)
-            } else {
-                None
-            }
-        }
+        None => Some(ServiceDay::Date),
+        Some(day) => day_numbered(day.as_number()?.as_bytes()),
     }
 }
 
@@ -76,9 +85,9 @@ fn ride_of(
     ensures { result ≡ json_ride table.now line (value_view trip.now) (value_view leg.now) }
 {
     let name = trip.as_str().ok_or(JourneyFault::BadLine(line))?;
-    let before = before_in(leg).ok_or(JourneyFault::BadLine(line))?;
+    let day = day_in(leg).ok_or(JourneyFault::BadLine(line))?;
     let ends = json_ends(table, line, leg)?;
-    ride_named(table, line, name.as_bytes(), before, &ends)
+    ride_named(table, line, name.as_bytes(), day, &ends)
 }
 
 // A leg.
@@ -160,8 +169,8 @@ fn json_claim(
 
 /// The journey that a JSON text claims, or exactly its first fault: one JSON value in UTF-8, an
 /// object with `arrive`, `rides` and `legs`, as `ask` and `profile` write it. A leg with a `trip` is
-/// a ride, with `from`, `departure`, `to` and `arrival` beside it, and `"day":-1` where its trip
-/// began on the day before; each other one a walk, with `from`, `to` and `seconds`. Names, times and
+/// a ride, with `from`, `departure`, `to` and `arrival` beside it, and `"day":N`, N being
+/// -1, 1 or 2, where its trip's service day is N days after the date; each other one a walk, with `from`, `to` and `seconds`. Names, times and
 /// numbers are read as in the lines of `read_journey`, and other members are passed over; of members
 /// with one name the last counts. The value is line 1 and each leg a line after it; what is no JSON
 /// is bad at line 0.

@@ -1,12 +1,12 @@
 //! What the words of a line claim.
 ghost use Rattle.std.specs.Prelude.{◌≡◌};
-ghost use Rattle.journey_read.specs.Claims.{before_of, ends_of, leg_of, ride_named, ride_of, stop_named, stop_of, value_of, value_shown, walk_between, walk_of};
+ghost use Rattle.journey_read.specs.Claims.{ends_of, leg_of, ride_named, ride_of, stop_named, stop_of, value_of, value_shown, walk_between, walk_of};
 
 use crate::claim::JourneyFault;
 use crate::rides::Ends;
 use crate::times::shown_time_of;
 use gtfs_rows::number_of;
-use tb_base::{Leg, Name, Place, StopNo, Timetable, Value};
+use tb_base::{Leg, Name, Place, ServiceDay, StopNo, Timetable, Value};
 
 // The stop with a name.
 fn stop_named(table: &Timetable, name: &[u8]) -> Option<StopNo>
@@ -76,40 +76,28 @@ pub(crate) fn ends_of(
     })
 }
 
-/// The ride that a line claims between these ends, on a trip with this name that began on the day
-/// before, or on the day itself.
+/// The ride that a line claims between these ends, on a trip with this name and service day.
 pub(crate) fn ride_named(
     table: &Timetable,
     line: u32,
     trip: &[u8],
-    before: bool,
+    day: ServiceDay,
     ends: &Ends,
 ) -> Result<Leg, JourneyFault>
-    ensures { result ≡ ride_named table.now line trip.now before ends.now }
+    ensures { result ≡ ride_named table.now line trip.now day ends.now }
 {
-    ends.ride(table, trip, before)
+    ends.ride(table, trip, day)
         .ok_or(JourneyFault::NoSuchRide(line))
 }
 
-// Whether a ride's trip began on the day before: `day-before`, or nothing.
-fn before_of(marks: &[Name]) -> Option<bool>
-    ensures { result ≡ before_of marks.now }
-{
-    match marks {
-        [] => Some(false),
-        [mark] if mark.bytes() == b"day-before".as_slice() => Some(true),
-        _ => None,
-    }
-}
-
-// TRIP STOP TIME STOP TIME, or the same and `day-before`.
+// TRIP STOP TIME STOP TIME, or the same and a service day.
 fn ride_of(table: &Timetable, line: u32, words: &[Name]) -> Result<Leg, JourneyFault>
     ensures { result ≡ ride_of table.now line words.now }
 {
     let [trip, from, departure, to, arrival, marks @ ..] = words else {
         return Err(JourneyFault::BadLine(line));
     };
-    let before = before_of(marks).ok_or(JourneyFault::BadLine(line))?;
+    let day = ServiceDay::by_words(marks).ok_or(JourneyFault::BadLine(line))?;
     let ends = ends_of(
         table,
         line,
@@ -118,11 +106,11 @@ fn ride_of(table: &Timetable, line: u32, words: &[Name]) -> Result<Leg, JourneyF
         to.bytes(),
         arrival.bytes(),
     )?;
-    ride_named(table, line, trip.bytes(), before, &ends)
+    ride_named(table, line, trip.bytes(), day, &ends)
 }
 
 /// The leg that a line claims: `walk STOP STOP SECONDS`, `ride TRIP STOP TIME STOP TIME`, or the
-/// latter with `day-before` behind it.
+/// latter with `day-before`, `day-after` or `day+2` behind it.
 pub(crate) fn leg_of(table: &Timetable, line: u32, words: &[Name]) -> Result<Leg, JourneyFault>
     ensures { result ≡ leg_of table.now line words.now }
 {

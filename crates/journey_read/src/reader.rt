@@ -136,9 +136,10 @@ fn claim_in_lines(
 /// feed is a line, unless it is empty. The words of a line are those of `line_words`. Lines without
 /// words, and those whose first byte is `#`, are passed over. The first other line is `arrive TIME
 /// rides N`; each further one `walk STOP STOP SECONDS`, `ride TRIP STOP TIME STOP TIME`, or the
-/// latter with `day-before`. A ride is that of the lowest-numbered trip with the name that began on
-/// the day before exactly where `day-before` stands, and calls at the first stop with that departure
-/// and later at the second with that arrival; of its events the first such pair counts.
+/// latter with `day-before`, `day-after` or `day+2`. A ride is that of the lowest-numbered trip with
+/// the name and the service day that these say, the date where none stands there, that calls at the
+/// first stop with that departure and later at the second with that arrival; of its events the first
+/// such pair counts.
 pub fn read_journey(
     alloc: Global,
     table: &Timetable,

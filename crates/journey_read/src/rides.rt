@@ -2,7 +2,7 @@
 ghost use Rattle.std.specs.Prelude.{◌≡◌, ◌<◌, ◌^◌, length};
 ghost use Rattle.journey_read.specs.Rides.{arrives, departs, ends_among, ride_among, ride_on};
 
-use tb_base::{Event, Leg, Sec, StopNo, Timetable, Trip, TripNo};
+use tb_base::{Event, Leg, Sec, ServiceDay, StopNo, Timetable, Trip, TripNo};
 
 /// Where and when a ride begins and ends.
 #[derive(Clone, Copy)]
@@ -52,13 +52,13 @@ impl Ends {
         None
     }
 
-    // The ride on a trip with this number, if the trip has the name, began on the day before or
-    // not, as is asked, and has such a ride.
-    fn on(&self, number: TripNo, trip: &Trip, name: &[u8], before: bool) -> Option<Leg>
+    // The ride on a trip with this number, if the trip has the name and the service day, and has
+    // such a ride.
+    fn on(&self, number: TripNo, trip: &Trip, name: &[u8], day: ServiceDay) -> Option<Leg>
         requires { length trip.now.events < 2 ^ 32 }
-        ensures { result ≡ ride_on name.now before self.now number trip.now }
+        ensures { result ≡ ride_on name.now day self.now number trip.now }
     {
-        if name != trip.name.bytes() || before != trip.before {
+        if name != trip.name.bytes() || !day.is(trip.day) {
             return None;
         }
         let (board, alight) = self.among(trip.events.as_slice())?;
@@ -69,14 +69,13 @@ impl Ends {
         })
     }
 
-    /// The ride on the lowest-numbered trip that has one, of those with a name that began on the
-    /// day before, or of those that did not.
-    pub(crate) fn ride(&self, table: &Timetable, name: &[u8], before: bool) -> Option<Leg>
-        ensures { result ≡ ride_among name.now before self.now 0 table.now.trips }
+    /// The ride on the lowest-numbered trip that has one, of those with a name and a service day.
+    pub(crate) fn ride(&self, table: &Timetable, name: &[u8], day: ServiceDay) -> Option<Leg>
+        ensures { result ≡ ride_among name.now day self.now 0 table.now.trips }
     {
         table.soundness();
         for t in 0..table.trip_count() {
-            if let Some(leg) = self.on(TripNo(t), table.trip(TripNo(t)), name, before) {
+            if let Some(leg) = self.on(TripNo(t), table.trip(TripNo(t)), name, day) {
                 return Some(leg);
             }
         }
