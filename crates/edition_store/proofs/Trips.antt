@@ -1,11 +1,12 @@
 -- Trips that run backwards: their events, and that they are sound.
-use Rattle.std.proofs.Common.{◌≡◌, ◌∙◌, sym, ap, subst, refl, ℕ, Bool, ◌+◌, ◌-◌, ◌<◌, ◌≤ℤ◌, List, [], ◌∷◌, ◌++◌, length, get_or, map, take, Some, arith}
+use Rattle.std.proofs.Common.{◌≡◌, ◌∙◌, sym, ap, subst, refl, ℕ, ◌+◌, ◌-◌, ◌<◌, ◌≤ℤ◌, List, [], ◌∷◌, ◌++◌, length, get_or, map, take, Some, arith}
 use Rattle.std.specs.Prelude.{All, slice_get, sum_by}
 use Rattle.std.proofs.lemmas.Int.{ints}
 use Rattle.std.proofs.lemmas.List.Elements.{All-map}
 use Rattle.std.proofs.lemmas.List.Sums.{sum_by-cons}
 use Rattle.std.proofs.lemmas.List.{get_or-map, get_or-reverse, length-map, length-reverse, map_more, take_more}
 use Rattle.std.proofs.lemmas.Option.{get_or_from_slice_get, slice_get_within}
+use Rattle.tb_base.specs.declared.days.ServiceDay.{ServiceDay}
 use Rattle.tb_base.specs.declared.table.Event.{Event}
 use Rattle.tb_base.specs.Soundness.{IsSoundEvent, IsSoundTrip}
 use Rattle.tb_base.specs.TimetableData.{TripData, no_event}
@@ -68,8 +69,8 @@ events_in ts ms is = ap (sum_by (λ t. length (TripData.events t))) is ∙ same 
     same (t ∷ ts) = omega (arith, sum_by-cons (λ t. length (TripData.events t)) (mirror_trip t) (map mirror_trip ts), sum_by-cons (λ t. length (TripData.events t)) t ts, length-mirror_events t.events, same ts)
 
 -- a trip that is made of its parts
-pub trip_is : (x : TripData) (name : List ℕ) (before : Bool) (es : List Event) → name ≡ x.name → before ≡ x.before → es ≡ mirror_events x.events → record { name = name; before = before; events = es } ≡ mirror_trip x
-trip_is x name before es n b e = λ i. record { name = n i; before = b i; events = e i }
+pub trip_is : (x : TripData) (name : List ℕ) (day : ServiceDay) (es : List Event) → name ≡ x.name → day ≡ x.day → es ≡ mirror_events x.events → record { name = name; day = day; events = es } ≡ mirror_trip x
+trip_is x name day es n d e = λ i. record { name = n i; day = d i; events = e i }
 
 -- one trip more
 pub trip_more : (ts : List TripData) (i : ℕ) (t : TripData) (ys zs : List TripData) → ys ≡ map mirror_trip (take i ts) → slice_get ts i ≡ Some t → zs ≡ ys ++ mirror_trip t ∷ [] → zs ≡ map mirror_trip (take (i + 1) ts)

@@ -35,7 +35,7 @@ events_twice es =
 
 trips_twice : (ts : List TripData) → map mirror_trip (map mirror_trip ts) ≡ ts
 trips_twice [] = refl
-trips_twice (t ∷ ts) = λ i. record { name = t.name; before = t.before; events = events_twice t.events i } ∷ trips_twice ts i
+trips_twice (t ∷ ts) = λ i. record { name = t.name; day = t.day; events = events_twice t.events i } ∷ trips_twice ts i
 
 pub mirror_back : (T M : TimetableData) → IsMirror T M → IsMirror M T
 mirror_back T M m = record {

@@ -24,7 +24,7 @@ abbrev pub mirror_events : List Event → List Event
 mirror_events events = reverse (map mirror_event events)
 
 abbrev pub mirror_trip : TripData → TripData
-mirror_trip t = record { name = t.name; before = t.before; events = mirror_events t.events }
+mirror_trip t = record { name = t.name; day = t.day; events = mirror_events t.events }
 
 -- change times stay, and each footpath leads back, in as many seconds
 pub record LeadBack (F G : FootpathData) : Type 0 where

@@ -46,13 +46,9 @@ pub(crate) fn mirrored_trips(alloc: Global, table: &Timetable) -> Result<Vec<Tri
     for t in 0..table.trip_count() {
         let trip = table.trip(TripNo(t));
         let name = Name::new(alloc, trip.name.bytes())?;
-        let before = trip.before;
+        let day = trip.day;
         let events = mirrored_events(alloc, table, TripNo(t))?;
-        trips.push(Trip {
-            name,
-            before,
-            events,
-        })?;
+        trips.push(Trip { name, day, events })?;
     }
     Ok(trips)
 }
