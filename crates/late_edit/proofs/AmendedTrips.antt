@@ -12,7 +12,7 @@ use Rattle.tb_base.specs.Soundness.{IsSound, IsSoundTrip}
 use Rattle.tb_base.specs.TimetableData.{TimetableData, TripData, no_trip}
 use Rattle.late_edit.specs.Amended.{amended_trips, events_after, is_named, trip_named, trips_after, trips_updated, with_events, with_trips}
 use Rattle.late_edit.specs.Finding.{IsTimedEvent}
-use Rattle.late_edit.specs.Updates.{before_of, line_of, trip_of}
+use Rattle.late_edit.specs.Updates.{day_of, line_of, trip_of}
 use Rattle.late_edit.specs.declared.late.LateFault.TheVariants as fault
 use Rattle.late_edit.specs.declared.update.Update.{Update}
 use Rattle.late_edit.proofs.NewEvents.{IsNewEvents, new_events}
@@ -47,7 +47,7 @@ one_updated u trips ms h =
       trip = a.0;
       events = b.0;
       named = named;
-      inside = (position-Some (is_named (before_of u) (trip_of u)) trips a.0 no_trip named).0;
+      inside = (position-Some (is_named (day_of u) (trip_of u)) trips a.0 no_trip named).0;
       new = new_events u t.events b.0 b.1;
       is = (let e : Ok (set trips a.0 (with_events t b.0)) ≡ Ok ms = b.2 in let f : set trips a.0 (with_events t b.0) ≡ ms = cc in sym f);
     }

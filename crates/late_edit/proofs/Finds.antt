@@ -10,7 +10,8 @@ use Rattle.std.proofs.lemmas.List.Folds.{position_or_len-set}
 use Rattle.std.proofs.lemmas.Slice.Eq.{bytes_eq-Decides}
 use Rattle.std.specs.Map.{lookup}
 use Rattle.indexmap.specs.IndexMap.{insert_entry}
-use Rattle.tb_base.specs.Lines.{same_mark}
+use Rattle.tb_base.specs.declared.days.ServiceDay.{ServiceDay}
+use Rattle.tb_base.specs.ServiceDays.{same_day}
 use Rattle.tb_base.specs.TimetableData.{TripData}
 use Rattle.late_edit.specs.Amended.{is_named}
 use Rattle.late_edit.specs.Finding.{FindsFirst, FirstData, trip_found}
@@ -70,11 +71,11 @@ module _ {X : Type 0} (p : X → Bool) where
 
 -- what finds the first trip of each name among those from one on
 abbrev pub FindsFrom : FirstData → List TripData → ℕ → Type 0
-FindsFrom F trips t = (before : Bool) (name : List ℕ) → trip_found F before name ≡ option_map (λ k. t + k) (position (is_named before name) (drop t trips))
+FindsFrom F trips t = (day : ServiceDay) (name : List ℕ) → trip_found F day name ≡ option_map (λ k. t + k) (position (is_named day name) (drop t trips))
 
-pub finds_none : (F : FirstData) (trips : List TripData) (t : ℕ) → t ≡ length trips → ((before : Bool) (name : List ℕ) → trip_found F before name ≡ None) → FindsFrom F trips t
-finds_none F trips t end none = λ before name.
-    none before name ∙ sym (ap (λ ts. option_map (λ k. t + k) (position (is_named before name) ts)) (ap (λ n. drop n trips) end ∙ drop-length trips))
+pub finds_none : (F : FirstData) (trips : List TripData) (t : ℕ) → t ≡ length trips → ((day : ServiceDay) (name : List ℕ) → trip_found F day name ≡ None) → FindsFrom F trips t
+finds_none F trips t end none = λ day name.
+    none day name ∙ sym (ap (λ ts. option_map (λ k. t + k) (position (is_named day name) ts)) (ap (λ n. drop n trips) end ∙ drop-length trips))
 
 shifted : (b : Bool) (o : Option ℕ) (t : ℕ) → cond b (Some t) (option_map (λ k. t + 1 + k) o) ≡ option_map (λ k. t + k) (cond b (Some 0) (option_map (λ k. 1 + k) o))
 shifted true o t = let e : t ≡ t + 0 = omega arith in ap (λ (k : ℕ). Some k) e
@@ -82,11 +83,11 @@ shifted false None t = refl
 shifted false (Some k) t = let e : t + 1 + k ≡ t + (1 + k) = omega arith in ap (λ (j : ℕ). Some j) e
 
 pub finds_more : (old new : FirstData) (trips : List TripData) (t : ℕ) (x : TripData) → t < length trips → x ≡ get_or trips t x → FindsFrom old trips (t + 1)
-    → ((before : Bool) (name : List ℕ) → trip_found new before name ≡ cond (is_named before name x) (Some t) (trip_found old before name)) → FindsFrom new trips t
-finds_more old new trips t x inside at so_far after = λ before name.
-    let p : TripData → Bool = is_named before name in
+    → ((day : ServiceDay) (name : List ℕ) → trip_found new day name ≡ cond (is_named day name x) (Some t) (trip_found old day name)) → FindsFrom new trips t
+finds_more old new trips t x inside at so_far after = λ day name.
+    let p : TripData → Bool = is_named day name in
     let rest : drop t trips ≡ x ∷ drop (t + 1) trips = drop_more trips t x inside ∙ ap (λ (y : TripData). y ∷ drop (t + 1) trips) (sym at) in
-    after before name ∙ (ap (λ o. cond (p x) (Some t) o) (so_far before name)
+    after day name ∙ (ap (λ o. cond (p x) (Some t) o) (so_far day name)
     ∙ (shifted (p x) (position p (drop (t + 1) trips)) t
     ∙ sym (ap (λ ts. option_map (λ k. t + k) (position p ts)) rest ∙ ap (λ o. option_map (λ k. t + k) o) (position_first p x (drop (t + 1) trips)))))
 
@@ -95,16 +96,16 @@ from_zero None = refl
 from_zero (Some k) = let e : 0 + k ≡ k = omega arith in ap (λ (j : ℕ). Some j) e
 
 pub finds_first : (F : FirstData) (trips : List TripData) (t : ℕ) → t ≡ 0 → FindsFrom F trips t → FindsFirst F trips
-finds_first F trips t start h = λ before name.
+finds_first F trips t start h = λ day name.
     let k : FindsFrom F trips 0 = subst (FindsFrom F trips) start h in
-    k before name ∙ from_zero (position (is_named before name) trips)
+    k day name ∙ from_zero (position (is_named day name) trips)
 
 -- a trip in whose place one of its name and day stands is found as before
-pub finds_set : (F : FirstData) (trips : List TripData) (t : ℕ) (x d : TripData) → x.name ≡ (get_or trips t d).name → x.before ≡ (get_or trips t d).before → FindsFirst F trips
+pub finds_set : (F : FirstData) (trips : List TripData) (t : ℕ) (x d : TripData) → x.name ≡ (get_or trips t d).name → x.day ≡ (get_or trips t d).day → FindsFirst F trips
     → FindsFirst F (set trips t x)
-finds_set F trips t x d named began h = λ before name.
-    let p : TripData → Bool = is_named before name in
-    let same : p x ≡ p (get_or trips t d) = λ i. same_mark before (began i) && bytes_eq name (named i) in
+finds_set F trips t x d named began h = λ day name.
+    let p : TripData → Bool = is_named day name in
+    let same : p x ≡ p (get_or trips t d) = λ i. same_day day (began i) && bytes_eq name (named i) in
     let place = position_or_len-set p trips t x d same in
     let long : length (set trips t x) ≡ length trips = length-set trips t x in
-    h before name ∙ sym (λ i. cond (nat_lt (place i) (long i)) (Some (place i)) None)
+    h day name ∙ sym (λ i. cond (nat_lt (place i) (long i)) (Some (place i)) None)

@@ -12,7 +12,7 @@ bare_step : (T : TimetableData) (u : Update) (trips ms : List TripData) → IsOn
 bare_step T u trips ms one so_far =
     let t = get_or trips one.trip no_trip in
     let events : map bare_event one.events ≡ map bare_event t.events = one.new.bare in
-    let trip : bare_trip (with_events t one.events) ≡ bare_trip t = λ i. record { name = t.name; before = t.before; events = events i } in
+    let trip : bare_trip (with_events t one.events) ≡ bare_trip t = λ i. record { name = t.name; day = t.day; events = events i } in
     so_far ∙ sym (ap (map bare_trip) one.is ∙ map-set_same bare_trip trips one.trip (with_events t one.events) no_trip trip)
 
 pub is_updated : (T U : TimetableData) (updates : List Update) → amended T updates ≡ Ok U → IsUpdated T U

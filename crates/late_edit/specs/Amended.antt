@@ -3,23 +3,24 @@ use Rattle.std.specs.Prelude.{ℕ, ◌-◌, ◌&&◌, ◌||◌, not, List, [], �
 use Rattle.std.specs.List.{list_any}
 use Rattle.std.specs.Option.{ok_or}
 use Rattle.gtfs_rows.specs.Steps.{and_then}
+use Rattle.tb_base.specs.declared.days.ServiceDay.{ServiceDay}
 use Rattle.tb_base.specs.declared.table.Event.{Event}
-use Rattle.tb_base.specs.Lines.{same_mark}
+use Rattle.tb_base.specs.ServiceDays.{same_day}
 use Rattle.tb_base.specs.TimetableData.{TimetableData, TripData, no_event, no_trip}
 use Rattle.late_edit.specs.declared.late.LateFault.{LateFault}
 use Rattle.late_edit.specs.declared.late.LateFault.TheVariants as fault
 use Rattle.late_edit.specs.declared.update.Update.{Update}
 use Rattle.late_edit.specs.declared.update.Update.TheVariants as update
-use Rattle.late_edit.specs.Updates.{before_of, line_of, trip_of}
+use Rattle.late_edit.specs.Updates.{day_of, line_of, trip_of}
 use Rattle.late_edit.specs.UpdateData.{LateData, SkipData}
 
--- a trip has this name, and began on the day before, or not
-abbrev pub is_named : Bool → List ℕ → TripData → Bool
-is_named before name t = same_mark before t.before && bytes_eq name t.name
+-- a trip has this service day and name
+abbrev pub is_named : ServiceDay → List ℕ → TripData → Bool
+is_named day name t = same_day day t.day && bytes_eq name t.name
 
 -- the trip that is named: the lowest-numbered one of its name and day
 abbrev pub trip_named : List TripData → Update → Option ℕ
-trip_named trips u = position (is_named (before_of u) (trip_of u)) trips
+trip_named trips u = position (is_named (day_of u) (trip_of u)) trips
 
 -- an event with its times moved by so many seconds
 abbrev pub moved : ℤ → Event → Event
@@ -84,7 +85,7 @@ events_after (update.Skip skip) events = events_skipped skip events
 
 -- a trip with other events
 abbrev pub with_events : TripData → List Event → TripData
-with_events t events = record { name = t.name; before = t.before; events = events }
+with_events t events = record { name = t.name; day = t.day; events = events }
 
 -- the trips, of which one has the events by what is said of it, or the first fault of that
 abbrev pub trips_updated : Update → List TripData → ℕ → Result (List TripData) LateFault

@@ -1,6 +1,8 @@
 -- What the code that amends a timetable keeps.
-use Rattle.std.specs.Prelude.{◌≡◌, ℕ, List, All, position, bytes_eq, Bool, true, false, Option, pos, negsuc, ◌≤ℤ◌}
+use Rattle.std.specs.Prelude.{◌≡◌, ℕ, List, All, position, bytes_eq, Option, pos, negsuc, ◌≤ℤ◌}
 use Rattle.std.specs.Map.{lookup}
+use Rattle.tb_base.specs.declared.days.ServiceDay.{ServiceDay}
+use Rattle.tb_base.specs.declared.days.ServiceDay.TheVariants as day
 use Rattle.tb_base.specs.declared.table.Event.{Event}
 use Rattle.tb_base.specs.TimetableData.{TripData}
 use Rattle.late_edit.specs.Amended.{is_named}
@@ -13,21 +15,25 @@ Noted = List (List ℕ × ℕ)
 abbrev pub trip_noted : Noted → List ℕ → Option ℕ
 trip_noted noted name = lookup (bytes_eq name) noted
 
--- what is noted of the trips that began on the day itself, and of those that began the day before
+-- what is noted of the trips of each service day
 pub record FirstData : Type 0 where
-  pub of_day : Noted
-  pub of_day_before : Noted
+  pub before : Noted
+  pub date : Noted
+  pub after : Noted
+  pub second_after : Noted
 
--- the trip that is noted of a day and a name
-abbrev pub trip_found : FirstData → Bool → List ℕ → Option ℕ
-trip_found F true name = trip_noted F.of_day_before name
-trip_found F false name = trip_noted F.of_day name
+-- the trip that is noted of a service day and a name
+abbrev pub trip_found : FirstData → ServiceDay → List ℕ → Option ℕ
+trip_found F day.Before name = trip_noted F.before name
+trip_found F day.Date name = trip_noted F.date name
+trip_found F day.After name = trip_noted F.after name
+trip_found F day.SecondAfter name = trip_noted F.second_after name
 
 -- of each day and name the first one of these trips is noted
 abbrev pub FindsFirst : FirstData → List TripData → Type 0
 FindsFirst F trips =
-    (before : Bool) (name : List ℕ) →
-    trip_found F before name ≡ position (is_named before name) trips
+    (day : ServiceDay) (name : List ℕ) →
+    trip_found F day name ≡ position (is_named day name) trips
 
 -- an event within the limits of times, that is not left before it is reached
 pub record IsTimedEvent (e : Event) : Type 0 where

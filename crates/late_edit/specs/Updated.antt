@@ -11,7 +11,7 @@ bare_event e = record { stop = e.stop; arr = pos 0; dep = pos 0; board = false; 
 -- of a trip its name, its day and its stops
 abbrev pub bare_trip : TripData → TripData
 bare_trip t =
-    record { name = t.name; before = t.before; events = map bare_event t.events }
+    record { name = t.name; day = t.day; events = map bare_event t.events }
 
 -- two timetables differ in times and marks alone: without these, all their trips are the same
 pub record IsUpdated (T U : TimetableData) : Type 0 where

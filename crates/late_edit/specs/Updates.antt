@@ -1,10 +1,13 @@
 -- The updates that a file says of trips, or its first bad line.
-use Rattle.std.specs.Prelude.{ℕ, ◌+◌, ◌==◌, List, [], ◌∷◌, ℤ, pos, ◌-ℤ◌, codes, bytes_eq, Bool, true, false, Option, Some, None, Result, Ok, Err, ⊤, if◌then◌else◌}
+use Rattle.std.specs.Prelude.{ℕ, ◌+◌, ◌==◌, List, [], ◌∷◌, ℤ, pos, ◌-ℤ◌, codes, bytes_eq, Option, Some, None, Result, Ok, Err, ⊤, if◌then◌else◌}
 use Rattle.std.specs.Option.{ok_or, option_and_then, option_map, option_to_list}
 use Rattle.gtfs_rows.specs.Numbers.{number_of}
 use Rattle.gtfs_rows.specs.Steps.{and_then, prepend}
+use Rattle.tb_base.specs.declared.days.ServiceDay.{ServiceDay}
+use Rattle.tb_base.specs.declared.days.ServiceDay.TheVariants as day
 use Rattle.tb_base.specs.declared.refused.Refused.{Refused}
 use Rattle.tb_base.specs.declared.refused.Refused.TheVariants as why
+use Rattle.tb_base.specs.ServiceDays.{day_by}
 use Rattle.text_lines.specs.LineWords.{line_words}
 use Rattle.text_lines.specs.Lines.{lines_of}
 use Rattle.late_edit.specs.declared.late.LateFault.{LateFault}
@@ -24,11 +27,11 @@ trip_of (update.Late l) = l.trip
 trip_of (update.Cancel c) = c.trip
 trip_of (update.Skip s) = s.trip
 
--- whether the trip began on the day before
-abbrev pub before_of : Update → Bool
-before_of (update.Late l) = l.before
-before_of (update.Cancel c) = c.before
-before_of (update.Skip s) = s.before
+-- the trip's service day
+abbrev pub day_of : Update → ServiceDay
+day_of (update.Late l) = l.day
+day_of (update.Cancel c) = c.day
+day_of (update.Skip s) = s.day
 
 -- 1 to 9 digits, behind a minus sign, which is the code 45, or not
 abbrev pub move_of : List ℕ → Option ℤ
@@ -37,51 +40,44 @@ move_of (b ∷ text) =
     if b == 45 then option_map (λ n. pos 0 -ℤ pos n) (number_of text)
     else option_map pos (number_of (b ∷ text))
 
--- the day of a trip by the words behind all others: the date's own where there is none; told is
--- whether it is the day before
-abbrev pub day_of : List (List ℕ) → Option Bool
-day_of [] = Some false
-day_of (word ∷ []) = if bytes_eq word (codes "day-before") then Some true else None
-day_of words = None
-
--- TRIP EVENT SECS, of the trips that began on the day itself or on the day before
-abbrev pub late_by : ℕ → Bool → List ℕ → List ℕ → List ℕ → Option Update
-late_by n before trip event secs =
+-- TRIP EVENT SECS, of the trips of a service day
+abbrev pub late_by : ℕ → ServiceDay → List ℕ → List ℕ → List ℕ → Option Update
+late_by n day trip event secs =
     option_and_then (λ e. option_map (λ s. update.Late (record {
       line = n;
       trip = trip;
-      before = before;
+      day = day;
       from = e;
       secs = s;
     })) (move_of secs)) (number_of event)
 
 -- TRIP EVENT SECS and its day
 abbrev pub late_said : ℕ → List (List ℕ) → Option Update
-late_said n (trip ∷ event ∷ secs ∷ day) =
-    option_and_then (λ before. late_by n before trip event secs) (day_of day)
+late_said n (trip ∷ event ∷ secs ∷ words) =
+    option_and_then (λ day. late_by n day trip event secs) (day_by words)
 late_said n words = None
 
 -- TRIP EVENT SECS of the day before
 abbrev pub late_before_said : ℕ → List (List ℕ) → Option Update
-late_before_said n (trip ∷ event ∷ secs ∷ []) = late_by n true trip event secs
+late_before_said n (trip ∷ event ∷ secs ∷ []) = late_by n day.Before trip event secs
 late_before_said n words = None
 
 -- TRIP and its day
 abbrev pub cancel_said : ℕ → List (List ℕ) → Option Update
-cancel_said n (trip ∷ day) = option_map
-    (λ before. update.Cancel (record { line = n; trip = trip; before = before })) (day_of day)
+cancel_said n (trip ∷ words) = option_map
+    (λ day. update.Cancel (record { line = n; trip = trip; day = day })) (day_by words)
 cancel_said n words = None
 
 -- TRIP EVENT and its day
 abbrev pub skip_said : ℕ → List (List ℕ) → Option Update
-skip_said n (trip ∷ event ∷ day) =
-    option_and_then (λ before. option_map (λ at.
-    update.Skip (record { line = n; trip = trip; before = before; at = at }))
-    (number_of event)) (day_of day)
+skip_said n (trip ∷ event ∷ words) =
+    option_and_then (λ day. option_map (λ at.
+    update.Skip (record { line = n; trip = trip; day = day; at = at }))
+    (number_of event)) (day_by words)
 skip_said n words = None
 
--- Line n is `late TRIP EVENT SECS`, `cancel TRIP` or `skip TRIP EVENT`, each with `day-before` behind
--- it for a trip of the day before; or `late-before TRIP EVENT SECS`, which says so too.
+-- Line n is `late TRIP EVENT SECS`, `cancel TRIP` or `skip TRIP EVENT`, each with the trip's service
+-- day behind it where that isn't the date; or `late-before TRIP EVENT SECS` for one of the day before.
 abbrev pub update_of : ℕ → List (List ℕ) → Option Update
 update_of n [] = None
 update_of n (word ∷ words) =

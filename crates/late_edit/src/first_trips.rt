@@ -1,12 +1,12 @@
 //! The first trip of each name.
-ghost use Rattle.std.specs.Prelude.{◌≡◌, ◌≤◌, ℕ, List, Bool, IfOk, None, OnOk, Some, bytes_eq, if◌then◌else◌, length};
+ghost use Rattle.std.specs.Prelude.{◌≡◌, ◌≤◌, ℕ, List, IfOk, None, OnOk, Some, bytes_eq, if◌then◌else◌, length};
 ghost use Rattle.late_edit.specs.Amended.{is_named};
 ghost use Rattle.late_edit.specs.Finding.{FindsFirst, trip_found, trip_noted};
 
 use indexmap::IndexMap;
 use std::alloc::Global;
 use std::marker::Model;
-use tb_base::{HashKey, Memory, Trip};
+use tb_base::{HashKey, Memory, ServiceDay, Trip};
 
 // For each name the number of a trip, where one is noted.
 #[derive(Drop)]
@@ -50,12 +50,13 @@ impl NamedTrips {
     }
 }
 
-/// For each name the first trip that has it: of those that began on the day itself, and of those
-/// that began on the day before.
+/// For each service day and each name the first trip that has both.
 #[derive(Drop)]
 pub(crate) struct FirstTrips {
-    of_day: NamedTrips,
-    of_day_before: NamedTrips,
+    before: NamedTrips,
+    date: NamedTrips,
+    after: NamedTrips,
+    second_after: NamedTrips,
 }
 
 impl Model for FirstTrips {
@@ -63,31 +64,40 @@ impl Model for FirstTrips {
 
     ghost Value = { FirstData };
 
-    ghost view = { λ f. record { of_day = f.of_day; of_day_before = f.of_day_before } };
+    ghost view = { λ f. record {
+      before = f.before;
+      date = f.date;
+      after = f.after;
+      second_after = f.second_after;
+    } };
 }
 
 impl FirstTrips {
     // No trip.
     fn new(alloc: Global, key: HashKey) -> FirstTrips
-        ensures { (before : Bool) (name : List ℕ) → trip_found result before name ≡ None }
+        ensures { (day : ServiceDay) (name : List ℕ) → trip_found result day name ≡ None }
     {
         FirstTrips {
-            of_day: NamedTrips::new(alloc, key),
-            of_day_before: NamedTrips::new(alloc, key),
+            before: NamedTrips::new(alloc, key),
+            date: NamedTrips::new(alloc, key),
+            after: NamedTrips::new(alloc, key),
+            second_after: NamedTrips::new(alloc, key),
         }
     }
 
     // Notes a trip with its number, in place of one of its name and day that was noted before.
     fn note(&mut self, alloc: Global, trip: &Trip, number: u32) -> Result<(), Memory>
-        ensures { OnOk result ((before : Bool) (name : List ℕ) →
-            trip_found self.new before name
-            ≡ if is_named before name trip.now then Some number
-            else trip_found self.old before name) }
+        ensures { OnOk result ((day : ServiceDay) (name : List ℕ) →
+            trip_found self.new day name
+            ≡ if is_named day name trip.now then Some number
+            else trip_found self.old day name) }
     {
-        if trip.before {
-            self.of_day_before.note(alloc, trip.name.bytes(), number)
-        } else {
-            self.of_day.note(alloc, trip.name.bytes(), number)
+        let name = trip.name.bytes();
+        match trip.day {
+            ServiceDay::Before => self.before.note(alloc, name, number),
+            ServiceDay::Date => self.date.note(alloc, name, number),
+            ServiceDay::After => self.after.note(alloc, name, number),
+            ServiceDay::SecondAfter => self.second_after.note(alloc, name, number),
         }
     }
 
@@ -104,14 +114,15 @@ impl FirstTrips {
         Ok(first)
     }
 
-    /// The trip of a name and day.
-    pub(crate) fn find(&self, before: bool, name: &[u8]) -> Option<u32>
-        ensures { result ≡ trip_found self.now before name.now }
+    /// The trip of a service day and a name.
+    pub(crate) fn find(&self, day: ServiceDay, name: &[u8]) -> Option<u32>
+        ensures { result ≡ trip_found self.now day name.now }
     {
-        if before {
-            self.of_day_before.find(name)
-        } else {
-            self.of_day.find(name)
+        match day {
+            ServiceDay::Before => self.before.find(name),
+            ServiceDay::Date => self.date.find(name),
+            ServiceDay::After => self.after.find(name),
+            ServiceDay::SecondAfter => self.second_after.find(name),
         }
     }
 }

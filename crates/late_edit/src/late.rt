@@ -1,5 +1,5 @@
 use std::marker::Model;
-use tb_base::{Name, Sec};
+use tb_base::{Name, Sec, ServiceDay};
 
 /// A trip that runs late, or early: from one of its events on.
 #[derive(Drop)]
@@ -7,8 +7,8 @@ pub struct Late {
     /// The line of the file that says it, counted from 1.
     pub line: u32,
     pub trip: Name,
-    /// Whether the trip began on the day before.
-    pub before: bool,
+    /// The trip's service day.
+    pub day: ServiceDay,
     /// The first event that is moved, counted from 0.
     pub from: u32,
     /// By how many seconds; below 0 they are early.
@@ -23,7 +23,7 @@ impl Model for Late {
     ghost view = { λ l. record {
       line = l.line;
       trip = l.trip;
-      before = l.before;
+      day = l.day;
       from = l.from;
       secs = l.secs;
     } };
@@ -35,8 +35,8 @@ pub struct Cancel {
     /// The line of the file that says it, counted from 1.
     pub line: u32,
     pub trip: Name,
-    /// Whether the trip began on the day before.
-    pub before: bool,
+    /// The trip's service day.
+    pub day: ServiceDay,
 }
 
 impl Model for Cancel {
@@ -44,7 +44,7 @@ impl Model for Cancel {
 
     ghost Value = { CancelData };
 
-    ghost view = { λ c. record { line = c.line; trip = c.trip; before = c.before } };
+    ghost view = { λ c. record { line = c.line; trip = c.trip; day = c.day } };
 }
 
 /// A stop that a trip skips: at one of its events nobody boards or alights.
@@ -53,8 +53,8 @@ pub struct Skip {
     /// The line of the file that says it, counted from 1.
     pub line: u32,
     pub trip: Name,
-    /// Whether the trip began on the day before.
-    pub before: bool,
+    /// The trip's service day.
+    pub day: ServiceDay,
     /// The event, counted from 0.
     pub at: u32,
 }
@@ -67,7 +67,7 @@ impl Model for Skip {
     ghost view = { λ s. record {
       line = s.line;
       trip = s.trip;
-      before = s.before;
+      day = s.day;
       at = s.at;
     } };
 }
@@ -75,7 +75,7 @@ impl Model for Skip {
 /// Why no timetable comes of a file of late trips. The numbers are those of lines, from 1.
 #[derive(Debug, Clone, Copy, PartialEq, Eq)]
 pub enum LateFault {
-    /// No trip has the name, and began on that day.
+    /// No trip has the name and the service day.
     UnknownTrip(u32),
     /// The first moved event is reached before the one before it is left.
     TimeRunsBack(u32),

@@ -40,9 +40,10 @@ fn add(updates: &mut Vec<Update>, update: Option<Update>) -> Result<(), Memory>
 
 /// What a file says of trips, in the order of its lines, or exactly its first bad line. The words of
 /// a line are those of `line_words`, and a line without words is passed over. Each other one is
-/// `late TRIP EVENT SECS`, `cancel TRIP` or `skip TRIP EVENT`, with `day-before` behind it for a trip
-/// that began on the day before; or `late-before TRIP EVENT SECS`, which says so too. EVENT has 1 to
-/// 9 digits, and SECS too, with a minus sign before them or not.
+/// `late TRIP EVENT SECS`, `cancel TRIP` or `skip TRIP EVENT`, with `day-before`, `day-after` or
+/// `day+2` behind it where the trip's service day isn't the date; or `late-before TRIP EVENT SECS`
+/// for one of the day before. EVENT has 1 to 9 digits, and SECS too, with a minus sign before them or
+/// not.
 pub fn read_late(alloc: Global, bytes: &[u8]) -> Result<Vec<Update>, Refused<LateFault>>
     requires { length bytes.now ≤ 33554432 }
     ensures { Yields result (λ updates. updates.items) (updates_of bytes.now) }

@@ -1,8 +1,8 @@
 ghost use Rattle.std.specs.Prelude.{◌≡◌};
-ghost use Rattle.late_edit.specs.Updates.{before_of, line_of, trip_of};
+ghost use Rattle.late_edit.specs.Updates.{day_of, line_of, trip_of};
 
 use crate::late::{Cancel, Late, Skip};
-use tb_base::Name;
+use tb_base::{Name, ServiceDay};
 
 /// What a line of a late file says of a trip, as the trip updates of GTFS Realtime do of scheduled
 /// trips.
@@ -39,14 +39,14 @@ impl Update {
         }
     }
 
-    /// Whether the trip began on the day before.
-    pub fn is_before(&self) -> bool
-        ensures { result ≡ before_of self.now }
+    /// The trip's service day.
+    pub fn day(&self) -> ServiceDay
+        ensures { result ≡ day_of self.now }
     {
         match self {
-            Update::Late(late) => late.before,
-            Update::Cancel(cancel) => cancel.before,
-            Update::Skip(skip) => skip.before,
+            Update::Late(late) => late.day,
+            Update::Cancel(cancel) => cancel.day,
+            Update::Skip(skip) => skip.day,
         }
     }
 }

@@ -67,7 +67,7 @@ impl UpdatedTrips {
             (λ f. trips_after update.now self.old ≡ Err f) }
         ensures own { IfErr result IsOfUpdate }
     {
-        let Some(trip) = self.first.find(update.is_before(), update.trip().bytes()) else {
+        let Some(trip) = self.first.find(update.day(), update.trip().bytes()) else {
             return Err(LateFault::UnknownTrip(update.line()));
         };
         let updated = &mut self.trips[trip as usize];

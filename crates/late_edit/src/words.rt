@@ -1,13 +1,13 @@
 //! What the words of a line say of a trip.
 ghost use Rattle.std.specs.Prelude.{◌≡◌, ◌<◌, ◌≤ℤ◌, IfOk, IfSome, option_map, pos};
 ghost use Rattle.gtfs_rows.specs.Numbers.{number_of};
-ghost use Rattle.late_edit.specs.Updates.{cancel_said, day_of, late_before_said, late_by, late_said, move_of, skip_said, update_of};
+ghost use Rattle.late_edit.specs.Updates.{cancel_said, late_before_said, late_by, late_said, move_of, skip_said, update_of};
 
 use crate::late::{Cancel, Late, Skip};
 use crate::update::Update;
 use gtfs_rows::number_of;
 use std::alloc::Global;
-use tb_base::{Memory, Name, Sec};
+use tb_base::{Memory, Name, Sec, ServiceDay};
 
 // The number that one to nine digits write.
 fn nine_digits(text: &[u8]) -> Option<u32>
@@ -45,34 +45,16 @@ fn move_of(text: &[u8]) -> Option<Sec>
     }
 }
 
-// Whether the trip is one of the day before, by the words behind all others: of the date's own day
-// where there is none.
-fn day_of(words: &[Name]) -> Option<bool>
-    ensures { result ≡ day_of words.now }
-{
-    match words {
-        [] => Some(false),
-        [word] => {
-            if word.bytes() == b"day-before".as_slice() {
-                Some(true)
-            } else {
-                None
-            }
-        }
-        _ => None,
-    }
-}
-
-// TRIP EVENT SECS, of the trips that began on the day itself or on the day before.
+// TRIP EVENT SECS, of the trips of a service day.
 fn late_by(
     alloc: Global,
     line: u32,
-    before: bool,
+    day: ServiceDay,
     trip: &Name,
     event: &Name,
     secs: &Name,
 ) -> Result<Option<Update>, Memory>
-    ensures { IfOk result (λ u. u ≡ late_by line before trip.now event.now secs.now) }
+    ensures { IfOk result (λ u. u ≡ late_by line day trip.now event.now secs.now) }
 {
     let (Some(from), Some(secs)) = (number_of(event.bytes()), move_of(secs.bytes())) else {
         return Ok(None);
@@ -80,7 +62,7 @@ fn late_by(
     Ok(Some(Update::Late(Late {
         line,
         trip: Name::new(alloc, trip.bytes())?,
-        before,
+        day,
         from,
         secs,
     })))
@@ -90,11 +72,11 @@ fn late_by(
 fn late_said(alloc: Global, line: u32, words: &[Name]) -> Result<Option<Update>, Memory>
     ensures { IfOk result (λ u. u ≡ late_said line words.now) }
 {
-    let [trip, event, secs, day @ ..] = words else {
+    let [trip, event, secs, words @ ..] = words else {
         return Ok(None);
     };
-    match day_of(day) {
-        Some(before) => late_by(alloc, line, before, trip, event, secs),
+    match ServiceDay::by_words(words) {
+        Some(day) => late_by(alloc, line, day, trip, event, secs),
         None => Ok(None),
     }
 }
@@ -106,23 +88,23 @@ fn late_before_said(alloc: Global, line: u32, words: &[Name]) -> Result<Option<U
     let [trip, event, secs] = words else {
         return Ok(None);
     };
-    late_by(alloc, line, true, trip, event, secs)
+    late_by(alloc, line, ServiceDay::Before, trip, event, secs)
 }
 
 // TRIP and its day.
 fn cancel_said(alloc: Global, line: u32, words: &[Name]) -> Result<Option<Update>, Memory>
     ensures { IfOk result (λ u. u ≡ cancel_said line words.now) }
 {
-    let [trip, day @ ..] = words else {
+    let [trip, words @ ..] = words else {
         return Ok(None);
     };
-    let Some(before) = day_of(day) else {
+    let Some(day) = ServiceDay::by_words(words) else {
         return Ok(None);
     };
     Ok(Some(Update::Cancel(Cancel {
         line,
         trip: Name::new(alloc, trip.bytes())?,
-        before,
+        day,
     })))
 }
 
@@ -130,22 +112,22 @@ fn cancel_said(alloc: Global, line: u32, words: &[Name]) -> Result<Option<Update
 fn skip_said(alloc: Global, line: u32, words: &[Name]) -> Result<Option<Update>, Memory>
     ensures { IfOk result (λ u. u ≡ skip_said line words.now) }
 {
-    let [trip, event, day @ ..] = words else {
+    let [trip, event, words @ ..] = words else {
         return Ok(None);
     };
-    let (Some(before), Some(at)) = (day_of(day), number_of(event.bytes())) else {
+    let (Some(day), Some(at)) = (ServiceDay::by_words(words), number_of(event.bytes())) else {
         return Ok(None);
     };
     Ok(Some(Update::Skip(Skip {
         line,
         trip: Name::new(alloc, trip.bytes())?,
-        before,
+        day,
         at,
     })))
 }
 
 /// What a line says of a trip: `late TRIP EVENT SECS`, `cancel TRIP` or `skip TRIP EVENT`, each with
-/// `day-before` behind it or not, or `late-before TRIP EVENT SECS`.
+/// `day-before`, `day-after` or `day+2` behind it or not, or `late-before TRIP EVENT SECS`.
 pub(crate) fn update_of(alloc: Global, line: u32, words: &[Name]) -> Result<Option<Update>, Memory>
     ensures { IfOk result (λ u. u ≡ update_of line words.now) }
 {

@@ -14,12 +14,12 @@ pub invariant_of-self : goal.invariant_of-self
 invariant_of-self c =
     let trips = c.self.inside.trips.items in
     let is = c.updated.view_is ∙ c.index_mut-updated.ensures.value in
-    let before = c.is_before.result in
+    let day = c.day.result in
     let name = c.bytes.result.now in
-    let inside : c.in-Some.trip < length trips = (position-Some (is_named before name) trips c.in-Some.trip no_trip (sym (c.self.invariant.found before name) ∙ sym c.in-Some.ensures)).0 in
+    let inside : c.in-Some.trip < length trips = (position-Some (is_named day name) trips c.in-Some.trip no_trip (sym (c.self.invariant.found day name) ∙ sym c.in-Some.ensures)).0 in
     let events = subst (All IsTimedEvent) (sym (c.as_mut_slice.ensures.value ∙ ap (λ (t : TripData). t.events) is)) (c.self.invariant.timed c.in-Some.trip c.index_mut-updated.result.now inside) in
     let timed = timed_after c.args.update.now c.as_mut_slice.result.now c.update_events.new.events c.update_events.result c.update_events.ensures.updated c.update_events.ensures.unchanged events in
     record {
-      found = finds_set c.self.inside.first trips c.in-Some.trip _ c.index_mut-updated.result.now (ap (λ (t : TripData). t.name) is) (ap (λ (t : TripData). t.before) is) c.self.invariant.found;
+      found = finds_set c.self.inside.first trips c.in-Some.trip _ c.index_mut-updated.result.now (ap (λ (t : TripData). t.name) is) (ap (λ (t : TripData). t.day) is) c.self.invariant.found;
       timed = timed_set trips c.in-Some.trip _ c.update_events.new.events (with_items_is c.updated.inside.events c.update_events.new.events (c.update_events.auto.events ∙ c.as_mut_slice.ensures.len)) timed c.self.invariant.timed;
     }
