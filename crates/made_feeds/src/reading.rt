@@ -5,7 +5,7 @@ use super::draw::Draw;
 use super::texts::{FOLDER, Feed, Files, files};
 use service_day::day_of;
 use std::alloc::Global;
-use tb_base::{Memory, Timetable};
+use tb_base::{Horizon, Memory, Timetable};
 use tb_io::MemFolder;
 use trip_table::{DayFault, Options, read_day};
 
@@ -58,6 +58,7 @@ impl Reading {
             change: if self.takes_minute { 60 } else { 0 },
             station: if self.joins_stations { Some(120) } else { None },
             close: self.closes,
+            horizon: Horizon::OneDay,
         }
     }
 }
