@@ -58,8 +58,8 @@ journey_fault_text claim.TooLong = codes "4 TooLong"
 abbrev pub status_text : Status → List ℕ
 status_text status.Done = []
 status_text status.Usage =
-    codes "usage: router [--change SECS] [--station SECS] [--close] [--workers N] [--plain]"
-    ++ codes " [--lanes N] [--mirror] [--csv] COMMAND WORDS\n"
+    codes "usage: router [--change SECS] [--station SECS] [--close] [--days N] [--workers N]"
+    ++ codes " [--plain] [--lanes N] [--mirror] [--csv] COMMAND WORDS\n"
 status_text (status.FeedRefused f) = codes "router: feed refused: " ++ fault_text f ++ codes "\n"
 status_text status.ReadFault = codes "router: read fault\n"
 status_text status.WriteFault = codes "router: write fault\n"

@@ -19,7 +19,7 @@ use std::str;
 use tb_base::Memory;
 
 const USAGE: &[u8] =
-    b"usage: router [--change SECS] [--station SECS] [--close] [--workers N] [--plain] [--lanes N] [--mirror] [--csv] [--json] COMMAND WORDS";
+    b"usage: router [--change SECS] [--station SECS] [--close] [--days N] [--workers N] [--plain] [--lanes N] [--mirror] [--csv] [--json] COMMAND WORDS";
 
 // Adds a fault of a script.
 fn add_script_fault(text: &mut Text, fault: ScriptFault) -> Result<(), Memory>

@@ -12,7 +12,7 @@ use std::alloc::Global;
 use tb_base::Memory;
 
 const USAGE: &[u8] =
-    b"usage: router [--change SECS] [--station SECS] [--close] [--workers N] [--plain] [--lanes N] [--mirror] [--csv] COMMAND WORDS\n";
+    b"usage: router [--change SECS] [--station SECS] [--close] [--days N] [--workers N] [--plain] [--lanes N] [--mirror] [--csv] COMMAND WORDS\n";
 
 /// How the program ends. No status but `Memory` tells of want of memory.
 #[derive(Debug, Drop)]
