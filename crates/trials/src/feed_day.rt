@@ -3,7 +3,7 @@ use crate::stopped::Stopped;
 use service_day::{Day, day_of};
 use std::alloc::Global;
 use std::rt::Files;
-use tb_base::{HashKey, Timetable};
+use tb_base::{HashKey, Horizon, Timetable};
 use tb_io::HostFolder;
 use trip_table::{Options, read_day};
 
@@ -38,6 +38,7 @@ impl FeedDay<'_> {
             change: CHANGE,
             station: None,
             close: false,
+            horizon: Horizon::OneDay,
         };
         let mut folder = HostFolder::new(rt, HashKey::known());
         let Ok(table) = read_day(alloc, &mut folder, self.dir, &self.day, &options) else {

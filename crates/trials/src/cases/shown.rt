@@ -6,7 +6,7 @@ use gtfs_rows::number_of;
 use router_cli::Status;
 use service_day::day_of;
 use std::alloc::{AllocError, Global};
-use tb_base::{Memory, StopNo, Timetable};
+use tb_base::{Horizon, Memory, StopNo, Timetable};
 use tb_io::MemFolder;
 use trip_table::{DayFault, Options, read_day};
 
@@ -70,6 +70,7 @@ fn options_of(words: &[String]) -> Options
         change: number_after(words, "change").unwrap_or(0).min(86_400),
         station,
         close: words.iter().any(|word| word.as_str() == "close"),
+        horizon: Horizon::OneDay,
     }
 }
 

@@ -14,7 +14,7 @@ use made_feeds::{DAY, Draw, Reading, twin_feed, written_out_feed};
 use segment_queue::Desk;
 use std::alloc::Global;
 use std::thread::Threads;
-use tb_base::{Choice, Memory, Offer, Sec, Slot, Timetable, TripNo, Value};
+use tb_base::{Choice, Memory, Offer, Sec, ServiceDay, Slot, Timetable, TripNo, Value};
 
 // How many times are asked between each two stops.
 const TIMES: u32 = 3;
@@ -277,7 +277,7 @@ fn counted_trips(table: &Timetable) -> TwinTally {
         let trip = table.trip(TripNo(t));
         tally.add(TwinTally {
             by_frequency: u64::from(trip.name.bytes().contains(&b'#')),
-            day_before: u64::from(trip.before),
+            day_before: u64::from(trip.day.is(ServiceDay::Before)),
             ..TwinTally::NOTHING
         });
     }
