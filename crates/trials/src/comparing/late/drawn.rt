@@ -2,7 +2,7 @@
 use late_edit::{Cancel, Late, Skip, Update};
 use made_feeds::Draw;
 use std::alloc::Global;
-use tb_base::{Memory, Name, Sec, StopNo, Timetable, Trip, TripNo};
+use tb_base::{Memory, Name, Sec, ServiceDay, StopNo, Timetable, Trip, TripNo};
 
 // A name that no trip has.
 const NOBODY: &[u8] = b"nobody";
@@ -47,12 +47,23 @@ fn some_name(alloc: Global, draw: &mut Draw, trip: &Trip) -> Result<Name, Memory
     }
 }
 
-// A late of a trip, at times with a name that no trip has, or with the other day.
+// The service day of a trip, or at times another one.
+fn some_day(draw: &mut Draw, trip: &Trip) -> ServiceDay {
+    if !draw.one_in(25) {
+        trip.day
+    } else if trip.day.is(ServiceDay::Date) {
+        ServiceDay::Before
+    } else {
+        ServiceDay::Date
+    }
+}
+
+// A late of a trip, at times with a name that no trip has, or with another day.
 fn some_late(alloc: Global, draw: &mut Draw, trip: &Trip, line: u32) -> Result<Late, Memory> {
     Ok(Late {
         line,
         trip: some_name(alloc, draw, trip)?,
-        before: trip.before != draw.one_in(25),
+        day: some_day(draw, trip),
         from: some_event(draw, trip),
         secs: some_seconds(draw),
     })
@@ -63,27 +74,27 @@ fn taken_back(alloc: Global, late: &Late, line: u32) -> Result<Late, Memory> {
     Ok(Late {
         line,
         trip: Name::new(alloc, late.trip.bytes())?,
-        before: late.before,
+        day: late.day,
         from: late.from,
         secs: 0i32.saturating_sub(late.secs),
     })
 }
 
-// A trip that is cancelled, at times with a name that no trip has, or with the other day.
+// A trip that is cancelled, at times with a name that no trip has, or with another day.
 fn some_cancel(alloc: Global, draw: &mut Draw, trip: &Trip, line: u32) -> Result<Cancel, Memory> {
     Ok(Cancel {
         line,
         trip: some_name(alloc, draw, trip)?,
-        before: trip.before != draw.one_in(25),
+        day: some_day(draw, trip),
     })
 }
 
-// A stop that a trip skips, at times with a name that no trip has, or with the other day.
+// A stop that a trip skips, at times with a name that no trip has, or with another day.
 fn some_skip(alloc: Global, draw: &mut Draw, trip: &Trip, line: u32) -> Result<Skip, Memory> {
     Ok(Skip {
         line,
         trip: some_name(alloc, draw, trip)?,
-        before: trip.before != draw.one_in(25),
+        day: some_day(draw, trip),
         at: some_event(draw, trip),
     })
 }

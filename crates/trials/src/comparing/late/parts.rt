@@ -37,7 +37,7 @@ fn hops_of(edition: &Edition, trip: TripNo, at: usize) -> Hops<'_> {
 
 // Whether two trips have the same name, day and events.
 fn same_trip(one: &Trip, other: &Trip) -> bool {
-    one.before == other.before
+    one.day.is(other.day)
         && one.name.bytes() == other.name.bytes()
         && one.events.as_slice() == other.events.as_slice()
 }
