@@ -85,12 +85,12 @@ def drawn_updates(router: Router, drawn: random.Random, stops: list[str]) -> lis
         for leg in choice.legs
         if isinstance(leg, Ride)
     ]
-    trips = sorted({(ride.trip, ride.day_before) for ride in rides})
+    trips = sorted({(ride.trip, ride.day) for ride in rides})
     return [
-        Delay(trip, 0, 60 * drawn.randrange(1, 30), before)
+        Delay(trip, 0, 60 * drawn.randrange(1, 30), day)
         if drawn.randrange(4)
-        else Cancellation(trip, before)
-        for trip, before in trips
+        else Cancellation(trip, day)
+        for trip, day in trips
     ]
 
 

@@ -64,11 +64,11 @@ class Lines(unittest.TestCase):
     def test_of_each_update(self):
         for update, text in (
             (Delay("T 1", 0, -60), 'late "T 1" 0 -60'),
-            (Delay("T1#08:00:00", 2, 60, day_before=True), "late T1#08:00:00 2 60 day-before"),
+            (Delay("T1#08:00:00", 2, 60, day=-1), "late T1#08:00:00 2 60 day-before"),
             (Cancellation('"'), 'cancel """"'),
-            (Cancellation("T1", day_before=True), "cancel T1 day-before"),
+            (Cancellation("T1", day=1), "cancel T1 day-after"),
             (SkippedEvent("T1", 3), "skip T1 3"),
-            (SkippedEvent("T1", 3, day_before=True), "skip T1 3 day-before"),
+            (SkippedEvent("T1", 3, day=2), "skip T1 3 day+2"),
         ):
             self.assertEqual(text, update.line())
 

@@ -97,7 +97,7 @@ class Answers(unittest.TestCase):
     def test_a_ride_that_began_on_the_day_before(self):
         with router() as it:
             ride = it.ask("before", "D", 0).values[0].legs[0]
-        self.assertEqual(Ride("before>D", "before", 0, "D", 60, True), ride)
+        self.assertEqual(Ride("before>D", "before", 0, "D", 60, -1), ride)
 
     def test_the_words_of_the_process(self):
         def words(**options):
@@ -107,8 +107,8 @@ class Answers(unittest.TestCase):
         day = f"{os.path.abspath('feed')}@20260302"
         last = ["live", day]
         self.assertEqual(["--json", "--change=120", "--lanes=4", "--close", *last], words())
-        given = words(change=5, station=0, close=False, lanes=2, mirror=True)
-        options = ["--change=5", "--lanes=2", "--station=0", "--mirror"]
+        given = words(change=5, station=0, close=False, days=2, lanes=2, mirror=True)
+        options = ["--change=5", "--lanes=2", "--station=0", "--mirror", "--days=2"]
         self.assertEqual(["--json", *options, *last], given)
         with Router(Path("feed"), datetime.date(2026, 3, 2), program=STAND_IN) as it:
             self.assertEqual(day, it.reach("words", 0).values[-1].stop)

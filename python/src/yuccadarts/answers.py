@@ -23,7 +23,7 @@ class Walk:
 @dataclass(frozen=True, slots=True)
 class Ride:
     """A leg on a trip, from stop to stop. The trip's name has its start if it runs by frequency, as
-    `TRIP#08:00:00`; it may have begun on the day before.
+    `TRIP#08:00:00`; its service day is so many days after the date, -1 to 2.
     """
 
     trip: str
@@ -31,7 +31,7 @@ class Ride:
     departure: int
     destination: str
     arrival: int
-    day_before: bool
+    day: int
 
 
 Leg = Walk | Ride
@@ -172,7 +172,7 @@ def read_leg(said: Json) -> Leg:
     if "trip" not in said:
         return Walk(said["from"], said["to"], said["seconds"])
     ends = said["from"], said["departure_seconds"], said["to"], said["arrival_seconds"]
-    return Ride(said["trip"], *ends, day_before="day" in said)
+    return Ride(said["trip"], *ends, day=said.get("day", 0))
 
 
 def read_legs(said: Json) -> tuple[Leg, ...]:

@@ -42,6 +42,7 @@ def add_day(one: argparse.ArgumentParser) -> None:
     )
     one.add_argument("--station", metavar="SECS", type=int, help="within a station (else no way)")
     one.add_argument("--no-close", dest="close", action="store_false", help="footpaths stay open")
+    one.add_argument("--days", metavar="N", type=int, default=1, help="1 to 3 (else 1)")
     one.add_argument("--lanes", metavar="N", type=int, default=4, help="threads (else 4)")
     one.add_argument(
         "--program", metavar="PATH", help="the router (else the variable ROUTER, or on the path)"
@@ -55,6 +56,7 @@ def router_of(words: argparse.Namespace) -> Router:
         change=words.change,
         station=words.station,
         close=words.close,
+        days=words.days,
         lanes=words.lanes,
         program=words.program,
     )

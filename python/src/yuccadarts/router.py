@@ -119,6 +119,7 @@ class Router:
     :param station: the seconds from platform to platform of a station where transfers.txt doesn't
         say; None if there is no way then.
     :param close: whether footpaths are closed over chains, as most feeds need.
+    :param days: of how many days, the date being the first, all trips count, 1 to 3.
     :param lanes: how many threads answer, 1 to 64.
     :param mirror: whether `latest` may be asked, which takes a second network.
     :param program: the program `router`; else what the variable ROUTER of the environment names,
@@ -134,6 +135,7 @@ class Router:
         change: int = 120,
         station: int | None = None,
         close: bool = True,
+        days: int = 1,
         lanes: int = 4,
         mirror: bool = False,
         program: str | os.PathLike[str] | None = None,
@@ -142,6 +144,7 @@ class Router:
         options += [] if station is None else [f"--station={station:d}"]
         options += ["--close"] if close else []
         options += ["--mirror"] if mirror else []
+        options += [] if days == 1 else [f"--days={days:d}"]
         day = day_of(feed, date)
         self._mirror = mirror
         self._ahead = AHEAD * lanes

@@ -21,12 +21,12 @@ class Delay:
     trip: str
     event: int
     seconds: int
-    day_before: bool = False
-    """Whether it is the trip that began on the day before."""
+    day: int = 0
+    """How many days after the date the trip's service day is: -1, 0, 1 or 2."""
 
     def line(self) -> str:
         words = self.trip, f"{self.event:d}", f"{self.seconds:d}"
-        return line("late", *words, *behind(self.day_before))
+        return line("late", *words, *behind(self.day))
 
 
 @dataclass(frozen=True, slots=True)
@@ -34,10 +34,10 @@ class Cancellation:
     """Nobody boards or alights on a trip anywhere."""
 
     trip: str
-    day_before: bool = False
+    day: int = 0
 
     def line(self) -> str:
-        return line("cancel", self.trip, *behind(self.day_before))
+        return line("cancel", self.trip, *behind(self.day))
 
 
 @dataclass(frozen=True, slots=True)
@@ -46,17 +46,17 @@ class SkippedEvent:
 
     trip: str
     event: int
-    day_before: bool = False
+    day: int = 0
 
     def line(self) -> str:
-        return line("skip", self.trip, f"{self.event:d}", *behind(self.day_before))
+        return line("skip", self.trip, f"{self.event:d}", *behind(self.day))
 
 
 Update = Delay | Cancellation | SkippedEvent
 
 
-def behind(day_before: bool) -> list[str]:
-    return ["day-before"] if day_before else []
+def behind(day: int) -> list[str]:
+    return {-1: ["day-before"], 0: [], 1: ["day-after"], 2: ["day+2"]}[day]
 
 
 def write_updates(updates: Iterable[Update]) -> str:
