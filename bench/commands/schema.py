@@ -13,6 +13,7 @@ import tempfile
 
 from commands.documents import documents, examples, lines_of
 from harness import TOP, BenchError, router
+from said.texts import day_of
 
 SCHEMAS = os.path.join(TOP, "docs", "schema")
 REFUSAL = "refusal"
@@ -72,8 +73,9 @@ def claim_of(text):
         leg = dict(zip(LEGS[kind], words))
         if "seconds" in leg:
             leg["seconds"] = int(leg["seconds"])
-        if "day-before" in words:
-            leg["day"] = -1
+        day = day_of(words[5:]) if kind == "ride" else 0
+        if day:
+            leg["day"] = day
         claim["legs"].append(leg)
     return json.dumps(claim)
 

@@ -105,6 +105,7 @@ class Draw:
         for name, values, wrong in (
             ("--change", ("0", "60", "121", "86400"), ("86401", "-1", "")),
             ("--station", ("0", "60", "120", "86400"), ("86401", "99999999", "1.5")),
+            ("--days", ("1", "2", "3"), ("0", "4", "two")),
             ("--workers", ("1", "2", "4", "64"), ("0", "65", "four")),
             ("--lanes", ("1", "3", "64"), ("0", "65", "")),
         ):
@@ -293,7 +294,8 @@ class Draw:
                 (f"late {trip} {event} {secs}", f"cancel {trip}", f"skip {trip} {event}")
             )
             line = f"late-before {trip} {event} {secs}" if self.often(0.1) else line
-            lines.append(f"{line} day-before" if self.often(0.1) else line)
+            day = self.drawn.choice(("day-before", "day-after", "day+2", "day+1"))
+            lines.append(f"{line} {day}" if self.often(0.1) else line)
         return "\n".join(lines).encode() + b"\n"
 
     def claim(self):

@@ -306,12 +306,12 @@ def before_rest(words):
 def options_of(words):
     """The options of a valid command line."""
     words = before_rest(words)
-    values = {"--change": 0, "--station": None}
+    values = {"--change": 0, "--station": None, "--days": 1}
     for word, after in zip(words, [*words[1:], ""]):
         name, equals, value = word.partition("=")
         if name in values:
             values[name] = int(value if equals else after)
-    return Options(values["--change"], values["--station"], "--close" in words)
+    return Options(values["--change"], values["--station"], "--close" in words, values["--days"])
 
 
 def may_be(allowed, status, fault):

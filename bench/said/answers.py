@@ -6,11 +6,11 @@ import re
 from said import feeds
 
 USAGE = (
-    "usage: router [--change SECS] [--station SECS] [--close] [--workers N] [--plain] [--lanes N]"
-    " [--mirror] [--csv] COMMAND WORDS"
+    "usage: router [--change SECS] [--station SECS] [--close] [--days N] [--workers N] [--plain]"
+    " [--lanes N] [--mirror] [--csv] COMMAND WORDS"
 )
 TIME = r"-?\d{2,3}:[0-5]\d:[0-5]\d"
-LEG = rf"  (?:ride .+ .+ {TIME} .+ {TIME}(?: day-before)?|walk .+ .+ \d+)\n"
+LEG = rf"  (?:ride .+ .+ {TIME} .+ {TIME}(?: day-before| day-after| day\+2)?|walk .+ .+ \d+)\n"
 NO_JOURNEY = "no journey\n"
 CHOICES = rf"(?:{NO_JOURNEY}|(?:arrive {TIME} rides \d+\n(?:{LEG})*)+)"
 OFFERS = rf"(?:{NO_JOURNEY}|(?:leave {TIME} arrive {TIME} rides \d+\n(?:{LEG})+)+)"
@@ -18,7 +18,7 @@ SIZES = (
     r"stops \d+ trips \d+ events \d+ footpaths \d+\n"
     r"lines \d+ generated \d+ after_uturn \d+ kept \d+\n"
 )
-END = r".+@\d+(?:/before)?"
+END = r".+@\d+(?:/before|/after|/\+2)?"
 RULES = (
     "BadNumber|TwoWalks|NoWalk|NoBoarding|NoAlighting|WrongStart|TooEarly|Apart|TooLate|WrongEnd"
 )

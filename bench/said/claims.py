@@ -20,10 +20,10 @@ class Leg(typing.NamedTuple):
 
 def ride_of(timetable, words):
     """The ride that a line names, or None."""
-    _, name, start, departure, end, arrival, *before = words
+    _, name, start, departure, end, arrival, *mark = words
     departure, arrival = seconds_of(departure), seconds_of(arrival)
     for trip in timetable.trips:
-        if (trip.name, trip.before) != (name, bool(before)):
+        if (trip.name, trip.day) != (name, texts.day_of(mark)):
             continue
         first = None
         for call in trip.calls:

@@ -9,11 +9,13 @@ from said.feeds import PLATFORM, STATION
 from said.words import time_of
 
 DAY = 86_400
+LATEST = 359_999
 
 
 class Trip(typing.NamedTuple):
     name: str
-    before: bool
+    # How many days after the date its service day is.
+    day: int
     calls: list
 
 
@@ -59,35 +61,46 @@ def trips_of_day(feed, date):
         for _, first, end, headway, _ in rows:
             for start in range(time_of(first), time_of(end), int(headway)):
                 later = moved(calls, start - calls[0].departure)
-                yield Trip(f"{trip}#{clock(start)}", False, later)
+                yield Trip(f"{trip}#{clock(start)}", 0, later)
         if not rows:
-            yield Trip(trip, False, calls)
+            yield Trip(trip, 0, calls)
 
 
-def day_before(date):
-    """The date of the day before, or None."""
-    if date == "00010101":
+def date_after(date, days):
+    """The date so many days after another one, or None."""
+    try:
+        day = datetime.date(int(date[:4]), int(date[4:6]), int(date[6:])) + datetime.timedelta(days)
+    except OverflowError:
         return None
-    day = datetime.date(int(date[:4]), int(date[4:6]), int(date[6:])) - datetime.timedelta(1)
     return f"{day.year:04}{day.month:02}{day.day:02}"
 
 
-def trips_of(feed, date):
-    """The trips of the timetable of a day."""
-    before = day_before(date)
-    earlier = trips_of_day(feed, before) if before else []
-    late = [it for it in earlier if it.calls[-1].arrival >= DAY]
-    return [*trips_of_day(feed, date), *(Trip(it.name, True, moved(it.calls, -DAY)) for it in late)]
+def is_shown(trip, day):
+    """Whether the timetable of a date shows a trip of a service day."""
+    last = trip.calls[-1]
+    return last.arrival >= DAY if day < 0 else last.departure + day * DAY <= LATEST
+
+
+def trips_of(feed, date, days):
+    """The trips of the timetable of a date, with so many days."""
+    trips = []
+    for day in (*range(days), -1):
+        day_date = date_after(date, day)
+        for trip in trips_of_day(feed, day_date) if day_date else ():
+            if is_shown(trip, day):
+                trips.append(Trip(trip.name, day, moved(trip.calls, day * DAY)))
+    return trips
 
 
 class Options(typing.NamedTuple):
     """Those of the command line: the seconds of a change and within a station, None if there are
-    none, and whether footpaths are closed.
+    none, whether footpaths are closed, and the number of days.
     """
 
     change: int = 0
     station: int = None
     close: bool = False
+    days: int = 1
 
 
 def parent_of(feed, stop):
@@ -151,7 +164,7 @@ class Timetable:
             (p, q): change_between(feed, options, p, q) for p in self.stops for q in self.stops
         }
         self.changes = {pair: secs for pair, secs in pairs.items() if secs is not None}
-        self.trips, self.fault = trips_of(feed, date), None
+        self.trips, self.fault = trips_of(feed, date, options.days), None
         if options.close:
             self.changes = closed(self.changes, self.stops)
             far = [pair for pair in pairs if self.changes.get(pair, 0) > DAY]

@@ -88,8 +88,8 @@ def amend(trips, text):
         if not words:
             continue
         update = texts.update_of(words)
-        key = update.trip, update.before
-        place = next((i for i, it in enumerate(trips) if (it.name, it.before) == key), None)
+        key = update.trip, update.day
+        place = next((i for i, it in enumerate(trips) if (it.name, it.day) == key), None)
         if place is None:
             return f"1 UnknownTrip line {line}"
         calls = trips[place].calls

@@ -11,6 +11,13 @@ MOST_BYTES = 33_554_432
 MOST_BYTES_OF_CLAIM = 1_048_576
 MOST_LANES = 64
 MOST_REQUESTS = 20_000
+# The words of service days other than the date, and how many days after it they are.
+DAYS = {"day-before": -1, "day-after": 1, "day+2": 2}
+
+
+def day_of(marks):
+    """How many days after the date the service day is that words behind a trip name, or None."""
+    return DAYS.get(marks[0]) if marks else 0
 
 
 def lines_of(text):
@@ -91,7 +98,7 @@ class Update(typing.NamedTuple):
     """
 
     trip: str
-    before: bool
+    day: int
     event: int = None
     secs: int = None
 
@@ -101,21 +108,21 @@ def update_of(words):
     if not words:
         return None
     kind, *words = words
-    before = kind == "late-before"
-    kind = "late" if before else kind
-    if words[-1:] == ["day-before"] and len(words) == {"late": 4, "cancel": 2, "skip": 3}.get(kind):
-        if before:
+    day = -1 if kind == "late-before" else 0
+    kind = "late" if day else kind
+    if words[-1:] and len(words) == {"late": 4, "cancel": 2, "skip": 3}.get(kind):
+        word = words.pop()
+        if day or word not in DAYS:
             return None
-        before = True
-        words.pop()
+        day = DAYS[word]
     if kind == "cancel" and len(words) == 1:
-        return Update(words[0], before)
+        return Update(words[0], day)
     if kind not in ("late", "skip") or len(words) != (3 if kind == "late" else 2):
         return None
     event, secs = number_of(words[1]), seconds_of(words[2]) if kind == "late" else None
     if event is None or kind == "late" and secs is None:
         return None
-    return Update(words[0], before, event, secs)
+    return Update(words[0], day, event, secs)
 
 
 def seconds_of(word):
@@ -159,7 +166,7 @@ def is_shown_time(text):
 def is_leg(words):
     if words[0] == "walk":
         return len(words) == 4 and number_of(words[3]) is not None
-    if words[0] != "ride" or len(words) not in (6, 7) or words[6:] not in ([], ["day-before"]):
+    if words[0] != "ride" or len(words) not in (6, 7) or day_of(words[6:]) is None:
         return False
     return is_shown_time(words[3]) and is_shown_time(words[5])
 

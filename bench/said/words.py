@@ -4,6 +4,7 @@ import re
 VALUES = {
     "--change": (0, 86_400),
     "--station": (0, 86_400),
+    "--days": (1, 3),
     "--workers": (1, 64),
     "--lanes": (1, 64),
 }
