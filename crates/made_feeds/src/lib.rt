@@ -21,7 +21,7 @@ mod twins;
 pub use draw::Draw;
 pub use made::{ring, town};
 pub use random::small_feed;
-pub use reading::{Reading, Unread, timetable, timetable_of};
+pub use reading::{Reading, Unread, timetable, timetable_of, timetable_of_two_days};
 pub use seeds::{Seeds, words_of};
 pub use texts::{Feed, Files};
 pub use twins::{DAY, twin_feed, written_out_feed};

@@ -3,7 +3,7 @@ ghost use Rattle.std.specs.Prelude.{◌≤◌, IfSome};
 
 use super::draw::Draw;
 use super::texts::{FOLDER, Feed, Files, files};
-use service_day::day_of;
+use service_day::{Day, day_of};
 use std::alloc::Global;
 use tb_base::{Horizon, Memory, Timetable};
 use tb_io::MemFolder;
@@ -50,7 +50,7 @@ impl Reading {
         }
     }
 
-    fn options(self) -> Options
+    fn options(self, horizon: Horizon) -> Options
         ensures change { result.change ≤ 86400 }
         ensures station { IfSome result.station (λ secs. secs ≤ 86400) }
     {
@@ -58,22 +58,47 @@ impl Reading {
             change: if self.takes_minute { 60 } else { 0 },
             station: if self.joins_stations { Some(120) } else { None },
             close: self.closes,
-            horizon: Horizon::OneDay,
+            horizon,
         }
+    }
+}
+
+// The timetable of a feed's files on a day.
+fn timetable_on(
+    alloc: Global,
+    files: Files,
+    day: &Day,
+    options: &Options,
+) -> Result<Timetable, Unread>
+    requires change { options.now.change ≤ 86400 }
+    requires station { IfSome options.now.station (λ secs. secs ≤ 86400) }
+{
+    let mut folder = MemFolder::new(files, Vec::new(alloc));
+    match read_day(alloc, &mut folder, FOLDER, day, options) {
+        Ok(table) => Ok(table),
+        Err(DayFault::Memory) => Err(Unread::Memory),
+        Err(_) => Err(Unread::NoTimetable),
     }
 }
 
 /// The timetable of a feed's files.
 pub fn timetable_of(alloc: Global, files: Files, reading: Reading) -> Result<Timetable, Unread> {
-    let mut folder = MemFolder::new(files, Vec::new(alloc));
     let Ok(day) = day_of(b"20260302".as_slice()) else {
         unreachable!()
     };
-    match read_day(alloc, &mut folder, FOLDER, &day, &reading.options()) {
-        Ok(table) => Ok(table),
-        Err(DayFault::Memory) => Err(Unread::Memory),
-        Err(_) => Err(Unread::NoTimetable),
-    }
+    timetable_on(alloc, files, &day, &reading.options(Horizon::OneDay))
+}
+
+/// The timetable of a feed's files on the day before, with all trips of both days.
+pub fn timetable_of_two_days(
+    alloc: Global,
+    files: Files,
+    reading: Reading,
+) -> Result<Timetable, Unread> {
+    let Ok(day) = day_of(b"20260301".as_slice()) else {
+        unreachable!()
+    };
+    timetable_on(alloc, files, &day, &reading.options(Horizon::TwoDays))
 }
 
 /// The timetable of a feed, where nothing is said of footpaths.

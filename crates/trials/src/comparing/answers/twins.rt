@@ -1,5 +1,5 @@
 //! Feeds with trips by frequency and trips of the day before, each held against the same trips
-//! written out a day later.
+//! written out a day later, and against itself on the day before with the day as the day after.
 ghost use Rattle.std.specs.Prelude.{◌<◌, ◌≤◌, length};
 
 use super::profiles::SECONDS;
@@ -10,7 +10,7 @@ use crate::comparing::refused::{Difference, Refused, held};
 use crate::questions::{query, window};
 use crate::ways::{asked_by_rounds, offers_of, searched};
 use edition_store::Edition;
-use made_feeds::{DAY, Draw, Reading, twin_feed, written_out_feed};
+use made_feeds::{DAY, Draw, Reading, timetable_of_two_days, twin_feed, written_out_feed};
 use segment_queue::Desk;
 use std::alloc::Global;
 use std::thread::Threads;
@@ -60,11 +60,13 @@ fn are_slots_later(given: &[Offer], written_out: &[Offer]) -> bool {
             .all(|(one, other)| is_slot_later(one.slot, other.slot))
 }
 
-// The editions of a feed and of its trips written out.
+// The editions of a feed and of its trips written out, and the timetable that the feed has on the
+// day before, of two days.
 #[derive(Clone, Copy)]
 struct Editions<'a> {
     given: &'a Edition,
     written_out: &'a Edition,
+    two_days: &'a Timetable,
 }
 
 // The choices between two stops at a time, by the search.
@@ -101,16 +103,16 @@ fn plain_between(
 // Holds choices between two stops against those a day later, and says how many these are.
 fn values_later(
     alloc: Global,
-    written_out: &Timetable,
+    later: &Timetable,
     from: u32,
     to: u32,
     leave: Sec,
     given: &[Choice],
 ) -> Result<u64, Refused>
-    requires from { from < length written_out.now.stops }
-    requires to { to < length written_out.now.stops }
+    requires from { from < length later.now.stops }
+    requires to { to < length later.now.stops }
 {
-    let choices = plain_between(alloc, written_out, from, to, day_later(leave))?;
+    let choices = plain_between(alloc, later, from, to, day_later(leave))?;
     let count = choices.len() as u64;
     let same = are_values_later(given, choices.as_slice());
     drop(choices);
@@ -119,7 +121,8 @@ fn values_later(
 }
 
 // Compares the best values between two stops: the search over the given feed, and plain rounds over
-// the trips that are written out.
+// the trips that are written out, and from midnight on over those of two days, which has further
+// ones that have ended by then.
 fn compare_query(
     alloc: Global,
     editions: &Editions<'_>,
@@ -132,11 +135,20 @@ fn compare_query(
     requires to { to < length editions.now.given.now.table.stops }
     requires from_later { from < length editions.now.written_out.now.table.stops }
     requires to_later { to < length editions.now.written_out.now.table.stops }
+    requires from_days { from < length editions.now.two_days.now.stops }
+    requires to_days { to < length editions.now.two_days.now.stops }
 {
     let written_out = editions.written_out.table();
     let choices = searched_between(alloc, editions.given, desk, from, to, leave)?;
     let values = values_later(alloc, written_out, from, to, leave, choices.as_slice());
+    let of_two_days = if leave < 0 {
+        Ok(0)
+    } else {
+        let two_days = editions.two_days;
+        values_later(alloc, two_days, from, to, leave, choices.as_slice())
+    };
     drop(choices);
+    of_two_days?;
     Ok(TwinTally {
         queries: 1,
         values: values?,
@@ -219,6 +231,8 @@ fn compare_pair(
     requires to { to < length editions.now.given.now.table.stops }
     requires from_later { from < length editions.now.written_out.now.table.stops }
     requires to_later { to < length editions.now.written_out.now.table.stops }
+    requires from_days { from < length editions.now.two_days.now.stops }
+    requires to_days { to < length editions.now.two_days.now.stops }
 {
     let first = some_time(draw);
     let mut tally = compare_window(alloc, editions, desk, from, to, first)?;
@@ -241,6 +255,7 @@ fn compare_from(
     requires from { from < stops }
     requires stops { stops ≤ length editions.now.given.now.table.stops }
     requires stops_later { stops ≤ length editions.now.written_out.now.table.stops }
+    requires stops_days { stops ≤ length editions.now.two_days.now.stops }
 {
     let mut tally = TwinTally::NOTHING;
     for to in 0..stops {
@@ -257,7 +272,9 @@ fn compare_editions(
     draw: &mut Draw,
 ) -> Result<TwinTally, Refused> {
     let stops = editions.given.table().stop_count();
-    if editions.written_out.table().stop_count() != stops {
+    if editions.written_out.table().stop_count() != stops
+        || editions.two_days.stop_count() != stops
+    {
         return Err(Refused::Differs(Difference::WrittenOut));
     }
     let mut tally = TwinTally::NOTHING;
@@ -299,6 +316,33 @@ fn compare_twins<R: Threads + Sync>(
     Ok(tally)
 }
 
+// Compares all over the given feed of a seed and its trips written out, read in this way.
+fn try_both<R: Threads + Sync>(
+    rt: &R,
+    alloc: Global,
+    given: &Edition,
+    written_out: &Edition,
+    reading: Reading,
+    desk: &mut Desk,
+    draw: &mut Draw,
+    seed: u64,
+) -> Result<AnswersTally, Refused> {
+    let files = twin_feed(alloc, &mut Draw::new(seed))?;
+    match timetable_of_two_days(alloc, files, reading) {
+        Ok(two_days) => {
+            let editions = Editions {
+                given,
+                written_out,
+                two_days: &two_days,
+            };
+            let compared = compare_twins(rt, alloc, &editions, desk, draw);
+            drop(two_days);
+            compared
+        }
+        Err(unread) => Err(unread.into()),
+    }
+}
+
 // Compares all over the given feed of a seed, read in this way.
 fn try_given<R: Threads + Sync>(
     rt: &R,
@@ -312,11 +356,7 @@ fn try_given<R: Threads + Sync>(
     let files = written_out_feed(alloc, &mut Draw::new(seed))?;
     match edition_of(rt, alloc, files, reading) {
         Ok(edition) => {
-            let editions = Editions {
-                given,
-                written_out: &edition,
-            };
-            let compared = compare_twins(rt, alloc, &editions, desk, draw);
+            let compared = try_both(rt, alloc, given, &edition, reading, desk, draw, seed);
             drop(edition);
             compared
         }
