@@ -21,6 +21,7 @@ def add_arguments(parser):
     sizes = [2_000, 20_000, 200_000]
     text = "trips of each city (else 2000 20000 200000)"
     parser.add_argument("--trips", type=count, nargs="+", default=sizes, help=text)
+    parser.add_argument("--days", type=count, default=1, help="of how many days (else 1)")
 
 
 def copy_seconds(folder):
@@ -31,12 +32,12 @@ def copy_seconds(folder):
         return time.perf_counter() - start
 
 
-def measure(program, table, trips, folder):
+def measure(program, table, trips, days, folder):
     city.make(folder, trips)
     ends = ["S0", f"S{city.side_of(trips) ** 2 - 1}", "08:00:00"]
 
     def run(*words, **how):
-        return done(program, [*OPTIONS, *words], **how)
+        return done(program, [*OPTIONS, f"--days={days}", *words], **how)
 
     read, direct = (run("direct", folder, day, *ends) for day in (NO_DAY, DAY))
     built = run("build", folder, DAY, out=None)
@@ -86,5 +87,5 @@ def run(words):
     )
     for trips in words.trips:
         with tempfile.TemporaryDirectory() as folder:
-            measure(program, table, trips, folder)
+            measure(program, table, trips, words.days, folder)
     return 0
