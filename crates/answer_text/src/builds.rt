@@ -113,7 +113,8 @@ pub fn build_text(alloc: Global, table: &Timetable, counts: BuildCounts) -> Resu
 }
 
 /// The same, and behind it `TRIP@I TRIP@J` for each transfer, list after list, an end at a trip
-/// whose service day isn't the date as `TRIP@I/before`, `TRIP@I/after` or `TRIP@I/+2`. The trips exist in the timetable.
+/// whose service day isn't the date as `TRIP@I/before`, `TRIP@I/after` or `TRIP@I/+2`. The trips
+/// exist in the timetable.
 pub fn build_list_text(
     alloc: Global,
     table: &Timetable,

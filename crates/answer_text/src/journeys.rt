@@ -153,8 +153,8 @@ impl Text {
     }
 
     /// Adds one line a leg, in order: `  walk STOP STOP SECONDS`, or
-    /// `  ride TRIP STOP DEPARTURE STOP ARRIVAL`, followed by ` day-before`,
-    /// ` day-after` or ` day+2` where the trip's service day isn't the date. The numbers of the legs exist in the timetable.
+    /// `  ride TRIP STOP DEPARTURE STOP ARRIVAL`, followed by ` day-before`, ` day-after` or ` day+2`
+    /// where the trip's service day isn't the date. The numbers of the legs exist in the timetable.
     pub fn legs(&mut self, table: &Timetable, legs: &[Leg]) -> Result<(), Memory>
         requires { All (HasNumbers table.now) legs.now }
         ensures { OnOk result (self.new ≡ self.old ++ legs_text table.now legs.now) }

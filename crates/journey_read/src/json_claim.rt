@@ -169,11 +169,11 @@ fn json_claim(
 
 /// The journey that a JSON text claims, or exactly its first fault: one JSON value in UTF-8, an
 /// object with `arrive`, `rides` and `legs`, as `ask` and `profile` write it. A leg with a `trip` is
-/// a ride, with `from`, `departure`, `to` and `arrival` beside it, and `"day":N`, N being
-/// -1, 1 or 2, where its trip's service day is N days after the date; each other one a walk, with `from`, `to` and `seconds`. Names, times and
-/// numbers are read as in the lines of `read_journey`, and other members are passed over; of members
-/// with one name the last counts. The value is line 1 and each leg a line after it; what is no JSON
-/// is bad at line 0.
+/// a ride, with `from`, `departure`, `to` and `arrival` beside it, and `"day":N`, N being -1, 1 or 2,
+/// where its trip's service day is N days after the date; each other one a walk, with `from`, `to`
+/// and `seconds`. Names, times and numbers are read as in the lines of `read_journey`, and other
+/// members are passed over; of members with one name the last counts. The value is line 1 and each
+/// leg a line after it; what is no JSON is bad at line 0.
 pub fn read_json_journey(
     alloc: Global,
     table: &Timetable,

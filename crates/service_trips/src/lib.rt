@@ -12,7 +12,8 @@
 //! days that end within the limits of times, and those of the day before that are still under way
 //! after midnight, or else the first thing that is wrong: a start that moves a time beyond the limits
 //! of a day, then too many trips, then too many events. In the code they are counted before one is
-//! made; no clause says it. The trips that it gets are sound. Follows stop_times.txt and frequencies.txt of the GTFS Schedule Reference.
+//! made; no clause says it. The trips that it gets are sound. Follows stop_times.txt and
+//! frequencies.txt of the GTFS Schedule Reference.
 #![tactic(auto)]
 
 mod beyond;
