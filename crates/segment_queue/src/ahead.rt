@@ -1,6 +1,6 @@
-ghost use Rattle.std.specs.Prelude.{◌≡◌, ◌≤◌, All, length};
+ghost use Rattle.std.specs.Prelude.{◌≡◌, ◌≤◌, All, IfSome, length};
 ghost use Rattle.std.specs.List.{AllWithin};
-ghost use Rattle.segment_queue.specs.Queue.{IsInStep};
+ghost use Rattle.segment_queue.specs.Queue.{IsInStep, IsSoundSegment};
 ghost use Rattle.segment_queue.specs.Scans.{AreEvents};
 
 use super::desk::Desk;
@@ -44,6 +44,19 @@ fn read_hops<S: Scan>(scan: &S, notes: &[Note]) -> Ahead
     ahead
 }
 
+// Where the stretch ends that begins at segment `n` of a round, up to number `to`, and none where
+// none begins there.
+fn stretch_end(begin: u32, n: u32, to: u32) -> Option<u32>
+    requires { begin ≤ n }
+    ensures { IfSome result (λ end. end ≤ to) }
+{
+    if (n - begin) % STRETCH == 0 {
+        Some(to.min(n.saturating_add(STRETCH)))
+    } else {
+        None
+    }
+}
+
 impl Desk {
     // Reads ahead what clips each of these segments.
     fn read_clips<S: Scan>(&self, scan: &S, from: u32, to: u32) -> Ahead
@@ -60,13 +73,26 @@ impl Desk {
 
     // Reads the first event that each of these segments covers ahead.
     fn read_events<S: Scan>(&self, scan: &S, from: u32, to: u32) -> Ahead
-        requires step { IsInStep (S.net scan.now) self.now }
+        requires sound { All (IsSoundSegment (S.net scan.now).table) self.now.segments }
         requires to { to ≤ length self.now.segments }
     {
         let mut ahead = Ahead::new();
         for n in from..to {
             let segment = self.segments[n as usize];
             scan.read_event_ahead(segment.trip, segment.board + 1, &mut ahead);
+        }
+        ahead
+    }
+
+    // Reads hops from the first event that each of these segments covers ahead.
+    fn read_first_hops<S: Scan>(&self, scan: &S, from: u32, to: u32) -> Ahead
+        requires sound { All (IsSoundSegment (S.net scan.now).table) self.now.segments }
+        requires to { to ≤ length self.now.segments }
+    {
+        let mut ahead = Ahead::new();
+        for n in from..to {
+            let segment = self.segments[n as usize];
+            scan.read_event_hops_ahead(segment.trip, segment.board + 1, &mut ahead);
         }
         ahead
     }
@@ -80,14 +106,30 @@ impl Desk {
         requires to { to ≤ length self.old.segments }
         ensures { self.new ≡ self.old }
     {
-        if (n - begin) % STRETCH != 0 {
+        let Some(end) = stretch_end(begin, n, to) else {
             return;
-        }
-        let end = to.min(n.saturating_add(STRETCH));
+        };
         let clips = self.read_clips(scan, n, end);
         self.ahead.join(clips);
         let events = self.read_events(scan, n, end);
         self.ahead.join(events);
+    }
+
+    /// The same in a sweep, whose segments nothing clips: reads ahead the first event that each
+    /// segment of the stretch covers, and hops from there.
+    pub fn read_level_ahead<S: Scan>(&mut self, scan: &S, begin: u32, n: u32, to: u32)
+        requires sound { All (IsSoundSegment (S.net scan.now).table) self.old.segments }
+        requires begin { begin ≤ n }
+        requires to { to ≤ length self.old.segments }
+        ensures { self.new ≡ self.old }
+    {
+        let Some(end) = stretch_end(begin, n, to) else {
+            return;
+        };
+        let events = self.read_events(scan, n, end);
+        self.ahead.join(events);
+        let hops = self.read_first_hops(scan, n, end);
+        self.ahead.join(hops);
     }
 
     /// Before note `k` is followed: at the first note of each stretch of 128 reads ahead the first
