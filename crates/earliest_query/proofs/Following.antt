@@ -57,12 +57,6 @@ module _ (T : TimetableData) (hops : ℕ → ℕ → List Hop) (D D' : DeskData)
       subst (λ (r : ℕ × ℕ). Contains (hops (segment_of D'.segments r.0).trip r.1) h) q
       (subst (λ (s : Segment). Contains (hops s.trip i) h) (sym same) in_set)
 
--- the hops from one event that was looked at
-pub hops_seen-one : (hops : ℕ → ℕ → List Hop) (w : Seen) (t i : ℕ) → seen_trip w ≡ t → seen_first w ≡ i → seen_last w ≡ i → hops_seen hops w ≡ hops t i
-hops_seen-one hops w t i trip first last =
-    let one : suc (seen_last w) - seen_first w ≡ 1 = omega (arith, first, last) in
-    ap (λ n. flat_map (hops (seen_trip w)) (range_with_len (seen_first w) n)) one ∙ append-nil (hops (seen_trip w) (seen_first w)) ∙ ap (λ x. hops x (seen_first w)) trip ∙ ap (hops t) first
-
 pub followed-kept : (N : NetData) (D D' : DeskData) (joined n i : ℕ) → Extends D D' joined → n < length D.segments → IsFollowed N D n i → IsFollowed N D' n i
 followed-kept N D D' joined n i extends inside followed = λ h in_set.
     let same : segment_of D'.segments n ≡ segment_of D.segments n = extends-segment D D' joined extends n inside in

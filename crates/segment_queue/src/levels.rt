@@ -107,8 +107,9 @@ impl Levels {
             (S.net scan.now).lines) self.new }
     {
         let last = scan.last_at(trip);
+        let onward = scan.onward(trip);
         for k in level..self.levels.len() {
-            lower_marks(&mut self.levels[k], scan, trip, at, last);
+            lower_marks(&mut self.levels[k], scan, trip, onward, at, last);
         }
     }
 }
