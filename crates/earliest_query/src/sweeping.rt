@@ -14,6 +14,7 @@ use tb_base::{Hop, Memory};
 
 impl<S: Scan> Search<'_, S> {
     // Enters the trip of a hop where it is boarded, as a ride for which there is a level.
+    #[inline(never)]
     pub(crate) fn enter_level(
         &self,
         desk: &mut Desk,

@@ -1,4 +1,4 @@
-ghost use Rattle.std.specs.Prelude.{◌≡◌, ◌≤◌, All, IfSome, length};
+ghost use Rattle.std.specs.Prelude.{◌≡◌, ◌≤◌, All, length};
 ghost use Rattle.std.specs.List.{AllWithin};
 ghost use Rattle.segment_queue.specs.Queue.{IsInStep, IsSoundSegment};
 ghost use Rattle.segment_queue.specs.Scans.{AreEvents};
@@ -44,17 +44,19 @@ fn read_hops<S: Scan>(scan: &S, notes: &[Note]) -> Ahead
     ahead
 }
 
-// Where the stretch ends that begins at segment `n` of a round, up to number `to`, and none where
-// none begins there.
-fn stretch_end(begin: u32, n: u32, to: u32) -> Option<u32>
+// Whether a stretch begins at number `n`, where the first one begins at `begin`.
+#[inline(always)]
+fn begins_stretch(begin: u32, n: u32) -> bool
     requires { begin ≤ n }
-    ensures { IfSome result (λ end. end ≤ to) }
 {
-    if (n - begin) % STRETCH == 0 {
-        Some(to.min(n.saturating_add(STRETCH)))
-    } else {
-        None
-    }
+    (n - begin) % STRETCH == 0
+}
+
+// Where the stretch that begins at number `n` ends: at `to` at the latest.
+fn stretch_end(n: u32, to: u32) -> u32
+    ensures { result ≤ to }
+{
+    to.min(n.saturating_add(STRETCH))
 }
 
 impl Desk {
@@ -97,55 +99,89 @@ impl Desk {
         ahead
     }
 
-    /// Before segment `n` of a round is looked at: at the first segment of each stretch of 128,
-    /// counted from where the round begins, reads ahead what clips each segment of the stretch and
-    /// the first event that it covers, up to number `to`. At any other segment it does nothing.
-    pub fn read_segments_ahead<S: Scan>(&mut self, scan: &S, begin: u32, n: u32, to: u32)
+    // Reads ahead what clips each segment of the stretch that begins here, and the first event that
+    // it covers.
+    #[inline(never)]
+    fn read_stretch<S: Scan>(&mut self, scan: &S, n: u32, to: u32)
         requires step { IsInStep (S.net scan.now) self.old }
-        requires begin { begin ≤ n }
         requires to { to ≤ length self.old.segments }
         ensures { self.new ≡ self.old }
     {
-        let Some(end) = stretch_end(begin, n, to) else {
-            return;
-        };
+        let end = stretch_end(n, to);
         let clips = self.read_clips(scan, n, end);
         self.ahead.join(clips);
         let events = self.read_events(scan, n, end);
         self.ahead.join(events);
     }
 
-    /// The same in a sweep, whose segments nothing clips: reads ahead the first event that each
-    /// segment of the stretch covers, and hops from there.
-    pub fn read_level_ahead<S: Scan>(&mut self, scan: &S, begin: u32, n: u32, to: u32)
-        requires sound { All (IsSoundSegment (S.net scan.now).table) self.old.segments }
+    /// Before segment `n` of a round is looked at: at the first segment of each stretch of 128,
+    /// counted from where the round begins, reads ahead what clips each segment of the stretch and
+    /// the first event that it covers, up to number `to`. At any other segment it does nothing.
+    #[inline(always)]
+    pub fn read_segments_ahead<S: Scan>(&mut self, scan: &S, begin: u32, n: u32, to: u32)
+        requires step { IsInStep (S.net scan.now) self.old }
         requires begin { begin ≤ n }
         requires to { to ≤ length self.old.segments }
         ensures { self.new ≡ self.old }
     {
-        let Some(end) = stretch_end(begin, n, to) else {
-            return;
-        };
+        if begins_stretch(begin, n) {
+            self.read_stretch(scan, n, to);
+        }
+    }
+
+    // Reads ahead the first event that each segment of the stretch that begins here covers, and hops
+    // from there.
+    #[inline(never)]
+    fn read_level_stretch<S: Scan>(&mut self, scan: &S, n: u32, to: u32)
+        requires sound { All (IsSoundSegment (S.net scan.now).table) self.old.segments }
+        requires to { to ≤ length self.old.segments }
+        ensures { self.new ≡ self.old }
+    {
+        let end = stretch_end(n, to);
         let events = self.read_events(scan, n, end);
         self.ahead.join(events);
         let hops = self.read_first_hops(scan, n, end);
         self.ahead.join(hops);
     }
 
-    /// Before note `k` is followed: at the first note of each stretch of 128 reads ahead the first
-    /// and the last hop of each note of the stretch. At any other note it does nothing.
-    pub fn read_notes_ahead<S: Scan>(&mut self, scan: &S, k: usize)
+    /// The same in a sweep, whose segments nothing clips: reads ahead the first event that each
+    /// segment of the stretch covers, and hops from there.
+    #[inline(always)]
+    pub fn read_level_ahead<S: Scan>(&mut self, scan: &S, begin: u32, n: u32, to: u32)
+        requires sound { All (IsSoundSegment (S.net scan.now).table) self.old.segments }
+        requires begin { begin ≤ n }
+        requires to { to ≤ length self.old.segments }
+        ensures { self.new ≡ self.old }
+    {
+        if begins_stretch(begin, n) {
+            self.read_level_stretch(scan, n, to);
+        }
+    }
+
+    // Reads the hops of the notes of the stretch that begins here ahead.
+    #[inline(never)]
+    fn read_notes_stretch<S: Scan>(&mut self, scan: &S, k: usize)
         requires { AllWithin (λ note. AreEvents (S.net scan.now).table note.seen) self.old.notes
             k (length self.old.notes) }
         ensures { self.new ≡ self.old }
     {
-        if k % STRETCH as usize != 0 {
-            return;
-        }
         let notes = self.notes.as_slice();
         let from = k.min(notes.len());
         let end = notes.len().min(k.saturating_add(STRETCH as usize));
         let ahead = read_hops(scan, &notes[from..end]);
         self.ahead.join(ahead);
+    }
+
+    /// Before note `k` is followed: at the first note of each stretch of 128 reads ahead the first
+    /// and the last hop of each note of the stretch. At any other note it does nothing.
+    #[inline(always)]
+    pub fn read_notes_ahead<S: Scan>(&mut self, scan: &S, k: usize)
+        requires { AllWithin (λ note. AreEvents (S.net scan.now).table note.seen) self.old.notes
+            k (length self.old.notes) }
+        ensures { self.new ≡ self.old }
+    {
+        if k % STRETCH as usize == 0 {
+            self.read_notes_stretch(scan, k);
+        }
     }
 }
