@@ -44,7 +44,3 @@ noted_by_one note n i noted = elim (Member-from_Contains noted.by (note ∷ []) 
   | inl same ↦ subst (λ x. IsOf x n i) (sym same) noted.of
   | inr none ↦ absurd none
 ]
-
--- without notes nothing is noted
-pub noted_by_none : (n i : ℕ) → IsNoted [] n i → ⊥
-noted_by_none n i noted = omega (arith, noted.one.1)
