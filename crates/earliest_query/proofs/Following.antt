@@ -1,8 +1,7 @@
 -- A hop of the set is followed.
-use Rattle.std.proofs.Common.{◌≡◌, ◌∙◌, ℕ, zero, suc, ◌+◌, ◌-◌, ◌<◌, ◌≤◌, ◌⊎◌, inl, inr, List, [], ◌∷◌, length, get_or, refl, sym, ap, subst, arith, Option, Some}
+use Rattle.std.proofs.Common.{◌≡◌, ℕ, zero, suc, ◌+◌, ◌<◌, ◌≤◌, ◌⊎◌, inl, inr, List, [], ◌∷◌, length, get_or, refl, sym, ap, subst, arith, Option, Some}
 use Rattle.std.specs.Prelude.{Contains, flat_map}
 use Rattle.std.specs.List.{range_with_len}
-use Rattle.std.proofs.lemmas.List.{append-nil}
 use Rattle.std.proofs.lemmas.List.Elements.{Contains-append_cases, Contains-append_left, Contains-append_right}
 use Rattle.tb_base.specs.Network.{NetData}
 use Rattle.tb_base.specs.declared.transfer.Hop.{Hop}
@@ -11,8 +10,6 @@ use Rattle.tb_base.specs.Soundness.{IsSound, IsSoundEvent, IsSoundTrip}
 use Rattle.tb_base.specs.Sufficiency.{AreSufficient, IsPossibleHop}
 use Rattle.tb_base.proofs.Events.{MayBoard-inside}
 use Rattle.segment_queue.specs.declared.desk.Segment.{Segment}
-use Rattle.segment_queue.specs.declared.seen.Seen.{Seen}
-use Rattle.segment_queue.specs.Scans.{hops_seen, seen_first, seen_last, seen_trip}
 use Rattle.segment_queue.specs.Queue.{DeskData}
 use Rattle.segment_queue.specs.Traced.{IsHoppedOnto, round_of, segment_of}
 use Rattle.earliest_query.specs.UnderWay.{Covers, Extends, IsFollowed}

@@ -1,15 +1,12 @@
-use Rattle.std.proofs.Common.{◌≡◌, ℕ, suc, ◌-◌, ◌≤◌, length, refl, sym, ap, subst, arith, None, Some}
-use Rattle.std.specs.Prelude.{Contains, slice_get}
-use Rattle.std.proofs.lemmas.Option.{get_or_from_slice_get, slice_get_within}
+use Rattle.std.proofs.Common.{ℕ, suc, length, refl, sym, ap, subst, None}
+use Rattle.std.proofs.lemmas.Option.{slice_get_within}
 use Rattle.tb_base.specs.Network.{NetData}
 use Rattle.tb_base.specs.BestValues.{QueryData}
-use Rattle.tb_base.specs.declared.transfer.Hop.{Hop}
 use Rattle.segment_queue.specs.declared.notes.Note.{Note}
 use Rattle.segment_queue.specs.Queue.{DeskData}
-use Rattle.segment_queue.specs.Scans.{followed_seen, hops_seen, seen_first, seen_last, seen_trip}
-use Rattle.segment_queue.specs.Traced.{segment_of}
-use Rattle.earliest_query.specs.Noted.{IsSoundNote, note_of}
-use Rattle.earliest_query.specs.UnderWay.{Covers, Extends, IsQueue, IsReachedBy}
+use Rattle.segment_queue.specs.Scans.{followed_seen, hops_seen}
+use Rattle.earliest_query.specs.Noted.{note_of}
+use Rattle.earliest_query.specs.UnderWay.{Extends, IsQueue, IsReachedBy}
 use Rattle.earliest_query.proofs.Following.{hop_boards, hop_in_set, hop_not_last, hop_trip}
 use Rattle.earliest_query.proofs.Growing.{extends-refl}
 use Rattle.earliest_query.proofs.NotedHops.{IsFrom, found, from_some}

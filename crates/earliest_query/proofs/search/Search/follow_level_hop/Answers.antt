@@ -1,4 +1,4 @@
-use Rattle.std.proofs.Common.{ℕ, suc, ap, refl, arith, None}
+use Rattle.std.proofs.Common.{ℕ, suc, ap, refl, None}
 use Rattle.std.proofs.lemmas.Option.{slice_get_within}
 use Rattle.tb_base.specs.Network.{NetData}
 use Rattle.tb_base.specs.BestValues.{QueryData}

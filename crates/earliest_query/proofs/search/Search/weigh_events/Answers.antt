@@ -1,19 +1,17 @@
-use Rattle.std.proofs.Common.{◌≡◌, ◌∙◌, ℕ, ◌+◌, ◌<◌, ◌≤◌, ◌⊎◌, inl, inr, sym, ap, subst, refl, arith}
+use Rattle.std.proofs.Common.{◌≡◌, ℕ, ◌+◌, ◌<◌, ◌≤◌, ◌⊎◌, inl, inr, sym, ap, subst, refl, arith}
 use Rattle.std.proofs.lemmas.Int.{ints}
 use Rattle.std.proofs.lemmas.Option.{get_or_from_slice_get}
 use Rattle.tb_base.specs.Network.{NetData}
-use Rattle.tb_base.specs.TimetableData.{TimetableData, arrival_at}
+use Rattle.tb_base.specs.TimetableData.{TimetableData}
 use Rattle.tb_base.specs.BestValues.{QueryData}
 use Rattle.tb_base.specs.Search.{IsReached}
 use Rattle.tb_base.proofs.NumberFacts.{less_or_same}
 use Rattle.segment_queue.specs.declared.desk.Segment.{Segment}
 use Rattle.segment_queue.specs.Queue.{DeskData, IsSoundSegment}
 use Rattle.segment_queue.specs.Traced.{no_segment, round_of, segment_of}
-use Rattle.segment_queue.specs.declared.seen.Seen.{Seen}
-use Rattle.segment_queue.specs.Scans.{seen_arr, seen_first, seen_last, seen_trip}
 use Rattle.earliest_query.specs.Noted.{IsNoted, notes_of}
 use Rattle.earliest_query.proofs.Following.{sound_event}
-use Rattle.earliest_query.proofs.Noting.{IsSeenAt, IsWeighedAt, bounded_late, clipped_outdone, clipped_within, here_seen, improved_late, late_from, left_late, seen_behind, seen_more, seen_noted, seen_sound, weighed_on}
+use Rattle.earliest_query.proofs.Noting.{IsWeighedAt, bounded_late, clipped_outdone, clipped_within, here_seen, improved_late, late_from, left_late, seen_behind, seen_more, seen_noted, seen_sound, weighed_on}
 use Rattle.earliest_query.proofs.Reaching.{reached_all}
 use Rattle.earliest_query.proofs.search.Search.weigh_events.Goals as goal
 
