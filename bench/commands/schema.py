@@ -165,7 +165,7 @@ def faults(validator, text):
 
 def name_of(words):
     """The name of the command among words, which stands behind the options."""
-    takes_one = ("--change", "--station", "--workers", "--lanes")
+    takes_one = ("--change", "--station", "--days", "--workers", "--lanes")
     for place, word in enumerate(words):
         if not word.startswith("-") and (place == 0 or words[place - 1] not in takes_one):
             return word
