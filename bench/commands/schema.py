@@ -125,6 +125,8 @@ def more(folder):
     yield ["direct", feed, day, *ends, late], ""
     yield ["direct", feed, day, *reversed(ends), late], ""
     yield ["ask", feed, day, *ends, late], ""
+    for leave in ("25:00:00", "49:00:00"):
+        yield ["--days", "3", "ask", feed, day, *ends, leave], ""
     yield ["ask", feed, day, "no \\ stop", "C", late], ""
     yield ["profile", feed, day, *ends, late, "26:00:00"], ""
     yield ["latest", feed, day, *ends, "26:00:00"], ""
