@@ -1,11 +1,11 @@
 -- Rows of origins, run after run.
-use Rattle.std.proofs.Common.{◌≡◌, ◌∙◌, refl, ap, sym, subst, ℕ, zero, suc, ◌+◌, ◌-◌, ◌<◌, ◌≤◌, List, [], ◌∷◌, ◌++◌, length, take, drop, get_or, Option, Some, None, Vec, Global, append_assoc, arith, ◌⊎◌, inl, inr}
+use Rattle.std.proofs.Common.{◌≡◌, ◌∙◌, refl, ap, sym, subst, ℕ, ◌+◌, ◌-◌, ◌<◌, ◌≤◌, List, [], ◌∷◌, ◌++◌, length, take, drop, get_or, Option, Some, None, Vec, Global, append_assoc, arith, ◌⊎◌, inl, inr}
 use Rattle.std.proofs.lemmas.List.{append-nil, length-append, take-append-drop, take-append-le, take_all, take_more}
 use Rattle.std.proofs.Math.Seq.{take-append-add}
 use Rattle.std.specs.Io.KnownBytes.{Appends}
 use Rattle.tb_base.specs.TimetableData.{TimetableData}
 use Rattle.tb_io.proofs.Pieces.{appends_more}
-use Rattle.query_gate.specs.Dealing.{AreReplies, run_of}
+use Rattle.query_gate.specs.Dealing.{run_of}
 use Rattle.query_gate.proofs.Dealt.{run_more}
 use Rattle.std.proofs.lemmas.Grind.{flat_map-append}
 use Rattle.query_gate.specs.Dealing.{joined_texts}

@@ -1,23 +1,18 @@
 -- A plan grows by one item.
-use Rattle.std.proofs.Common.{◌≡◌, ◌⊎◌, inl, inr, ℕ, ◌+◌, ◌<◌, ◌≤◌, List, [], ◌∷◌, ◌++◌, take, length, get_or, refl, sym, ap, subst, ◌∙◌, Bool, Option, Some, None, Result, Ok, Err, arith}
+use Rattle.std.proofs.Common.{◌≡◌, ◌⊎◌, inl, inr, ℕ, ◌+◌, ◌<◌, ◌≤◌, List, [], ◌∷◌, ◌++◌, take, length, get_or, sym, ap, subst, ◌∙◌, Bool, Option, Some, None, Result, Ok, Err, arith}
 use Rattle.std.specs.Prelude.{IfOk, OnOk, option_to_list}
-use Rattle.gtfs_rows.specs.declared.fault.FeedFault.{FeedFault}
 use Rattle.std.proofs.lemmas.List.{take_more, length-take}
 use Rattle.tb_io.specs.Files.{FileList}
 use Rattle.footpaths.specs.declared.paths.Options.{Options}
 use Rattle.edition_store.specs.Editions.{EditionData, IsEdition}
-use Rattle.late_edit.specs.Amending.{edition_lines}
-use Rattle.late_edit.specs.Touched.{touched_count}
-use Rattle.late_edit.specs.declared.late.LateFault.{LateFault}
 use Rattle.edition_build.specs.declared.finding.Building.{Building}
-use Rattle.edition_build.specs.declared.finding.Found.{Found}
 use Rattle.edition_build.specs.declared.finding.PlanEnd.{PlanEnd}
 use Rattle.edition_build.specs.declared.plan.ItemSource.{ItemSource}
 use Rattle.edition_build.specs.declared.plan.ItemSource.TheVariants as source
 use Rattle.edition_build.specs.declared.plan.Outcome.{Outcome}
-use Rattle.edition_build.specs.declared.plan.Outcome.TheVariants.{Amended, LateRefused, Published, Refused}
+use Rattle.edition_build.specs.declared.plan.Outcome.TheVariants.{Published}
 use Rattle.edition_build.specs.FeedDays.{FeedDayData}
-use Rattle.edition_build.specs.Plans.{AreOutcomes, AreSoFar, AreTold, BeginsPublished, BeginsWithFeed, DayGives, HasDayOutcome, HasLateOutcome, HasOutcome, HasSourceOutcome, IsAmendedEdition, IsEditionOfDay, IsPublished, ItemData, LateGives, Takes, amended_outcome_of, day_after, outcome_of}
+use Rattle.edition_build.specs.Plans.{AreOutcomes, AreSoFar, BeginsPublished, BeginsWithFeed, HasOutcome, HasSourceOutcome, IsEditionOfDay, ItemData, Takes, day_after, outcome_of}
 use Rattle.lane_serve.specs.Sides.{HasTakenSoFar}
 use Rattle.edition_build.proofs.FirstDay.{of_day, source_first}
 use Rattle.edition_build.proofs.Told.{so_far_all, so_far_first, so_far_more, told_count, told_few}

@@ -1,10 +1,9 @@
 -- A lane's run and its closing replies grow by one reply, and stay right over a longer list.
-use Rattle.std.proofs.Common.{◌≡◌, ℕ, zero, suc, ◌+◌, ◌-◌, ◌<◌, ◌≤◌, List, [], ◌∷◌, ◌++◌, Bool, true, false, take, drop, length, get_or, refl, sym, ap, subst, ◌∙◌, if◌then◌else◌, arith}
-use Rattle.std.specs.Prelude.{All, slice_get, Some}
+use Rattle.std.proofs.Common.{◌≡◌, ℕ, zero, suc, ◌+◌, ◌-◌, ◌<◌, ◌≤◌, List, [], ◌∷◌, ◌++◌, Bool, true, false, take, length, get_or, refl, sym, ap, subst, ◌∙◌, if◌then◌else◌, arith}
+use Rattle.std.specs.Prelude.{All}
 use Rattle.std.proofs.lemmas.List.{append-nil, take_all, take_more, length-take}
 use Rattle.std.proofs.lemmas.List.Elements.{All-push}
 use Rattle.history.specs.Lists.{Shown, StartsWith}
-use Rattle.history.proofs.Lists.{rest_of}
 use Rattle.query_gate.proofs.Longer.{starts_get}
 use Rattle.edition_store.specs.Editions.{EditionData}
 use Rattle.query_gate.specs.declared.said.Line.{Line}

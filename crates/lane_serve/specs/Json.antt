@@ -1,18 +1,12 @@
 -- What a run of lanes beside a publisher gives, as lines of JSON.
 use Rattle.std.specs.Prelude.{ℕ, List, ◌++◌, codes, flat_map, Bool, if◌then◌else◌}
 use Rattle.std.specs.Fmt.{decimal}
-use Rattle.gtfs_rows.specs.declared.fault.FeedFault.{FeedFault}
-use Rattle.answer_json.specs.Faults.{fault_json}
 use Rattle.answer_json.specs.Frames.{count_json, string_json}
 use Rattle.lane_serve.specs.declared.lane.ReplyText.{ReplyText}
-use Rattle.edition_build.specs.declared.plan.Outcome.{Outcome}
-use Rattle.edition_build.specs.declared.plan.Outcome.TheVariants.{Amended, LateRefused, Published, Refused}
-use Rattle.late_edit.specs.declared.late.LateFault.{LateFault}
-use Rattle.edition_build.specs.LateFaults.{late_fault_json}
 use Rattle.lane_serve.specs.Lanes.{ReportData}
 use Rattle.edition_build.specs.Plans.{ItemData}
 use Rattle.lane_serve.specs.Served.{ServedData}
-use Rattle.edition_build.specs.OutcomeTexts.{outcome_lines}
+use Rattle.edition_build.specs.OutcomeJson.{outcomes_json}
 use Rattle.lane_serve.specs.Texts.{served_text}
 
 -- `{"lane":NAME,"request":K,"edition":N,MEMBER}`, with the member that the reply is

@@ -1,18 +1,14 @@
 -- What a script says: lanes of requests, or the first bad line.
-use Rattle.std.specs.Prelude.{ℕ, ◌+◌, ◌<◌, ◌≤◌, ◌==◌, List, [], ◌∷◌, ◌++◌, Bool, length, codes, bytes_eq, nat_lt, sum_by, Option, Some, None, Result, Ok, Err, All, ⊤, if◌then◌else◌}
+use Rattle.std.specs.Prelude.{ℕ, ◌+◌, ◌<◌, ◌≤◌, ◌==◌, List, [], ◌∷◌, ◌++◌, Bool, length, nat_lt, sum_by, Option, Some, None, Result, Ok, Err, All, if◌then◌else◌}
 use Rattle.std.specs.List.{list_any}
 use Rattle.std.specs.Option.{option_and_then}
-use Rattle.answer_text.specs.Questions.{needs_mirror, question_of}
-use Rattle.answer_text.specs.Questions as question
-use Rattle.answer_text.specs.declared.question.Question.{Question}
-use Rattle.answer_text.specs.declared.question.QuestionFault.{QuestionFault}
-use Rattle.answer_text.specs.declared.question.QuestionFault.TheVariants as why
-use Rattle.gtfs_rows.specs.Numbers.{number_of}
+use Rattle.answer_text.specs.Questions.{needs_mirror}
 use Rattle.gtfs_rows.specs.Steps.{and_then}
 use Rattle.text_lines.specs.LineWords.{line_words}
 use Rattle.text_lines.specs.Lines.{lines_of}
 use Rattle.query_gate.specs.declared.said.Said.{Said}
 use Rattle.query_gate.specs.declared.said.Said.TheVariants as said
+use Rattle.query_gate.specs.Said.{IsAskable, said_of}
 use Rattle.query_gate.specs.declared.said.Line.{Line}
 use Rattle.lane_serve.specs.declared.script.ScriptFault.{ScriptFault}
 use Rattle.lane_serve.specs.declared.script.ScriptFault.TheVariants as fault

@@ -1,7 +1,6 @@
 -- What a run of lanes beside a publisher gives.
 use Rattle.std.specs.Prelude.{◌≡◌, ℕ, ◌<◌, List, [], ◌∷◌, length, Option, Some, None, Result, Ok, Err, Vec, ⊤}
 use Rattle.std.specs.Global.{Global}
-use Rattle.tb_base.specs.TimetableData.{TimetableData}
 use Rattle.tb_io.specs.Files.{FileList}
 use Rattle.gtfs_rows.specs.declared.fault.FeedFault.{FeedFault}
 use Rattle.footpaths.specs.declared.paths.Options.{Options}
@@ -15,7 +14,7 @@ use Rattle.query_gate.specs.declared.said.Line.{Line}
 use Rattle.lane_serve.specs.declared.run.ServeFault.{ServeFault}
 use Rattle.lane_serve.specs.declared.run.ServeFault.TheVariants as fault
 use Rattle.lane_serve.specs.Lanes.{IsClosing, IsLaneRun, ReportData, to_close}
-use Rattle.edition_build.specs.Plans.{AreOutcomes, BeginsPublished, DayGives, ItemData, OfDay}
+use Rattle.edition_build.specs.Plans.{FirstGives, AreOutcomes, BeginsPublished, ItemData}
 use Rattle.lane_serve.specs.Script.{LaneData, needs_mirrors}
 
 -- the outcomes of a plan's items, what each lane was answered, how many editions there were in the

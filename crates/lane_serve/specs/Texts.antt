@@ -1,13 +1,8 @@
 -- What a run of lanes beside a publisher gives, as lines of text.
-use Rattle.std.specs.Prelude.{ℕ, List, [], ◌∷◌, ◌++◌, codes, flat_map}
+use Rattle.std.specs.Prelude.{ℕ, List, ◌∷◌, ◌++◌, codes, flat_map}
 use Rattle.std.specs.Fmt.{decimal}
-use Rattle.gtfs_rows.specs.declared.fault.FeedFault.{FeedFault}
-use Rattle.answer_text.specs.Faults.{fault_text}
 use Rattle.lane_serve.specs.declared.lane.ReplyText.{ReplyText}
-use Rattle.edition_build.specs.declared.plan.Outcome.{Outcome}
-use Rattle.edition_build.specs.declared.plan.Outcome.TheVariants.{Amended, LateRefused, Published, Refused}
-use Rattle.late_edit.specs.declared.late.LateFault.{LateFault}
-use Rattle.edition_build.specs.LateFaults.{late_fault_text}
+use Rattle.edition_build.specs.OutcomeTexts.{outcomes_text}
 use Rattle.lane_serve.specs.Lanes.{ReportData}
 use Rattle.edition_build.specs.Plans.{ItemData}
 use Rattle.lane_serve.specs.Served.{ServedData}

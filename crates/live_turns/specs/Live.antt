@@ -18,8 +18,7 @@ use Rattle.live_turns.specs.declared.live.saying.LiveMode.{LiveMode}
 use Rattle.live_turns.specs.LiveLines.{live_counts, live_gives}
 use Rattle.live_turns.specs.LiveReplies.{LiveReplies}
 use Rattle.live_turns.specs.LiveTexts.{NewsData, news_shown}
-use Rattle.edition_build.specs.Plans.{AreTold, HasOutcome, IsEditionOfDay, IsPublished, ItemData, OfDay}
-use Rattle.edition_build.specs.Plans.{FirstGives}
+use Rattle.edition_build.specs.Plans.{AreTold, BeginsWithFirst, FirstGives, HasOutcome, IsPublished, ItemData}
 
 -- What became of an item, where n editions were published before, and this is the edition of the
 -- last day among them, and the editions that it added: its outcome; or it couldn't be read, or there

@@ -1,6 +1,5 @@
 -- The turns of a process that lives.
-use Rattle.std.specs.Prelude.{◌≡◌, ◌⊎◌, ℕ, List, [], ◌++◌, Bool, Option, IfSome, length, map, take, flat_map, Vec}
-use Rattle.std.specs.declared.alloc.Global.{Global}
+use Rattle.std.specs.Prelude.{◌≡◌, ◌⊎◌, ℕ, List, [], ◌++◌, Bool, Option, IfSome, length, map, take, flat_map}
 use Rattle.std.specs.Io.KnownBytes.{Appends, Consumes}
 use Rattle.edition_store.specs.Editions.{EditionData}
 use Rattle.history.specs.Lists.{Extends, Shown, StartsWith}
