@@ -1,5 +1,5 @@
 //! Bitmaps of a bucket's lines: for a quick look at many lines, whatever their times are.
-ghost use Rattle.std.specs.Prelude.{◌≡◌, ◌<◌, ◌≤◌, ◌*◌, ◌+◌, ◌/◌, ◌%◌, ℕ, [], IfOk, OnOk, All, length, slice_index_or};
+ghost use Rattle.std.specs.Prelude.{◌≡◌, ◌<◌, ◌≤◌, ◌*◌, ◌+◌, ◌/◌, ◌%◌, ℕ, [], IfOk, OnOk, All, length, replicate, slice_index_or};
 ghost use Rattle.std.specs.Bool.{OnFalse, OnTrue};
 ghost use Rattle.std.specs.Int.{bit_at};
 ghost use Rattle.tb_base.specs.TimetableData.{events_of};
@@ -54,13 +54,11 @@ impl Bitmap {
     ) -> Result<Bitmap, Memory>
         ensures { IfOk result (λ bitmap. IsUnset bitmap) }
     {
-        let mut bits = Vec::new(alloc);
-        bits.resize(words, 0)?;
         Ok(Bitmap {
             event,
             departs,
             limit,
-            bits,
+            bits: zeros(alloc, words)?,
             set: 0,
         })
     }
@@ -106,6 +104,17 @@ impl Bitmap {
         self.set = self.set.saturating_add(1);
         true
     }
+}
+
+// So many words without a bit that is set.
+fn zeros(alloc: Global, count: usize) -> Result<Vec<u64>, Memory>
+    ensures { IfOk result (λ words. words.items ≡ replicate count 0) }
+{
+    let mut words = Vec::new(alloc);
+    for _word in 0..count {
+        words.push(0)?;
+    }
+    Ok(words)
 }
 
 /// Marks the line at a place, which has come to these events, in each bitmap whose limit is earlier.
@@ -204,7 +213,7 @@ fn out_in(bitmaps: &[Bitmap], picked: &[usize], word: usize) -> u64
     for n in 0..picked.len() {
         out |= bitmaps[picked[n]].word(word);
         if out == u64::MAX {
-            break;
+            return out;
         }
     }
     out
