@@ -1,4 +1,4 @@
-use Rattle.std.proofs.Common.{◌∙◌, ◌/◌, [], inl, inr, sym, ap, subst, arith, get_or}
+use Rattle.std.proofs.Common.{◌∙◌, inl, inr, sym, ap, subst, arith}
 use Rattle.std.specs.Prelude.{All}
 use Rattle.tb_base.specs.TimetableData.{events_of}
 use Rattle.tb_base.specs.Lines.{last_trip, may_follow}
@@ -23,9 +23,11 @@ pub returns-then-may_follow : goal.returns-then-may_follow
 returns-then-may_follow c =
     let T = c.args.table.now in
     let lines = c.args.lines.now in
-    let own = c.events_of.ensures ∙ ap (events_of T) (c.last_trip.ensures ∙ ap last_trip c.row.ensures) in
-    (c.loop-place-test.true, find_at (joins T lines (events_of T c.args.trip)) c.args.among.now c.loop-place.place c.loop-place-test.true c.loop-place.invariant
-    (sym (λ i. may_follow (own i) (c.events_of-events.ensures i)) ∙ sym c.may_follow.ensures ∙ c.if-may_follow.true))
+    let own = c.events_of.ensures ∙ ap (events_of T) (c.last_trip.ensures ∙ ap last_trip c.row.ensures) in (
+      c.loop-place-test.true,
+      find_at (joins T lines (events_of T c.args.trip)) c.args.among.now c.loop-place.place c.loop-place-test.true c.loop-place.invariant
+          (sym (λ i. may_follow (own i) (c.events_of-events.ensures i)) ∙ sym c.may_follow.ensures ∙ c.if-may_follow.true),
+    )
 
 pub returns : goal.returns
 returns c =

@@ -1,4 +1,4 @@
-use Rattle.std.proofs.Common.{subst, [], get_or}
+use Rattle.std.proofs.Common.{subst, get_or}
 use Rattle.line_split.specs.Bitmaps.{AreBitmapsOf}
 use Rattle.line_split.specs.Floors.{no_floor}
 use Rattle.line_split.proofs.FloorLemmas.{floors_changed}
