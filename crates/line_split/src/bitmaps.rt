@@ -248,9 +248,22 @@ fn unset_for(alloc: Global, table: &Timetable, trips: &[TripNo]) -> Result<Vec<B
     }
     for event in 0..events_of(table, trips[0]).len() {
         add_unset(alloc, &mut bitmaps, table, trips, event, false)?;
-        add_unset(alloc, &mut bitmaps, table, trips, event, true)?;
+        if stand_at(table, trips, event) {
+            add_unset(alloc, &mut bitmaps, table, trips, event, true)?;
+        }
     }
     Ok(bitmaps)
+}
+
+// Whether one of these trips departs from an event at another time than it arrives.
+fn stand_at(table: &Timetable, trips: &[TripNo], event: usize) -> bool {
+    for trip in trips {
+        let events = events_of(table, *trip);
+        if time_at(events, event, false) != time_at(events, event, true) {
+            return true;
+        }
+    }
+    false
 }
 
 // Adds those for the arrivals, or departures, at an event.
