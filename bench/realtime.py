@@ -19,6 +19,8 @@ TRIPS = {
     "UNSCHEDULED": "unscheduled trips",
 }
 CANCELLED = ("CANCELED", "DELETED")
+# What stands behind a line, by how many days after the date the trip's service day is.
+DAY_WORDS = {-1: ["day-before"], 0: [], 1: ["day-after"], 2: ["day+2"]}
 
 
 class Unsaid(Exception):
@@ -46,17 +48,19 @@ def quoted(name):
 
 
 class Converter:
-    """Makes the late file of a date, and counts what it can't say."""
+    """Makes the late file of a date with so many days, and counts what it can't say."""
 
-    def __init__(self, feed, date, message):
+    def __init__(self, feed, date, message, days=1):
         entities = field(message, "entity", [])
         updates = [field(entity, "tripUpdate") for entity in entities]
         self.updates = [update for update in updates if update]
         self.unsaid = collections.Counter()
         self.said = set()
         self.feed, self.date, self.zone = feed, date, None
+        near = range(-1, days)
+        self.days = {date + datetime.timedelta(days=after): after for after in near}
         ids = {field(field(update, "trip", {}), "tripId") for update in self.updates}
-        self.schedule = Schedule(feed, date, ids)
+        self.schedule = Schedule(feed, self.days, ids)
 
     def lines(self):
         """The lines of the late file."""
@@ -73,33 +77,32 @@ class Converter:
         if (trip.name, day) in self.said:
             raise Unsaid("second updates of a trip")
         self.said.add((trip.name, day))
-        is_before = day != self.date
         if relation_of(descriptor, TRIP_RELATIONS) in CANCELLED:
             said = [("cancel",)]
         else:
-            said = self.said_of(update, trip, day, is_before)
-        day_word = ["day-before"] if is_before else []
-        lines = [" ".join([word, quoted(trip.name), *rest, *day_word]) for word, *rest in said]
+            said = self.said_of(update, trip, day)
+        behind = DAY_WORDS[self.days[day]]
+        lines = [" ".join([word, quoted(trip.name), *rest, *behind]) for word, *rest in said]
         if any("\n" in line or len(line.encode()) > LONGEST_LINE for line in lines):
             raise Unsaid("trips whose id doesn't fit into a line")
         return lines
 
-    def said_of(self, update, trip, day, is_before):
-        """What is said of a trip that runs, by words but for its name: its delays, then its skips."""
+    def said_of(self, update, trip, day):
+        """What is said of a trip that runs, by words but for its name: delays, then skips."""
         moves, skipped = self.moves_of(update, trip, day)
         said, now = [], 0
         for at, move in enumerate(self.without_running_back(trip, moves)):
             if move != now:
-                stop_beyond(trip, at, move, move - now, is_before)
+                stop_beyond(trip, at, move, move - now, self.days[day] * DAY_SECONDS)
                 said.append(("late", str(at), str(move - now)))
                 now = move
         return said + [("skip", str(at)) for at in skipped]
 
     def day_of(self, descriptor):
-        """The day on which the trip begins: the date, or the day before."""
+        """The trip's service day."""
         text = field(descriptor, "startDate")
         day = date_of(text) if text else self.date
-        if day not in (self.date, self.date - datetime.timedelta(days=1)):
+        if day not in self.days:
             raise Unsaid("trips of other days")
         return day
 
@@ -111,7 +114,7 @@ class Converter:
         if not trip_id:
             raise Unsaid("trips without an id")
         trip = self.schedule.trip(trip_id, day, seconds_of(field(descriptor, "startTime")))
-        if trip is None or day != self.date and trip.calls[-1].arrival < DAY_SECONDS:
+        if trip is None or not is_shown(trip, self.days[day]):
             raise Unsaid("trips that the day doesn't have")
         return trip
 
@@ -195,9 +198,18 @@ def call_of(stop, trip, first):
     return None
 
 
-def stop_beyond(trip, at, move, by, is_before):
-    """Stops where the program would refuse to move the calls of a trip from one on."""
-    day = DAY_SECONDS if is_before else 0
-    first, last = trip.calls[at].arrival + move - day, trip.calls[-1].departure + move - day
+def is_shown(trip, after):
+    """Whether the timetable shows a trip whose service day is so many days after the date."""
+    last = trip.calls[-1]
+    if after < 0:
+        return last.arrival >= DAY_SECONDS
+    return last.departure + after * DAY_SECONDS <= LAST_TIME
+
+
+def stop_beyond(trip, at, move, by, later):
+    """Stops where the program would refuse to move the calls of a trip from one on, which in the
+    reckoning of the date are so many seconds later.
+    """
+    first, last = trip.calls[at].arrival + move + later, trip.calls[-1].departure + move + later
     if abs(by) > DAY_SECONDS or first < -DAY_SECONDS or last > LAST_TIME:
         raise Unsaid("trips moved by more than a day, or beyond the times of a day")

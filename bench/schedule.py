@@ -110,9 +110,9 @@ def starts_of(feed, names):
 
 
 class Schedule:
-    """The trips with certain ids on a date and on the day before."""
+    """The trips with certain ids on some dates."""
 
-    def __init__(self, feed, date, ids):
+    def __init__(self, feed, days, ids):
         for name in ("trips.txt", "stop_times.txt"):
             if not os.path.isfile(os.path.join(feed, name)):
                 raise BenchError(f"{feed} has no {name}")
@@ -121,7 +121,6 @@ class Schedule:
             self.service = {row["trip_id"]: row["service_id"] for row in rows_of_trips}
             self.calls = calls_of(feed, self.service)
             self.starts = starts_of(feed, self.service)
-            days = (date, date - datetime.timedelta(days=1))
             self.running = {day: services_of(feed, day) for day in days}
         except (KeyError, ValueError, TypeError) as error:
             raise BenchError(f"{feed} has a file that the program refuses: {error}") from None

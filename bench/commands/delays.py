@@ -2,9 +2,9 @@
 
 Reads a feed message in protobuf's JSON form, which any protobuf library makes of the binary form,
 and writes the file that `./router late FEED DATE FILE ..` reads: delays, cancelled trips and
-skipped stops of trips that began on DATE or the day before. Standard error says what the file can't
-say, such as added trips and other platforms, with counts. The file has one delay for arrival and
-departure at a stop; if they differ it is the arrival's.
+skipped stops of trips of DATE and the day before, and of further days as `--days` has them.
+Standard error says what the file can't say, such as added trips and other platforms, with counts.
+The file has one delay for arrival and departure at a stop; if they differ it is the arrival's.
 """
 import argparse
 import json
@@ -22,9 +22,13 @@ def a_date(text):
         raise argparse.ArgumentTypeError(f"{text} is no day as YYYYMMDD") from None
 
 
+DAYS = "the N of the program's --days (else 1)"
+
+
 def add_arguments(parser):
     parser.add_argument("feed", metavar="FEED", help="the folder of the unpacked feed")
     parser.add_argument("date", metavar="DATE", type=a_date, help="the service day, as YYYYMMDD")
+    parser.add_argument("--days", metavar="N", type=int, choices=(1, 2, 3), default=1, help=DAYS)
     parser.add_argument("updates", metavar="UPDATES", help="the message; - is standard input")
 
 
@@ -41,7 +45,7 @@ def message_of(path):
 def run(words):
     message = message_of(words.updates)
     try:
-        converter = Converter(words.feed, words.date, message)
+        converter = Converter(words.feed, words.date, message, words.days)
         lines = list(converter.lines())
     except (AttributeError, TypeError, ValueError) as error:
         raise BenchError(f"{words.updates} is no message of trip updates: {error}") from None

@@ -19,6 +19,10 @@ F1,06:00:00,06:00:00,A,1
 F1,06:10:00,06:10:00,B,2
 W1,08:00:00,08:00:00,A,1
 W1,08:10:00,08:10:00,B,2
+E1,06:00:00,06:00:00,A,1
+E1,06:10:00,06:10:00,B,2
+H1,50:00:00,50:00:00,A,1
+H1,52:00:00,52:00:00,B,2
 "two words",08:00:00,08:00:00,A,1
 "two words",08:10:00,08:10:00,B,2
 """
@@ -40,17 +44,17 @@ class Delays(unittest.TestCase):
         self.addCleanup(folder.cleanup)
         self.feed = folder.name
         write(self.feed, "stop_times.txt", HEADER + TIMES)
-        trips = "service_id,trip_id\nS,T1\nS,N1\nS,F1\nX,W1\nS,two words\n"
+        trips = "service_id,trip_id\nS,T1\nS,N1\nS,F1\nX,W1\nY,E1\nY,H1\nS,two words\n"
         write(self.feed, "trips.txt", trips)
-        days = "S,20260301,1\nS,20260302,1\nX,20260303,1\n"
+        days = "S,20260301,1\nS,20260302,1\nX,20260303,1\nY,20260304,1\n"
         write(self.feed, "calendar_dates.txt", f"service_id,date,exception_type\n{days}")
         frequency = "F1,07:00:00,08:00:00,600\n"
         header = "trip_id,start_time,end_time,headway_secs\n"
         write(self.feed, "frequencies.txt", header + frequency)
         write(self.feed, "agency.txt", "agency_name,agency_timezone\nRing,Europe/Zurich\n")
 
-    def check(self, lines, unsaid, *entities):
-        converter = Converter(self.feed, date_of("20260302"), {"entity": list(entities)})
+    def check(self, lines, unsaid, *entities, days=1):
+        converter = Converter(self.feed, date_of("20260302"), {"entity": list(entities)}, days)
         self.assertEqual(lines, list(converter.lines()))
         self.assertEqual(unsaid, dict(converter.unsaid))
 
@@ -100,6 +104,18 @@ class Delays(unittest.TestCase):
         absent = {"trips that the day doesn't have": 1}
         self.check([], absent, update(stops, "T1", startDate="20260301"))
         self.check([], {"trips of other days": 1}, update(stops, "N1", startDate="20260228"))
+
+    def test_trips_of_later_days(self):
+        stops = [stop(1, departure=60)]
+        one = update(stops, "W1", startDate="20260303")
+        self.check([], {"trips of other days": 1}, one)
+        self.check(["late W1 0 60 day-after"], {}, one, days=2)
+        cancelled = update([], "E1", startDate="20260304", scheduleRelationship="CANCELED")
+        self.check(["late W1 0 60 day-after", "cancel E1 day+2"], {}, one, cancelled, days=3)
+        self.check([], {"trips of other days": 1}, cancelled, days=2)
+        # it ends at 100:00:00 of the date
+        far = update(stops, "H1", startDate="20260304")
+        self.check([], {"trips that the day doesn't have": 1}, far, days=3)
 
     def test_trips_by_frequency(self):
         stops = [stop(1, departure=60)]
