@@ -1,5 +1,5 @@
 -- The lines in buckets, by the number of their pattern.
-use Rattle.std.specs.Prelude.{ℕ, ◌<◌, List, [], length, All, AllPairs, Contains, slice_index_or}
+use Rattle.std.specs.Prelude.{◌≡◌, ℕ, ◌<◌, Bool, List, [], length, find, Option, None, Some, All, AllPairs, Contains, slice_index_or}
 use Rattle.tb_base.specs.TimetableData.{TimetableData}
 use Rattle.tb_base.specs.Lines.{last_trip}
 
@@ -15,3 +15,9 @@ pub record AreBucketed (T : TimetableData) (numbers : List ℕ) (lines buckets :
   pub trips : (l : ℕ) → l < length lines → last_of lines l < length T.trips
   pub there : (l : ℕ) → l < length lines →
       Contains (slice_index_or buckets (slice_index_or numbers (last_of lines l) 0) []) l
+
+-- the place of the first line of a row that passes a test, if one does
+abbrev pub IsFirstPlace : (ℕ → Bool) → List ℕ → Option ℕ → Type 0
+IsFirstPlace test row None = find test row ≡ None
+IsFirstPlace test row (Some place) =
+    (place < length row) × (find test row ≡ Some (slice_index_or row place 0))
