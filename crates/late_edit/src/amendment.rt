@@ -1,5 +1,5 @@
 //! The trips that a change of times touches.
-ghost use Rattle.std.specs.Prelude.{◌≡◌, ◌<◌, ◌||◌, IfOk, false, length, not};
+ghost use Rattle.std.specs.Prelude.{◌≡◌, ◌<◌, IfOk, false, length};
 ghost use Rattle.std.specs.List.{list_any};
 ghost use lib.Pointwise.{pointwise};
 ghost use Rattle.late_edit.specs.Updated.{IsUpdated};
@@ -75,14 +75,6 @@ impl<'a> Amendment<'a> {
         rows.iter().any(|row| self.has_other_events(row.to_trip))
     }
 
-    // Whether candidates touch a trip: they were others, or one leads to a trip with other events.
-    fn do_touch(&self, old: &[Transfer], new: &[Transfer]) -> bool
-        ensures { result ≡ (not (pointwise same_transfer old.now new.now) || list_any
-            (λ r. has_other_events self.now.before.table self.now.after.table r.to_trip) old.now) }
-    {
-        !same_transfers(old, new) || self.leads_to_other_events(old)
-    }
-
     // Whether an event of a trip is at a marked stop. One that isn't doesn't touch the trip, if that
     // has the same events.
     fn is_near(&self, trip: TripNo, at: u32) -> bool
@@ -109,8 +101,11 @@ impl<'a> Amendment<'a> {
             return Ok(false);
         }
         let old = self.before.candidates_at(alloc, trip, at)?;
+        if self.leads_to_other_events(old.as_slice()) {
+            return Ok(true);
+        }
         let new = self.after.candidates_at(alloc, trip, at)?;
-        Ok(self.do_touch(old.as_slice(), new.as_slice()))
+        Ok(!same_transfers(old.as_slice(), new.as_slice()))
     }
 
     /// Whether a trip is touched: it has other events, or another list of candidates, or a trip in

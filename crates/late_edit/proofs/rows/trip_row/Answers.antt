@@ -1,0 +1,1 @@
+use Rattle.late_edit.proofs.rows.trip_row.Goals as goal
