@@ -1,5 +1,5 @@
 -- A trip's transfers by their events, the last event first.
-use Rattle.std.proofs.Common.{◌≡◌, ◌≢◌, ◌∙◌, ℕ, suc, ◌+◌, ◌-◌, ◌<◌, ◌≤◌, ◌==◌, ◌⊎◌, inl, inr, List, [], ◌∷◌, ◌++◌, true, false, cond, length, map, get_or, take, drop, refl, sym, ap, subst, arith}
+use Rattle.std.proofs.Common.{◌≡◌, ◌≢◌, ◌∙◌, ℕ, suc, ◌+◌, ◌-◌, ◌<◌, ◌≤◌, ◌==◌, ◌⊎◌, inl, inr, List, [], ◌∷◌, ◌++◌, false, cond, length, map, get_or, take, drop, refl, sym, ap, subst, arith}
 use Rattle.std.specs.Prelude.{All, filter}
 use Rattle.std.specs.List.{AllWithin}
 use Rattle.std.proofs.lemmas.Bool.Decides.{nat_tests}
@@ -12,15 +12,15 @@ use Rattle.tb_base.proofs.NumberFacts.{below_or_at, less_or_same}
 use Rattle.transfer_pack.specs.Descending.{AreLeft, Descend}
 
 -- a row descends so far, and with one transfer more
-pub one_lower : (row : List Transfer) (k : ℕ) (e : Transfer) → 1 ≤ k → k < length row → (get_or row k e).at ≤ (get_or row (k - 1) e).at → ((i j : ℕ) (d : Transfer) → i < j → j < k → (get_or row j d).at ≤ (get_or row i d).at)
+pub one_lower : (row : List Transfer) (k : ℕ) (e f : Transfer) → 1 ≤ k → k < length row → (get_or row k e).at ≤ (get_or row (k - 1) f).at → ((i j : ℕ) (d : Transfer) → i < j → j < k → (get_or row j d).at ≤ (get_or row i d).at)
     → (i j : ℕ) (d : Transfer) → i < j → j < k + 1 → (get_or row j d).at ≤ (get_or row i d).at
-one_lower row k e some inside lower so_far i j d order below = elim (below_or_at j k below) [
+one_lower row k e f some inside lower so_far i j d order below = elim (below_or_at j k below) [
   | inl h ↦ so_far i j d order h
   | inr is ↦ subst (λ n. (get_or row n d).at ≤ (get_or row i d).at) (sym is) (last (omega (arith, order, is)))
 ]
   where
     here : (get_or row k d).at ≤ (get_or row (k - 1) d).at
-    here = omega (arith, lower, ap (λ (r : Transfer). r.at) (get_or_default row k d e inside), ap (λ (r : Transfer). r.at) (get_or_default row (k - 1) d e (omega (arith, inside, some))))
+    here = omega (arith, lower, ap (λ (r : Transfer). r.at) (get_or_default row k d e inside), ap (λ (r : Transfer). r.at) (get_or_default row (k - 1) d f (omega (arith, inside, some))))
 
     last : i < k → (get_or row k d).at ≤ (get_or row i d).at
     last h = elim (less_or_same i (k - 1) (omega (arith, h))) [
@@ -72,12 +72,12 @@ module _ (row : List Transfer) (i first left : ℕ) (descends : Descend row) (ar
       ∙ hops_of_both run (drop left row) i
       ∙ ap (λ hs. hops_at run i ++ hs) (none_of (drop left row) i none_behind)
       ∙ append-nil (hops_at run i)
-    )
+      )
     where
       rest : drop first row ≡ run ++ drop left row
       rest = (let ends : first + (left - first) ≡ left = omega (arith, order) in
-        sym (take-append-drop (left - first) (drop first row)) ∙ ap (λ xs. xs ++ drop (left - first) (drop first row)) (sym is)
-        ∙ ap (λ xs. run ++ xs) (drop-drop (left - first) first row ∙ ap (λ n. drop n row) ends))
+          sym (take-append-drop (left - first) (drop first row)) ∙ ap (λ xs. xs ++ drop (left - first) (drop first row)) (sym is)
+          ∙ ap (λ xs. run ++ xs) (drop-drop (left - first) first row ∙ ap (λ n. drop n row) ends))
 
       parts : row ≡ take first row ++ (run ++ drop left row)
       parts = sym (take-append-drop first row) ∙ ap (λ xs. take first row ++ xs) rest

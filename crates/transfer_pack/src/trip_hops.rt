@@ -19,9 +19,8 @@ pub(crate) fn add_scattered(
     ensures { OnOk result (hops.new ≡ hops.old ++ hops_at row.now at) }
 {
     for k in 0..row.len() {
-        let transfer = row[k];
-        if transfer.at as usize == at {
-            hops.push(alloc, hop_of(&transfer))?;
+        if row[k].at as usize == at {
+            hops.push(alloc, hop_of(&row[k]))?;
         }
     }
     Ok(())

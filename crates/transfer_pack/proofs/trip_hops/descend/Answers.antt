@@ -4,4 +4,4 @@ use Rattle.transfer_pack.proofs.trip_hops.descend.Goals as goal
 
 pub loop-k-preserved : goal.loop-k-preserved
 loop-k-preserved c =
-    one_lower c.args.row.now c.loop-k.k _ (omega arith) (omega arith) c.if-at-at.false c.loop-k.invariant
+    one_lower c.args.row.now c.loop-k.k _ _ (omega arith) (omega arith) c.if-row-k.false c.loop-k.invariant

@@ -1,4 +1,3 @@
-use Rattle.std.proofs.Common.{arith}
 use Rattle.tb_base.specs.OutSets.{hops_at}
 use Rattle.transfer_pack.proofs.Packing.{all_added, event_added}
 use Rattle.transfer_pack.proofs.trip_spots.add_scattered_trip.Goals as goal

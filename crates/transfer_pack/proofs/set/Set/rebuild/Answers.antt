@@ -1,8 +1,6 @@
-use Rattle.std.proofs.Common.{◌≡◌, ◌∙◌, ℕ, ◌+◌, ◌-◌, ◌<◌, ◌++◌, ◌∷◌, [], List, length, map, get_or, ap, sym, subst, arith, false}
+use Rattle.std.proofs.Common.{◌≡◌, ◌∙◌, ℕ, ◌+◌, ◌-◌, ◌<◌, ◌++◌, ◌∷◌, [], length, map, get_or, ap, sym, subst, arith, false}
 use Rattle.std.specs.Prelude.{if◌then◌else◌}
 use Rattle.std.proofs.lemmas.Grind.{common_steps}
-use Rattle.std.proofs.lemmas.List.{get_or_read}
-use Rattle.tb_base.specs.TimetableData.{events_of}
 use Rattle.tb_base.specs.OutSets.{hops_at}
 use Rattle.tb_base.proofs.Listing.{row_is}
 use Rattle.transfer_pack.specs.Packed.{hops_rebuilt, packed, runs_in}
