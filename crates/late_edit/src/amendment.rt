@@ -89,8 +89,14 @@ impl<'a> Amendment<'a> {
     }
 
     // Whether an event of a trip touches it, by the candidates from there: others than before, or
-    // one that leads to a trip with other events.
-    fn is_touched_at(&self, alloc: Global, trip: TripNo, at: u32) -> Result<bool, Memory>
+    // one that leads to a trip with other events. They are put into `old` and `new`.
+    fn is_touched_at(
+        &self,
+        old: &mut Vec<Transfer>,
+        new: &mut Vec<Transfer>,
+        trip: TripNo,
+        at: u32,
+    ) -> Result<bool, Memory>
         requires trip { trip < length self.now.before.table.trips }
         requires at { at < length (events_of self.now.before.table trip) }
         requires same { has_other_events self.now.before.table self.now.after.table trip ≡ false }
@@ -100,11 +106,11 @@ impl<'a> Amendment<'a> {
         if !self.is_near(trip, at) {
             return Ok(false);
         }
-        let old = self.before.candidates_at(alloc, trip, at)?;
+        self.before.take_candidates(old, trip, at)?;
         if self.leads_to_other_events(old.as_slice()) {
             return Ok(true);
         }
-        let new = self.after.candidates_at(alloc, trip, at)?;
+        self.after.take_candidates(new, trip, at)?;
         Ok(!same_transfers(old.as_slice(), new.as_slice()))
     }
 
@@ -118,8 +124,10 @@ impl<'a> Amendment<'a> {
         if self.has_other_events(trip) {
             return Ok(true);
         }
+        let mut old = Vec::new(alloc);
+        let mut new = Vec::new(alloc);
         for at in 0..self.before.event_count(trip) {
-            let touched = self.is_touched_at(alloc, trip, at)?;
+            let touched = self.is_touched_at(&mut old, &mut new, trip, at)?;
             if touched {
                 return Ok(true);
             }
