@@ -189,8 +189,8 @@ module _ (e : EditionData) (M : LinesData) (T : TimetableData) (own : M.table �
   table_hops set of_old has law t i =
       (λ k. hops_rebuilt set (marks_are k) (rows_are k) t i)
       ∙ rebuilt_kept (edition_lines e) M sound_own divided r are_own set
-          (λ t. ap (λ (U : TimetableData). length (events_of U t)) of_old ∙ same_counts e.table M.table updated_own t)
-          (λ t i untouched. has t i ∙ law t i updated_own untouched) t i
+      (λ t. ap (λ (U : TimetableData). length (events_of U t)) of_old ∙ same_counts e.table M.table updated_own t)
+      (λ t i untouched. has t i ∙ law t i updated_own untouched) t i
       ∙ ap (λ (U : TimetableData). kept_hops U M.lines t i) own
 
 -- the touched trips are counted
