@@ -5,7 +5,7 @@ use Rattle.std.specs.List.{range_with_len}
 use Rattle.std.proofs.lemmas.Bool.{cases_lt}
 use Rattle.std.proofs.lemmas.List.{get_or_past, length-append, length-map}
 use Rattle.std.proofs.lemmas.List.FromFn.{get_or-map-range_with_len, length-map-range_with_len, map-range_with_len_more}
-use Rattle.std.proofs.lemmas.List.Folds.{flat_map-append}
+use Rattle.std.proofs.lemmas.List.Concat.{flat_map-append}
 use Rattle.std.proofs.lemmas.List.Elements.{filter-append}
 use Rattle.tb_base.specs.declared.transfer.Hop.{Hop}
 use Rattle.tb_base.specs.declared.transfer.Transfer.{Transfer}
@@ -103,6 +103,14 @@ same_row L M T t own updated each =
     let hops : kept_hops L.table L.lines t ≡ kept_hops T M.lines t = (λ i k. each as_own k i) ∙ ap (λ U. kept_hops U M.lines t) own in
     let many : length (events_of L.table t) ≡ length (events_of T t) = same_counts L.table T updated t in
     λ i. flat_map (rows_at (hops i) t) (numbers_down (many i))
+
+-- the row of a trip that is touched, and of one that isn't
+pub row_touched : (L M : LinesData) (T : TimetableData) (t : ℕ) (row : List Transfer) → M.table ≡ T → is_touched L M t ≡ true → row ≡ transfers_of T (kept_hops T M.lines t) t → row ≡ touched_row L M t
+row_touched L M T t row own touched is =
+    is ∙ (ap (λ U. transfers_of U (kept_hops U M.lines t) t) (sym own) ∙ ap (λ b. if b then transfers_of M.table (kept_hops M.table M.lines t) t else []) (sym touched))
+
+pub row_untouched : (L M : LinesData) (t : ℕ) → is_touched L M t ≡ false → [] ≡ touched_row L M t
+row_untouched L M t untouched = ap (λ b. if b then transfers_of M.table (kept_hops M.table M.lines t) t else []) (sym untouched)
 
 -- the lines of an edition are those of its timetable
 pub edition_lines_are : (e : EditionData) (L : LinesData) → L.table ≡ e.table → L.lines ≡ e.lines → L ≡ edition_lines e

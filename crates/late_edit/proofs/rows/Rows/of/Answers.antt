@@ -19,7 +19,7 @@ add-requires-clause-kept c =
     let at : 0 + t ≡ t = omega arith in
     let more = one_more_count T (kept_hops T L.lines) 0 t t at in
     let kept = c.loop-t.invariant.rows.kept ∙ ap (λ (U : TimetableData). count_from U (kept_hops U L.lines) 0 t) c.requires.lines in
-    omega (arith, few, more, c.in_ok-row-kept.ensures.kept, kept)
+    omega (arith, few, more, c.in_ok-row.ensures.kept, kept)
 
 pub add-requires-clause-redone : goal.add-requires-clause-redone
 add-requires-clause-redone c =
@@ -27,4 +27,15 @@ add-requires-clause-redone c =
     omega (arith, few, c.loop-t.invariant.rows.redone, c.loop-t-test.true, c.trip_count-t-end.ensures, c.soundness.ensures.trips)
 
 pub loop-t-preserved : goal.loop-t-preserved
-loop-t-preserved c = ?
+loop-t-preserved c =
+    let L = edition_lines c.args.old.now in
+    let M = c.args.lines.now in
+    let t = c.loop-t.t in
+    let before = c.in_ok-amendment.ensures.before ∙ (c.new-before.ensures ∙ edition_lines_are c.args.old.now c.lines.result.now (c.lines.ensures.table) c.lines.ensures.lines) in
+    let after = c.in_ok-amendment.ensures.after ∙ c.new.ensures in
+    record {
+      labels = c.trip_row.ensures.labels;
+      rows = trip_added L M t c.loop-t.rows c.add.new.self c.in_ok-row.row.items c.in_ok-touched.touched c.in_ok-row.kept c.loop-t.invariant.rows c.in_ok-add.ensures c.in_ok-row.ensures.row
+          (c.in_ok-row.ensures.kept ∙ ap (λ (U : TimetableData). length (transfers_of U (kept_hops U M.lines t) t)) (sym c.requires.lines))
+          (c.in_ok-touched.ensures ∙ (λ i. is_touched (before i) (after i) t));
+    }
