@@ -161,15 +161,7 @@ impl Rows {
         for t in 0..table.trip_count() {
             let trip = TripNo(t);
             let touched = amendment.is_touched(alloc, trip)?;
-            let (row, kept) = trip_row(
-                alloc,
-                old,
-                table,
-                lines,
-                &mut labels,
-                trip,
-                touched,
-            )?;
+            let (row, kept) = trip_row(alloc, old, table, lines, &mut labels, trip, touched)?;
             rows.add(row, touched, kept)?;
         }
         Ok(rows)
