@@ -1,5 +1,5 @@
 //! The trips that a change of times touches.
-ghost use Rattle.std.specs.Prelude.{◌≡◌, ◌<◌, ◌||◌, IfOk, false, length, not};
+ghost use Rattle.std.specs.Prelude.{◌≡◌, ◌<◌, IfOk, false, length};
 ghost use Rattle.std.specs.List.{list_any};
 ghost use lib.Pointwise.{pointwise};
 ghost use Rattle.late_edit.specs.Updated.{IsUpdated};
@@ -75,14 +75,6 @@ impl<'a> Amendment<'a> {
         rows.iter().any(|row| self.has_other_events(row.to_trip))
     }
 
-    // Whether candidates touch a trip: they were others, or one leads to a trip with other events.
-    fn do_touch(&self, old: &[Transfer], new: &[Transfer]) -> bool
-        ensures { result ≡ (not (pointwise same_transfer old.now new.now) || list_any
-            (λ r. has_other_events self.now.before.table self.now.after.table r.to_trip) old.now) }
-    {
-        !same_transfers(old, new) || self.leads_to_other_events(old)
-    }
-
     // Whether an event of a trip is at a marked stop. One that isn't doesn't touch the trip, if that
     // has the same events.
     fn is_near(&self, trip: TripNo, at: u32) -> bool
@@ -97,8 +89,14 @@ impl<'a> Amendment<'a> {
     }
 
     // Whether an event of a trip touches it, by the candidates from there: others than before, or
-    // one that leads to a trip with other events.
-    fn is_touched_at(&self, alloc: Global, trip: TripNo, at: u32) -> Result<bool, Memory>
+    // one that leads to a trip with other events. They are put into `old` and `new`.
+    fn is_touched_at(
+        &self,
+        old: &mut Vec<Transfer>,
+        new: &mut Vec<Transfer>,
+        trip: TripNo,
+        at: u32,
+    ) -> Result<bool, Memory>
         requires trip { trip < length self.now.before.table.trips }
         requires at { at < length (events_of self.now.before.table trip) }
         requires same { has_other_events self.now.before.table self.now.after.table trip ≡ false }
@@ -108,9 +106,12 @@ impl<'a> Amendment<'a> {
         if !self.is_near(trip, at) {
             return Ok(false);
         }
-        let old = self.before.candidates_at(alloc, trip, at)?;
-        let new = self.after.candidates_at(alloc, trip, at)?;
-        Ok(self.do_touch(old.as_slice(), new.as_slice()))
+        self.before.take_candidates(old, trip, at)?;
+        if self.leads_to_other_events(old.as_slice()) {
+            return Ok(true);
+        }
+        self.after.take_candidates(new, trip, at)?;
+        Ok(!same_transfers(old.as_slice(), new.as_slice()))
     }
 
     /// Whether a trip is touched: it has other events, or another list of candidates, or a trip in
@@ -123,8 +124,10 @@ impl<'a> Amendment<'a> {
         if self.has_other_events(trip) {
             return Ok(true);
         }
+        let mut old = Vec::new(alloc);
+        let mut new = Vec::new(alloc);
         for at in 0..self.before.event_count(trip) {
-            let touched = self.is_touched_at(alloc, trip, at)?;
+            let touched = self.is_touched_at(&mut old, &mut new, trip, at)?;
             if touched {
                 return Ok(true);
             }

@@ -1,12 +1,11 @@
 //! A timetable with its lines.
-ghost use Rattle.std.specs.Prelude.{◌≡◌, ◌<◌, All, IfOk, length};
+ghost use Rattle.std.specs.Prelude.{◌≡◌, ◌<◌, All, OnOk, length};
 ghost use Rattle.tb_base.specs.Lines.{AreLines};
 ghost use Rattle.tb_base.specs.Soundness.{IsSoundEvent};
 ghost use Rattle.tb_base.specs.TimetableData.{events_of};
 ghost use Rattle.late_edit.specs.Touched.{candidates_at};
 
 use line_split::Lines;
-use std::alloc::Global;
 use std::marker::Model;
 use tb_base::{Event, Memory, Timetable, Transfer, TripNo};
 use transfer_make::add_event;
@@ -72,19 +71,18 @@ impl<'a> LinedTimetable<'a> {
         table.events(trip).len() as u32
     }
 
-    // The candidates of an event of a trip, in order.
-    pub(crate) fn candidates_at(
+    // Puts the candidates of an event of a trip, in order, in the place of some rows.
+    pub(crate) fn take_candidates(
         &self,
-        alloc: Global,
+        rows: &mut Vec<Transfer>,
         trip: TripNo,
         at: u32,
-    ) -> Result<Vec<Transfer>, Memory>
+    ) -> Result<(), Memory>
         requires trip { trip < length self.now.table.trips }
         requires at { at < length (events_of self.now.table trip) }
-        ensures { IfOk result (λ rows. rows.items ≡ candidates_at self.now trip at) }
+        ensures { OnOk result (rows.new.items ≡ candidates_at self.now trip at) }
     {
-        let mut rows = Vec::new(alloc);
-        add_event(&mut rows, self.table, self.lines, trip, at as usize)?;
-        Ok(rows)
+        rows.clear();
+        add_event(rows, self.table, self.lines, trip, at as usize)
     }
 }
