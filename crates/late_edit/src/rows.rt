@@ -9,12 +9,12 @@ use crate::amendment::Amendment;
 use crate::lined_timetable::LinedTimetable;
 use edition_store::Edition;
 use line_split::Lines;
+use reduce_workers::kept_row;
 use std::alloc::Global;
 use std::marker::Model;
 use tb_base::{Memory, Timetable, Transfer, TripNo};
-use transfer_make::make;
-use transfer_reduce::{Labels, reduce};
-use uturn_cut::cut;
+use transfer_pack::FlatCalls;
+use transfer_reduce::Labels;
 
 /// The kept transfers of each touched trip of a timetable, one list a trip, which of the others is
 /// empty; which trips are touched, and how many; and how many transfers all trips keep.
@@ -54,29 +54,6 @@ fn kept_count(edition: &Edition, trip: TripNo) -> usize
     set.hops_over(trip, 0, events - 1).count()
 }
 
-// The kept transfers of a trip by the reduction.
-fn reduced_row(
-    alloc: Global,
-    table: &Timetable,
-    lines: &Lines,
-    labels: &mut Labels,
-    trip: TripNo,
-) -> Result<Vec<Transfer>, Memory>
-    requires lines { lines.now.table ≡ table.now }
-    requires labels { labels.old.table ≡ table.now }
-    requires trip { trip < length table.now.trips }
-    ensures labels { labels.new.table ≡ table.now }
-    ensures row { IfOk result (λ row. row.items
-        ≡ transfers_of table.now (kept_hops table.now lines.now.lines trip) trip) }
-{
-    uturn_cut::laws::candidates_cut();
-    let mut row = make(alloc, table, lines, trip)?;
-    cut(table, &mut row);
-    reduce(table, labels, trip, &mut row);
-    row.shrink_to_fit();
-    Ok(row)
-}
-
 // The kept transfers of a trip if it is touched, by the reduction, and none else; and how many
 // transfers it keeps: those of the old edition if it isn't touched.
 fn trip_row(
@@ -84,23 +61,24 @@ fn trip_row(
     old: &Edition,
     table: &Timetable,
     lines: &Lines,
+    calls: &FlatCalls,
     labels: &mut Labels,
     trip: TripNo,
     touched: bool,
 ) -> Result<(Vec<Transfer>, usize), Memory>
     requires lines { lines.now.table ≡ table.now }
+    requires calls { calls.now ≡ table.now }
     requires labels { labels.old.table ≡ table.now }
     requires trip { trip < length table.now.trips }
     requires updated { IsUpdated old.now.table table.now }
     requires touched { touched ≡ is_touched (edition_lines old.now) lines.now trip }
     ensures labels { labels.new.table ≡ table.now }
-    ensures row { IfOk result
-        (λ r. r.0.items ≡ touched_row (edition_lines old.now) lines.now trip) }
+    ensures row { IfOk result (λ r. r.0.items ≡ touched_row (edition_lines old.now) lines.now trip) }
     ensures kept { IfOk result (λ r. r.1
         ≡ length (transfers_of table.now (kept_hops table.now lines.now.lines trip) trip)) }
 {
     if touched {
-        let row = reduced_row(alloc, table, lines, labels, trip)?;
+        let row = kept_row(alloc, table, lines, calls, labels, trip)?;
         let kept = row.len();
         return Ok((row, kept));
     }
@@ -156,12 +134,22 @@ impl Rows {
         lines.soundness();
         let before = LinedTimetable::new(old.table(), old.lines());
         let amendment = Amendment::between(alloc, before, LinedTimetable::new(table, lines))?;
+        let calls = FlatCalls::of(alloc, table)?;
         let mut labels = Labels::new(alloc, table)?;
         let mut rows = Rows::new(alloc);
         for t in 0..table.trip_count() {
             let trip = TripNo(t);
             let touched = amendment.is_touched(alloc, trip)?;
-            let (row, kept) = trip_row(alloc, old, table, lines, &mut labels, trip, touched)?;
+            let (row, kept) = trip_row(
+                alloc,
+                old,
+                table,
+                lines,
+                &calls,
+                &mut labels,
+                trip,
+                touched,
+            )?;
             rows.add(row, touched, kept)?;
         }
         Ok(rows)

@@ -12,7 +12,7 @@ returns-then-touched c =
     let touched : is_touched L M c.args.trip ≡ true = sym c.requires.touched ∙ c.if-touched.true in
     let many : c.len-kept.result ≡ length c.in_ok-row.row.items = grind (arith, common_steps) in
     record {
-      labels = c.reduced_row.ensures.labels;
+      labels = c.kept_row.ensures.labels;
       row = row_touched L M c.args.table.now c.args.trip c.in_ok-row.row.items c.requires.lines touched c.in_ok-row.ensures.row;
       kept = many ∙ ap length c.in_ok-row.ensures.row;
     }
