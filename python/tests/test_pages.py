@@ -120,7 +120,7 @@ class Maps(unittest.TestCase):
         self.assertEqual(len(COLORS), len(bands_of(Isochrone("A", 0, 1, (), 0))))
 
     def test_the_page(self):
-        ride = Ride(HOSTILE, "A", 0, "elsewhere", 60, True)
+        ride = Ride(HOSTILE, "A", 0, "elsewhere", 60, -1)
         journey = Choice(60, 1, (ride, Walk("elsewhere", "B", 30)))
         places = place("A", 1, 1, (0, 0)), place("B", 2, 2, (60, 1), journeys=(journey,))
         found = Isochrone("A", 0, 1, (*places, place("D", 3, 3)), 7)

@@ -18,6 +18,7 @@ from .proved import DAY, EXAMPLES, IS_THERE, PROGRAM, add_coordinates, commanded
 from yuccadarts import (
     Ask,
     Choice,
+    Delay,
     Departure,
     FeedRefused,
     Latest,
@@ -39,9 +40,10 @@ from yuccadarts.isochrone import isochrone
 from yuccadarts.stops import read_stops
 
 sys.path.insert(0, str(TOP / "bench"))
-T3 = (Ride("T3", "A", 29_100, "D", 31_800, False),)
-T1_T2 = (Ride("T1", "A", 28_800, "B", 29_400, False), Ride("T2", "B", 29_520, "D", 30_600, False))
+T3 = (Ride("T3", "A", 29_100, "D", 31_800, 0),)
+T1_T2 = (Ride("T1", "A", 28_800, "B", 29_400, 0), Ride("T2", "B", 29_520, "D", 30_600, 0))
 HOUR = 3_600
+DAY_AFTER = "20260303"
 
 
 def router(feed=EXAMPLES / "f1", **options):
@@ -130,9 +132,32 @@ class Examples(unittest.TestCase):
                 for origin, destination in itertools.combinations(calls, 2):
                     (choice,) = it.ask(origin[0], destination[0], "08:00:00").values
                     leave, arrive = 8 * HOUR + 60 * origin[2], 8 * HOUR + 60 * destination[2]
-                    ride = Ride('T "1"', origin[0], leave, destination[0], arrive, False)
+                    ride = Ride('T "1"', origin[0], leave, destination[0], arrive, 0)
                     self.assertEqual(Choice(arrive, 1, (ride,)), choice)
 
+    def test_journeys_over_midnight(self):
+        """A late trip of the date, and a first trip of the day after."""
+        night = Ride("L", "A", 85_200, "B", 86_100, 0), Ride("F", "B", 87_000, "D", 88_800, 1)
+        with tempfile.TemporaryDirectory() as folder:
+            make_night(folder)
+            with router(folder, mirror=True) as it:
+                self.assertEqual((), it.ask("A", "D", "23:30:00").values)
+                self.assertEqual(Reached("D", ()), reached(it.reach("A", "23:30:00"), "D"))
+            with router(folder, days=2, mirror=True) as it:
+                (choice,) = it.ask("A", "D", "23:30:00").values
+                self.assertEqual(Choice(88_800, 2, night), choice)
+                (offer,) = it.profile("A", "D", "23:00:00", "23:59:59").values
+                self.assertEqual(Offer(85_200, 88_800, 2, night), offer)
+                (departure,) = it.latest("A", "D", "24:40:00").values
+                self.assertEqual(Departure(85_200, 2, night), departure)
+                reach = it.reach("A", "23:30:00")
+                self.assertEqual(Reached("D", (Value(88_800, 2),)), reached(reach, "D"))
+                times = {"A": 0, "B": 1_500, "D": 4_200}
+                found = [*it.travel_times(["A"], "23:30:00")]
+                self.assertEqual([TravelTimes("A", 1, times)], found)
+                self.assertEqual(2, it.delays([Delay("F", 0, 300, day=1)]).wait(20).touched)
+                (choice,) = it.ask("A", "D", "23:30:00").values
+                self.assertEqual(89_100, choice.arrival)
 
     def test_the_lines_of_the_readme(self):
         """At the top of the clone, with this program, and without the table where pandas isn't."""
@@ -151,6 +176,22 @@ class Examples(unittest.TestCase):
         ended = subprocess.run(words, cwd=TOP, env=env, capture_output=True, text=True)
         self.assertEqual((0, ""), (ended.returncode, ended.stderr))
         self.assertEqual(wanted, ended.stdout.splitlines())
+
+
+def make_night(folder):
+    """Writes a feed: L runs from A to B before midnight on DAY, F from B to D after it."""
+    write_rows(folder, "stops.txt", ["stop_id"], ["A"], ["B"], ["D"])
+    write_rows(folder, "trips.txt", ["service_id", "trip_id"], ["S", "L"], ["T", "F"])
+    columns = ["service_id", "date", "exception_type"]
+    write_rows(folder, "calendar_dates.txt", columns, ["S", DAY, "1"], ["T", DAY_AFTER, "1"])
+    late, first = [("A", "23:40:00"), ("B", "23:55:00")], [("B", "0:10:00"), ("D", "0:40:00")]
+    columns = ["trip_id", "stop_id", "arrival_time", "departure_time", "stop_sequence"]
+    rows = (
+        [trip, stop, time, time, at]
+        for trip, calls in (("L", late), ("F", first))
+        for at, (stop, time) in enumerate(calls)
+    )
+    write_rows(folder, "stop_times.txt", columns, *rows)
 
 
 def write_rows(folder, name, *rows):
@@ -188,7 +229,9 @@ class Commands(unittest.TestCase):
                     asked += [Latest(*ends, last), Reach(ends[0], first)]
                     step, rides = drawn.randrange(60, 900), drawn.choice((None, 0, 1, 2))
                     asked.append(Times(ends[0], first, last, step, rides))
-                self.hold(folder, asked, "--close", "--change=60", change=60)
+                days = 1 + seed % 3
+                options = "--close", "--change=60", f"--days={days}"
+                self.hold(folder, asked, *options, change=60, days=days)
 
     def test_a_made_network(self):
         with tempfile.TemporaryDirectory() as folder:

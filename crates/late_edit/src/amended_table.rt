@@ -26,11 +26,12 @@ pub fn amended(
             return Err(Refused::Fault(fault));
         }
     }
+    let trips = trips.into_trips();
     table.soundness();
     let parts = Parts {
         stops: table.copy_stops(alloc)?,
         stations: table.copy_stations(alloc)?,
-        trips: trips.into_trips(),
+        trips,
         change: table.copy_change_times(alloc)?,
         paths: table.copy_paths(alloc)?,
     };

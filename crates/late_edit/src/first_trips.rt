@@ -1,5 +1,6 @@
 //! The first trip of each name.
 ghost use Rattle.std.specs.Prelude.{◌≡◌, ◌≤◌, ℕ, List, IfOk, None, OnOk, Some, bytes_eq, if◌then◌else◌, length};
+ghost use Rattle.tb_base.specs.declared.days.ServiceDay.{ServiceDay};
 ghost use Rattle.late_edit.specs.Amended.{is_named};
 ghost use Rattle.late_edit.specs.Finding.{FindsFirst, trip_found, trip_noted};
 

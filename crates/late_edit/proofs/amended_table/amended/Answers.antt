@@ -14,6 +14,6 @@ new-requires c =
     let T = c.args.table.now in
     let updates = c.args.updates.now in
     let end : length updates ≤ c.loop-update.update-index = c.loop-update-test.false in
-    let trips = c.into_trips.result.items in
-    let h = all_taken T updates c.loop-update.trips c.loop-update.update-index c.loop-update.invariant end ∙ ap (λ ts. Ok ts) (sym c.into_trips.ensures) in
+    let trips = c.into_trips-trips.result.items in
+    let h = all_taken T updates c.loop-update.trips c.loop-update.update-index c.loop-update.invariant end ∙ ap (λ ts. Ok ts) (sym c.into_trips-trips.ensures) in
     subst IsSound (sym (parts_are T _ _ trips _ _ c.in_ok-copy_stops.ensures c.in_ok-copy_stations.ensures c.in_ok-copy_change_times.ensures c.in_ok-copy_paths.ensures)) (sound_amended T updates trips c.soundness.ensures h)
