@@ -125,6 +125,8 @@ def more(folder):
     yield ["direct", feed, day, *ends, late], ""
     yield ["direct", feed, day, *reversed(ends), late], ""
     yield ["ask", feed, day, *ends, late], ""
+    for leave in ("25:00:00", "49:00:00"):
+        yield ["--days", "3", "ask", feed, day, *ends, leave], ""
     yield ["ask", feed, day, "no \\ stop", "C", late], ""
     yield ["profile", feed, day, *ends, late, "26:00:00"], ""
     yield ["latest", feed, day, *ends, "26:00:00"], ""
@@ -165,7 +167,7 @@ def faults(validator, text):
 
 def name_of(words):
     """The name of the command among words, which stands behind the options."""
-    takes_one = ("--change", "--station", "--workers", "--lanes")
+    takes_one = ("--change", "--station", "--days", "--workers", "--lanes")
     for place, word in enumerate(words):
         if not word.startswith("-") and (place == 0 or words[place - 1] not in takes_one):
             return word

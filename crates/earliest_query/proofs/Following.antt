@@ -1,8 +1,7 @@
 -- A hop of the set is followed.
-use Rattle.std.proofs.Common.{◌≡◌, ◌∙◌, ℕ, zero, suc, ◌+◌, ◌-◌, ◌<◌, ◌≤◌, ◌⊎◌, inl, inr, List, [], ◌∷◌, length, get_or, refl, sym, ap, subst, arith, Option, Some}
+use Rattle.std.proofs.Common.{◌≡◌, ℕ, zero, suc, ◌+◌, ◌<◌, ◌≤◌, ◌⊎◌, inl, inr, List, [], ◌∷◌, length, get_or, refl, sym, ap, subst, arith, Option, Some}
 use Rattle.std.specs.Prelude.{Contains, flat_map}
 use Rattle.std.specs.List.{range_with_len}
-use Rattle.std.proofs.lemmas.List.{append-nil}
 use Rattle.std.proofs.lemmas.List.Elements.{Contains-append_cases, Contains-append_left, Contains-append_right}
 use Rattle.tb_base.specs.Network.{NetData}
 use Rattle.tb_base.specs.declared.transfer.Hop.{Hop}
@@ -11,8 +10,6 @@ use Rattle.tb_base.specs.Soundness.{IsSound, IsSoundEvent, IsSoundTrip}
 use Rattle.tb_base.specs.Sufficiency.{AreSufficient, IsPossibleHop}
 use Rattle.tb_base.proofs.Events.{MayBoard-inside}
 use Rattle.segment_queue.specs.declared.desk.Segment.{Segment}
-use Rattle.segment_queue.specs.declared.seen.Seen.{Seen}
-use Rattle.segment_queue.specs.Scans.{hops_seen, seen_first, seen_last, seen_trip}
 use Rattle.segment_queue.specs.Queue.{DeskData}
 use Rattle.segment_queue.specs.Traced.{IsHoppedOnto, round_of, segment_of}
 use Rattle.earliest_query.specs.UnderWay.{Covers, Extends, IsFollowed}
@@ -56,12 +53,6 @@ module _ (T : TimetableData) (hops : ℕ → ℕ → List Hop) (D D' : DeskData)
       let q : ◌≡◌ {A = ℕ × ℕ} (n, i) p = cc in
       subst (λ (r : ℕ × ℕ). Contains (hops (segment_of D'.segments r.0).trip r.1) h) q
       (subst (λ (s : Segment). Contains (hops s.trip i) h) (sym same) in_set)
-
--- the hops from one event that was looked at
-pub hops_seen-one : (hops : ℕ → ℕ → List Hop) (w : Seen) (t i : ℕ) → seen_trip w ≡ t → seen_first w ≡ i → seen_last w ≡ i → hops_seen hops w ≡ hops t i
-hops_seen-one hops w t i trip first last =
-    let one : suc (seen_last w) - seen_first w ≡ 1 = omega (arith, first, last) in
-    ap (λ n. flat_map (hops (seen_trip w)) (range_with_len (seen_first w) n)) one ∙ append-nil (hops (seen_trip w) (seen_first w)) ∙ ap (λ x. hops x (seen_first w)) trip ∙ ap (hops t) first
 
 pub followed-kept : (N : NetData) (D D' : DeskData) (joined n i : ℕ) → Extends D D' joined → n < length D.segments → IsFollowed N D n i → IsFollowed N D' n i
 followed-kept N D D' joined n i extends inside followed = λ h in_set.

@@ -12,9 +12,9 @@ pub mod Reaching
 pub mod Sorting
 pub mod Answering
 pub mod Lateness
-pub mod LookingAt
 pub mod SegmentBySegment
 pub mod Noting
+pub mod NotedHops
 pub mod Meeting
 pub mod SweptRounds
 pub mod SweptSearch

@@ -110,6 +110,15 @@ pub record IsSeenAt (T : TimetableData) (s : Segment) (w : Seen) (at : ℕ) : Ty
   pub last : seen_last w ≡ at
   pub arr : seen_arr w ≡ arrival_at T s.trip at
 
+-- what this look saw of the segment
+pub here_seen : (T : TimetableData) (s r : Segment) (w : Seen) (at : ℕ) → s ≡ r → seen_trip w ≡ r.trip → seen_first w ≡ at → seen_last w ≡ at → seen_arr w ≡ arrival_at T r.trip at → IsSeenAt T s w at
+here_seen T s r w at same trip first last arr = record {
+  trip = trip ∙ ap (λ (x : Segment). x.trip) (sym same);
+  first = first;
+  last = last;
+  arr = arr ∙ ap (λ (x : Segment). arrival_at T x.trip at) (sym same);
+}
+
 pub seen_behind : (T : TimetableData) (s : Segment) (seen : Option Seen) (next : Seen) (at : ℕ) → IsSeenTo T s seen at → IsSeenAt T s next (at + 1) → IfSome seen (λ w. IsSeenBehind w next)
 seen_behind T s None next at to here = tt
 seen_behind T s (Some w) next at to here = record { trip = here.trip ∙ sym to.trip; behind = omega (arith, here.first, to.last) }

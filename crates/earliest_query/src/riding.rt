@@ -49,7 +49,7 @@ fn is_noted_late(best: &Option<Hit>, note: &Note) -> bool
 }
 
 // What has been seen of a trip, with the event behind it.
-fn seen_on(seen: Option<Seen>, next: Seen) -> Seen
+pub(crate) fn seen_on(seen: Option<Seen>, next: Seen) -> Seen
     requires { IfSome seen (λ s. IsSeenBehind s next) }
     ensures trip { seen_trip result ≡ seen_trip next }
     ensures last { seen_last result ≡ seen_last next }
@@ -146,25 +146,25 @@ impl<S: Scan> Search<'_, S> {
         }
     }
 
-    // The best hit so far, or to alight at an event of a segment where that is earlier.
+    // Makes it the best hit to alight at an event of a segment, where that is earlier.
     #[inline(always)]
     pub(crate) fn weigh(
         &self,
-        best: Option<Hit>,
+        best: &mut Option<Hit>,
         visit: &Visit,
         entry: u32,
         at: u32,
         round: u32,
-    ) -> Option<Hit>
+    )
         requires stop { visit.now.stop < length (S.net self.now.scan.now).table.stops }
         requires arr { visit.now.arr ≤ℤ pos 359999 }
         ensures { IsWeighed (S.net self.now.scan.now).table self.now.query.now visit.now.stop
-            visit.now.arr visit.now.alight entry at round best result }
+            visit.now.arr visit.now.alight entry at round best.old best.new }
     {
-        if !may_improve(&best, visit) || !self.may_be_near(visit.stop) {
-            return best;
+        if !may_improve(best, visit) || !self.may_be_near(visit.stop) {
+            return;
         }
-        self.weigh_near(best, visit, entry, at, round)
+        *best = self.weigh_near(*best, visit, entry, at, round);
     }
 
     // Looks at the indices that a segment covers one by one, and weighs to alight there. It ends
@@ -216,7 +216,7 @@ impl<S: Scan> Search<'_, S> {
             let at = before + 1;
             let visit = scan.visit(segment.trip, at, steps);
             also.meet(self, &segment, at, round, &visit);
-            best = self.weigh(best, &visit, n, at, round);
+            self.weigh(&mut best, &visit, n, at, round);
             if is_late(&best, &visit) {
                 return (best, seen);
             }

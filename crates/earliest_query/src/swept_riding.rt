@@ -2,18 +2,19 @@ ghost use Rattle.std.specs.Prelude.{◌≡◌, ◌+◌, ◌<◌, ◌≤◌, ◌+
 ghost use Rattle.tb_base.specs.Sufficiency.{AreSufficient};
 ghost use Rattle.tb_base.specs.TimetableData.{TimetableData};
 ghost use Rattle.segment_queue.specs.Levels.{with_level};
-ghost use Rattle.segment_queue.specs.Queue.{Fits};
+ghost use Rattle.segment_queue.specs.Queue.{Fits, IsSoundSegment};
 ghost use Rattle.segment_queue.specs.Traced.{round_of};
 ghost use Rattle.segment_queue.specs.declared.desk.Hit.{Hit};
 ghost use Rattle.earliest_query.specs.Choices.{hits_of};
 ghost use Rattle.earliest_query.specs.Bounding.{IsBestBefore, bounding_hit, earlier_value};
+ghost use Rattle.earliest_query.specs.Noted.{IsSoundNote, IsWeighedOff, notes_of};
 ghost use Rattle.earliest_query.specs.Sweeping.{IsSweptQueue, IsSweptRound, KeepsSegments};
 ghost use Rattle.earliest_query.specs.UnderWay.{Covers, Extends, IsBounded, IsDone, IsImproved};
 
 use super::all_rounds::last_hit;
-use super::riding::{earlier, is_late};
+use super::riding::{earlier, is_late, seen_on};
 use super::search::Search;
-use segment_queue::{Desk, Hit, LastLeg, Levels, Look, Scan, Steps};
+use segment_queue::{Desk, Hit, LastLeg, Levels, Look, Scan, Seen, Steps};
 use std::alloc::Global;
 use std::sync::ledger::Ledger;
 use tb_base::{Memory, StopNo, Value};
@@ -100,9 +101,50 @@ pub fn segment_total(desk: &Desk) -> Result<u32, Memory>
 }
 
 impl<S: Scan> Search<'_, S> {
-    // Rides a segment: looks at the indices that it covers one by one, weighs to alight there, and
-    // follows the hops from there, as rides for which there is a level. It ends where one gets no
-    // earlier than the best so far arrives.
+    // Looks at the indices that a segment covers one by one, and weighs to alight there. It ends
+    // where one gets no earlier than the best so far arrives. Answers what it has seen before, too.
+    fn weigh_level<L: Ledger>(
+        &self,
+        desk: &Desk,
+        n: u32,
+        round: u32,
+        so_far: Option<Hit>,
+        steps: &mut Steps<L>,
+    ) -> (Option<Hit>, Option<Seen>)
+    where
+        S: Look<L>,
+        requires sound { All (IsSoundSegment (S.net self.now.scan.now).table) desk.now.segments }
+        requires segment { n < length desk.now.segments }
+        requires round { round_of desk.now.segments n ≡ round }
+        ensures seen { All (IsSoundNote (S.net self.now.scan.now) desk.now.segments round)
+            (notes_of n result.1) }
+        ensures weighed { (i : ℕ) → Covers desk.now n i →
+            IsWeighedOff (S.net self.now.scan.now) self.now.query.now desk.now result.0
+            (notes_of n result.1) n i }
+        ensures improved { IsImproved (S.net self.now.scan.now).table self.now.query.now desk.now
+            round so_far result.0 }
+    {
+        let scan = self.scan;
+        scan.soundness();
+        let Some(segment) = desk.segment(n) else {
+            return (so_far, None);
+        };
+        let mut best = so_far;
+        let mut seen = None;
+        for before in segment.board..segment.end {
+            let at = before + 1;
+            let visit = scan.visit(segment.trip, at, steps);
+            self.weigh(&mut best, &visit, n, at, round);
+            if is_late(&best, &visit) {
+                return (best, seen);
+            }
+            seen = Some(seen_on(seen, visit.seen));
+        }
+        (best, seen)
+    }
+
+    // Rides a segment: weighs it, and follows the hops from what was seen of it, as rides for which
+    // there is a level.
     fn ride_level<L: Ledger>(
         &self,
         desk: &mut Desk,
@@ -135,22 +177,8 @@ impl<S: Scan> Search<'_, S> {
         ensures still { Fits (S.net self.now.scan.now).table desk.old →
             Fits (S.net self.now.scan.now).table desk.new }
     {
-        let scan = self.scan;
-        scan.soundness();
-        let Some(segment) = desk.segment(n) else {
-            return Ok(so_far);
-        };
-        let mut best = so_far;
-        for before in segment.board..segment.end {
-            let at = before + 1;
-            let visit = scan.visit(segment.trip, at, steps);
-            best = self.weigh(best, &visit, n, at, round);
-            if is_late(&best, &visit) {
-                return Ok(best);
-            }
-            let followed = scan.hops_from(visit.seen);
-            self.follow_level(desk, levels, round as usize, followed.hops, n, at)?;
-        }
+        let (best, seen) = self.weigh_level(desk, n, round, so_far, steps);
+        self.follow_seen(desk, levels, round as usize, n, seen)?;
         Ok(best)
     }
 
@@ -190,6 +218,7 @@ impl<S: Scan> Search<'_, S> {
     {
         let mut best = so_far;
         for n in from..to {
+            desk.read_level_ahead(self.scan, from, n, to);
             best = self.ride_level(desk, levels, n, round, best, steps)?;
         }
         Ok(best)

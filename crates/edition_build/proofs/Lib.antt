@@ -1,2 +1,5 @@
 pub mod Named
 pub mod ReportTexts
+pub mod Told
+pub mod FirstDay
+pub mod OutcomeLines

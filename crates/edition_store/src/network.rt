@@ -171,6 +171,10 @@ impl Scan for Network {
         self.view().read_event_ahead(trip, at, ahead);
     }
 
+    fn read_event_hops_ahead(&self, trip: TripNo, at: u32, ahead: &mut Ahead) {
+        self.view().read_event_hops_ahead(trip, at, ahead);
+    }
+
     fn read_hops_ahead(&self, seen: &Seen, ahead: &mut Ahead) {
         self.view().read_hops_ahead(seen, ahead);
     }

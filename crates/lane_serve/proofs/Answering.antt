@@ -4,7 +4,7 @@ use Rattle.std.specs.Prelude.{slice_get}
 use Rattle.edition_store.specs.Editions.{EditionData}
 use Rattle.query_gate.specs.Callers.{IsEditionOf}
 use Rattle.query_gate.specs.declared.reply.Reply.{Reply}
-use Rattle.lane_serve.specs.declared.script.Line.{Line}
+use Rattle.query_gate.specs.declared.said.Line.{Line}
 use Rattle.lane_serve.specs.declared.lane.ReplyText.{ReplyText}
 use Rattle.query_gate.specs.Json.{shown_reply}
 use Rattle.answer_json.specs.declared.frame.Frame.TheVariants as frame

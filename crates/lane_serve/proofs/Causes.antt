@@ -9,16 +9,17 @@ use Rattle.trip_table.specs.Answers.{feed_of}
 use Rattle.trip_table.specs.Day.{IsTimetableOf}
 use Rattle.trip_table.specs.Feed.{Feed}
 use Rattle.edition_store.specs.Editions.{EditionData}
-use Rattle.lane_serve.specs.declared.plan.Outcome.{Outcome}
-use Rattle.lane_serve.specs.declared.plan.ItemSource.{ItemSource}
-use Rattle.lane_serve.specs.declared.plan.ItemSource.TheVariants as source
-use Rattle.lane_serve.specs.declared.plan.Outcome.TheVariants.{Refused}
+use Rattle.edition_build.specs.declared.plan.Outcome.{Outcome}
+use Rattle.edition_build.specs.declared.plan.ItemSource.{ItemSource}
+use Rattle.edition_build.specs.declared.plan.ItemSource.TheVariants as source
+use Rattle.edition_build.specs.declared.plan.Outcome.TheVariants.{Refused}
 use Rattle.lane_serve.specs.declared.run.ServeFault.{ServeFault}
 use Rattle.lane_serve.specs.declared.run.ServeFault.TheVariants as fault
-use Rattle.lane_serve.specs.Plans.{AreOutcomes, BeginsPublished, DayGives, HasSourceOutcome, IsPublished, ItemData, OfDay}
+use Rattle.edition_build.specs.Plans.{AreOutcomes, BeginsPublished, DayGives, HasSourceOutcome, IsPublished, ItemData, OfDay}
 use Rattle.lane_serve.specs.Script.{LaneData, needs_mirrors}
 use Rattle.lane_serve.proofs.Plans.{outcome_count}
-use Rattle.lane_serve.specs.Served.{FirstGives, IsServeFault, IsServed, ServedData, TellsFault}
+use Rattle.edition_build.specs.Plans.{FirstGives}
+use Rattle.lane_serve.specs.Served.{IsServeFault, IsServed, ServedData, TellsFault}
 
 -- there is one outcome for each item
 pub outcome_each : (files : Option FileList) (options : Options) (plan : List ItemData) (script : List LaneData) (result : Result ServedData ServeFault)

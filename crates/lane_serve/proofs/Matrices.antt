@@ -1,14 +1,14 @@
 -- Rows of origins, run after run.
-use Rattle.std.proofs.Common.{◌≡◌, ◌∙◌, refl, ap, sym, subst, ℕ, zero, suc, ◌+◌, ◌-◌, ◌<◌, ◌≤◌, List, [], ◌∷◌, ◌++◌, length, take, drop, get_or, Option, Some, None, Vec, Global, append_assoc, arith, ◌⊎◌, inl, inr}
+use Rattle.std.proofs.Common.{◌≡◌, ◌∙◌, refl, ap, sym, subst, ℕ, ◌+◌, ◌-◌, ◌<◌, ◌≤◌, List, [], ◌∷◌, ◌++◌, length, take, drop, get_or, Option, Some, None, Vec, Global, append_assoc, arith, ◌⊎◌, inl, inr}
 use Rattle.std.proofs.lemmas.List.{append-nil, length-append, take-append-drop, take-append-le, take_all, take_more}
 use Rattle.std.proofs.Math.Seq.{take-append-add}
 use Rattle.std.specs.Io.KnownBytes.{Appends}
 use Rattle.tb_base.specs.TimetableData.{TimetableData}
 use Rattle.tb_io.proofs.Pieces.{appends_more}
-use Rattle.live_turns.specs.Dealing.{AreReplies, run_of}
-use Rattle.live_turns.proofs.Dealt.{run_more}
-use Rattle.live_turns.proofs.Joined.{flat_append}
-use Rattle.lane_serve.specs.LiveTurns.{joined_texts}
+use Rattle.query_gate.specs.Dealing.{run_of}
+use Rattle.query_gate.proofs.Dealt.{run_more}
+use Rattle.std.proofs.lemmas.Grind.{flat_map-append}
+use Rattle.query_gate.specs.Dealing.{joined_texts}
 use Rattle.lane_serve.specs.Rows.{AreRowsFrom, head_of}
 use Rattle.lane_serve.specs.Matrix.{AreRows, HasCutMatrix, HasCutRows, HasCutRun, HasMatrix, HasRows, IsCutHead, IsMatrix}
 use Rattle.lane_serve.specs.declared.matrix.MatrixFault.{MatrixFault}
@@ -21,7 +21,7 @@ appends_none None = tt
 appends_none (Some xs) = sym (append-nil xs)
 
 pub joined_append : (xs ys : List (Vec ℕ Global)) → joined_texts (xs ++ ys) ≡ joined_texts xs ++ joined_texts ys
-joined_append xs ys = flat_append (λ v. v.items) xs ys
+joined_append xs ys = flat_map-append (λ v. v.items) xs ys
 
 module _ (form : RowForm) (T : TimetableData) (a : TimesAsked) where
   abbrev Right : List ℕ → Vec ℕ Global → Type 0

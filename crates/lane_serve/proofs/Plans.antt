@@ -1,25 +1,21 @@
 -- A plan grows by one item.
-use Rattle.std.proofs.Common.{◌≡◌, ◌⊎◌, inl, inr, ℕ, ◌+◌, ◌<◌, ◌≤◌, List, [], ◌∷◌, ◌++◌, take, length, get_or, refl, sym, ap, subst, ◌∙◌, Bool, Option, Some, None, Result, Ok, Err, arith}
+use Rattle.std.proofs.Common.{◌≡◌, ◌⊎◌, inl, inr, ℕ, ◌+◌, ◌<◌, ◌≤◌, List, [], ◌∷◌, ◌++◌, take, length, get_or, sym, ap, subst, ◌∙◌, Bool, Option, Some, None, Result, Ok, Err, arith}
 use Rattle.std.specs.Prelude.{IfOk, OnOk, option_to_list}
-use Rattle.gtfs_rows.specs.declared.fault.FeedFault.{FeedFault}
 use Rattle.std.proofs.lemmas.List.{take_more, length-take}
 use Rattle.tb_io.specs.Files.{FileList}
 use Rattle.footpaths.specs.declared.paths.Options.{Options}
 use Rattle.edition_store.specs.Editions.{EditionData, IsEdition}
-use Rattle.late_edit.specs.Amending.{edition_lines}
-use Rattle.late_edit.specs.Touched.{touched_count}
-use Rattle.late_edit.specs.declared.late.LateFault.{LateFault}
-use Rattle.lane_serve.specs.declared.building.Building.{Building}
-use Rattle.lane_serve.specs.declared.building.Found.{Found}
-use Rattle.lane_serve.specs.declared.building.PlanEnd.{PlanEnd}
-use Rattle.lane_serve.specs.declared.plan.ItemSource.{ItemSource}
-use Rattle.lane_serve.specs.declared.plan.ItemSource.TheVariants as source
-use Rattle.lane_serve.specs.declared.plan.Outcome.{Outcome}
-use Rattle.lane_serve.specs.declared.plan.Outcome.TheVariants.{Amended, LateRefused, Published, Refused}
-use Rattle.lane_serve.specs.FeedDays.{FeedDayData}
-use Rattle.lane_serve.specs.Plans.{AreOutcomes, AreSoFar, AreTold, BeginsPublished, DayGives, HasDayOutcome, HasLateOutcome, HasOutcome, HasSourceOutcome, IsAmendedEdition, IsEditionOfDay, IsPublished, ItemData, LateGives, Takes, amended_outcome_of, day_after, outcome_of}
+use Rattle.edition_build.specs.declared.finding.Building.{Building}
+use Rattle.edition_build.specs.declared.finding.PlanEnd.{PlanEnd}
+use Rattle.edition_build.specs.declared.plan.ItemSource.{ItemSource}
+use Rattle.edition_build.specs.declared.plan.ItemSource.TheVariants as source
+use Rattle.edition_build.specs.declared.plan.Outcome.{Outcome}
+use Rattle.edition_build.specs.declared.plan.Outcome.TheVariants.{Published}
+use Rattle.edition_build.specs.FeedDays.{FeedDayData}
+use Rattle.edition_build.specs.Plans.{AreOutcomes, AreSoFar, BeginsPublished, BeginsWithFeed, HasOutcome, HasSourceOutcome, IsEditionOfDay, ItemData, Takes, day_after, outcome_of}
 use Rattle.lane_serve.specs.Sides.{HasTakenSoFar}
-use Rattle.lane_serve.proofs.Told.{so_far_all, so_far_first, so_far_more, told_count, told_few}
+use Rattle.edition_build.proofs.FirstDay.{of_day, source_first}
+use Rattle.edition_build.proofs.Told.{so_far_all, so_far_first, so_far_more, told_count, told_few}
 
 -- an item adds one edition at most
 source_few : (files : Option FileList) (options : Options) (mirrored : Bool) (day : Option EditionData) (n : ℕ) (s : ItemSource) (o : Outcome) (es : List EditionData) →
@@ -29,6 +25,14 @@ source_few files options mirrored day n (source.Day d) o es (inr h) = omega (ari
 source_few files options mirrored (Some day) n (source.Late path) o es (inl h) = omega (arith, ap (λ (l : List EditionData). length l) h.1)
 source_few files options mirrored (Some day) n (source.Late path) o es (inr h) = omega (arith, ap (λ (l : List EditionData). length l) h.1)
 source_few files options mirrored None n (source.Late path) o es h = absurd h
+
+-- the first day is published
+pub first_taken : (files : Option FileList) (building : Building) (plan : List ItemData) (d : FeedDayData) (e : EditionData) → BeginsWithFeed plan d →
+    IsEditionOfDay files building.options building.mirrored d e → HasTakenSoFar files building (take 1 plan) (outcome_of 1 e ∷ []) (e ∷ []) e
+first_taken files building [] d e is h = absurd is
+first_taken files building (item ∷ items) d e is h =
+    let first = source_first files building.options building.mirrored item.source e (of_day item.source d (λ f. IsEditionOfDay files building.options building.mirrored f e) is h) in
+    record { outcomes_are = so_far_first (HasOutcome files building.options building.mirrored) item (outcome_of 1 e) e first.0 first.1; first = tt }
 
 -- there is one outcome for each item
 pub outcome_count : (files : Option FileList) (options : Options) (mirrored : Bool) (xs : List ItemData) (os : List Outcome) (es : List EditionData) →

@@ -7,11 +7,12 @@ use Rattle.std.proofs.lemmas.List.{take_more, length-append}
 use Rattle.std.proofs.lemmas.List.Sums.{sum_by-cons}
 use Rattle.history.specs.Lists.{Shown}
 use Rattle.edition_store.specs.Editions.{EditionData}
-use Rattle.lane_serve.specs.declared.script.Line.{Line}
+use Rattle.query_gate.specs.declared.said.Line.{Line}
 use Rattle.lane_serve.specs.declared.lane.ReplyText.{ReplyText}
 use Rattle.lane_serve.specs.declared.run.Seated.{Seated}
 use Rattle.lane_serve.specs.Lanes.{IsClosing, IsLaneRun, ReportData, to_close}
-use Rattle.lane_serve.specs.Script.{IsAskable, IsScript, LaneData, request_count}
+use Rattle.query_gate.specs.Said.{IsAskable}
+use Rattle.lane_serve.specs.Script.{IsScript, LaneData, request_count}
 use Rattle.lane_serve.specs.Served.{AreServed, HasRun, IsServedLane}
 use Rattle.lane_serve.specs.Seats.{HaveRun}
 use Rattle.lane_serve.proofs.Runs.{read_again}

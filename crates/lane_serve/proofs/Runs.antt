@@ -1,27 +1,19 @@
 -- A lane's run and its closing replies grow by one reply, and stay right over a longer list.
-use Rattle.std.proofs.Common.{◌≡◌, ℕ, zero, suc, ◌+◌, ◌-◌, ◌<◌, ◌≤◌, List, [], ◌∷◌, ◌++◌, Bool, true, false, take, drop, length, get_or, refl, sym, ap, subst, ◌∙◌, if◌then◌else◌, arith}
-use Rattle.std.specs.Prelude.{All, slice_get, Some}
+use Rattle.std.proofs.Common.{◌≡◌, ℕ, zero, suc, ◌+◌, ◌-◌, ◌<◌, ◌≤◌, List, [], ◌∷◌, ◌++◌, Bool, true, false, take, length, get_or, refl, sym, ap, subst, ◌∙◌, if◌then◌else◌, arith}
+use Rattle.std.specs.Prelude.{All}
 use Rattle.std.proofs.lemmas.List.{append-nil, take_all, take_more, length-take}
 use Rattle.std.proofs.lemmas.List.Elements.{All-push}
 use Rattle.history.specs.Lists.{Shown, StartsWith}
-use Rattle.history.proofs.Lists.{rest_of}
+use Rattle.query_gate.proofs.Longer.{starts_get}
 use Rattle.edition_store.specs.Editions.{EditionData}
-use Rattle.lane_serve.specs.declared.script.Line.{Line}
+use Rattle.query_gate.specs.declared.said.Line.{Line}
 use Rattle.lane_serve.specs.declared.lane.ReplyText.{ReplyText}
 use Rattle.lane_serve.specs.Lanes.{Due, IsAnswered, RunsFrom, IsLaneRun, IsClosing, is_due, to_close}
-
-get_append : {A : Type 0} (xs zs : List A) (i : ℕ) (x : A) → slice_get xs i ≡ Some x → slice_get (xs ++ zs) i ≡ Some x
-get_append [] zs i x h = absurd (cc h)
-get_append (y ∷ xs) zs zero x h = h
-get_append (y ∷ xs) zs (suc i) x h = get_append xs zs i x h
 
 get_or_default : {A : Type 0} (xs : List A) (i : ℕ) (d e : A) → i < length xs → get_or xs i d ≡ get_or xs i e
 get_or_default [] i d e lt = absurd (omega arith)
 get_or_default (x ∷ xs) zero d e lt = refl
 get_or_default (x ∷ xs) (suc i) d e lt = get_or_default xs i d e (omega arith)
-
-pub starts_get : {A : Type 0} (ys xs : List A) (i : ℕ) (x : A) → StartsWith ys xs → slice_get xs i ≡ Some x → slice_get ys i ≡ Some x
-starts_get ys xs i x s h = subst (λ l. slice_get l i ≡ Some x) (sym (rest_of ys xs s)) (get_append xs (drop (length xs) ys) i x h)
 
 starts_length : {A : Type 0} (ys xs : List A) → StartsWith ys xs → length xs ≤ length ys
 starts_length ys xs h = omega (arith, length-take (length xs) ys, sym (ap length h))

@@ -9,8 +9,9 @@ use Rattle.tb_base.specs.declared.refused.Refused.{Refused}
 use Rattle.tb_base.specs.declared.refused.Refused.TheVariants as refused
 use Rattle.gtfs_rows.specs.Steps.{and_then}
 use Rattle.text_lines.specs.Lines.{lines_of}
-use Rattle.lane_serve.specs.declared.script.Line.{Line}
-use Rattle.lane_serve.specs.Script.{LaneData, SoFar, IsAskable, IsWithinLimits, request_count, script_from, with_request}
+use Rattle.query_gate.specs.declared.said.Line.{Line}
+use Rattle.lane_serve.specs.Script.{LaneData, SoFar, IsWithinLimits, request_count, script_from, with_request}
+use Rattle.query_gate.specs.Said.{IsAskable}
 
 -- the last lane gets one more request
 pub set_last : (lanes : List LaneData) (i : ℕ) (request : Line) (name : List ℕ) (lines : List Line) →

@@ -1,19 +1,14 @@
 -- What goes to other threads: a lane's seat, and what the closure of the lanes captures.
-use mathlib.Core.Bool.{Bool, true, false}
 use mathlib.Core.List.{[], ◌∷◌}
-use denote.Exit.{Exit, if_kept, unseen}
 use denote.RattleType.{RattleType}
 use denote.Ref.{NamedLft}
 use denote.Struct.Field.{row_field}
 use denote.Struct.Tuple.{TupleAt, type_at}
-use denote.Param.Send.{IsSend, IsSync, Quiet, sendable}
+use denote.Param.Send.{IsSend, IsSync, sendable}
 use denote.Param.SendFields.{FieldsHave, as_row_send, declared_send, declared_sync}
 use Rattle.std.proofs.Crossing.{crosses}
 use Rattle.history.specs.declared.law.Naming.{Ghosts}
-use Rattle.query_gate.proofs.Sent.{caller_send}
-use Rattle.edition_store.specs.contracts.edition.Edition as edition
-use Rattle.edition_store.specs.contracts.network.Network as network
-use Rattle.lane_serve.specs.contracts.live.office.Bureau as bureau
+use Rattle.query_gate.proofs.Sent.{caller_send, edition_sync}
 use Rattle.lane_serve.specs.contracts.matrix.Clerk as clerk
 use Rattle.lane_serve.specs.contracts.run.Seated as seated
 use Rattle.lane_serve.specs.contracts.script.Lane as lane
@@ -23,13 +18,6 @@ seated_send J g = search (caller_send, sendable, crosses) depth 40 fits 100000
 
 pub lane_sync : IsSync lane.the_row
 lane_sync = search (sendable, crosses) depth 40 fits 100000
-
-network_sync : IsSync network.the_row
-network_sync = search (sendable, crosses) depth 40 fits 100000
-
--- what lanes share: an edition
-pub edition_sync : IsSync edition.the_row
-edition_sync = search (network_sync, sendable, crosses) depth 40 fits 100000
 
 -- what answers origins
 pub clerk_sync : (κ : NamedLft) → IsSync (clerk.the_row κ)
@@ -43,27 +31,8 @@ clerk_sync κ =
     ) in
     declared_sync (clerk.the_type κ) parts
 
-pub bureau_sync : (κ : NamedLft) (G : RattleType) → IsSync G → IsSync (bureau.the_row κ G)
-bureau_sync κ G s =
-    let parts : FieldsHave IsSync (bureau.the_type κ G).parts = (
-      search (s, sendable, crosses) depth 40 fits 100000,
-      (
-        search (sendable, crosses) depth 40 fits 100000,
-        (
-          search (sendable, crosses) depth 40 fits 100000,
-          (search (edition_sync, sendable, crosses) depth 40 fits 100000, tt),
-        ),
-      ),
-    ) in
-    declared_sync (bureau.the_type κ G) parts
-
 -- five captures, each of which may go
 pub captures_send : (A B C D E : RattleType) → IsSend A → IsSend B → IsSend C → IsSend D → IsSend E → IsSend (TupleAt [] (A ∷ B ∷ C ∷ D ∷ E ∷ []))
 captures_send A B C D E a b c d e =
     declared_send (type_at [] (A ∷ B ∷ C ∷ D ∷ E ∷ []))
     (as_row_send (row_field A) a, (as_row_send (row_field B) b, (as_row_send (row_field C) c, (as_row_send (row_field D) d, (as_row_send (row_field E) e, tt)))))
-
--- what is left at an end that may be seen
-pub quiet_either : {D : Type 0} (seen : Bool) (e : Exit D) → Quiet e → Quiet (if_kept seen e unseen)
-quiet_either true e q = q
-quiet_either false e q = λ x w. tt

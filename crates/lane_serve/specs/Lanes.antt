@@ -5,7 +5,7 @@ use Rattle.query_gate.specs.Callers.{Answers, IsAnsweredBy, IsEditionOf}
 use Rattle.query_gate.specs.Json.{shown_reply}
 use Rattle.query_gate.specs.declared.reply.Reply.{Reply}
 use Rattle.answer_json.specs.declared.frame.Frame.TheVariants as frame
-use Rattle.lane_serve.specs.declared.script.Line.{Line}
+use Rattle.query_gate.specs.declared.said.Line.{Line}
 use Rattle.lane_serve.specs.declared.lane.ReplyText.{ReplyText}
 
 -- a lane's name, and replies to requests of it

@@ -3,8 +3,8 @@ use Rattle.std.specs.Prelude.{◌≡◌, ◌⊎◌, ℕ, List, ◌++◌, Option,
 use Rattle.std.specs.declared.alloc.Global.{Global}
 use Rattle.std.specs.Io.KnownBytes.{Appends}
 use Rattle.tb_base.specs.TimetableData.{TimetableData}
-use Rattle.live_turns.specs.Dealing.{AreReplies}
-use Rattle.lane_serve.specs.LiveTurns.{joined_texts}
+use Rattle.query_gate.specs.Dealing.{AreReplies}
+use Rattle.query_gate.specs.Dealing.{joined_texts}
 use Rattle.lane_serve.specs.Rows.{AreRowsFrom, head_of}
 use Rattle.lane_serve.specs.declared.matrix.MatrixFault.{MatrixFault}
 use Rattle.lane_serve.specs.declared.matrix.MatrixFault.TheVariants as fault

@@ -1,21 +1,20 @@
 -- What a run of lanes beside a publisher gives.
 use Rattle.std.specs.Prelude.{◌≡◌, ℕ, ◌<◌, List, [], ◌∷◌, length, Option, Some, None, Result, Ok, Err, Vec, ⊤}
 use Rattle.std.specs.Global.{Global}
-use Rattle.tb_base.specs.TimetableData.{TimetableData}
 use Rattle.tb_io.specs.Files.{FileList}
 use Rattle.gtfs_rows.specs.declared.fault.FeedFault.{FeedFault}
 use Rattle.footpaths.specs.declared.paths.Options.{Options}
 use Rattle.history.specs.Lists.{Shown}
 use Rattle.edition_store.specs.Editions.{EditionData}
 use Rattle.lane_serve.specs.declared.lane.ReplyText.{ReplyText}
-use Rattle.lane_serve.specs.declared.plan.Outcome.{Outcome}
-use Rattle.lane_serve.specs.declared.building.PlanEnd.{PlanEnd}
-use Rattle.lane_serve.specs.declared.building.PlanEnd.TheVariants as ended
-use Rattle.lane_serve.specs.declared.script.Line.{Line}
+use Rattle.edition_build.specs.declared.plan.Outcome.{Outcome}
+use Rattle.edition_build.specs.declared.finding.PlanEnd.{PlanEnd}
+use Rattle.edition_build.specs.declared.finding.PlanEnd.TheVariants as ended
+use Rattle.query_gate.specs.declared.said.Line.{Line}
 use Rattle.lane_serve.specs.declared.run.ServeFault.{ServeFault}
 use Rattle.lane_serve.specs.declared.run.ServeFault.TheVariants as fault
 use Rattle.lane_serve.specs.Lanes.{IsClosing, IsLaneRun, ReportData, to_close}
-use Rattle.lane_serve.specs.Plans.{AreOutcomes, BeginsPublished, DayGives, ItemData, OfDay}
+use Rattle.edition_build.specs.Plans.{FirstGives, AreOutcomes, BeginsPublished, ItemData}
 use Rattle.lane_serve.specs.Script.{LaneData, needs_mirrors}
 
 -- the outcomes of a plan's items, what each lane was answered, how many editions there were in the
@@ -54,13 +53,6 @@ pub record IsServed (files : Option FileList) (options : Options) (plan : List I
   pub first : BeginsPublished s.outcomes
   pub last : s.last ≡ length editions
   pub lanes : AreServed editions script s.lanes s.closing
-
--- the first item of a plan is a day, which gives this timetable or first fault
-abbrev pub FirstGives :
-    Option FileList → Options → List ItemData → Result TimetableData FeedFault → Type 0
-FirstGives files options [] result = ⊥
-FirstGives files options (item ∷ items) result =
-    OfDay item.source (λ d. DayGives files options d result)
 
 -- Why there is no answer: the first item's first fault; or a failed read, where the count of faults
 -- rose; or want of memory.

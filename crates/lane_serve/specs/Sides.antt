@@ -2,9 +2,9 @@
 use Rattle.std.specs.Prelude.{List, Option}
 use Rattle.tb_io.specs.Files.{FileList}
 use Rattle.edition_store.specs.Editions.{EditionData}
-use Rattle.lane_serve.specs.declared.building.Building.{Building}
-use Rattle.lane_serve.specs.declared.plan.Outcome.{Outcome}
-use Rattle.lane_serve.specs.Plans.{AreOutcomes, AreSoFar, BeginsPublished, HasOutcome, ItemData}
+use Rattle.edition_build.specs.declared.finding.Building.{Building}
+use Rattle.edition_build.specs.declared.plan.Outcome.{Outcome}
+use Rattle.edition_build.specs.Plans.{AreOutcomes, AreSoFar, BeginsPublished, HasOutcome, ItemData}
 
 -- a plan, how its items are read and built, what became of them so far, and the edition of the last
 -- day among these

@@ -1,112 +1,16 @@
 //! What a run gives, as lines of JSON.
 ghost use Rattle.std.specs.Prelude.{◌≡◌, ◌++◌, IfOk, OnOk, flat_map, length};
-ghost use Rattle.lane_serve.specs.Json.{amended_json, answered_json, closing_json, late_refused_json, outcome_json, outcomes_json, published_json, refused_json, report_json, served_json, served_shown};
+ghost use Rattle.edition_build.specs.OutcomeJson.{amended_json, late_refused_json, outcome_json, outcomes_json, published_json, refused_json};
+ghost use Rattle.lane_serve.specs.Json.{answered_json, closing_json, report_json, served_json, served_shown};
 
 use crate::lane::{LaneReport, ReplyText};
-use crate::late_faults::add_late_fault_json;
-use crate::plan::{Outcome, PlanItem};
 use crate::run::Served;
 use crate::texts::served_text;
-use answer_json::{add_count, add_fault, add_string, add_total};
+use answer_json::{add_count, add_string};
 use answer_text::Text;
-use gtfs_rows::FeedFault;
-use late_edit::LateFault;
+use edition_build::{PlanItem, add_outcomes_json};
 use std::alloc::Global;
 use tb_base::Memory;
-
-// Adds `{"day":WORD,"edition":N,"trips":N,"lines":N,"kept":N}`.
-fn add_published(
-    text: &mut Text,
-    word: &str,
-    number: u32,
-    trips: u32,
-    lines: u32,
-    kept: u64,
-) -> Result<(), Memory>
-    ensures { OnOk result
-        (text.new ≡ text.old ++ published_json word.now number trips lines kept) }
-{
-    text.add(b"{\"day\":")?;
-    add_string(text, word.as_bytes())?;
-    add_count(text, b"edition", number)?;
-    add_count(text, b"trips", trips)?;
-    add_count(text, b"lines", lines)?;
-    add_total(text, b"kept", kept)?;
-    text.add(b"}\n")
-}
-
-// Adds `{"day":WORD,"fault":FAULT}`.
-fn add_refused(text: &mut Text, word: &str, fault: &FeedFault) -> Result<(), Memory>
-    ensures { OnOk result (text.new ≡ text.old ++ refused_json word.now fault.now) }
-{
-    text.add(b"{\"day\":")?;
-    add_string(text, word.as_bytes())?;
-    text.add(b",\"fault\":")?;
-    add_fault(text, fault)?;
-    text.add(b"}\n")
-}
-
-// Adds `{"day":WORD,"edition":N,"touched":N,"kept":N}`.
-fn add_amended(
-    text: &mut Text,
-    word: &str,
-    number: u32,
-    touched: u32,
-    kept: u64,
-) -> Result<(), Memory>
-    ensures { OnOk result (text.new ≡ text.old ++ amended_json word.now number touched kept) }
-{
-    text.add(b"{\"day\":")?;
-    add_string(text, word.as_bytes())?;
-    add_count(text, b"edition", number)?;
-    add_count(text, b"touched", touched)?;
-    add_total(text, b"kept", kept)?;
-    text.add(b"}\n")
-}
-
-// Adds `{"day":WORD,"fault":FAULT}`, of a file that amends a day.
-fn add_late_refused(text: &mut Text, word: &str, fault: LateFault) -> Result<(), Memory>
-    ensures { OnOk result (text.new ≡ text.old ++ late_refused_json word.now fault) }
-{
-    text.add(b"{\"day\":")?;
-    add_string(text, word.as_bytes())?;
-    text.add(b",\"fault\":")?;
-    add_late_fault_json(text, fault)?;
-    text.add(b"}\n")
-}
-
-/// Adds the line of the outcome of the item of a word.
-pub(crate) fn add_outcome(text: &mut Text, word: &str, outcome: &Outcome) -> Result<(), Memory>
-    ensures { OnOk result (text.new ≡ text.old ++ outcome_json word.now outcome.now) }
-{
-    match outcome {
-        Outcome::Published {
-            number,
-            trips,
-            lines,
-            kept,
-        } => add_published(text, word, *number, *trips, *lines, *kept),
-        Outcome::Refused(fault) => add_refused(text, word, fault),
-        Outcome::Amended {
-            number,
-            touched,
-            kept,
-        } => add_amended(text, word, *number, *touched, *kept),
-        Outcome::LateRefused(fault) => add_late_refused(text, word, *fault),
-    }
-}
-
-// Adds one line for each item.
-fn add_outcomes(text: &mut Text, plan: &[PlanItem], outcomes: &[Outcome]) -> Result<(), Memory>
-    requires { length outcomes.now ≡ length plan.now }
-    ensures { OnOk result (text.new ≡ text.old ++ outcomes_json plan.now outcomes.now) }
-{
-    for i in 0..plan.len() {
-        let item = &plan[i];
-        add_outcome(text, item.word.as_str(), &outcomes[i])?;
-    }
-    Ok(())
-}
 
 // Adds `{"lane":NAME,"request":K,"edition":N,MEMBER}`.
 fn add_reply(text: &mut Text, name: &[u8], reply: &ReplyText) -> Result<(), Memory>
@@ -164,7 +68,7 @@ fn served_json(alloc: Global, plan: &[PlanItem], served: &Served) -> Result<Vec<
     ensures { IfOk result (λ v. v.items ≡ served_json plan.now served.now) }
 {
     let mut text = Text::new(alloc);
-    add_outcomes(&mut text, plan, served.outcomes.as_slice())?;
+    add_outcomes_json(&mut text, plan, served.outcomes.as_slice())?;
     add_reports(&mut text, served.lanes.as_slice())?;
     add_closing(&mut text, served.last)?;
     add_reports(&mut text, served.closing.as_slice())?;

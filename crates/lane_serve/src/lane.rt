@@ -3,13 +3,12 @@ ghost use Rattle.std.specs.Prelude.{◌≡◌, ◌<◌, ◌≤◌, ◌+◌, ◌-
 ghost use Rattle.history.specs.Lists.{Extends, StartsWith};
 ghost use Rattle.edition_store.specs.Editions.{EditionData};
 ghost use Rattle.query_gate.specs.Callers.{HasLegNumbersIn};
-ghost use Rattle.lane_serve.specs.Script.{IsAskable};
+ghost use Rattle.query_gate.specs.Said.{IsAskable};
 ghost use Rattle.lane_serve.specs.Lanes.{IsAnswered, IsClosing, IsLaneRun, IsReplyOf, is_due, to_close};
 
-use crate::script::Line;
 use answer_json::Frame;
 use edition_store::{Last, Naming};
-use query_gate::{Answer, Caller, shown_reply};
+use query_gate::{Answer, Caller, Line, shown_reply};
 use std::alloc::Global;
 use std::marker::Model;
 use tb_base::{Gate, Memory, Name, Work};

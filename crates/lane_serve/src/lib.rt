@@ -13,29 +13,22 @@
 //! `write_matrix` answers many origins over one edition, run after run.
 #![tactic(auto)]
 
-mod building;
 mod json;
 mod lane;
-mod late_faults;
-mod live;
 mod matrix;
 mod origins;
 mod plan;
 mod publishing;
 mod rows;
 mod run;
-mod said;
 mod script;
 mod texts;
 
 pub use json::served_shown;
 pub use lane::{LaneReport, ReplyText, close_lane, run_lane};
-pub use late_faults::{add_late_fault_json, add_late_fault_text};
-pub use live::{LiveFault, LiveMode, run_live};
 pub use matrix::{MatrixFault, write_matrix};
 pub use origins::read_origins;
-pub use plan::{FeedDay, ItemSource, LateFile, Outcome, PlanItem, begins_with_day};
 pub use rows::{RowForm, TimesAsked};
 pub use run::{ServeFault, Served, serve};
-pub use script::{Lane, Line, Script, ScriptFault, read_script};
+pub use script::{Lane, Script, ScriptFault, read_script};
 pub use texts::served_text;

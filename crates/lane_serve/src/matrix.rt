@@ -6,15 +6,14 @@
 ghost use Rattle.std.specs.Prelude.{◌≡◌, ◌⊎◌, ◌+◌, ◌-◌, ◌*◌, ◌^◌, ◌<◌, ◌≤◌, ◌++◌, [], Err, IfErr, IfOk, OnErr, OnOk, All, ℕ, length, take, vec_len};
 ghost use Rattle.std.specs.Io.KnownBytes.{Appends};
 ghost use Rattle.answer_text.specs.Questions.{AreDepartureTimes};
-ghost use Rattle.live_turns.specs.Dealing.{run_of};
-ghost use Rattle.lane_serve.specs.LiveTurns.{joined_texts};
+ghost use Rattle.query_gate.specs.Dealing.{run_of};
+ghost use Rattle.query_gate.specs.Dealing.{joined_texts};
 ghost use Rattle.lane_serve.specs.Matrix.{HasCutMatrix, HasCutRows, HasCutRun, HasMatrix, HasRows, IsCutHead};
 ghost use Rattle.lane_serve.specs.Rows.{head_of};
 
-use crate::live::desks_for;
 use crate::rows::{RowForm, TimesAsked, head_of, rows_from};
 use edition_store::Edition;
-use live_turns::{Office, answer_all};
+use query_gate::{Office, answer_all, desks_for};
 use segment_queue::Desk;
 use std::alloc::Global;
 use std::mem;

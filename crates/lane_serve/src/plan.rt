@@ -1,126 +1,17 @@
-//! A plan of days of feeds and of files that amend them, whose editions are published one after
-//! another.
-ghost use Rattle.std.specs.Prelude.{◌≡◌, ◌<◌, ◌≤◌, ◌∷◌, [], ◌++◌, ◌-◌, ◌^◌, IfErr, IfOk, MatchBool, OnOk, Some, length, option_to_list, take};
-ghost use Rattle.lane_serve.specs.Plans.{AreOutcomes, BeginsPublished, BeginsWithDay, BeginsWithFeed, HasStopped, IsGoodBuilding, Takes, day_after, outcome_of};
+//! A plan whose editions are published one after another.
+ghost use Rattle.std.specs.Prelude.{◌≡◌, ◌<◌, ◌≤◌, ◌∷◌, [], ◌++◌, ◌-◌, ◌^◌, IfErr, IfOk, OnOk, Some, length, option_to_list, take};
+ghost use Rattle.edition_build.specs.Plans.{AreOutcomes, BeginsPublished, HasStopped, IsGoodBuilding, Takes, day_after, outcome_of};
 ghost use Rattle.lane_serve.specs.Sides.{HasTakenSoFar};
-ghost use Rattle.lane_serve.specs.declared.building.PlanEnd.TheVariants as ended;
+ghost use Rattle.edition_build.specs.declared.finding.PlanEnd.TheVariants as ended;
 
-use crate::building::{Building, Found, PlanEnd, find_item, outcome_of};
 use crate::publishing::Publishes;
+use edition_build::{Building, Found, Outcome, PlanEnd, PlanItem, find_item, keep_day, outcome_of};
 use edition_store::{Edition, Shared};
-use gtfs_rows::FeedFault;
-use late_edit::LateFault;
-use service_day::Day;
 use std::alloc::Global;
-use std::marker::Model;
 use std::sync::Wait;
 use std::thread::Threads;
 use tb_base::{Gate, Memory, Work};
 use tb_io::Folder;
-
-/// A day of a feed: a directory of the folder that has the feed, and the day.
-#[derive(Drop)]
-pub struct FeedDay {
-    pub dir: String,
-    pub day: Day,
-}
-
-impl Model for FeedDay {
-    ghost use Rattle.std.specs.Prelude.{string_bytes};
-    ghost use Rattle.lane_serve.specs.FeedDays.{FeedDayData};
-
-    ghost Value = { FeedDayData };
-
-    ghost view = { λ d. record { dir = string_bytes d.dir; day = d.day } };
-}
-
-/// A file of the folder that says what is known of trips, as `late_edit` reads it.
-#[derive(Drop)]
-pub struct LateFile {
-    pub path: String,
-}
-
-impl Model for LateFile {
-    ghost use Rattle.std.specs.Prelude.{List, string_bytes, ℕ};
-
-    ghost Value = { List ℕ };
-
-    ghost view = { λ f. string_bytes f.path };
-}
-
-/// What an item of a plan is made of.
-#[derive(Drop)]
-pub enum ItemSource {
-    /// A day of a feed.
-    Day(FeedDay),
-    /// The last day that was published, amended by what a file says. Such files don't add up.
-    Late(LateFile),
-}
-
-/// An item of a plan: the word that names it, and what its edition is made of.
-#[derive(Drop)]
-pub struct PlanItem {
-    pub word: String,
-    pub source: ItemSource,
-}
-
-impl Model for PlanItem {
-    ghost use Rattle.std.specs.Prelude.{string_bytes};
-    ghost use Rattle.lane_serve.specs.Plans.{ItemData};
-
-    ghost Value = { ItemData };
-
-    ghost view = { λ i. record { word = string_bytes i.word; source = i.source } };
-}
-
-/// What became of an item.
-#[derive(Drop)]
-pub enum Outcome {
-    /// It is a day that was published as the edition of this number, from 1, with so many trips,
-    /// lines and kept transfers.
-    Published {
-        number: u32,
-        trips: u32,
-        lines: u32,
-        kept: u64,
-    },
-    /// It is a day. The first thing that is wrong with its feed.
-    Refused(FeedFault),
-    /// It is a file by which the last day is amended. That was published as the edition of this
-    /// number: so many trips are touched, and so many transfers kept.
-    Amended {
-        number: u32,
-        touched: u32,
-        kept: u64,
-    },
-    /// It is such a file. The first thing that is wrong with it, or with what it says.
-    LateRefused(LateFault),
-}
-
-/// Whether the first item of a plan is a day of a feed.
-pub fn begins_with_day(plan: &[PlanItem]) -> bool
-    ensures { MatchBool result (BeginsWithDay plan.now) (¬ (BeginsWithDay plan.now)) }
-{
-    match plan {
-        [] => false,
-        [item, ..] => match &item.source {
-            ItemSource::Day(_) => true,
-            ItemSource::Late(_) => false,
-        },
-    }
-}
-
-/// The day with which a plan begins.
-pub(crate) fn first_day(plan: &[PlanItem]) -> &FeedDay
-    requires { BeginsWithDay plan.now }
-    ensures { BeginsWithFeed plan.now result.now }
-{
-    let item = &plan[0];
-    match &item.source {
-        ItemSource::Day(feed) => feed,
-        ItemSource::Late(_) => unreachable!(),
-    }
-}
 
 /// The outcomes, where the first item alone was published.
 pub(crate) fn first_outcome(alloc: Global, edition: &Edition) -> Result<Vec<Outcome>, Memory>
@@ -146,24 +37,6 @@ fn publish<P: Publishes, G: Gate, R: Wait>(
     let published = publisher.with_edition(rt, edition);
     gate.done(Work::Publication(i));
     published
-}
-
-/// Keeps the edition of an item as that of the last day, where the item is a day.
-pub(crate) fn keep_day(
-    source: &ItemSource,
-    edition: &Shared,
-    day: &mut Shared,
-) -> Result<(), Memory>
-    ensures { OnOk result
-        (day_after (Some day.old) source.now (edition.now ∷ []) ≡ Some day.new) }
-{
-    match source {
-        ItemSource::Day(_) => {
-            *day = edition.share()?;
-            Ok(())
-        }
-        ItemSource::Late(_) => Ok(()),
-    }
 }
 
 /// Publishes the edition that item i was found to have, where it has one. That of a day is kept as

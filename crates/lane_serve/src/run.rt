@@ -4,18 +4,20 @@ ghost use Rattle.std.specs.Thread.{IsSync};
 ghost use Rattle.gtfs_rows.specs.declared.fault.FeedFault.{FeedFault};
 ghost use Rattle.footpaths.specs.Limits.{AreWithinADay};
 ghost use Rattle.tb_base.specs.Workers.{AreWorkers};
-ghost use Rattle.lane_serve.specs.Plans.{BeginsWithDay, HasStopped, IsGoodBuilding, outcome_of};
-ghost use Rattle.lane_serve.specs.Script.{IsAskable, IsScript, LaneData, needs_mirrors};
+ghost use Rattle.edition_build.specs.Plans.{BeginsWithDay, HasStopped, IsGoodBuilding, outcome_of};
+ghost use Rattle.query_gate.specs.Said.{IsAskable};
+ghost use Rattle.lane_serve.specs.Script.{IsScript, LaneData, needs_mirrors};
 ghost use Rattle.lane_serve.specs.Seats.{HaveRun};
 ghost use Rattle.lane_serve.specs.Sides.{HasTaken, HasTakenSoFar, PublisherSideData};
 ghost use Rattle.lane_serve.specs.Lanes.{IsLaneRun};
-ghost use Rattle.lane_serve.specs.Served.{AreServed, FirstGives, HasRun, IsServeFault, IsServed, IsServedLane, ServedData, TellsFault, fault_for};
+ghost use Rattle.lane_serve.specs.Served.{AreServed, HasRun, IsServeFault, IsServed, IsServedLane, ServedData, TellsFault, fault_for};
+ghost use Rattle.edition_build.specs.Plans.{FirstGives};
 
-use crate::building::{Building, PlanEnd, build_day};
 use crate::lane::{LaneReport, ReplyText, close_lane, run_lane};
-use crate::plan::{Outcome, PlanItem, first_day, first_outcome, publish_rest};
+use crate::plan::{first_outcome, publish_rest};
 use crate::publishing::Publishes;
 use crate::script::{Lane, Script};
+use edition_build::{Building, Outcome, PlanEnd, PlanItem, build_day, first_day};
 use edition_store::{Edition, Last, Naming, Opened, Publisher, Seat, Shared, Store};
 use footpaths::Options;
 use gtfs_rows::FeedFault;
@@ -129,7 +131,7 @@ struct PublisherSide<'p> {
 
 impl<'p> Model for PublisherSide<'p> {
     ghost use Rattle.std.specs.Prelude.{◌≤◌, length};
-    ghost use Rattle.lane_serve.specs.Plans.{IsGoodBuilding};
+    ghost use Rattle.edition_build.specs.Plans.{IsGoodBuilding};
     ghost use Rattle.lane_serve.specs.Sides.{PublisherSideData};
 
     ghost Value = { PublisherSideData };

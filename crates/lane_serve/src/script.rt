@@ -3,10 +3,10 @@ ghost use Rattle.std.specs.Prelude.{◌≡◌, ◌<◌, ◌^◌, ◌+◌, ◌-�
 ghost use Rattle.std.specs.Option.{option_and_then};
 ghost use Rattle.text_lines.specs.LineWords.{line_words};
 ghost use Rattle.tb_base.specs.Refusals.{Yields};
-ghost use Rattle.lane_serve.specs.Script.{IsAskable, IsScript, SaysTimes, after_lane, after_line, after_request, after_said, any_needs_mirror, at_end, needs_mirrors, said_of, script_of, with_request};
+ghost use Rattle.query_gate.specs.Said.{IsAskable, SaysTimes, said_of};
+ghost use Rattle.lane_serve.specs.Script.{IsScript, after_lane, after_line, after_request, after_said, any_needs_mirror, at_end, needs_mirrors, script_of, with_request};
 
-use crate::said::{Said, said_of};
-use answer_text::Question;
+use query_gate::{Line, Said, said_of};
 use std::alloc::Global;
 use std::marker::Model;
 use tb_base::{Memory, Name, Refused};
@@ -17,16 +17,6 @@ const MOST_BYTES: usize = 33_554_432;
 const MOST_LANES: usize = 64;
 
 const MOST_REQUESTS: u32 = 20_000;
-
-/// A request.
-#[derive(Drop)]
-pub struct Line {
-    /// The number of the first edition that may answer it, from 1; 0 for any.
-    pub since: u32,
-    pub question: Question,
-    /// Whether the reply is wanted as JSON, in place of lines.
-    pub json: bool,
-}
 
 /// A lane: its name, and its requests in order.
 #[derive(Drop)]

@@ -4,4 +4,9 @@ pub mod Turns
 pub mod Joined
 pub mod Nexts
 pub mod Sent
-pub mod Dealt
+mod LastAt
+pub mod LiveRuns
+pub mod LiveFirst
+mod LivePublisher
+mod LivedRuns
+mod LiveSent

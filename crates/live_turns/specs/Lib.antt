@@ -4,4 +4,11 @@ pub mod Turns
 pub mod Runs
 pub mod Handed
 pub mod Takings
-pub mod Dealing
+pub mod LiveLines
+pub mod LiveTexts
+pub mod LiveReplies
+pub mod LiveTurns
+pub mod Lending
+pub mod Live
+pub mod LivePublisher
+pub mod LiveSides

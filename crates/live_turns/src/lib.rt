@@ -1,12 +1,14 @@
-//! What a process that lives is made of: lines as they come, answered turn by turn.
+//! A process that lives: lines as they come, answered turn by turn, beside a publisher of editions.
 //!
 //! An [`Intake`] takes one piece of a source after another, and gives the lines that end in it. After
 //! any number of pieces these are exactly the lines that a line feed ends in the bytes taken so far,
 //! and at the end of the source all lines of its text; of a line that is begun no more than so many
 //! first bytes are kept, so that a line of any length takes no more memory than that.
 //!
-//! [`answer_all`] deals the requests of a turn to lanes, which answer at once where threads can be
-//! started: one right reply for each request, in order, for any number of lanes.
+//! [`run_live`] lives by these: the items of its words, then those that lines name, are read, built
+//! and published beside the lines, as `edition_build` finds them. To the layer above it promises the
+//! text for all lines of the source, each reply by the last edition of the list that is kept then,
+//! with news of each item; or why it ended early, and what was written until then.
 //!
 //! A [`Giver`] hands things over to a [`Taker`] in another thread, over a channel of
 //! `crossbeam_channel`, of which no clause says that a message comes, or in which order. So each thing
@@ -19,15 +21,15 @@
 #![tactic(auto)]
 
 mod cutting;
-mod dealing;
 mod giver;
 mod handed;
 mod intake;
 pub mod laws;
+mod live;
 mod taker;
 
-pub use dealing::{Office, answer_all};
 pub use giver::{Given, Giver};
 pub use history::{Naming, Opened};
 pub use intake::{Intake, IntakeFault};
+pub use live::{LiveFault, LiveMode, run_live};
 pub use taker::{Taken, Taker, open};

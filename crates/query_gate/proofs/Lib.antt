@@ -12,3 +12,5 @@ pub mod Rest
 pub mod Results
 pub mod Sent
 pub mod Walk
+pub mod Dealt
+pub mod Longer

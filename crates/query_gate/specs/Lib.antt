@@ -5,3 +5,5 @@ pub mod Leaving
 pub mod Slots
 pub mod Texts
 pub mod Json
+pub mod Said
+pub mod Dealing

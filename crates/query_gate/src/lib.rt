@@ -11,7 +11,9 @@
 //! of Delling, Pajor and Werneck, Round-Based Public Transit Routing (ALENEX 2012). Each counts its
 //! looks on a counter that is lent; those of `best_choices` are bounded. A `Caller` asks of the last
 //! edition that is published, by its own network or by that of its mirror, and defers what a later
-//! one is asked for. To the layer above the crate promises that each reply is exactly the one of
+//! one is asked for. `answer_all` deals requests to lanes, which answer at once where threads can be
+//! started: one right reply for each request, in order, for any number of lanes. `said_of` reads a
+//! request from the words of a line. To the layer above the crate promises that each reply is exactly the one of
 //! the definitions, and that a caller's editions never go back.
 #![tactic(auto)]
 
@@ -20,10 +22,12 @@ mod asking;
 mod between;
 mod caller;
 mod choices;
+mod dealing;
 mod json;
 mod leaving;
 mod offers;
 mod reply;
+mod said;
 mod searching;
 mod slots;
 mod times;
@@ -33,6 +37,8 @@ pub use asking::{AskText, ProfileText};
 pub use between::{Between, stops_between};
 pub use caller::{Answer, Caller, reply_by};
 pub use choices::best_choices;
+pub use dealing::{Office, answer_all, desks_for};
 pub use json::{reply_json, shown_reply};
 pub use offers::best_offers;
 pub use reply::{Reply, reply_text};
+pub use said::{Line, Said, said_of};

@@ -5,8 +5,8 @@ use Rattle.tb_base.specs.TimetableData.{TimetableData}
 use Rattle.gtfs_rows.specs.declared.fault.FeedFault.{FeedFault}
 use Rattle.tb_io.specs.Files.{FileList}
 use Rattle.command_line.specs.Plans.{LiveRequestData}
-use Rattle.lane_serve.specs.Served.{FirstGives}
-use Rattle.lane_serve.proofs.LiveFirst.{first_table}
+use Rattle.edition_build.specs.Plans.{FirstGives}
+use Rattle.live_turns.proofs.LiveFirst.{first_table}
 use Rattle.router_cli.proofs.Endings.{IsDetermined, out_of_memory}
 use Rattle.router_cli.proofs.Runs.{by_day, first_day}
 use Rattle.router_cli.specs.Living.{IsLiveOutcome, first_items, mode_of}

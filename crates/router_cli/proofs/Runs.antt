@@ -9,12 +9,12 @@ use Rattle.trip_table.specs.Answers.{feed_of}
 use Rattle.command_line.specs.Plans.{PlannedItemData, ServeRequestData, begins_with_day, is_day}
 use Rattle.command_line.specs.declared.request.PlannedSource.{PlannedSource}
 use Rattle.command_line.specs.declared.request.PlannedSource.TheVariants as planned
-use Rattle.lane_serve.proofs.FirstDay.{published_table}
-use Rattle.lane_serve.specs.Plans.{BeginsWithDay, DayGives, ItemData, OfDay}
+use Rattle.edition_build.proofs.FirstDay.{published_table}
+use Rattle.edition_build.specs.Plans.{BeginsWithDay, DayGives, ItemData, OfDay}
 use Rattle.lane_serve.specs.Script.{LaneData, needs_mirrors, script_of}
-use Rattle.lane_serve.specs.Served.{FirstGives}
-use Rattle.lane_serve.specs.declared.plan.ItemSource.{ItemSource}
-use Rattle.lane_serve.specs.declared.plan.ItemSource.TheVariants as source
+use Rattle.edition_build.specs.Plans.{FirstGives}
+use Rattle.edition_build.specs.declared.plan.ItemSource.{ItemSource}
+use Rattle.edition_build.specs.declared.plan.ItemSource.TheVariants as source
 use Rattle.lane_serve.specs.declared.script.ScriptFault.{ScriptFault}
 use Rattle.router_cli.proofs.Endings.{IsDetermined, out_of_memory}
 use Rattle.router_cli.specs.Outcome.{IsDayEnding, Writes}

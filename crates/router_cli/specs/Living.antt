@@ -3,10 +3,10 @@ use Rattle.std.specs.Prelude.{ℕ, List, [], map, Option}
 use Rattle.tb_io.specs.Files.{FileList}
 use Rattle.footpaths.specs.declared.paths.Options.{Options}
 use Rattle.command_line.specs.Plans.{LiveRequestData}
-use Rattle.lane_serve.specs.Live.{HasFailed, HasLived}
-use Rattle.lane_serve.specs.Plans.{ItemData}
-use Rattle.lane_serve.specs.declared.live.lived.LiveFault.TheVariants as fault
-use Rattle.lane_serve.specs.declared.live.saying.LiveMode.{LiveMode}
+use Rattle.live_turns.specs.Live.{HasFailed, HasLived}
+use Rattle.edition_build.specs.Plans.{ItemData}
+use Rattle.live_turns.specs.declared.live.lived.LiveFault.TheVariants as fault
+use Rattle.live_turns.specs.declared.live.saying.LiveMode.{LiveMode}
 use Rattle.router_cli.specs.Serving.{item_of}
 use Rattle.router_cli.specs.declared.status.Status.{Status}
 use Rattle.router_cli.specs.declared.status.Status.TheVariants as status

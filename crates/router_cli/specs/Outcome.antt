@@ -14,7 +14,7 @@ use Rattle.command_line.specs.DayCommands.{DayRequestData}
 use Rattle.journey_read.specs.declared.claim.JourneyFault.{JourneyFault}
 use Rattle.journey_read.specs.declared.claim.JourneyFault.TheVariants as claim
 use Rattle.late_edit.specs.declared.late.LateFault.{LateFault}
-use Rattle.lane_serve.specs.LateFaults.{late_fault_text}
+use Rattle.edition_build.specs.LateFaults.{late_fault_text}
 use Rattle.lane_serve.specs.declared.script.ScriptFault.{ScriptFault}
 use Rattle.lane_serve.specs.declared.script.ScriptFault.TheVariants as fault
 use Rattle.router_cli.specs.Answers.{IsAnswer}

@@ -6,10 +6,10 @@ use Rattle.gtfs_rows.specs.declared.fault.FeedFault.{FeedFault}
 use Rattle.tb_io.specs.Files.{FileList}
 use Rattle.command_line.specs.declared.request.Request.{Request}
 use Rattle.command_line.specs.declared.request.Request.TheVariants as request
-use Rattle.lane_serve.specs.Live.{HasLivedUntil}
-use Rattle.lane_serve.specs.declared.live.lived.LiveFault.TheVariants as live
+use Rattle.live_turns.specs.Live.{HasLivedUntil}
+use Rattle.live_turns.specs.declared.live.lived.LiveFault.TheVariants as live
 use Rattle.lane_serve.specs.Script.{script_of}
-use Rattle.lane_serve.specs.Served.{FirstGives}
+use Rattle.edition_build.specs.Plans.{FirstGives}
 use Rattle.router_cli.specs.Cities.{IsCityText, IsNoCityText}
 use Rattle.router_cli.specs.LateTrips.{IsLateAnswer, IsLateEnding, IsNoLateAnswer}
 use Rattle.router_cli.specs.Living.{IsLiveOutcome, first_items, mode_of}

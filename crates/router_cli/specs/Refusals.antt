@@ -5,7 +5,7 @@ use Rattle.answer_json.specs.Faults.{fault_json, line_fault_json}
 use Rattle.answer_json.specs.Frames.{member_json}
 use Rattle.journey_read.specs.declared.claim.JourneyFault.{JourneyFault}
 use Rattle.journey_read.specs.declared.claim.JourneyFault.TheVariants as claim
-use Rattle.lane_serve.specs.LateFaults.{late_fault_json}
+use Rattle.edition_build.specs.LateFaults.{late_fault_json}
 use Rattle.lane_serve.specs.declared.script.ScriptFault.{ScriptFault}
 use Rattle.lane_serve.specs.declared.script.ScriptFault.TheVariants as fault
 use Rattle.router_cli.specs.Outcome.{status_text}

@@ -7,12 +7,13 @@ use Rattle.footpaths.specs.declared.paths.Options.{Options}
 use Rattle.command_line.specs.Plans.{PlannedItemData, ServeRequestData}
 use Rattle.command_line.specs.declared.request.PlannedSource.{PlannedSource}
 use Rattle.command_line.specs.declared.request.PlannedSource.TheVariants as planned
-use Rattle.lane_serve.specs.Plans.{ItemData}
+use Rattle.edition_build.specs.Plans.{ItemData}
 use Rattle.lane_serve.specs.Script.{LaneData, script_of}
-use Rattle.lane_serve.specs.Served.{FirstGives, IsServed, ServedData}
+use Rattle.edition_build.specs.Plans.{FirstGives}
+use Rattle.lane_serve.specs.Served.{IsServed, ServedData}
 use Rattle.lane_serve.specs.Json.{served_shown}
-use Rattle.lane_serve.specs.declared.plan.ItemSource.{ItemSource}
-use Rattle.lane_serve.specs.declared.plan.ItemSource.TheVariants as source
+use Rattle.edition_build.specs.declared.plan.ItemSource.{ItemSource}
+use Rattle.edition_build.specs.declared.plan.ItemSource.TheVariants as source
 use Rattle.lane_serve.specs.declared.run.ServeFault.{ServeFault}
 use Rattle.lane_serve.specs.declared.run.ServeFault.TheVariants as serve
 use Rattle.lane_serve.specs.declared.script.ScriptFault.{ScriptFault}

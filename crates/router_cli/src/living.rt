@@ -3,15 +3,16 @@ ghost use Rattle.std.specs.Prelude.{◌≡◌, ◌⊎◌, ◌<◌, ◌-◌, ◌^
 ghost use Rattle.std.specs.Io.KnownBytes.{Consumes};
 ghost use Rattle.footpaths.specs.Limits.{AreWithinADay};
 ghost use Rattle.tb_base.specs.Workers.{AreWorkers};
-ghost use Rattle.lane_serve.specs.Live.{HasLivedUntil};
-ghost use Rattle.lane_serve.specs.Plans.{BeginsWithDay};
+ghost use Rattle.live_turns.specs.Live.{HasLivedUntil};
+ghost use Rattle.edition_build.specs.Plans.{BeginsWithDay};
 ghost use Rattle.router_cli.specs.Living.{IsLiveOutcome, first_items, mode_of};
 
 use crate::serving::items_of;
 use crate::status::Status;
 use command_line::LiveRequest;
+use edition_build::PlanItem;
 use footpaths::Options;
-use lane_serve::{LiveFault, LiveMode, PlanItem, run_live};
+use live_turns::{LiveFault, LiveMode, run_live};
 use std::alloc::Global;
 use std::sync::Wait;
 use std::thread::Threads;

@@ -1,7 +1,7 @@
 //! The line of standard error as JSON, and the end of the program.
 ghost use Rattle.std.specs.Prelude.{◌≡◌, ◌++◌, IfOk, OnOk, codes};
 ghost use Rattle.answer_json.specs.Faults.{fault_json};
-ghost use Rattle.lane_serve.specs.LateFaults.{late_fault_json};
+ghost use Rattle.edition_build.specs.LateFaults.{late_fault_json};
 ghost use Rattle.std.specs.Process.{exit_status};
 ghost use Rattle.router_cli.specs.Outcome.{status_code};
 ghost use Rattle.router_cli.specs.Refusals.{ending_json, journey_fault_json, refusal_json, script_fault_json, status_head, status_json, status_shown};
@@ -9,9 +9,10 @@ ghost use Rattle.router_cli.specs.Refusals.{ending_json, journey_fault_json, ref
 use crate::status::{Status, status_text};
 use answer_json::{add_fault, add_line_fault, add_member};
 use answer_text::Text;
+use edition_build::add_late_fault_json;
 use gtfs_rows::FeedFault;
 use journey_read::JourneyFault;
-use lane_serve::{ScriptFault, add_late_fault_json};
+use lane_serve::ScriptFault;
 use late_edit::LateFault;
 use std::alloc::Global;
 use std::process::ExitCode;

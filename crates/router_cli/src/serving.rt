@@ -3,18 +3,16 @@ ghost use Rattle.std.specs.Prelude.{◌≡◌, ◌<◌, ◌≤◌, ◌-◌, ◌^
 ghost use Rattle.std.specs.Io.KnownBytes.{Consumes};
 ghost use Rattle.footpaths.specs.Limits.{AreWithinADay};
 ghost use Rattle.tb_base.specs.Workers.{AreWorkers};
-ghost use Rattle.lane_serve.specs.Plans.{BeginsWithDay};
+ghost use Rattle.edition_build.specs.Plans.{BeginsWithDay};
 ghost use Rattle.lane_serve.specs.Script.{IsScript};
 ghost use Rattle.router_cli.specs.Outcome.{LeavesOutside, status_of_text};
 ghost use Rattle.router_cli.specs.Serving.{IsNoRun, IsNoRunAnswer, IsNoScript, IsRunAnswer, IsRunText, ScriptGives, TellsScript, item_of, plan_of, source_of, status_for};
 
 use crate::status::Status;
 use command_line::{PlannedDay, PlannedFile, PlannedItem, PlannedSource, ServeRequest};
+use edition_build::{FeedDay, ItemSource, LateFile, PlanItem};
 use footpaths::Options;
-use lane_serve::{
-    FeedDay, ItemSource, LateFile, PlanItem, Script, ScriptFault, ServeFault, read_script, serve,
-    served_shown,
-};
+use lane_serve::{Script, ScriptFault, ServeFault, read_script, serve, served_shown};
 use std::alloc::Global;
 use std::sync::Wait;
 use std::thread::Threads;

@@ -4,9 +4,10 @@ ghost use Rattle.std.specs.Fmt.{decimal};
 ghost use Rattle.router_cli.specs.Outcome.{journey_fault_text, row_text, script_fault_text, status_code, status_text};
 
 use answer_text::{Text, fault_text};
+use edition_build::add_late_fault_text;
 use gtfs_rows::FeedFault;
 use journey_read::JourneyFault;
-use lane_serve::{ScriptFault, add_late_fault_text};
+use lane_serve::ScriptFault;
 use late_edit::LateFault;
 use std::alloc::Global;
 use tb_base::Memory;

@@ -1,6 +1,6 @@
 ghost use Rattle.std.specs.Prelude.{◌≡◌, ◌≤◌, All, length};
 ghost use Rattle.std.specs.List.{AllWithin};
-ghost use Rattle.segment_queue.specs.Queue.{IsInStep};
+ghost use Rattle.segment_queue.specs.Queue.{IsInStep, IsSoundSegment};
 ghost use Rattle.segment_queue.specs.Scans.{AreEvents};
 
 use super::desk::Desk;
@@ -44,6 +44,21 @@ fn read_hops<S: Scan>(scan: &S, notes: &[Note]) -> Ahead
     ahead
 }
 
+// Whether a stretch begins at number `n`, where the first one begins at `begin`.
+#[inline(always)]
+fn begins_stretch(begin: u32, n: u32) -> bool
+    requires { begin ≤ n }
+{
+    (n - begin) % STRETCH == 0
+}
+
+// Where the stretch that begins at number `n` ends: at `to` at the latest.
+fn stretch_end(n: u32, to: u32) -> u32
+    ensures { result ≤ to }
+{
+    to.min(n.saturating_add(STRETCH))
+}
+
 impl Desk {
     // Reads ahead what clips each of these segments.
     fn read_clips<S: Scan>(&self, scan: &S, from: u32, to: u32) -> Ahead
@@ -60,7 +75,7 @@ impl Desk {
 
     // Reads the first event that each of these segments covers ahead.
     fn read_events<S: Scan>(&self, scan: &S, from: u32, to: u32) -> Ahead
-        requires step { IsInStep (S.net scan.now) self.now }
+        requires sound { All (IsSoundSegment (S.net scan.now).table) self.now.segments }
         requires to { to ≤ length self.now.segments }
     {
         let mut ahead = Ahead::new();
@@ -71,39 +86,102 @@ impl Desk {
         ahead
     }
 
-    /// Before segment `n` of a round is looked at: at the first segment of each stretch of 128,
-    /// counted from where the round begins, reads ahead what clips each segment of the stretch and
-    /// the first event that it covers, up to number `to`. At any other segment it does nothing.
-    pub fn read_segments_ahead<S: Scan>(&mut self, scan: &S, begin: u32, n: u32, to: u32)
+    // Reads hops from the first event that each of these segments covers ahead.
+    fn read_first_hops<S: Scan>(&self, scan: &S, from: u32, to: u32) -> Ahead
+        requires sound { All (IsSoundSegment (S.net scan.now).table) self.now.segments }
+        requires to { to ≤ length self.now.segments }
+    {
+        let mut ahead = Ahead::new();
+        for n in from..to {
+            let segment = self.segments[n as usize];
+            scan.read_event_hops_ahead(segment.trip, segment.board + 1, &mut ahead);
+        }
+        ahead
+    }
+
+    // Reads ahead what clips each segment of the stretch that begins here, and the first event that
+    // it covers.
+    #[inline(never)]
+    fn read_stretch<S: Scan>(&mut self, scan: &S, n: u32, to: u32)
         requires step { IsInStep (S.net scan.now) self.old }
-        requires begin { begin ≤ n }
         requires to { to ≤ length self.old.segments }
         ensures { self.new ≡ self.old }
     {
-        if (n - begin) % STRETCH != 0 {
-            return;
-        }
-        let end = to.min(n.saturating_add(STRETCH));
+        let end = stretch_end(n, to);
         let clips = self.read_clips(scan, n, end);
         self.ahead.join(clips);
         let events = self.read_events(scan, n, end);
         self.ahead.join(events);
     }
 
-    /// Before note `k` is followed: at the first note of each stretch of 128 reads ahead the first
-    /// and the last hop of each note of the stretch. At any other note it does nothing.
-    pub fn read_notes_ahead<S: Scan>(&mut self, scan: &S, k: usize)
+    /// Before segment `n` of a round is looked at: at the first segment of each stretch of 128,
+    /// counted from where the round begins, reads ahead what clips each segment of the stretch and
+    /// the first event that it covers, up to number `to`. At any other segment it does nothing.
+    #[inline(always)]
+    pub fn read_segments_ahead<S: Scan>(&mut self, scan: &S, begin: u32, n: u32, to: u32)
+        requires step { IsInStep (S.net scan.now) self.old }
+        requires begin { begin ≤ n }
+        requires to { to ≤ length self.old.segments }
+        ensures { self.new ≡ self.old }
+    {
+        if begins_stretch(begin, n) {
+            self.read_stretch(scan, n, to);
+        }
+    }
+
+    // Reads ahead the first event that each segment of the stretch that begins here covers, and hops
+    // from there.
+    #[inline(never)]
+    fn read_level_stretch<S: Scan>(&mut self, scan: &S, n: u32, to: u32)
+        requires sound { All (IsSoundSegment (S.net scan.now).table) self.old.segments }
+        requires to { to ≤ length self.old.segments }
+        ensures { self.new ≡ self.old }
+    {
+        let end = stretch_end(n, to);
+        let events = self.read_events(scan, n, end);
+        self.ahead.join(events);
+        let hops = self.read_first_hops(scan, n, end);
+        self.ahead.join(hops);
+    }
+
+    /// The same in a sweep, whose segments nothing clips: reads ahead the first event that each
+    /// segment of the stretch covers, and hops from there.
+    #[inline(always)]
+    pub fn read_level_ahead<S: Scan>(&mut self, scan: &S, begin: u32, n: u32, to: u32)
+        requires sound { All (IsSoundSegment (S.net scan.now).table) self.old.segments }
+        requires begin { begin ≤ n }
+        requires to { to ≤ length self.old.segments }
+        ensures { self.new ≡ self.old }
+    {
+        if begins_stretch(begin, n) {
+            self.read_level_stretch(scan, n, to);
+        }
+    }
+
+    // Reads the hops of the notes of the stretch that begins here ahead.
+    #[inline(never)]
+    fn read_notes_stretch<S: Scan>(&mut self, scan: &S, k: usize)
         requires { AllWithin (λ note. AreEvents (S.net scan.now).table note.seen) self.old.notes
             k (length self.old.notes) }
         ensures { self.new ≡ self.old }
     {
-        if k % STRETCH as usize != 0 {
-            return;
-        }
         let notes = self.notes.as_slice();
         let from = k.min(notes.len());
         let end = notes.len().min(k.saturating_add(STRETCH as usize));
         let ahead = read_hops(scan, &notes[from..end]);
         self.ahead.join(ahead);
+    }
+
+    /// Before note `k` is followed: at the first note of each stretch of 128 reads ahead the first
+    /// and the last hop of each note of the stretch. At any other note it does nothing.
+    #[inline(always)]
+    pub fn read_notes_ahead<S: Scan>(&mut self, scan: &S, k: usize)
+        requires { AllWithin (λ note. AreEvents (S.net scan.now).table note.seen) self.old.notes
+            k (length self.old.notes) }
+        ensures { self.new ≡ self.old }
+    {
+        if k % STRETCH as usize == 0 {
+            self.read_notes_stretch(scan, k);
+        }
     }
 }

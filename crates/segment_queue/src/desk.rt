@@ -1,4 +1,4 @@
-ghost use Rattle.std.specs.Prelude.{◌≡◌, ◌+◌, ◌<◌, ◌≤◌, ◌++◌, ◌∷◌, [], ℕ, None, IsSomeAnd, IsTrue, ◌↔◌, MatchBool, OnErr, OnOk, length, replicate, slice_get, slice_index_or, vec_capacity, vec_len};
+ghost use Rattle.std.specs.Prelude.{◌≡◌, ◌+◌, ◌<◌, ◌≤◌, ◌++◌, ◌∷◌, [], ℕ, None, IsSomeAnd, IsTrue, ◌↔◌, MatchBool, OnErr, OnOk, All, length, replicate, slice_get, slice_index_or, vec_capacity, vec_len};
 ghost use Rattle.tb_base.specs.Lines.{AreDividedInto};
 ghost use Rattle.tb_base.specs.Network.{NetData};
 ghost use Rattle.tb_base.specs.TimetableData.{TimetableData};
@@ -104,8 +104,17 @@ pub(crate) fn mark_on<S: Scan>(marks: &Marks, scan: &S, trip: TripNo) -> u32
 // greater. Along a line marks never rise, so it stops at the first that isn't greater. All trips of
 // a line have the same last index, which is the mark of those that no search has marked: it is
 // greater than the index for all of them or for none.
-pub(crate) fn lower_marks<S: Scan>(marks: &mut Marks, scan: &S, trip: TripNo, at: u32, last: u32)
+pub(crate) fn lower_marks<S: Scan>(
+    marks: &mut Marks,
+    scan: &S,
+    trip: TripNo,
+    onward: &[TripNo],
+    at: u32,
+    last: u32,
+)
     requires trip { trip < length (S.net scan.now).table.trips }
+    requires onward { onward.now ≡ trips_from (S.net scan.now).lines trip }
+    requires there { All (λ u. u < length (S.net scan.now).table.trips) onward.now }
     requires room { length (S.net scan.now).table.trips ≤ length marks.old }
     requires divided { AreDividedInto (S.net scan.now).table (S.net scan.now).lines }
     requires falling { IsFalling (S.net scan.now).table marks.old
@@ -119,10 +128,10 @@ pub(crate) fn lower_marks<S: Scan>(marks: &mut Marks, scan: &S, trip: TripNo, at
 {
     scan.soundness();
     if at < last {
-        marks.lower(scan.onward(trip), at);
+        marks.lower(onward, at);
         return;
     }
-    for later in scan.onward(trip) {
+    for later in onward {
         if marks.get_or(*later, last) <= at {
             return;
         }
@@ -273,7 +282,7 @@ impl Desk {
                 parent,
             },
         );
-        lower_marks(&mut self.marks, scan, trip, at, end);
+        lower_marks(&mut self.marks, scan, trip, scan.onward(trip), at, end);
         true
     }
 

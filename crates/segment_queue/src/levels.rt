@@ -1,5 +1,6 @@
-ghost use Rattle.std.specs.Prelude.{◌≡◌, ◌<◌, ◌≤◌, ◌∷◌, [], ℕ, List, Option, None, All, OnErr, OnOk, length, replicate, slice_index_or};
+ghost use Rattle.std.specs.Prelude.{◌≡◌, ◌<◌, ◌≤◌, ◌∷◌, [], ℕ, List, Option, None, All, IsSomeAnd, MatchBool, OnErr, OnOk, length, replicate, slice_index_or};
 ghost use Rattle.tb_base.specs.Lines.{AreDividedInto};
+ghost use Rattle.tb_base.specs.TimetableData.{events_of};
 ghost use Rattle.segment_queue.specs.Levels.{EntersLevel, level_mark, with_level};
 ghost use Rattle.segment_queue.specs.Queue.{IsFalling};
 
@@ -74,6 +75,24 @@ impl Levels {
         mark_on(&self.levels[level], scan, trip)
     }
 
+    /// Whether a trip has been reached at a level at an index or before: then to enter it there
+    /// changes nothing. Of a trip without a mark it may say no although the index is its last.
+    #[inline(always)]
+    pub fn is_passed<S: Scan>(&self, scan: &S, level: usize, trip: TripNo, at: u32) -> bool
+        requires level { level < length self.now }
+        requires trip { trip < length (S.net scan.now).table.trips }
+        requires room { length (S.net scan.now).table.trips
+            ≤ length (slice_index_or self.now level []) }
+        requires within { level_mark (S.net scan.now).table self.now level trip
+            < length (events_of (S.net scan.now).table trip) }
+        ensures { MatchBool result (level_mark (S.net scan.now).table self.now level trip ≤ at)
+            (IsSomeAnd (slice_index_or (slice_index_or self.now level []) trip None)
+            (λ m. m ≤ at) → ⊥) }
+    {
+        scan.soundness();
+        self.levels[level].is_passed(trip, at)
+    }
+
     /// Lowers the marks of a trip and of the later trips of its line to the index, at a level and
     /// at all higher ones, where they are greater.
     pub fn lower<S: Scan>(&mut self, scan: &S, level: usize, trip: TripNo, at: u32)
@@ -88,8 +107,9 @@ impl Levels {
             (S.net scan.now).lines) self.new }
     {
         let last = scan.last_at(trip);
+        let onward = scan.onward(trip);
         for k in level..self.levels.len() {
-            lower_marks(&mut self.levels[k], scan, trip, at, last);
+            lower_marks(&mut self.levels[k], scan, trip, onward, at, last);
         }
     }
 }

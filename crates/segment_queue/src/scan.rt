@@ -121,6 +121,12 @@ pub trait Scan {
         requires trip { trip < length (net self.now).table.trips }
         requires at { at < length (events_of (net self.now).table trip) };
 
+    /// Reads the first and the last of the hops from event `at` of a trip ahead. It shows nothing
+    /// of them, nor of the event, so it is no look.
+    fn read_event_hops_ahead(&self, trip: TripNo, at: u32, ahead: &mut Ahead)
+        requires trip { trip < length (net self.now).table.trips }
+        requires at { at < length (events_of (net self.now).table trip) };
+
     /// Reads the first and the last of the hops from events that have been looked at ahead. It
     /// shows nothing of them.
     fn read_hops_ahead(&self, seen: &Seen, ahead: &mut Ahead)

@@ -219,6 +219,11 @@ impl<'a> Scan for View<'a> {
         set.read_event_ahead(trip, at, &mut ahead.read);
     }
 
+    fn read_event_hops_ahead(&self, trip: TripNo, at: u32, ahead: &mut Ahead) {
+        let set = self.set;
+        set.read_hops_ahead(trip, at, at, &mut ahead.read);
+    }
+
     fn read_hops_ahead(&self, seen: &Seen, ahead: &mut Ahead) {
         let set = self.set;
         set.read_hops_ahead(seen.trip, seen.first, seen.last, &mut ahead.read);

@@ -1,4 +1,5 @@
 pub mod Bounds
+pub mod Descents
 pub mod Ended
 pub mod Ends
 pub mod Flattening

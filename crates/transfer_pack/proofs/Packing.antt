@@ -1,9 +1,9 @@
 -- Transfers put one behind the other.
 use Rattle.std.proofs.Common.{◌≡◌, ◌∙◌, ℕ, zero, suc, ◌+◌, ◌-◌, ◌<◌, ◌≤◌, ◌==◌, ◌⊎◌, inl, inr, List, [], ◌∷◌, ◌++◌, Bool, true, false, cond, length, map, get_or, take, drop, refl, sym, ap, subst, arith, length-append, pos}
-use Rattle.std.specs.Prelude.{All, filter, nat_lt}
+use Rattle.std.specs.Prelude.{All, filter, if◌then◌else◌, nat_lt}
 use Rattle.std.proofs.lemmas.Bool.Decides.{nat_tests}
 use Rattle.std.proofs.lemmas.Grind.{get_or_default_zero}
-use Rattle.std.proofs.lemmas.List.{append-nil, append_assoc, get_or-map, get_or_append_left, length-map, map-append, take_more, get_or_past}
+use Rattle.std.proofs.lemmas.List.{append-nil, append_assoc, get_or-map, get_or_append_left, length-map, map-append, take_all, take_more, get_or_past, length-take-le}
 use Rattle.std.proofs.Math.Seq.{get_or-append_right}
 use Rattle.std.proofs.lemmas.List.Elements.{filter-append}
 use Rattle.tb_base.specs.declared.transfer.Hop.{Hop}
@@ -13,7 +13,8 @@ use Rattle.tb_base.specs.TimetableData.{TripData, TimetableData, event_at, event
 use Rattle.tb_base.specs.OutSets.{AreRowsOf, hops_at, row_of}
 use Rattle.tb_base.specs.Transfers.{numbers_below}
 use Rattle.tb_base.proofs.Listing.{from_events, hop_of}
-use Rattle.transfer_pack.specs.Packed.{AreBounds, FitsRuns, PackedHops, packed, runs_in}
+use Rattle.transfer_pack.specs.Packed.{AreBounds, FitsRuns, PackedHops, hops_rebuilt, packed, runs_in}
+use Rattle.transfer_pack.specs.Adding.{AddsEvents}
 use Rattle.transfer_pack.specs.declared.calls.Call.{Call}
 use Rattle.transfer_pack.specs.declared.set.Spot.{Spot}
 use Rattle.transfer_pack.specs.CallsOf.{call_of, no_call}
@@ -48,19 +49,20 @@ number_at (suc n) t d h = by_case (λ k. number_at n t d k) (below_or_last t n h
     by_case more (inl k) = (let within : t < length (numbers_below n) = omega (arith, k, length-numbers_below n) in get_or_append_left (numbers_below n) (n ∷ []) d t within ∙ more k)
     by_case more (inr e) = last_one (numbers_below n) n d t (omega (arith, e, length-numbers_below n)) ∙ sym e
 
--- the first n trips are packed: their runs begin where their starts say, and their calls one place on
-pub record ArePacked (T : TimetableData) (rows : List (List Transfer)) (n : ℕ) (starts : List ℕ) (runs : List (List Hop)) (called : List Call) : Type 0 where
+-- the first n trips are packed, each event with its hops: their runs begin where their starts say,
+-- and their calls one place on
+pub record ArePacked (T : TimetableData) (want : ℕ → ℕ → List Hop) (n : ℕ) (starts : List ℕ) (runs : List (List Hop)) (called : List Call) : Type 0 where
   pub long : length starts ≡ suc n
   pub last : get_or starts n 0 ≡ length runs
   pub events : (t : ℕ) → t < n → get_or starts t 0 + length (events_of T t) ≡ get_or starts (suc t) 0
   pub within : (t : ℕ) → t ≤ n → get_or starts t 0 ≤ length runs
-  pub hops : (t i : ℕ) → t < n → i < length (events_of T t) → get_or runs (get_or starts t 0 + i) [] ≡ hops_at (row_of rows t) i
+  pub hops : (t i : ℕ) → t < n → i < length (events_of T t) → get_or runs (get_or starts t 0 + i) [] ≡ want t i
   pub calls : (t i : ℕ) → t < n → i < length (events_of T t) → get_or called (suc (get_or starts t 0 + i)) no_call ≡ call_of (event_at T t i)
 
 -- one trip more
-pub trip_packed : (T : TimetableData) (rows : List (List Transfer)) (n : ℕ) (starts : List ℕ) (runs : List (List Hop)) (calls : List Call) (row : List Transfer) (events : List Event) (end : ℕ) → ArePacked T rows n starts runs calls → length calls ≡ suc (length runs) → row ≡ row_of rows n → events ≡ events_of T n
-    → end ≡ length (runs ++ map (hops_at row) (numbers_below (length events))) → ArePacked T rows (n + 1) (starts ++ end ∷ []) (runs ++ map (hops_at row) (numbers_below (length events))) (calls ++ map call_of events)
-trip_packed T rows n starts runs calls row events end are counted row_is events_are ends = record {
+lists_packed : (T : TimetableData) (want : ℕ → ℕ → List Hop) (n : ℕ) (starts : List ℕ) (runs : List (List Hop)) (calls : List Call) (from : ℕ → List Hop) (events : List Event) (end : ℕ) → ArePacked T want n starts runs calls → length calls ≡ suc (length runs) → ((i : ℕ) → i < length events → from i ≡ want n i) → events ≡ events_of T n
+    → end ≡ length (runs ++ map from (numbers_below (length events))) → ArePacked T want (n + 1) (starts ++ end ∷ []) (runs ++ map from (numbers_below (length events))) (calls ++ map call_of events)
+lists_packed T want n starts runs calls from events end are counted same events_are ends = record {
   long = omega (arith, length-append starts (end ∷ []), are.long);
   last = right (n + 1) (omega arith) ∙ ends;
   events = λ t below. elim (below_or_last t n (omega (arith, below))) [
@@ -73,7 +75,7 @@ trip_packed T rows n starts runs calls row events end are counted row_is events_
   ];
   hops = λ t i below inside. elim (below_or_last t n (omega (arith, below))) [
     | inl h ↦ ap (λ k. get_or (runs ++ block) (k + i) []) (left t (omega (arith, h))) ∙ get_or_append_left runs block [] (get_or starts t 0 + i) (before t i h inside) ∙ are.hops t i h inside
-    | inr e ↦ ap (λ k. get_or (runs ++ block) (k + i) []) (here t e) ∙ in_block i (omega (arith, inside, many t e)) ∙ ap (λ xs. hops_at xs i) (row_is ∙ ap (row_of rows) (sym e))
+    | inr e ↦ ap (λ k. get_or (runs ++ block) (k + i) []) (here t e) ∙ in_block i (omega (arith, inside, many t e)) ∙ same i (omega (arith, inside, many t e)) ∙ ap (λ k. want k i) (sym e)
   ];
   calls = λ t i below inside. elim (below_or_last t n (omega (arith, below))) [
     | inl h ↦ ap (λ k. get_or (calls ++ map call_of events) (suc (k + i)) no_call) (left t (omega (arith, h))) ∙ get_or_append_left calls (map call_of events) no_call (suc (get_or starts t 0 + i)) (omega (arith, before t i h inside, counted)) ∙ are.calls t i h inside
@@ -82,10 +84,10 @@ trip_packed T rows n starts runs calls row events end are counted row_is events_
 }
   where
     block : List (List Hop)
-    block = map (hops_at row) (numbers_below (length events))
+    block = map from (numbers_below (length events))
 
     block_long : length block ≡ length events
-    block_long = length-map (numbers_below (length events)) (hops_at row) ∙ length-numbers_below (length events)
+    block_long = length-map (numbers_below (length events)) from ∙ length-numbers_below (length events)
 
     many : (t : ℕ) → t ≡ n → length (events_of T t) ≡ length events
     many t e = ap (λ k. length (events_of T k)) e ∙ ap length (sym events_are)
@@ -108,11 +110,11 @@ trip_packed T rows n starts runs calls row events end are counted row_is events_
     same_place : (a i : ℕ) → a + i - a ≡ i
     same_place a i = omega arith
 
-    in_block : (i : ℕ) → i < length events → get_or (runs ++ block) (length runs + i) [] ≡ hops_at row i
+    in_block : (i : ℕ) → i < length events → get_or (runs ++ block) (length runs + i) [] ≡ from i
     in_block i h =
         get_or-append_right runs block (length runs + i) [] (omega arith)
         ∙ ap (λ k. get_or block k []) (same_place (length runs) i)
-        ∙ get_or-map (hops_at row) (numbers_below (length events)) i 0 [] (omega (arith, h, length-numbers_below (length events))) ∙ ap (hops_at row) (number_at (length events) i 0 h)
+        ∙ get_or-map from (numbers_below (length events)) i 0 [] (omega (arith, h, length-numbers_below (length events))) ∙ ap from (number_at (length events) i 0 h)
 
     in_calls : (i : ℕ) → i < length events → get_or (calls ++ map call_of events) (suc (length runs + i)) no_call ≡ call_of (get_or events i no_event)
     in_calls i h =
@@ -127,9 +129,33 @@ none_at (r ∷ row) n i all le =
     let test : (r.at == i) ≡ false = grind (arith, nat_tests, small, le) in
     ap (λ b. map hop_of (cond b (r ∷ filter (λ q. q.at == i) row) (filter (λ q. q.at == i) row))) test ∙ none_at row n i (λ k d h. all (suc k) d (omega (arith, h))) le
 
--- what is packed is what the rows have
-pub packed_all : (T : TimetableData) (rows : List (List Transfer)) (S : PackedHops) (calls : List Call) → S.table ≡ T → AreRowsOf T rows → ArePacked T rows (length T.trips) S.starts S.runs calls → (t i : ℕ) → packed S t i ≡ hops_at (row_of rows t) i
-packed_all T rows S calls same rows_of are t i = by_test (nat_lt i (length (events_of S.table t))) refl
+-- behind a trip's events the rows have nothing
+pub rows_past : (T : TimetableData) (rows : List (List Transfer)) → AreRowsOf T rows → (t i : ℕ) → length (events_of T t) ≤ i → hops_at (row_of rows t) i ≡ []
+rows_past T rows rows_of t i past = elim trip_or_none [
+  | inl h ↦ none_at (row_of rows t) (length (events_of T t)) i (from_events T rows t (length (events_of T t)) (row_of rows t) rows_of h refl refl) past
+  | inr h ↦ ap (λ xs. hops_at xs i) (get_or_past rows t [] (omega (arith, h, rows_of.long)))
+]
+  where
+    trip_or_none : (t < length T.trips) ⊎ (length T.trips ≤ t)
+    trip_or_none = grind arith
+
+-- behind a trip's events a set has nothing
+pub packed_past : (S : PackedHops) (t i : ℕ) → length (events_of S.table t) ≤ i → packed S t i ≡ []
+packed_past S t i past =
+    let test : nat_lt i (length (events_of S.table t)) ≡ false = grind (arith, nat_tests, past) in
+    ap (λ b. cond b (get_or S.runs (get_or S.starts t 0 + i) []) []) test
+
+-- nor have the two together
+pub rebuilt_past : (T : TimetableData) (kept : PackedHops) (redone : List Bool) (rows : List (List Transfer)) → AreRowsOf T rows → ((t : ℕ) → length (events_of kept.table t) ≡ length (events_of T t)) → (t i : ℕ) → length (events_of T t) ≤ i → hops_rebuilt kept redone rows t i ≡ []
+rebuilt_past T kept redone rows rows_of same t i past = by_mark (get_or redone t false)
+  where
+    by_mark : (b : Bool) → (if b then hops_at (row_of rows t) i else packed kept t i) ≡ []
+    by_mark true = rows_past T rows rows_of t i past
+    by_mark false = packed_past kept t i (omega (arith, past, same t))
+
+-- what is packed is what was wanted, where nothing is wanted behind a trip's events
+pub packed_all : (T : TimetableData) (want : ℕ → ℕ → List Hop) (S : PackedHops) (calls : List Call) → S.table ≡ T → ArePacked T want (length T.trips) S.starts S.runs calls → ((t i : ℕ) → length (events_of T t) ≤ i → want t i ≡ []) → (t i : ℕ) → packed S t i ≡ want t i
+packed_all T want S calls same are none t i = by_test (nat_lt i (length (events_of S.table t))) refl
   where
     trip_or_none : (t < length T.trips) ⊎ (length T.trips ≤ t)
     trip_or_none = grind arith
@@ -137,10 +163,7 @@ packed_all T rows S calls same rows_of are t i = by_test (nat_lt i (length (even
     no_events : length T.trips ≤ t → length (events_of T t) ≡ 0
     no_events h = ap (λ (x : TripData). length x.events) (get_or_past T.trips t no_trip h)
 
-    no_row : length T.trips ≤ t → row_of rows t ≡ []
-    no_row h = get_or_past rows t [] (omega (arith, h, rows_of.long))
-
-    by_test : (b : Bool) → b ≡ nat_lt i (length (events_of S.table t)) → packed S t i ≡ hops_at (row_of rows t) i
+    by_test : (b : Bool) → b ≡ nat_lt i (length (events_of S.table t)) → packed S t i ≡ want t i
     by_test true e =
         let inside' : i < length (events_of S.table t) = grind arith in
         let inside : i < length (events_of T t) = subst (λ (x : TimetableData). i < length (events_of x t)) same inside' in
@@ -148,34 +171,57 @@ packed_all T rows S calls same rows_of are t i = by_test (nat_lt i (length (even
     by_test false e =
         let past' : length (events_of S.table t) ≤ i = grind arith in
         let past : length (events_of T t) ≤ i = subst (λ (x : TimetableData). length (events_of x t) ≤ i) same past' in
-        ap (λ b. cond b (get_or S.runs (get_or S.starts t 0 + i) []) []) (sym e) ∙ elim trip_or_none [
-          | inl h ↦ sym (none_at (row_of rows t) (length (events_of T t)) i (from_events T rows t (length (events_of T t)) (row_of rows t) rows_of h refl refl) past)
-          | inr h ↦ sym (ap (λ xs. hops_at xs i) (no_row h))
-        ]
+        ap (λ b. cond b (get_or S.runs (get_or S.starts t 0 + i) []) []) (sym e) ∙ sym (none t i past)
 
 -- one event more
-pub event_packed : (row : List Transfer) (hops hops' : List Hop) (spots spots' : List Spot) (runs : List (List Hop)) (calls : List Call) (events : List Event) (e : Event) (s : Spot) (at : ℕ) → AreBounds (ends_in spots) (length hops)
-    → runs_in hops (ends_in spots) ≡ runs ++ map (hops_at row) (numbers_below at) → calls_beside spots ≡ calls ++ map call_of (take at events) → at < length events → e ≡ get_or events at e
-    → hops' ≡ hops ++ hops_at row at → spots' ≡ spots ++ s ∷ [] → spot_call s.packed ≡ call_of e → s.end ≡ length hops'
-    → AreBounds (ends_in spots') (length hops') × (runs_in hops' (ends_in spots') ≡ runs ++ map (hops_at row) (numbers_below (at + 1))) × (calls_beside spots' ≡ calls ++ map call_of (take (at + 1) events))
-event_packed row hops hops' spots spots' runs calls events e s at are so_far calls_are inside e_is is spots_is call_is end_is = (
-  subst (λ bs. AreBounds bs (length hops')) (sym ends_are) (bounds_more (ends_in spots) (length hops) (length hops') are (omega (arith, ap length is, length-append hops (hops_at row at)))),
-  ap (runs_in hops') ends_are ∙ ap (λ hs. runs_in hs (ends_in spots ++ length hs ∷ [])) is ∙ runs_more hops (hops_at row at) (ends_in spots) are ∙ ap (λ rs. rs ++ hops_at row at ∷ []) so_far
-      ∙ append_assoc runs (map (hops_at row) (numbers_below at)) (hops_at row at ∷ []) ∙ ap (λ rs. runs ++ rs) (sym (map-append (hops_at row) (numbers_below at) (at ∷ [])) ∙ ap (λ n. map (hops_at row) (numbers_below n)) next),
-  ap calls_beside spots_is ∙ map-append (λ (x : Spot). spot_call x.packed) spots (s ∷ []) ∙ ap (λ c. calls_beside spots ++ c ∷ []) call_is ∙ ap (λ cs. cs ++ call_of e ∷ []) calls_are
+pub event_added : (from : ℕ → List Hop) (events : List Event) (e : Event) (at : ℕ) (old hops hops' : List Hop) (before spots spots' : List Spot) → AddsEvents from (take at events) old hops before spots → at < length events → e ≡ get_or events at e
+    → hops' ≡ hops ++ from at → ends_in spots' ≡ ends_in spots ++ length hops' ∷ [] → calls_beside spots' ≡ calls_beside spots ++ call_of e ∷ [] → AddsEvents from (take (at + 1) events) old hops' before spots'
+event_added from events e at old hops hops' before spots spots' are inside e_is is ends_are calls_are = record {
+  bounds = subst (λ bs. AreBounds bs (length hops')) (sym ends_are) (bounds_more (ends_in spots) (length hops) (length hops') are.bounds (omega (arith, ap length is, length-append hops (from at))));
+  runs = ap (runs_in hops') ends_are ∙ ap (λ hs. runs_in hs (ends_in spots ++ length hs ∷ [])) is ∙ runs_more hops (from at) (ends_in spots) are.bounds ∙ ap (λ rs. rs ++ from at ∷ []) are.runs
+      ∙ append_assoc runs (map from (numbers_below (length (take at events)))) (from at ∷ []) ∙ ap (λ n. runs ++ (map from (numbers_below n) ++ from at ∷ [])) long
+      ∙ ap (λ rs. runs ++ rs) (sym (map-append from (numbers_below at) (at ∷ [])) ∙ ap (λ n. map from (numbers_below n)) (sym longer));
+  calls = calls_are ∙ ap (λ cs. cs ++ call_of e ∷ []) are.calls
       ∙ append_assoc calls (map call_of (take at events)) (call_of e ∷ [])
-      ∙ ap (λ cs. calls ++ cs) (sym (map-append call_of (take at events) (e ∷ [])) ∙ ap (λ x. map call_of (take at events ++ x ∷ [])) e_is ∙ ap (map call_of) (sym (take_more events at e inside))),
-)
+      ∙ ap (λ cs. calls ++ cs) (sym (map-append call_of (take at events) (e ∷ [])) ∙ ap (λ x. map call_of (take at events ++ x ∷ [])) e_is ∙ ap (map call_of) (sym (take_more events at e inside)));
+}
   where
-    next : suc at ≡ at + 1
-    next = omega arith
+    runs : List (List Hop)
+    runs = runs_in old (ends_in before)
 
-    ends_are : ends_in spots' ≡ ends_in spots ++ length hops' ∷ []
-    ends_are = ap ends_in spots_is ∙ map-append (λ (x : Spot). x.end) spots (s ∷ []) ∙ ap (λ n. ends_in spots ++ n ∷ []) end_is
+    calls : List Call
+    calls = calls_beside before
+
+    long : length (take at events) ≡ at
+    long = length-take-le at events (omega (arith, inside))
+
+    longer : length (take (at + 1) events) ≡ suc at
+    longer = (let all : length (take (at + 1) events) ≡ at + 1 = length-take-le (at + 1) events (omega (arith, inside)) in omega (arith, all))
+
+-- all events
+pub all_added : (from : ℕ → List Hop) (events : List Event) (n : ℕ) (old hops : List Hop) (before spots : List Spot) → AddsEvents from (take n events) old hops before spots → length events ≤ n → AddsEvents from events old hops before spots
+all_added from events n old hops before spots are all = subst (λ es. AddsEvents from es old hops before spots) (take_all n events all) are
 
 -- there is a spot more than runs
 pub spots_counted : (hops : List Hop) (spots : List Spot) → AreBounds (ends_in spots) (length hops) → length spots ≡ suc (length (runs_in hops (ends_in spots)))
 spots_counted hops spots are = sym (length-map spots (λ (s : Spot). s.end)) ∙ length-runs_in hops (ends_in spots) (length hops) are
+
+-- one trip more is packed with its events
+pub trip_packed : (T : TimetableData) (want : ℕ → ℕ → List Hop) (n : ℕ) (starts : List ℕ) (from : ℕ → List Hop) (events : List Event) (end : ℕ) (hops hops' : List Hop) (spots spots' : List Spot) → AreBounds (ends_in spots) (length hops) → ArePacked T want n starts (runs_in hops (ends_in spots)) (calls_beside spots)
+    → AddsEvents from events hops hops' spots spots' → ((i : ℕ) → i < length events → from i ≡ want n i) → events ≡ events_of T n → end ≡ length spots' - 1 → ArePacked T want (n + 1) (starts ++ end ∷ []) (runs_in hops' (ends_in spots')) (calls_beside spots')
+trip_packed T want n starts from events end hops hops' spots spots' bounds are added same events_are ends =
+    subst (λ rs. ArePacked T want (n + 1) (starts ++ end ∷ []) rs (calls_beside spots')) (sym added.runs)
+    (subst (ArePacked T want (n + 1) (starts ++ end ∷ []) (runs ++ map from (numbers_below (length events)))) (sym added.calls)
+    (lists_packed T want n starts runs (calls_beside spots) from events end are counted same events_are (last_end ∙ ap length added.runs)))
+  where
+    runs : List (List Hop)
+    runs = runs_in hops (ends_in spots)
+
+    counted : length (calls_beside spots) ≡ suc (length runs)
+    counted = length-map spots (λ (s : Spot). spot_call s.packed) ∙ spots_counted hops spots bounds
+
+    last_end : end ≡ length (runs_in hops' (ends_in spots'))
+    last_end = omega (arith, ends, spots_counted hops' spots' added.bounds)
 
 -- where the hops of a spot end
 pub end_at : (spots : List Spot) (k : ℕ) (s : Spot) → k < length spots → (get_or spots k s).end ≡ get_or (ends_in spots) k 0

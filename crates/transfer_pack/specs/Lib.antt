@@ -1,4 +1,6 @@
+pub mod Adding
 pub mod CallsOf
+pub mod Descending
 pub mod Flat
 pub mod Packed
 pub mod PackedCalls

@@ -1,7 +1,9 @@
 -- Lists of hops one behind the other in one list.
-use Rattle.std.specs.Prelude.{◌≡◌, ℕ, suc, ◌+◌, ◌-◌, ◌<◌, ◌≤◌, List, [], ◌∷◌, flat_map, length, take, drop, slice_index_or, nat_lt, if◌then◌else◌}
+use Rattle.std.specs.Prelude.{◌≡◌, Bool, false, ℕ, suc, ◌+◌, ◌-◌, ◌<◌, ◌≤◌, List, [], ◌∷◌, flat_map, length, take, drop, slice_index_or, nat_lt, if◌then◌else◌}
 use Rattle.std.specs.List.{range_with_len}
 use Rattle.tb_base.specs.declared.transfer.Hop.{Hop}
+use Rattle.tb_base.specs.declared.transfer.Transfer.{Transfer}
+use Rattle.tb_base.specs.OutSets.{hops_at, row_of}
 use Rattle.tb_base.specs.TimetableData.{TimetableData, events_of}
 
 -- the runs of hops between each bound and the next
@@ -41,6 +43,12 @@ packed S t i =
     if nat_lt i (length (events_of S.table t))
     then slice_index_or S.runs (slice_index_or S.starts t 0 + i) []
     else []
+
+-- the hops from event i of trip t: those of its transfers if the trip is marked, or else those that
+-- it has in a set
+abbrev pub hops_rebuilt : PackedHops → List Bool → List (List Transfer) → ℕ → ℕ → List Hop
+hops_rebuilt kept redone rows t i =
+    if slice_index_or redone t false then hops_at (row_of rows t) i else packed kept t i
 
 -- where the hops from event i of trip t begin among all hops
 abbrev pub begin_of : PackedHops → ℕ → ℕ → ℕ

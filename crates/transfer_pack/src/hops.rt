@@ -225,6 +225,16 @@ impl HopList {
         self.hops.push(&hop)
     }
 
+    // Appends hops that are lent.
+    pub(crate) fn append(&mut self, alloc: Global, more: &Hops<'_>) -> Result<(), Memory>
+        ensures { OnOk result (self.new ≡ self.old ++ lent more.now) }
+    {
+        for place in 0..more.count() {
+            self.push(alloc, more.at(place))?;
+        }
+        Ok(())
+    }
+
     // Reads a hop ahead, where there is one at this place.
     #[inline(always)]
     pub(crate) fn read_ahead(&self, place: usize, ahead: &mut ReadAhead) {

@@ -15,7 +15,8 @@
 //!   `tb_base`. `Set::out` lends the hops of an event, in their order, `Set::hops_over` those of
 //!   several events of a trip that follow one another, as one list, and `Set::call` gives an
 //!   event's call. A hop takes four bytes where all of a set's fit in that, and eight else; so hops
-//!   are lent as `Hops`, and not as a slice.
+//!   are lent as `Hops`, and not as a slice. `Set::rebuild` takes the hops of some trips over from
+//!   another set.
 #![tactic(auto)]
 
 mod ahead;
@@ -27,6 +28,8 @@ mod packed_call;
 mod packed_paths;
 mod paths_into;
 mod set;
+mod trip_hops;
+mod trip_spots;
 
 pub use ahead::ReadAhead;
 pub use calls::{Call, Calls};

@@ -1,11 +1,11 @@
-ghost use Rattle.std.specs.Prelude.{◌≡◌, suc, Contains, Some, slice_get, ◌+◌, ◌<◌, ◌++◌, ◌-◌, ◌≤◌, [], ℕ, All, IfOk, OnOk, length, map, slice_index_or};
+ghost use Rattle.std.specs.Prelude.{◌≡◌, suc, Contains, Some, slice_get, ◌+◌, ◌<◌, ◌++◌, ◌-◌, ◌≤◌, [], ℕ, IfOk, OnOk, length, map, slice_index_or};
 ghost use Rattle.std.specs.List.{AllWithin};
 ghost use Rattle.std.specs.List.Sorted.{IsNonDecreasingBy};
 ghost use Rattle.tb_base.specs.OutSets.{AreRowsOf, hops_at, row_of};
-ghost use Rattle.tb_base.specs.Transfers.{numbers_below};
+ghost use Rattle.tb_base.specs.TimetableData.{events_of};
 ghost use Rattle.tb_base.specs.declared.transfer.Hop.{Hop};
 ghost use Rattle.transfer_pack.specs.CallsOf.{call_of};
-ghost use Rattle.transfer_pack.specs.Packed.{AreBounds, begin_of, hops_before, hops_over, packed, runs_in};
+ghost use Rattle.transfer_pack.specs.Packed.{AreBounds, begin_of, hops_before, hops_over, hops_rebuilt, packed, runs_in};
 ghost use Rattle.transfer_pack.specs.Spots.{calls_beside, ends_in};
 ghost use Rattle.transfer_pack.specs.Words.{lent};
 
@@ -14,6 +14,7 @@ use super::calls::Call;
 use super::hops::{HopList, Hops, part};
 use super::numbers::number;
 use super::packed_call::{NO_PACKED_CALL, PackedCall};
+use super::trip_spots::{add_rebuilt_trip, add_trip};
 use std::alloc::Global;
 use std::marker::Model;
 use std::snapshot::Snapshot;
@@ -22,9 +23,9 @@ use tb_base::{Event, Hop, Memory, Timetable, Transfer, TripNo};
 // An event as a search reads it, in twelve bytes: its call, and where its hops end. They begin
 // where those of the spot before end.
 #[derive(Clone, Copy)]
-struct Spot {
-    packed: PackedCall,
-    end: u32,
+pub(crate) struct Spot {
+    pub(crate) packed: PackedCall,
+    pub(crate) end: u32,
 }
 
 // What stands before the first event.
@@ -70,49 +71,6 @@ impl Model for Set {
         × AreCalls s.table.value s.starts.items (calls_beside s.spots.items) };
 }
 
-// Adds the hops of a trip's transfers from one of its events.
-fn add_event(alloc: Global, hops: &mut HopList, row: &[Transfer], at: usize) -> Result<(), Memory>
-    ensures { OnOk result (hops.new ≡ hops.old ++ hops_at row.now at) }
-{
-    for k in 0..row.len() {
-        let transfer = row[k];
-        if transfer.at as usize == at {
-            let hop = Hop {
-                trip: transfer.to_trip,
-                at: transfer.to_at,
-            };
-            hops.push(alloc, hop)?;
-        }
-    }
-    Ok(())
-}
-
-// Adds the events of a trip, each with the hops of the trip's transfers from there.
-fn add_trip(
-    alloc: Global,
-    hops: &mut HopList,
-    spots: &mut Vec<Spot>,
-    row: &[Transfer],
-    events: &[Event],
-) -> Result<(), Memory>
-    requires bounds { AreBounds (ends_in spots.old.items) (length hops.old) }
-    requires stops { All (λ e. e.stop < 100000) events.now }
-    ensures bounds { OnOk result (AreBounds (ends_in spots.new.items) (length hops.new)) }
-    ensures runs { OnOk result (runs_in hops.new (ends_in spots.new.items)
-        ≡ runs_in hops.old (ends_in spots.old.items)
-        ++ map (hops_at row.now) (numbers_below (length events.now))) }
-    ensures calls { OnOk result (calls_beside spots.new.items
-        ≡ calls_beside spots.old.items ++ map call_of events.now) }
-{
-    for at in 0..events.len() {
-        add_event(alloc, hops, row, at)?;
-        let end = number(hops.count())?;
-        let packed = PackedCall::of(&events[at]);
-        spots.push(Spot { packed, end })?;
-    }
-    Ok(())
-}
-
 impl Set {
     /// The set of these transfers: one list for each trip, of transfers from its events, in any
     /// order. Takes memory by the numbers of events and transfers. Refused only for want of memory,
@@ -136,6 +94,53 @@ impl Set {
                 alloc,
                 &mut hops,
                 &mut spots,
+                rows[t as usize].as_slice(),
+                events,
+            )?;
+            starts.push(number(spots.len() - 1)?)?;
+        }
+        Ok(Set {
+            table: Snapshot::of(table),
+            starts,
+            spots,
+            hops,
+        })
+    }
+
+    /// The set of a timetable in which the trips that are marked have these transfers, and all
+    /// others the hops of another set, whose trips have as many events: those are taken over as they
+    /// are. Takes memory and is refused as `build`.
+    pub fn rebuild(
+        alloc: Global,
+        table: &Timetable,
+        kept: &Set,
+        redone: &[bool],
+        rows: &[Vec<Transfer>],
+    ) -> Result<Set, Memory>
+        requires rows { AreRowsOf table.now (map (λ row. row.items) rows.now) }
+        requires marks { length redone.now ≡ length table.now.trips }
+        requires trips { length kept.now.table.trips ≡ length table.now.trips }
+        requires events { (t : ℕ) →
+            length (events_of kept.now.table t) ≡ length (events_of table.now t) }
+        ensures table { IfOk result (λ set. set.table ≡ table.now) }
+        ensures hops { IfOk result (λ set. (t i : ℕ) → packed set t i
+            ≡ hops_rebuilt kept.now redone.now (map (λ row. row.items) rows.now) t i) }
+    {
+        table.soundness();
+        let mut starts = Vec::new(alloc);
+        let mut spots = Vec::new(alloc);
+        let mut hops = HopList::new(alloc);
+        spots.push(NO_SPOT)?;
+        starts.push(0)?;
+        for t in 0..table.trip_count() {
+            let events = table.events(TripNo(t));
+            add_rebuilt_trip(
+                alloc,
+                &mut hops,
+                &mut spots,
+                kept,
+                TripNo(t),
+                redone[t as usize],
                 rows[t as usize].as_slice(),
                 events,
             )?;

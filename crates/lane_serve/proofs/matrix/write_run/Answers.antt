@@ -1,7 +1,7 @@
 use mir.Syntax.{erased}
 use Rattle.std.proofs.Common.{subst, sym, take}
 use Rattle.std.specs.Io.KnownBytes.{Appends}
-use Rattle.lane_serve.specs.LiveTurns.{joined_texts}
+use Rattle.query_gate.specs.Dealing.{joined_texts}
 use Rattle.lane_serve.proofs.Sent.{clerk_sync}
 use Rattle.lane_serve.proofs.matrix.write_run.Goals as goal
 

@@ -1,6 +1,6 @@
 use Rattle.std.proofs.Common.{◌≡◌, take}
 use Rattle.std.specs.Io.KnownBytes.{Appends}
-use Rattle.lane_serve.specs.LiveTurns.{joined_texts}
+use Rattle.query_gate.specs.Dealing.{joined_texts}
 use Rattle.lane_serve.proofs.matrix.write_texts.Given as goal
 
 abbrev pub invariant-loop-text : goal.invariant-loop-text

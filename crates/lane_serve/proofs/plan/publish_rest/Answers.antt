@@ -1,6 +1,6 @@
 use Rattle.std.proofs.Common.{◌∙◌, subst, take, arith}
 use Rattle.std.proofs.lemmas.List.{take_all}
-use Rattle.lane_serve.specs.Plans.{Takes}
+use Rattle.edition_build.specs.Plans.{Takes}
 use Rattle.lane_serve.proofs.Plans.{begins_taken, has_room, taken_all, taken_more}
 use Rattle.lane_serve.proofs.plan.publish_rest.Goals as goal
 

@@ -3,7 +3,8 @@ use mir.Syntax.{erased, of_param}
 use denote.Param.{param}
 use denote.Param.Send.{mut_slice_send, shr_send, shr_slice_send}
 use Rattle.std.proofs.Crossing as heap
-use Rattle.lane_serve.proofs.Sent.{captures_send, lane_sync, quiet_either, seated_send}
+use Rattle.lane_serve.proofs.Sent.{captures_send, lane_sync, seated_send}
+use Rattle.query_gate.proofs.Sent.{quiet_either}
 use Rattle.lane_serve.proofs.run.run_beside.Goals as goal
 
 pub join_mut-done-requires-send-F : goal.join_mut-done-requires-send-F

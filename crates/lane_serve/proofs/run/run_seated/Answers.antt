@@ -1,7 +1,8 @@
 use Rattle.std.proofs.Common.{◌≤◌, sym, ap, subst, length}
 use Rattle.std.specs.Prelude.{All}
 use Rattle.lane_serve.specs.Lanes.{IsLaneRun}
-use Rattle.lane_serve.specs.Script.{IsAskable, LaneData}
+use Rattle.query_gate.specs.Said.{IsAskable}
+use Rattle.lane_serve.specs.Script.{LaneData}
 use Rattle.lane_serve.proofs.Reports.{few_requests, good_times, read_lines}
 use Rattle.lane_serve.proofs.run.run_seated.Goals as goal
 

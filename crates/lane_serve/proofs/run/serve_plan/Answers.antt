@@ -1,7 +1,7 @@
 use Rattle.std.proofs.Common.{◌∷◌, [], subst, sym, take}
-use Rattle.lane_serve.specs.Plans.{outcome_of}
+use Rattle.edition_build.specs.Plans.{outcome_of}
 use Rattle.lane_serve.specs.Sides.{HasTakenSoFar}
-use Rattle.lane_serve.proofs.FirstDay.{first_taken}
+use Rattle.lane_serve.proofs.Plans.{first_taken}
 use Rattle.lane_serve.proofs.run.serve_plan.Goals as goal
 
 pub serve_from-served-requires-clause-first : goal.serve_from-served-requires-clause-first

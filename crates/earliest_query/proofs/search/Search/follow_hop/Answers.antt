@@ -1,41 +1,18 @@
-use Rattle.std.proofs.Common.{◌≡◌, ℕ, suc, ◌-◌, ◌≤◌, length, refl, sym, ap, subst, arith, None, Some}
-use Rattle.std.specs.Prelude.{Contains, slice_get}
-use Rattle.std.proofs.lemmas.Option.{get_or_from_slice_get, slice_get_within}
+use Rattle.std.proofs.Common.{ℕ, suc, length, refl, sym, ap, subst, None}
+use Rattle.std.proofs.lemmas.Option.{slice_get_within}
 use Rattle.tb_base.specs.Network.{NetData}
 use Rattle.tb_base.specs.BestValues.{QueryData}
-use Rattle.tb_base.specs.declared.transfer.Hop.{Hop}
 use Rattle.segment_queue.specs.declared.notes.Note.{Note}
 use Rattle.segment_queue.specs.Queue.{DeskData}
-use Rattle.segment_queue.specs.Scans.{followed_seen, hops_seen, seen_first, seen_last, seen_trip}
-use Rattle.segment_queue.specs.Traced.{segment_of}
-use Rattle.earliest_query.specs.Noted.{IsSoundNote, note_of}
-use Rattle.earliest_query.specs.UnderWay.{Covers, Extends, IsQueue, IsReachedBy}
-use Rattle.earliest_query.proofs.Following.{IsInOne, hop_boards, hop_in_set, hop_not_last, hop_trip, in_one}
+use Rattle.segment_queue.specs.Scans.{followed_seen, hops_seen}
+use Rattle.earliest_query.specs.Noted.{note_of}
+use Rattle.earliest_query.specs.UnderWay.{Extends, IsQueue, IsReachedBy}
+use Rattle.earliest_query.proofs.Following.{hop_boards, hop_in_set, hop_not_last, hop_trip}
 use Rattle.earliest_query.proofs.Growing.{extends-refl}
+use Rattle.earliest_query.proofs.NotedHops.{IsFrom, found, from_some}
 use Rattle.earliest_query.proofs.Noting.{note_events}
 use Rattle.earliest_query.proofs.OneMore.{reached_before}
 use Rattle.earliest_query.proofs.search.Search.follow_hop.Goals as goal
-
--- an index that a note is of is one that its segment covers
-covers_of : (N : NetData) (D : DeskData) (round i : ℕ) (note : Note) → IsSoundNote N D.segments round note → seen_first note.seen ≤ i → i ≤ seen_last note.seen → Covers D note.segment i
-covers_of N D round i note s from to = record { onward = omega (arith, s.first, from); within = omega (arith, s.within, to) }
-
--- the index from which a hop of a note is
-record IsFrom (N : NetData) (D : DeskData) (note : Note) (h : Hop) : Type 0 where
-  pub at : ℕ
-  pub covers : Covers D note.segment at
-  pub in_set : Contains (N.hops (segment_of D.segments note.segment).trip at) h
-
-from_some : (N : NetData) (D : DeskData) (round place : ℕ) (note : Note) (h : Hop) → IsSoundNote N D.segments round note → slice_get (hops_seen N.hops note.seen) place ≡ Some h → IsFrom N D note h
-from_some N D round place note h s got =
-    let r : IsInOne (N.hops (seen_trip note.seen)) (seen_first note.seen) (suc (seen_last note.seen) - seen_first note.seen) h
-    = in_one (N.hops (seen_trip note.seen)) (seen_first note.seen) (suc (seen_last note.seen) - seen_first note.seen) h
-    (place, slice_get_within (hops_seen N.hops note.seen) place h got, get_or_from_slice_get (hops_seen N.hops note.seen) place h h got) in
-    record {
-      at = r.at;
-      covers = covers_of N D round r.at note s r.low (omega (arith, r.high, s.order));
-      in_set = subst (λ t. Contains (N.hops t r.at) h) s.trip r.one;
-    }
 
 pub is_passed-requires-clause-step : goal.is_passed-requires-clause-step
 is_passed-requires-clause-step g c = c.requires.queue.step
@@ -75,10 +52,6 @@ event_of-at-requires-clause-place g c = slice_get_within (hops_seen (g.S.Scan.ne
 pub enter-requires-clause-queue : goal.enter-requires-clause-queue
 enter-requires-clause-queue g c =
     subst (λ r. IsQueue (g.S.Scan.net c.args.self.now.scan.now) c.args.self.now.query.now c.args.desk.now (suc r)) (sym c.requires.note.this_round) c.requires.queue
-
--- the event that was found is one from which the hop is
-found : (N : NetData) (D : DeskData) (round at : ℕ) (note : Note) (h : Hop) → IsSoundNote N D.segments round note → seen_first note.seen ≤ at → at ≤ seen_last note.seen → Contains (N.hops (seen_trip note.seen) at) h → Covers D note.segment at × Contains (N.hops (segment_of D.segments note.segment).trip at) h
-found N D round at note h s from to one = (covers_of N D round at note s from to, subst (λ t. Contains (N.hops t at) h) s.trip one)
 
 pub enter-requires-clause-trip : goal.enter-requires-clause-trip
 enter-requires-clause-trip g c =

@@ -1,19 +1,17 @@
-use Rattle.std.proofs.Common.{◌≡◌, ◌∙◌, ℕ, ◌+◌, ◌<◌, ◌≤◌, ◌⊎◌, inl, inr, sym, ap, subst, refl, arith}
+use Rattle.std.proofs.Common.{◌≡◌, ℕ, ◌+◌, ◌<◌, ◌≤◌, ◌⊎◌, inl, inr, sym, ap, subst, refl, arith}
 use Rattle.std.proofs.lemmas.Int.{ints}
 use Rattle.std.proofs.lemmas.Option.{get_or_from_slice_get}
 use Rattle.tb_base.specs.Network.{NetData}
-use Rattle.tb_base.specs.TimetableData.{TimetableData, arrival_at}
+use Rattle.tb_base.specs.TimetableData.{TimetableData}
 use Rattle.tb_base.specs.BestValues.{QueryData}
 use Rattle.tb_base.specs.Search.{IsReached}
 use Rattle.tb_base.proofs.NumberFacts.{less_or_same}
 use Rattle.segment_queue.specs.declared.desk.Segment.{Segment}
 use Rattle.segment_queue.specs.Queue.{DeskData, IsSoundSegment}
 use Rattle.segment_queue.specs.Traced.{no_segment, round_of, segment_of}
-use Rattle.segment_queue.specs.declared.seen.Seen.{Seen}
-use Rattle.segment_queue.specs.Scans.{seen_arr, seen_first, seen_last, seen_trip}
 use Rattle.earliest_query.specs.Noted.{IsNoted, notes_of}
 use Rattle.earliest_query.proofs.Following.{sound_event}
-use Rattle.earliest_query.proofs.Noting.{IsSeenAt, IsWeighedAt, bounded_late, clipped_outdone, clipped_within, improved_late, late_from, left_late, seen_behind, seen_more, seen_noted, seen_sound, weighed_on}
+use Rattle.earliest_query.proofs.Noting.{IsWeighedAt, bounded_late, clipped_outdone, clipped_within, here_seen, improved_late, late_from, left_late, seen_behind, seen_more, seen_noted, seen_sound, weighed_on}
 use Rattle.earliest_query.proofs.Reaching.{reached_all}
 use Rattle.earliest_query.proofs.search.Search.weigh_events.Goals as goal
 
@@ -71,30 +69,21 @@ meet-requires-clause-at g c =
     let sound = subst (IsSoundSegment (g.S.Scan.net c.args.self.now.scan.now).table) same (c.requires.queue.step.segments c.args.n no_segment c.requires.segment) in
     omega (arith, sound.within, c.loop-before-test.true, clipped_within (g.S.Scan.net c.args.self.now.scan.now) c.args.desk.now.marks c.in-Some.segment c.clipped_end-end.result c.clipped_end-end.ensures)
 
-pub weigh-best-requires-clause-stop : goal.weigh-best-requires-clause-stop
-weigh-best-requires-clause-stop g c =
+pub weigh-requires-clause-stop : goal.weigh-requires-clause-stop
+weigh-requires-clause-stop g c =
     let T : TimetableData = (g.S.Scan.net c.args.self.now.scan.now).table in
     let same : segment_of c.args.desk.now.segments c.args.n ≡ c.in-Some.segment = get_or_from_slice_get c.args.desk.now.segments c.args.n c.in-Some.segment no_segment (sym c.in-Some.ensures) in
     let sound = subst (IsSoundSegment T) same (c.requires.queue.step.segments c.args.n no_segment c.requires.segment) in
     let event = sound_event T c.in-Some.segment.trip (c.loop-before.before + 1) c.soundness.ensures.sound sound.trip (omega (arith, sound.within, c.loop-before-test.true, clipped_within (g.S.Scan.net c.args.self.now.scan.now) c.args.desk.now.marks c.in-Some.segment c.clipped_end-end.result c.clipped_end-end.ensures)) in
     omega (arith, c.visit-visit.ensures.stop, event.stop)
 
-pub weigh-best-requires-clause-arr : goal.weigh-best-requires-clause-arr
-weigh-best-requires-clause-arr g c =
+pub weigh-requires-clause-arr : goal.weigh-requires-clause-arr
+weigh-requires-clause-arr g c =
     let T : TimetableData = (g.S.Scan.net c.args.self.now.scan.now).table in
     let same : segment_of c.args.desk.now.segments c.args.n ≡ c.in-Some.segment = get_or_from_slice_get c.args.desk.now.segments c.args.n c.in-Some.segment no_segment (sym c.in-Some.ensures) in
     let sound = subst (IsSoundSegment T) same (c.requires.queue.step.segments c.args.n no_segment c.requires.segment) in
     let event = sound_event T c.in-Some.segment.trip (c.loop-before.before + 1) c.soundness.ensures.sound sound.trip (omega (arith, sound.within, c.loop-before-test.true, clipped_within (g.S.Scan.net c.args.self.now.scan.now) c.args.desk.now.marks c.in-Some.segment c.clipped_end-end.result c.clipped_end-end.ensures)) in
     omega (arith, ints, c.visit-visit.ensures.arr, event.waits, event.latest)
-
--- what this look saw of the segment
-here_seen : (T : TimetableData) (s r : Segment) (w : Seen) (at : ℕ) → s ≡ r → seen_trip w ≡ r.trip → seen_first w ≡ at → seen_last w ≡ at → seen_arr w ≡ arrival_at T r.trip at → IsSeenAt T s w at
-here_seen T s r w at same trip first last arr = record {
-  trip = trip ∙ ap (λ (x : Segment). x.trip) (sym same);
-  first = first;
-  last = last;
-  arr = arr ∙ ap (λ (x : Segment). arrival_at T x.trip at) (sym same);
-}
 
 pub seen_on-requires : goal.seen_on-requires
 seen_on-requires g c =
@@ -123,7 +112,7 @@ loop-before-preserved g c =
     let at : ℕ = c.loop-before.before + 1 in
     let before = c.loop-before.invariant in
     let same : segment_of c.args.desk.now.segments c.args.n ≡ c.in-Some.segment = get_or_from_slice_get c.args.desk.now.segments c.args.n c.in-Some.segment no_segment (sym c.in-Some.ensures) in
-    let w : IsWeighedAt N Q D n at c.args.round c.loop-before.best c.weigh-best.result
+    let w : IsWeighedAt N Q D n at c.args.round c.loop-before.best c.weigh.new.best
     = record {
       segment = c.in-Some.segment;
       is = same;
@@ -137,12 +126,12 @@ loop-before-preserved g c =
       stop_is = c.visit-visit.ensures.stop;
       arr_is = c.visit-visit.ensures.arr;
       alight_is = c.visit-visit.ensures.alight;
-      weighed = c.weigh-best.ensures;
+      weighed = c.weigh.ensures;
     } in
     let look = c.visit-visit.ensures in
     let on = c.seen_on.ensures in
     record {
-      weighed = weighed_on N Q D n c.loop-before.before c.args.round c.args.so_far c.loop-before.best c.weigh-best.result before.weighed w;
+      weighed = weighed_on N Q D n c.loop-before.before c.args.round c.args.so_far c.loop-before.best c.weigh.new.best before.weighed w;
       seen = seen_more N.table (segment_of D.segments n) c.loop-before.seen c.visit-visit.result.seen c.seen_on.result c.loop-before.before before.seen
           (here_seen N.table (segment_of D.segments n) c.in-Some.segment c.visit-visit.result.seen at same look.trip look.first look.last look.seen) on.trip on.last on.first;
       ready = c.meet.ensures.ready;
@@ -163,7 +152,7 @@ returns-then-is_late g c =
     let before = c.loop-before.invariant in
     let same : segment_of c.args.desk.now.segments c.args.n ≡ c.in-Some.segment = get_or_from_slice_get c.args.desk.now.segments c.args.n c.in-Some.segment no_segment (sym c.in-Some.ensures) in
     let whole = c.requires.queue.step.segments n no_segment c.requires.segment in
-    let w : IsWeighedAt N Q D n at c.args.round c.loop-before.best c.weigh-best.result
+    let w : IsWeighedAt N Q D n at c.args.round c.loop-before.best c.weigh.new.best
     = record {
       segment = c.in-Some.segment;
       is = same;
@@ -177,7 +166,7 @@ returns-then-is_late g c =
       stop_is = c.visit-visit.ensures.stop;
       arr_is = c.visit-visit.ensures.arr;
       alight_is = c.visit-visit.ensures.alight;
-      weighed = c.weigh-best.ensures;
+      weighed = c.weigh.ensures;
     } in
     let late = c.if-is_late.ensures.0 refl in
     let noted : (i : ℕ) → (segment_of D.segments n).board < i → i ≤ c.loop-before.before → IsNoted (notes_of n c.loop-before.seen) n i
@@ -185,13 +174,13 @@ returns-then-is_late g c =
     record {
       seen = seen_sound N D.segments (segment_of D.segments n) c.loop-before.seen n c.loop-before.before c.args.round refl c.requires.segment c.requires.round before.within before.seen;
       weighed = λ i covers. inl (record {
-        left = left_late N Q D n c.loop-before.before c.args.round c.args.so_far c.loop-before.best c.weigh-best.result before.weighed w c.soundness.ensures.sound whole late (notes_of n c.loop-before.seen) noted i covers;
-        bounded = bounded_late N Q D n c.loop-before.before c.args.round c.args.so_far c.loop-before.best c.weigh-best.result before.weighed w c.soundness.ensures.sound whole late i covers;
+        left = left_late N Q D n c.loop-before.before c.args.round c.args.so_far c.loop-before.best c.weigh.new.best before.weighed w c.soundness.ensures.sound whole late (notes_of n c.loop-before.seen) noted i covers;
+        bounded = bounded_late N Q D n c.loop-before.before c.args.round c.args.so_far c.loop-before.best c.weigh.new.best before.weighed w c.soundness.ensures.sound whole late i covers;
       });
-      improved = improved_late N Q D n c.loop-before.before c.args.round c.args.so_far c.loop-before.best c.weigh-best.result before.weighed w c.soundness.ensures.sound whole late;
+      improved = improved_late N Q D n c.loop-before.before c.args.round c.args.so_far c.loop-before.best c.weigh.new.best before.weighed w c.soundness.ensures.sound whole late;
       met = λ i covers. elim (before_or_behind i c.loop-before.before) [
         | inl earlier ↦ inl (subst (λ r. g.A.AtEvent.has_met c.meet.new.self N (segment_of D.segments n).trip i r) (sym c.requires.round) (c.meet.ensures.kept (segment_of D.segments n).trip i c.args.round (before.met i covers.onward earlier)))
-        | inr from ↦ inr (inl (late_from N Q D n c.loop-before.before c.args.round c.args.so_far c.loop-before.best c.weigh-best.result before.weighed w c.soundness.ensures.sound whole late i covers (omega (arith, from))))
+        | inr from ↦ inr (inl (late_from N Q D n c.loop-before.before c.args.round c.args.so_far c.loop-before.best c.weigh.new.best before.weighed w c.soundness.ensures.sound whole late i covers (omega (arith, from))))
       ];
       ready = c.meet.ensures.ready;
       still_met = λ t i r was. c.meet.ensures.kept t i r (before.still_met t i r was);

@@ -1,0 +1,14 @@
+use Rattle.std.proofs.Common.{◌∙◌, ap, get_or, rules}
+use Rattle.edition_build.specs.Plans.{ItemData}
+use Rattle.edition_build.specs.OutcomeTexts.{outcome_text}
+use Rattle.edition_build.proofs.OutcomeLines.{outcomes_told}
+use Rattle.edition_build.proofs.outcome_texts.add_outcomes_text.Goals as goal
+
+pub loop-i-preserved : goal.loop-i-preserved
+loop-i-preserved c =
+    let item = c.index-plan-i.result in
+    let outcome = c.index-outcomes-i.result in
+    outcomes_told outcome_text c.args.plan.now c.args.outcomes.now c.loop-i.i item outcome c.args.text.now c.loop-i.text c.add_outcome_text.new.text _
+    c.requires c.loop-i-test.true c.loop-i.invariant
+    (ap (λ (k : ItemData). outcome_text k.word outcome) c.index-plan-i.is ∙ ap (outcome_text (ItemData.word (get_or c.args.plan.now c.loop-i.i item))) c.index-outcomes-i.is)
+    (search rules)

@@ -1,4 +1,0 @@
-use Rattle.lane_serve.proofs.live.office.reply_to.Goals as goal
-
-pub shown_reply-requires : goal.shown_reply-requires
-shown_reply-requires c = rw c.table.ensures c.in_ok-reply.ensures.numbers

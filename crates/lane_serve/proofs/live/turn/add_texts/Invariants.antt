@@ -1,6 +1,0 @@
-use Rattle.std.proofs.Common.{◌≡◌, ◌++◌, take}
-use Rattle.lane_serve.specs.LiveTurns.{joined_texts}
-use Rattle.lane_serve.proofs.live.turn.add_texts.Given as goal
-
-abbrev pub invariant-loop-more : goal.invariant-loop-more
-invariant-loop-more l = l.text ≡ l.fn.text ++ joined_texts (take l.more-index l.texts)

@@ -1,6 +1,0 @@
-use Rattle.std.proofs.Common.{◌≡◌, ◌++◌, take}
-use Rattle.lane_serve.specs.Texts.{outcomes_text}
-use Rattle.lane_serve.proofs.texts.add_outcomes.Given as goal
-
-abbrev pub invariant-loop-i : goal.invariant-loop-i
-invariant-loop-i l = l.text ≡ l.fn.text ++ outcomes_text (take l.i l.plan) (take l.i l.outcomes)

@@ -1,0 +1,11 @@
+use Rattle.std.proofs.Common.{length, map}
+use Rattle.transfer_pack.specs.Packed.{AreBounds, hops_rebuilt, runs_in}
+use Rattle.transfer_pack.specs.Spots.{calls_beside, ends_in}
+use Rattle.transfer_pack.proofs.Packing.{ArePacked}
+use Rattle.transfer_pack.proofs.set.Set.rebuild.Given as goal
+
+abbrev pub invariant-loop-t : goal.invariant-loop-t
+invariant-loop-t l = record {
+  bounds : AreBounds (ends_in l.spots.items) (length l.hops);
+  packed : ArePacked l.table (hops_rebuilt l.kept l.redone (map (λ row. row.items) l.rows)) l.t l.starts.items (runs_in l.hops (ends_in l.spots.items)) (calls_beside l.spots.items);
+}

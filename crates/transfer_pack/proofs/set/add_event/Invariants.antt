@@ -1,6 +1,0 @@
-use Rattle.std.proofs.Common.{◌≡◌, ◌++◌, take}
-use Rattle.tb_base.specs.OutSets.{hops_at}
-use Rattle.transfer_pack.proofs.set.add_event.Given as goal
-
-abbrev pub invariant-loop-k : goal.invariant-loop-k
-invariant-loop-k l = l.hops ≡ l.initial.hops ++ hops_at (take l.k l.row) l.at
