@@ -181,18 +181,6 @@ impl Desk {
         Ok(())
     }
 
-    /// Whether there is room for the scan: a mark for each trip, a segment and a note for each
-    /// event, and one hit more.
-    pub fn fits<S: Scan>(&self, scan: &S) -> bool
-        ensures { IsTrue result ↔ Fits (S.net scan.now).table self.now }
-    {
-        let shape = scan.shape();
-        shape.trips as usize <= self.marks.trips()
-            && shape.events <= self.segments.capacity() as u64
-            && shape.events < self.hits.capacity() as u64
-            && shape.events <= self.notes.capacity() as u64
-    }
-
     /// Empties the queue, the marks, the hits and the notes.
     pub fn begin<S: Scan>(&mut self, scan: &S, _query: &Query)
         requires { Fits (S.net scan.now).table self.old }
