@@ -37,8 +37,8 @@ fn frequency_rows_of<F: Folder>(
     }
 }
 
-// A row by the number of its trip.
-fn numbered(trips: &TripRowTable, row: &FrequencyRow) -> TripFrequency
+/// A row by the number of its trip.
+pub fn numbered(trips: &TripRowTable, row: &FrequencyRow) -> TripFrequency
     ensures numbered { result ≡ numbered_frequency trips.now row.now }
     ensures good { IsGoodFrequency result }
 {
