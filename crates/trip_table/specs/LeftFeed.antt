@@ -1,5 +1,5 @@
 -- What is left of a feed, file by file in the order of reference, where bad rows are left out.
-use Rattle.std.specs.Prelude.{◌≡◌, ◌×◌, ℕ, ◌+◌, ◌==◌, not, List, [], ◌∷◌, ◌++◌, zero, suc, length, map, filter, slice_index_or, nat_lt, Bool, true, false, Option, Some, None, option_map, unwrap_or, Result, Ok, Err, if◌then◌else◌}
+use Rattle.std.specs.Prelude.{◌≡◌, ℕ, ◌==◌, not, List, [], ◌∷◌, ◌++◌, zero, suc, length, map, filter, slice_index_or, nat_lt, Bool, true, false, Option, Some, None, option_map, unwrap_or, Result, Ok, Err, if◌then◌else◌}
 use Rattle.std.specs.List.{list_any}
 use Rattle.tb_base.specs.TimetableData.{TimetableData}
 use Rattle.gtfs_rows.specs.Steps.{and_then, prepend}

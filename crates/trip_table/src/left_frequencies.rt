@@ -141,7 +141,7 @@ fn left_table(
     requires { IfSome text (λ bytes. length bytes.now ≤ 1_073_741_824) }
     ensures rows { Yields IsRefused result (λ table. table.rows)
         (and_then
-        (rows_in file.Frequencies (left_frequency trips.now) (option_map (λ bytes. bytes.now) text))
+        (rows_in file.Frequencies (left_frequency trips.now) (option_map (λ bytes. bytes.now) text.entry))
         (λ rows. Ok (unwrap_or rows []))) }
     ensures trips { IfOk result (λ table. table.trips ≡ length trips.now) }
 {
@@ -165,7 +165,7 @@ fn bad_frequencies(
     requires { IfSome text (λ bytes. length bytes.now ≤ 1_073_741_824) }
     ensures { Yields IsRefused result (option_map (λ v. v.items))
         (rows_in file.Frequencies (bad (named_frequency trips.now))
-        (option_map (λ bytes. bytes.now) text)) }
+        (option_map (λ bytes. bytes.now) text.entry)) }
 {
     let Some(bytes) = text else {
         return Ok(None);
@@ -186,7 +186,7 @@ pub fn left_frequencies(
 ) -> Result<FrequencyTable, RowsFault>
     requires { IfSome text (λ bytes. length bytes.now ≤ 1_073_741_824) }
     ensures left { Sieves
-        (left_frequencies trips.now (option_map (λ bytes. bytes.now) text)) told.old.items
+        (left_frequencies trips.now (option_map (λ bytes. bytes.now) text.entry)) told.old.items
         told.new.items result (λ table. table.rows) }
     ensures trips { IfOk result (λ table. table.trips ≡ length trips.now) }
 {

@@ -43,8 +43,8 @@ pub fn left_services(
     requires calendar { IfSome calendar (λ bytes. length bytes.now ≤ 1_073_741_824) }
     requires dates { IfSome dates (λ bytes. length bytes.now ≤ 1_073_741_824) }
     ensures { Sieves
-        (left_services (option_map (λ bytes. bytes.now) calendar)
-        (option_map (λ bytes. bytes.now) dates))
+        (left_services (option_map (λ bytes. bytes.now) calendar.entry)
+        (option_map (λ bytes. bytes.now) dates.entry))
         told.old.items told.new.items result (λ x. x) }
 {
     let found = match sieve_file(alloc, &CalendarReader, calendar, told) {

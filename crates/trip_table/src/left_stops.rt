@@ -121,7 +121,7 @@ pub fn left_stops(
     told: &mut Vec<FeedFault>,
 ) -> Result<StopTable, RowsFault>
     requires { IfSome text (λ bytes. length bytes.now ≤ 1_073_741_824) }
-    ensures left { Sieves (left_stops (option_map (λ bytes. bytes.now) text)) told.old.items
+    ensures left { Sieves (left_stops (option_map (λ bytes. bytes.now) text.entry)) told.old.items
         told.new.items result (λ x. x) }
     ensures named { IfOk result (λ stops. All (λ s. StopData.id s ≢ []) stops) }
 {

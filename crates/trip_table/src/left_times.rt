@@ -96,7 +96,7 @@ fn rows_by<R: RowReader>(
 ) -> Result<Vec<R::Row>, RowsFault>
     requires { IfSome text (λ bytes. length bytes.now ≤ 1_073_741_824) }
     ensures rows { Yields IsRefused result (λ v. v.items)
-        (and_then (rows_in R.file (R.reading reader.now) (option_map (λ bytes. bytes.now) text))
+        (and_then (rows_in R.file (R.reading reader.now) (option_map (λ bytes. bytes.now) text.entry))
         (or_missing R.file)) }
     ensures bytes { IfOk result
         (λ v. (bytes : List ℕ) × (typed_rows R.file (R.reading reader.now) bytes ≡ Ok v.items)) }
@@ -117,7 +117,7 @@ fn bad_times(
 ) -> Result<Vec<TripFault>, RowsFault>
     requires { IfSome text (λ bytes. length bytes.now ≤ 1_073_741_824) }
     ensures { Yields IsRefused result (λ v. v.items)
-        (times_in (bad_time stops.now trips.now) (option_map (λ bytes. bytes.now) text)).end }
+        (times_in (bad_time stops.now trips.now) (option_map (λ bytes. bytes.now) text.entry)).end }
 {
     let reader = time_reader(alloc, stops, trips)?;
     rows_by(alloc, &BadTimes { reader }, text)
@@ -132,7 +132,7 @@ fn good_times(
 ) -> Result<Vec<StopTime>, RowsFault>
     requires { IfSome text (λ bytes. length bytes.now ≤ 1_073_741_824) }
     ensures rows { Yields IsRefused result (λ v. v.items)
-        (times_in (good_time stops.now trips.now) (option_map (λ bytes. bytes.now) text)).end }
+        (times_in (good_time stops.now trips.now) (option_map (λ bytes. bytes.now) text.entry)).end }
     ensures trips { IfOk result
         (λ v. All (λ r. StopTime.trip_row r < length trips.now) v.items) }
     ensures times { IfOk result (λ v. All HasFileTimes v.items) }
@@ -251,7 +251,7 @@ fn apart_times(
 ) -> Result<Vec<StopTime>, RowsFault>
     requires { IfSome text (λ bytes. length bytes.now ≤ 1_073_741_824) }
     ensures apart { Sieves
-        (apart_times stops.now trips.now (option_map (λ bytes. bytes.now) text)) told.old.items
+        (apart_times stops.now trips.now (option_map (λ bytes. bytes.now) text.entry)) told.old.items
         told.new.items result (λ v. v.items) }
     ensures times { IfOk result (λ v. All HasFileTimes v.items) }
     ensures few { IfOk result (λ v. length v.items ≤ 20000000) }
@@ -308,7 +308,7 @@ pub fn left_times(
 ) -> Result<Vec<StopTime>, RowsFault>
     requires { IfSome text (λ bytes. length bytes.now ≤ 1_073_741_824) }
     ensures left { Sieves
-        (left_times stops.now trips.now (option_map (λ bytes. bytes.now) text)) told.old.items
+        (left_times stops.now trips.now (option_map (λ bytes. bytes.now) text.entry)) told.old.items
         told.new.items result (λ v. v.items) }
     ensures good { IfOk result (λ v. AreGoodTimes stops.now trips.now v.items) }
 {

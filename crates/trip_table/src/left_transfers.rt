@@ -84,7 +84,7 @@ pub fn left_transfers(
     told: &mut Vec<FeedFault>,
 ) -> Result<Vec<TransferRow>, RowsFault>
     requires { IfSome text (λ bytes. length bytes.now ≤ 1_073_741_824) }
-    ensures { Sieves (left_transfers stops.now (option_map (λ bytes. bytes.now) text))
+    ensures { Sieves (left_transfers stops.now (option_map (λ bytes. bytes.now) text.entry))
         told.old.items told.new.items result (λ v. v.items) }
 {
     let rows = match sieve_file(alloc, &TransferReader, text, told) {

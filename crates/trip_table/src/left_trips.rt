@@ -18,7 +18,7 @@ pub fn left_trips(
     told: &mut Vec<FeedFault>,
 ) -> Result<TripRowTable, RowsFault>
     requires { IfSome text (λ bytes. length bytes.now ≤ 1_073_741_824) }
-    ensures { Sieves (left_trips (option_map (λ bytes. bytes.now) text)) told.old.items
+    ensures { Sieves (left_trips (option_map (λ bytes. bytes.now) text.entry)) told.old.items
         told.new.items result (λ x. x) }
 {
     let rows = match sieve_file(alloc, &TripReader, text, told) {

@@ -83,7 +83,7 @@ pub fn sieve_file<R: RowReader>(
 ) -> Result<Option<Vec<R::Row>>, RowsFault>
     requires { IfSome text (λ bytes. length bytes.now ≤ 1_073_741_824) }
     ensures told { Sieves
-        (sieve_file R.file (R.reading reader.now) (option_map (λ bytes. bytes.now) text))
+        (sieve_file R.file (R.reading reader.now) (option_map (λ bytes. bytes.now) text.entry))
         told.old.items told.new.items result (option_map (λ v. v.items)) }
     ensures good_rows { IfOk result
         (λ rows. IfSome rows
