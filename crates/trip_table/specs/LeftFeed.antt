@@ -1,9 +1,10 @@
 -- What is left of a feed, file by file in the order of reference, where bad rows are left out.
-use Rattle.std.specs.Prelude.{◌≡◌, ℕ, ◌==◌, not, List, [], ◌∷◌, ◌++◌, zero, suc, length, map, filter, slice_index_or, nat_lt, Bool, true, false, Option, Some, None, option_map, unwrap_or, Result, Ok, Err, if◌then◌else◌}
+use Rattle.std.specs.Prelude.{◌≡◌, ◌⊎◌, ℕ, ◌==◌, not, List, [], ◌∷◌, ◌++◌, zero, suc, length, map, filter, slice_index_or, nat_lt, Bool, true, false, Option, Some, None, option_map, unwrap_or, is_some, Result, Ok, Err, if◌then◌else◌}
 use Rattle.std.specs.List.{list_any}
 use Rattle.tb_base.specs.TimetableData.{TimetableData}
 use Rattle.gtfs_rows.specs.Steps.{and_then, prepend}
 use Rattle.gtfs_rows.specs.Faults.{spot, unless_wrong, check_rows}
+use Rattle.gtfs_rows.specs.LeftOut.{bearer, IsUnborne}
 use Rattle.gtfs_rows.specs.RawRows.{RawRow, cell}
 use Rattle.gtfs_rows.specs.StopsFile.{StopData, stop_row}
 use Rattle.gtfs_rows.specs.CalendarFile.{CalendarData, calendar_row}
@@ -28,7 +29,7 @@ use Rattle.service_trips.specs.Broken.{broken_trips}
 use Rattle.service_trips.specs.Faults.{first_wrong}
 use Rattle.trip_table.specs.Feed.{Feed, sized, rows_in, or_missing}
 use Rattle.trip_table.specs.References.{Rows, ServiceData, service_id, duplicate_service, duplicate_trip, trip_id, wrong_twice, wrong_trip, trip_number, numbered_row, wrong_names, wrong_time, repeats, check_services, numbered_frequency, unknown_trip}
-use Rattle.trip_table.specs.Day.{DayParts, IsTimetableOfParts, Then, given_footpaths, parts_on}
+use Rattle.trip_table.specs.Day.{DayParts, IsTimetableOf, IsTimetableOfParts, Then, given_footpaths, parts_on}
 use Rattle.trip_table.specs.Sieves.{Sieved, ended, silent, after, and_look}
 
 -- what a row gives: nothing where it is bad
@@ -313,3 +314,13 @@ abbrev pub IsLeftOf : Feed → ℕ → Options → List FeedFault → List FeedF
     Result TimetableData FeedFault → Type 0
 IsLeftOf feed day options before now result =
     IsLeft day options (and_look (silent (sized_all feed feed_files)) left_data) before now result
+
+-- The timetable of a feed for one who is lenient, with the faults of what is left out: that of the
+-- feed, or the fault of a file as a whole, of a limit or of its footpaths; but where a row bears its
+-- first fault, the timetable of what is left.
+abbrev pub IsLenientOf : Feed → ℕ → Options → List FeedFault → Result TimetableData FeedFault →
+    Type 0
+IsLenientOf feed day options faults result =
+    (IsTimetableOf feed day options result × IsUnborne true result × (faults ≡ []))
+    ⊎ ((f : FeedFault) × IsTimetableOf feed day options (Err f) × (is_some (bearer f) ≡ true)
+    × IsLeftOf feed day options [] faults result)

@@ -1,15 +1,16 @@
 //! The timetable of a day by what is left of a feed where bad rows are left out.
-ghost use Rattle.std.specs.Prelude.{◌≡◌, ◌≤◌, ◌<◌, ◌-◌, ◌^◌, All, IfOk, IfSome, IsSome, length, map, option_map};
+ghost use Rattle.std.specs.Prelude.{◌≡◌, ◌≤◌, ◌<◌, ◌-◌, ◌^◌, [], All, IfOk, IfSome, IsSome, length, map, option_map};
 ghost use Rattle.gtfs_rows.specs.Refused.{Yields};
 ghost use Rattle.footpaths.specs.Limits.{AreWithinADay};
 ghost use Rattle.trip_table.specs.Answers.{Gives, GivesRows, IsRefused, Leaves, feed_of};
-ghost use Rattle.trip_table.specs.LeftFeed.{IsLeft, IsLeftOf, IsLeftOfTexts, IsTimetableLeft, left_after_rows, left_rows, sized_all, text_at};
+ghost use Rattle.trip_table.specs.LeftFeed.{IsLeft, IsLeftOf, IsLenientOf, IsLeftOfTexts, IsTimetableLeft, left_after_rows, left_rows, sized_all, text_at};
 ghost use Rattle.trip_table.specs.References.{Rows};
 ghost use Rattle.trip_table.specs.Sieves.{Sieves};
 
 use crate::DayFault;
 use crate::Options;
-use crate::day::timetable_of;
+use crate::bearer::is_borne;
+use crate::day::{read_day, timetable_of};
 use crate::feed::take;
 use crate::left_frequencies::left_frequencies;
 use crate::left_services::left_services;
@@ -191,10 +192,10 @@ fn left_timetable(
     }
 }
 
-/// The timetable of a day by what is left of the files of a feed in a directory of a folder, where
-/// bad rows are left out; or the fault that ends it. The faults of what is left out are told after
-/// those that were told before.
-pub fn read_left_day<F: Folder>(
+// The timetable of a day by what is left of the files of a feed in a directory of a folder, where bad
+// rows are left out; or the fault that ends it. The faults of what is left out are told after those
+// that were told before.
+fn read_left_day<F: Folder>(
     alloc: Global,
     folder: &mut F,
     dir: &str,
@@ -226,4 +227,37 @@ pub fn read_left_day<F: Folder>(
         Err(fault) => return Err(fault),
     };
     Ok(left_timetable(alloc, folder.key(), texts.as_slice(), day, options, told)?)
+}
+
+/// The timetable of a day for one who is lenient, with the faults of what is left out. A feed of which
+/// no row bears the first fault is read as `read_day` reads it. Else bad rows are left out, file by
+/// file in the order of reference, and what names them in turn; a fault that no row bears ends it.
+///
+/// `ReadFault` comes only where the folder's count of faults rose.
+pub fn read_lenient_day<F: Folder>(
+    alloc: Global,
+    folder: &mut F,
+    dir: &str,
+    day: &Day,
+    options: &Options,
+    told: &mut Vec<FeedFault>,
+) -> Result<Timetable, DayFault>
+    requires options { AreWithinADay options.now }
+    requires count { F.faults folder.old < 2 ^ 64 - 1 }
+    requires none { told.old.items ≡ [] }
+    ensures told { IsSome (F.files folder.old) →
+        Gives
+        (IsLenientOf (feed_of (F.files folder.old) dir.now) day.now options.now told.new.items)
+        result }
+    ensures leaves { Leaves (F.files folder.old) (F.files folder.new) (F.faults folder.old)
+        (F.faults folder.new) result }
+{
+    let fault = match read_day(alloc, folder, dir, day, options) {
+        Err(DayFault::Feed(fault)) => fault,
+        told => return told,
+    };
+    if !is_borne(&fault) {
+        return Err(DayFault::Feed(fault));
+    }
+    read_left_day(alloc, folder, dir, day, options, told)
 }

@@ -14,6 +14,7 @@
 #![tactic(auto)]
 
 mod assemble;
+mod bearer;
 mod closing;
 mod day;
 mod day_fault;
@@ -42,5 +43,5 @@ mod trips;
 pub use day::read_day;
 pub use day_fault::DayFault;
 pub use footpaths::Options;
-pub use left_day::read_left_day;
+pub use left_day::read_lenient_day;
 pub use service_day::{Day, day_of};
