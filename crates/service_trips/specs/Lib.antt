@@ -11,3 +11,4 @@ pub mod TimetableTrips
 pub mod ShownRides
 pub mod Sizes
 pub mod Limits
+pub mod Beyond
