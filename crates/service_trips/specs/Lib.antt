@@ -11,4 +11,3 @@ pub mod TimetableTrips
 pub mod ShownRides
 pub mod Sizes
 pub mod Limits
-pub mod Beyond

@@ -1,11 +1,6 @@
 //! Starts that move a time of their trip beyond the limits of a day.
-ghost use Rattle.std.specs.Prelude.{◌≡◌, ◌<◌, ◌≤◌, ◌++◌, List, All, IfOk, MatchOption, OnOk, Ok, Err, length, map, option_to_list, pos, int_lt, ◌||◌};
-ghost use Rattle.gtfs_rows.specs.Faults.{fault_if, spot};
+ghost use Rattle.std.specs.Prelude.{◌≡◌, ◌<◌, ◌≤◌, List, All, MatchOption, Ok, Err, length, map, pos, int_lt, ◌||◌};
 ghost use Rattle.gtfs_rows.specs.TripsFile as row;
-ghost use Rattle.gtfs_rows.specs.declared.fault.FeedFault.TheVariants as fault;
-ghost use Rattle.gtfs_rows.specs.declared.fault.FeedFile.TheVariants as file;
-ghost use Rattle.service_trips.specs.Beyond.{beyond_faults, cut_if, kept_within};
-ghost use Rattle.service_trips.specs.declared.frequency.TripFrequency.{TripFrequency};
 ghost use Rattle.service_trips.specs.Starts.{IsGoodFrequency};
 ghost use Rattle.service_trips.specs.ShownRides.{IsRide, IsRideOrNone, begin_from, end_from};
 ghost use Rattle.service_trips.specs.Limits.{moves_beyond, check_frequencies};
@@ -15,8 +10,7 @@ use crate::starts::starts_from;
 use crate::{FrequencyTable, TripFrequency};
 use gtfs_rows::columns::frequencies;
 use gtfs_rows::{FeedFault, FeedFile, Spot};
-use std::alloc::Global;
-use tb_base::{Event, Memory, Sec};
+use tb_base::{Event, Sec};
 
 // The last time of a day: 99:59:59.
 const LATEST: i32 = 359_999;
@@ -98,81 +92,4 @@ pub(crate) fn first_beyond(rides: &[Vec<Event>], table: &FrequencyTable) -> Opti
         }
     }
     None
-}
-
-// Tells whether a row moves a time beyond the limits, and what is left of it.
-fn kept_within(
-    ride: &[Event],
-    frequency: &TripFrequency,
-    told: &mut Vec<FeedFault>,
-) -> Result<TripFrequency, Memory>
-    requires ride { IsRideOrNone ride.now }
-    requires good { IsGoodFrequency frequency.now }
-    ensures kept { IfOk result
-        (λ kept. kept ≡ cut_if (moves_beyond ride.now frequency.now) frequency.now) }
-    ensures good { IfOk result IsGoodFrequency }
-    ensures told { OnOk result
-        (told.new.items
-        ≡ told.old.items
-        ++ option_to_list
-        (fault_if (moves_beyond ride.now frequency.now)
-        (fault.BeyondDay (spot file.Frequencies (TripFrequency.row frequency.now) 2)))) }
-{
-    if !moves_beyond(ride, frequency) {
-        return Ok(*frequency);
-    }
-    told.push(FeedFault::BeyondDay(Spot {
-        file: FeedFile::Frequencies,
-        row: frequency.row,
-        column: frequencies::START_TIME,
-    }))?;
-    Ok(TripFrequency {
-        row: frequency.row,
-        trip_row: frequency.trip_row,
-        start: frequency.start,
-        end: 0,
-        headway: frequency.headway,
-    })
-}
-
-/// The rows of frequencies.txt, of which those give no start that move a time of their trip beyond
-/// the limits of a day; what is wrong with them is told.
-pub fn within_limits(
-    alloc: Global,
-    rides: &[Vec<Event>],
-    table: &FrequencyTable,
-    told: &mut Vec<FeedFault>,
-) -> Result<FrequencyTable, Memory>
-    requires trips { table.now.trips ≡ length rides.now }
-    requires rides { All (λ ride. IsRideOrNone ride.items) rides.now }
-    ensures kept { (rows : List row.TripData) →
-        IfOk result (λ t.
-        t.rows
-        ≡ map
-        (kept_within
-        (record {
-          rows = rows;
-          rides = map (λ ride. ride.items) rides.now;
-          frequencies = table.now.rows;
-        }))
-        table.now.rows) }
-    ensures told { (rows : List row.TripData) →
-        OnOk result
-        (told.new.items
-        ≡ told.old.items
-        ++ beyond_faults
-        (record {
-          rows = rows;
-          rides = map (λ ride. ride.items) rides.now;
-          frequencies = table.now.rows;
-        })
-        table.now.rows) }
-    ensures trips { IfOk result (λ t. t.trips ≡ table.now.trips) }
-{
-    let mut rows: Vec<TripFrequency> = Vec::new(alloc);
-    for frequency in table.rows() {
-        let ride = &rides[frequency.trip_row as usize];
-        rows.push(kept_within(ride, frequency, told)?)?;
-    }
-    FrequencyTable::new(alloc, rows, rides.len())
 }

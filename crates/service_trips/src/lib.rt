@@ -32,7 +32,6 @@ mod times;
 mod timetable;
 mod trips;
 
-pub use beyond::within_limits;
 pub use broken::{TripFault, broken_trips};
 pub use frequency::{FrequencyTable, TripFrequency};
 pub use rides::rides_of;
