@@ -7,6 +7,7 @@ use Rattle.gtfs_rows.specs.RawRows.{RawRow, typed_rows}
 use Rattle.gtfs_rows.specs.Refused.{IsRefused, Yields}
 use Rattle.gtfs_rows.specs.StopsFile.{StopData, stop_row}
 use Rattle.gtfs_rows.specs.TripsFile.{TripData}
+use Rattle.gtfs_rows.specs.declared.fault.FeedFile.{FeedFile}
 use Rattle.gtfs_rows.specs.declared.fault.FeedFile.TheVariants as file
 use Rattle.gtfs_rows.specs.declared.fault.FeedFault.{FeedFault}
 use Rattle.gtfs_rows.specs.declared.fault.RowsFault.{RowsFault}
@@ -83,3 +84,20 @@ times_there stops trips text rows = rows_all HasFileTimes file.StopTimes (good_t
 pub given_has : {A : Type 0} (P : A → Type 0) (meant : Result A FeedFault) (result : Result A RowsFault) → Yields IsRefused result (λ x. x) meant → ((x : A) → meant ≡ Ok x → P x) → IfOk result P
 given_has P meant (Ok x) h f = f x h
 given_has P meant (Err g) h f = tt
+
+-- and name what is there
+pub names_there : (stops : List StopData) (trips : List TripData) (text : List ℕ) (rows : List StopTime) → typed_rows file.StopTimes (good_time stops trips) text ≡ Ok rows → All (λ r. wrong_names stops trips r ≡ None) rows
+names_there stops trips text rows =
+    rows_all (λ r. wrong_names stops trips r ≡ None) file.StopTimes (good_time stops trips) (λ raw x e. (good_time_is stops trips (numbered_row stops trips raw) x e).1) text rows
+
+-- rows that are read come of some bytes
+pub bytes_given : {V A : Type 0} (items : V → List A) (here : FeedFile) (read : RawRow → Result (Option A) FeedFault) (bytes : List ℕ) (result : Result V RowsFault) → Yields IsRefused result items (typed_rows here read bytes)
+    → IfOk result (λ v. (x : List ℕ) × (typed_rows here read x ≡ Ok (items v)))
+bytes_given items here read bytes (Ok v) h = (bytes, h)
+bytes_given items here read bytes (Err f) h = tt
+
+-- and what holds of all that come of some bytes holds of them
+pub given_all : {V A : Type 0} (items : V → List A) (P : A → Type 0) (here : FeedFile) (read : RawRow → Result (Option A) FeedFault) (result : Result V RowsFault) → IfOk result (λ v. (x : List ℕ) × (typed_rows here read x ≡ Ok (items v)))
+    → ((bytes : List ℕ) (rows : List A) → typed_rows here read bytes ≡ Ok rows → All P rows) → IfOk result (λ v. All P (items v))
+given_all items P here read (Ok v) h f = f h.0 (items v) h.1
+given_all items P here read (Err g) h f = tt

@@ -265,7 +265,14 @@ pub fn read_times<F: Folder>(
     ensures leaves { Leaves (F.files folder.old) (F.files folder.new) (F.faults folder.old)
         (F.faults folder.new) result }
 {
-    let reader = time_reader(alloc, stops, trips)?;
+    let Ok(guesses) = Guesses::new(alloc, stops.platforms()) else {
+        return Err(DayFault::Memory);
+    };
+    let reader = StopTimeReader {
+        stops,
+        trips,
+        guesses,
+    };
     let times = match file_rows(alloc, folder, dir, &reader) {
         Ok(Some(times)) => times,
         Ok(None) => return Err(DayFault::Feed(FeedFault::MissingFile(FeedFile::StopTimes))),
