@@ -28,20 +28,22 @@ one_list P xs ys e h = let same : xs ≡ ys = cc in subst (λ (zs : List _). All
 -- of rows that are kept beside those before them
 pub sift_all : {A : Type 0} (P : A → Type 0) (wrong : List A → A → List (Option FeedFault)) (kept rows ys : List A) → (sift wrong kept rows).end ≡ Ok ys → All P kept → All P rows → All P ys
 sift_all P wrong kept [] ys e k h = one_list P kept ys e k
-sift_all P wrong kept (r ∷ rest) ys e k h = by_fault (first_wrong (wrong kept r)) e
+sift_all P wrong kept (r ∷ rest) ys e k h =
+    by_fault (first_wrong (wrong kept r)) (λ q. sift_all P wrong (kept ++ r ∷ []) rest ys q (All-push P kept r k (All-head P r rest h)) (All-tail P r rest h)) (λ q. sift_all P wrong kept rest ys q k (All-tail P r rest h)) e
   where
-    by_fault : (o : Option FeedFault) → (keep_unless o (sift wrong (kept ++ r ∷ []) rest) (sift wrong kept rest)).end ≡ Ok ys → All P ys
-    by_fault None q = sift_all P wrong (kept ++ r ∷ []) rest ys q (All-push P kept r k (All-head P r rest h)) (All-tail P r rest h)
-    by_fault (Some f) q = sift_all P wrong kept rest ys q k (All-tail P r rest h)
+    by_fault : (o : Option FeedFault) → ((sift wrong (kept ++ r ∷ []) rest).end ≡ Ok ys → All P ys) → ((sift wrong kept rest).end ≡ Ok ys → All P ys) → (keep_unless o (sift wrong (kept ++ r ∷ []) rest) (sift wrong kept rest)).end ≡ Ok ys → All P ys
+    by_fault None kept_on left_out q = kept_on q
+    by_fault (Some f) kept_on left_out q = left_out q
 
 -- of rows that have their parents
 pub orphans_all : (P : StopData → Type 0) (n : ℕ) (rows ys : List StopData) → (leave_orphans n rows).end ≡ Ok ys → All P rows → All P ys
 orphans_all P zero rows ys e h = one_list P rows ys e h
-orphans_all P (suc n) rows ys e h = by_found (filter (lacks_parent rows) rows) e
+orphans_all P (suc n) rows ys e h =
+    by_found (filter (lacks_parent rows) rows) (λ q. orphans_all P n (filter (λ s. not (lacks_parent rows s)) rows) ys q (All-filter (λ s. not (lacks_parent rows s)) P rows h)) e
   where
-    by_found : (found : List StopData) → (leave_found found rows (leave_orphans n (filter (λ s. not (lacks_parent rows s)) rows))).end ≡ Ok ys → All P ys
-    by_found [] q = one_list P rows ys q h
-    by_found (s ∷ more) q = orphans_all P n (filter (λ s. not (lacks_parent rows s)) rows) ys q (All-filter (λ s. not (lacks_parent rows s)) P rows h)
+    by_found : (found : List StopData) → ((leave_orphans n (filter (λ s. not (lacks_parent rows s)) rows)).end ≡ Ok ys → All P ys) → (leave_found found rows (leave_orphans n (filter (λ s. not (lacks_parent rows s)) rows))).end ≡ Ok ys → All P ys
+    by_found [] later q = one_list P rows ys q h
+    by_found (s ∷ more) later q = later q
 
 good_is : {A : Type 0} (r : Result (Option A) FeedFault) (x : A) → (let q : Result (Option A) FeedFault = Ok (or_nothing r) in q) ≡ Ok (Some x) → r ≡ Ok (Some x)
 good_is (Err f) x e = absurd (cc)

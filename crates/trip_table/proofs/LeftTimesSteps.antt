@@ -10,6 +10,8 @@ use Rattle.std.proofs.lemmas.List.Folds.{list_any-append}
 use Rattle.std.proofs.lemmas.List.Kept.{AllPairs-filter}
 use Rattle.gtfs_rows.specs.StopsFile.{StopData}
 use Rattle.gtfs_rows.specs.TripsFile.{TripData}
+use Rattle.footpaths.specs.Stops.{platforms}
+use Rattle.service_trips.specs.Times.{HasFileTimes}
 use Rattle.service_trips.specs.declared.broken.TripFault.{TripFault}
 use Rattle.service_trips.specs.declared.stop_time.StopTime.{StopTime}
 use Rattle.trip_table.specs.GoodTimes.{AreGoodTimes}
@@ -61,8 +63,8 @@ unmarked_rows marks n found rows left marked within e = e ∙ filter_by _ _ (λ 
 pub good_kept : (stops : List StopData) (trips : List TripData) (rows : List StopTime) (p : StopTime → Bool) → AreGoodTimes stops trips rows → AreGoodTimes stops trips (filter p rows)
 good_kept stops trips rows p good = record {
   few = let most = length-filter_le p rows in let few = good.few in omega (arith, most, few);
-  trip = All-filter p _ rows good.trip;
-  stop = All-filter p _ rows good.stop;
-  given = All-filter p _ rows good.given;
-  sequences = AllPairs-filter _ p rows good.sequences;
+  trip = All-filter p (λ r. StopTime.trip_row r < length trips) rows good.trip;
+  stop = All-filter p (λ r. StopTime.stop r < length (platforms stops)) rows good.stop;
+  given = All-filter p HasFileTimes rows good.given;
+  sequences = AllPairs-filter (λ r s. StopTime.trip_row r ≡ StopTime.trip_row s → StopTime.sequence r ≢ StopTime.sequence s) p rows good.sequences;
 }

@@ -32,14 +32,14 @@ one_kept kept ys e = cc
 
 kept_right : {A : Type 0} (wrong : List A → A → List (Option FeedFault)) (kept rows ys all : List A) → (sift wrong kept rows).end ≡ Ok ys → unless_wrong (wrong_after wrong [] kept) all ≡ Ok all → unless_wrong (wrong_after wrong [] ys) all ≡ Ok all
 kept_right wrong kept [] ys all e right = subst (λ zs. unless_wrong (wrong_after wrong [] zs) all ≡ Ok all) (one_kept kept ys e) right
-kept_right wrong kept (r ∷ rest) ys all e right = by_fault (first_wrong (wrong kept r)) refl e
+kept_right wrong kept (r ∷ rest) ys all e right =
+    by_fault (first_wrong (wrong kept r)) refl (λ q more. kept_right wrong (kept ++ r ∷ []) rest ys all q more) (λ q. kept_right wrong kept rest ys all q right) e
   where
-    by_fault : (o : Option FeedFault) → first_wrong (wrong kept r) ≡ o → (keep_unless o (sift wrong (kept ++ r ∷ []) rest) (sift wrong kept rest)).end ≡ Ok ys → unless_wrong (wrong_after wrong [] ys) all ≡ Ok all
-    by_fault None w q =
-        let more : unless_wrong (wrong_after wrong [] (kept ++ r ∷ [])) all ≡ Ok all =
-        ap (λ l. unless_wrong l all) (wrong_last wrong [] kept r) ∙ right_both (wrong_after wrong [] kept) (wrong kept r ++ []) all right (first_none (wrong kept r) w) in
-        kept_right wrong (kept ++ r ∷ []) rest ys all q more
-    by_fault (Some f) w q = kept_right wrong kept rest ys all q right
+    by_fault : (o : Option FeedFault) → first_wrong (wrong kept r) ≡ o → ((sift wrong (kept ++ r ∷ []) rest).end ≡ Ok ys → unless_wrong (wrong_after wrong [] (kept ++ r ∷ [])) all ≡ Ok all → unless_wrong (wrong_after wrong [] ys) all ≡ Ok all)
+        → ((sift wrong kept rest).end ≡ Ok ys → unless_wrong (wrong_after wrong [] ys) all ≡ Ok all) → (keep_unless o (sift wrong (kept ++ r ∷ []) rest) (sift wrong kept rest)).end ≡ Ok ys → unless_wrong (wrong_after wrong [] ys) all ≡ Ok all
+    by_fault None w kept_on left_out q =
+        kept_on q (ap (λ l. unless_wrong l all) (wrong_last wrong [] kept r) ∙ right_both (wrong_after wrong [] kept) (wrong kept r ++ []) all right (first_none (wrong kept r) w))
+    by_fault (Some f) w kept_on left_out q = left_out q
 
 -- the rows that are kept are right beside one another
 pub sifted_right : {A : Type 0} (wrong : List A → A → List (Option FeedFault)) (rows ys : List A) → (sift wrong [] rows).end ≡ Ok ys → check_rows (λ _. wrong) ys ≡ Ok ys
@@ -48,8 +48,9 @@ sifted_right wrong rows ys e = kept_right wrong [] rows ys ys e refl
 -- a fault never ends it
 pub sift_never : {A : Type 0} (wrong : List A → A → List (Option FeedFault)) (kept rows : List A) → (ys : List A) × ((sift wrong kept rows).end ≡ Ok ys)
 sift_never wrong kept [] = (kept, refl)
-sift_never wrong kept (r ∷ rest) = by_fault (first_wrong (wrong kept r))
+sift_never {A} wrong kept (r ∷ rest) = by_fault (first_wrong (wrong kept r)) (sift_never wrong (kept ++ r ∷ []) rest) (sift_never wrong kept rest)
   where
-    by_fault : (o : Option FeedFault) → (ys : List _) × ((keep_unless o (sift wrong (kept ++ r ∷ []) rest) (sift wrong kept rest)).end ≡ Ok ys)
-    by_fault None = sift_never wrong (kept ++ r ∷ []) rest
-    by_fault (Some f) = sift_never wrong kept rest
+    by_fault : (o : Option FeedFault) → ((ys : List A) × ((sift wrong (kept ++ r ∷ []) rest).end ≡ Ok ys)) → ((ys : List A) × ((sift wrong kept rest).end ≡ Ok ys))
+        → (ys : List A) × ((keep_unless o (sift wrong (kept ++ r ∷ []) rest) (sift wrong kept rest)).end ≡ Ok ys)
+    by_fault None kept_on left_out = kept_on
+    by_fault (Some f) kept_on left_out = left_out

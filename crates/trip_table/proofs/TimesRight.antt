@@ -46,22 +46,22 @@ module _ (stops : List StopData) (trips : List TripData) (found : List TripFault
   clean : (earlier rows : List StopTime) → ((t : ℕ) → Bears t (twins earlier rows) → Bears t found) → All (λ r. wrong_names stops trips r ≡ None) rows
       → unless_wrong (wrong_after (wrong_time stops trips all) (filter (λ r. not (is_among found r)) earlier) (filter (λ r. not (is_among found r)) rows)) all ≡ Ok all
   clean earlier [] told good = refl
-  clean earlier (r ∷ rest) told good = by_twin (list_any (repeats r) earlier) refl (is_among found r) refl
+  clean earlier (r ∷ rest) told good =
+      by_twin (list_any (repeats r) earlier) refl (is_among found r) refl
+      (clean (earlier ++ r ∷ []) rest (λ t h. told t (bears_either t (twin_if (list_any (repeats r) earlier) r) (twins (earlier ++ r ∷ []) rest) h)) (All-tail (λ r. wrong_names stops trips r ≡ None) r rest good))
     where
-      later : unless_wrong (wrong_after (wrong_time stops trips all) (filter (λ r. not (is_among found r)) (earlier ++ r ∷ [])) (filter (λ r. not (is_among found r)) rest)) all ≡ Ok all
-      later = clean (earlier ++ r ∷ []) rest (λ t h. told t (bears_either t (twin_if (list_any (repeats r) earlier) r) (twins (earlier ++ r ∷ []) rest) h)) (All-tail (λ r. wrong_names stops trips r ≡ None) r rest good)
-
       grown : (a : Bool) → is_among found r ≡ a → filter (λ r. not (is_among found r)) (earlier ++ r ∷ []) ≡ filter (λ r. not (is_among found r)) earlier ++ cond (not a) (r ∷ []) []
       grown a e = filter-append (λ r. not (is_among found r)) earlier (r ∷ []) ∙ ap (λ b. filter (λ r. not (is_among found r)) earlier ++ cond (not b) (r ∷ []) []) e
 
       by_twin : (b : Bool) → list_any (repeats r) earlier ≡ b → (a : Bool) → is_among found r ≡ a
+          → unless_wrong (wrong_after (wrong_time stops trips all) (filter (λ r. not (is_among found r)) (earlier ++ r ∷ [])) (filter (λ r. not (is_among found r)) rest)) all ≡ Ok all
           → unless_wrong (wrong_after (wrong_time stops trips all) (filter (λ r. not (is_among found r)) earlier) (cond (not a) (r ∷ filter (λ r. not (is_among found r)) rest) (filter (λ r. not (is_among found r)) rest))) all ≡ Ok all
-      by_twin b e true q =
+      by_twin b e true q later =
           subst (λ l. unless_wrong (wrong_after (wrong_time stops trips all) l (filter (λ r. not (is_among found r)) rest)) all ≡ Ok all) (grown true q ∙ append-nil (filter (λ r. not (is_among found r)) earlier)) later
-      by_twin true e false q =
+      by_twin true e false q later =
           let bears : Bears r.trip_row found = told r.trip_row (bears_first r.trip_row (twin_if (list_any (repeats r) earlier) r) (twins (earlier ++ r ∷ []) rest) (twin_bears (list_any (repeats r) earlier) r e)) in
           absurd (let no : true ≡ false = sym bears ∙ q in cc)
-      by_twin false e false q =
+      by_twin false e false q later =
           let fresh = none_kept (repeats r) (λ r. not (is_among found r)) earlier e in
           let named = All-head (λ r. wrong_names stops trips r ≡ None) r rest good in
           let rest_right = subst (λ l. unless_wrong (wrong_after (wrong_time stops trips all) l (filter (λ r. not (is_among found r)) rest)) all ≡ Ok all) (grown false q) later in
@@ -75,38 +75,32 @@ apart_right stops trips rows good = clean stops trips (twins [] rows) (without_t
 -- a trip with whose times something is wrong bears a fault
 broken_bears : (rows : List StopTime) (a n t : ℕ) (f : FeedFault) → a ≤ t → t < a + n → first_wrong (wrong_trip_times (stop_times rows t)) ≡ Some f → Bears t (flat_map (broken_trip rows) (range_with_len a n))
 broken_bears rows a zero t f h k w = absurd (omega (arith, h, k))
-broken_bears rows a (suc n) t f h k w = by_test (a == t) refl
+broken_bears rows a (suc n) t f h k w = by_test (a == t) refl (λ more. broken_bears rows (a + 1) n t f more (omega (arith, k)) w)
   where
-    by_test : (b : Bool) → (a == t) ≡ b → Bears t (broken_trip rows a ++ flat_map (broken_trip rows) (range_with_len (a + 1) n))
-    by_test true e =
+    by_test : (b : Bool) → (a == t) ≡ b → (a + 1 ≤ t → Bears t (flat_map (broken_trip rows) (range_with_len (a + 1) n))) → Bears t (broken_trip rows a ++ flat_map (broken_trip rows) (range_with_len (a + 1) n))
+    by_test true e later =
         let same : a ≡ t = grind (arith, nat_tests, e) in
         let here : broken_trip rows a ≡ record { trip = a; fault = f } ∷ [] = ap (broken_by a) (ap (λ t. first_wrong (wrong_trip_times (stop_times rows t))) same ∙ w) in
         bears_first t (broken_trip rows a) (flat_map (broken_trip rows) (range_with_len (a + 1) n)) (ap (list_any (λ f. TripFault.trip f == t)) here ∙ or_left (a == t) false e)
-    by_test false e =
+    by_test false e later =
         let apart : a < t = grind (arith, nat_tests, e, h) in
-        bears_either t (broken_trip rows a) (flat_map (broken_trip rows) (range_with_len (a + 1) n)) (broken_bears rows (a + 1) n t f (omega (arith, apart)) (omega (arith, k)) w)
+        bears_either t (broken_trip rows a) (flat_map (broken_trip rows) (range_with_len (a + 1) n)) (later (omega (arith, apart)))
 
 -- the stop times of a trip, by whether it bears a fault
+left_by : (found : List TripFault) (t : ℕ) (b : Bool) (r : StopTime) (rest : List StopTime) (c : Bool) → (r.trip_row == t) ≡ c → (a : Bool) → (c ≡ true → a ≡ b) → filter (is_of_trip t) (without_trips found rest) ≡ cond b [] (filter (is_of_trip t) rest)
+    → filter (is_of_trip t) (cond (not a) (r ∷ without_trips found rest) (without_trips found rest)) ≡ cond b [] (cond c (r ∷ filter (is_of_trip t) rest) (filter (is_of_trip t) rest))
+left_by found t b r rest false e true same h = h
+left_by found t b r rest false e false same h = rw (e, h) refl
+left_by found t true r rest true e true same h = h
+left_by found t false r rest true e false same h = rw (e, h) refl
+left_by found t false r rest true e true same h = absurd (let no : true ≡ false = same refl in cc)
+left_by found t true r rest true e false same h = absurd (let no : false ≡ true = same refl in cc)
+
 trip_left : (found : List TripFault) (t : ℕ) (b : Bool) (rows : List StopTime) → list_any (λ f. TripFault.trip f == t) found ≡ b → filter (is_of_trip t) (without_trips found rows) ≡ cond b [] (filter (is_of_trip t) rows)
 trip_left found t true [] e = refl
 trip_left found t false [] e = refl
-trip_left found t b (r ∷ rest) e = by_trip (r.trip_row == t) refl (is_among found r) refl
-  where
-    by_trip : (c : Bool) → (r.trip_row == t) ≡ c → (a : Bool) → is_among found r ≡ a
-        → filter (is_of_trip t) (cond (not a) (r ∷ without_trips found rest) (without_trips found rest)) ≡ cond b [] (cond c (r ∷ filter (is_of_trip t) rest) (filter (is_of_trip t) rest))
-    by_trip false c true a = trip_left found t b rest e
-    by_trip false c false a = rw c (trip_left found t b rest e)
-    by_trip true c a q =
-        let same : r.trip_row ≡ t = grind (arith, nat_tests, c) in
-        let is : a ≡ b = sym q ∙ ap (λ n. list_any (λ f. TripFault.trip f == n) found) same ∙ e in
-        by_both a b is (trip_left found t b rest e)
-      where
-        by_both : (a b : Bool) → a ≡ b → filter (is_of_trip t) (without_trips found rest) ≡ cond b [] (filter (is_of_trip t) rest)
-            → filter (is_of_trip t) (cond (not a) (r ∷ without_trips found rest) (without_trips found rest)) ≡ cond b [] (r ∷ filter (is_of_trip t) rest)
-        by_both true true is h = h
-        by_both false false is h = rw (c, h) refl
-        by_both true false is h = absurd (cc)
-        by_both false true is h = absurd (cc)
+trip_left found t b (r ∷ rest) e =
+    left_by found t b r rest (r.trip_row == t) refl (is_among found r) (λ c. let same : r.trip_row ≡ t = grind (arith, nat_tests, c) in ap (λ n. list_any (λ f. TripFault.trip f == n) found) same ∙ e) (trip_left found t b rest e)
 
 right_trip : (rows : List StopTime) (n t : ℕ) → t < n → first_wrong (wrong_trip_times (stop_times (without_trips (broken_trips rows n) rows) t)) ≡ None
 right_trip rows n t h = by_bears (list_any (λ f. TripFault.trip f == t) (broken_trips rows n)) refl

@@ -16,6 +16,7 @@ use Rattle.gtfs_rows.specs.declared.fault.FeedFile.{FeedFile}
 use Rattle.gtfs_rows.specs.declared.fault.FeedFile.TheVariants as file
 use Rattle.gtfs_rows.specs.declared.fault.FeedFault.{FeedFault}
 use Rattle.gtfs_rows.specs.declared.fault.FeedFault.TheVariants as fault
+use Rattle.gtfs_rows.specs.declared.fault.Spot.{Spot}
 use Rattle.gtfs_rows.specs.declared.columns.frequencies.TheConstants as frequencies
 use Rattle.gtfs_rows.specs.declared.columns.stop_times.TheConstants as stop_times
 use Rattle.gtfs_rows.specs.declared.columns.stops.TheConstants as columns
@@ -324,3 +325,7 @@ IsLenientOf feed day options faults result =
     (IsTimetableOf feed day options result × IsUnborne true result × (faults ≡ []))
     ⊎ ((f : FeedFault) × IsTimetableOf feed day options (Err f) × (is_some (bearer f) ≡ true)
     × IsLeftOf feed day options [] faults result)
+
+-- no row bears a fault, or it is that of a start that moves a time of its trip beyond a day
+abbrev pub EndsLenient : FeedFault → Type 0
+EndsLenient f = (bearer f ≡ None) ⊎ ((spot : Spot) × (f ≡ fault.BeyondDay spot))

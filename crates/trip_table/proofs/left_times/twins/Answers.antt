@@ -1,4 +1,4 @@
-use Rattle.std.proofs.Common.{◌≡◌, ◌∷◌, ◌++◌, [], subst}
+use Rattle.std.proofs.Common.{rules, ◌≡◌, ◌∷◌, ◌++◌, [], subst}
 use Rattle.std.specs.List.{list_any}
 use Rattle.trip_table.specs.LeftFeed.{twins}
 use Rattle.trip_table.specs.References.{same_key}
@@ -17,7 +17,7 @@ loop-row-preserved c =
     record {
       keys = keys_more _ c.add.new.self _ _ _ _ next added;
       found = elim c.if-not-branch.branch [
-        | then-not-branch+in_ok-push w ↦ rw w.found-is (stands_twice _ _ _ _ _ (twins [] rows) c.loop-row.found.items w.push.new.self.items next ? c.loop-row.invariant.found (rw w.spot-spot.ensures at w.in_ok-push.ensures.items))
-        | else-not-branch w ↦ rw w.found-is (passes _ _ _ _ _ (twins [] rows) c.loop-row.found.items next ? c.loop-row.invariant.found)
+        | then-not-branch+in_ok-push w ↦ rw w.found-is (stands_twice _ _ _ _ _ (twins [] rows) c.loop-row.found.items w.push.new.self.items next (search rules) c.loop-row.invariant.found (rw w.spot-spot.ensures at w.in_ok-push.ensures.items))
+        | else-not-branch w ↦ rw w.found-is (passes _ _ _ _ _ (twins [] rows) c.loop-row.found.items next (search rules) c.loop-row.invariant.found)
       ];
     }
