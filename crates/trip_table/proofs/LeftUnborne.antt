@@ -1,12 +1,14 @@
 -- No row bears a fault that ends a look at what is left.
-use Rattle.std.proofs.Common.{◌≡◌, ◌∙◌, refl, sym, ap, subst, ℕ, List, [], ◌∷◌, ◌++◌, length, map, Option, Some, None}
-use Rattle.std.specs.Prelude.{Result, Ok, Err, All, filter, not, unwrap_or}
-use Rattle.std.proofs.lemmas.List.Elements.{All-filter}
+use Rattle.std.proofs.Common.{◌≡◌, ◌∙◌, refl, sym, ap, subst, ℕ, List, [], ◌∷◌, ◌++◌, length, map, Bool, true, false, Option, Some, None, arith}
+use Rattle.std.specs.Prelude.{Result, Ok, Err, All, filter, not, nat_le, nat_lt, unwrap_or, if◌then◌else◌}
+use Rattle.std.proofs.lemmas.Bool.Decides.{nat_tests}
+use Rattle.std.proofs.lemmas.List.Elements.{All-filter, All-head, All-nil, All-tail}
 use Rattle.gtfs_rows.specs.CalendarFile.{calendar_row}
 use Rattle.gtfs_rows.specs.DatesFile.{date_row}
 use Rattle.gtfs_rows.specs.Faults.{check_rows, unless_wrong}
 use Rattle.gtfs_rows.specs.LeftOut.{bearer}
-use Rattle.gtfs_rows.specs.RawRows.{RawRow, typed_rows}
+use Rattle.gtfs_rows.specs.FrequenciesFile.{FrequencyData, frequency_row}
+use Rattle.gtfs_rows.specs.RawRows.{RawRow, cell, typed_rows}
 use Rattle.gtfs_rows.specs.Steps.{and_then}
 use Rattle.gtfs_rows.specs.StopsFile.{StopData, stop_row}
 use Rattle.gtfs_rows.specs.TransfersFile.{TransferData, transfer_row}
@@ -19,13 +21,16 @@ use Rattle.footpaths.specs.Links.{check_transfers, wrong_transfer}
 use Rattle.footpaths.specs.Stops.{check_stops, stop_id}
 use Rattle.service_trips.specs.Broken.{broken_trips}
 use Rattle.service_trips.specs.TimeFaults.{wrong_trips}
+use Rattle.gtfs_rows.specs.declared.columns.frequencies.TheConstants as frequencies
 use Rattle.service_trips.specs.declared.broken.TripFault.{TripFault}
+use Rattle.service_trips.specs.declared.frequency.TripFrequency.{TripFrequency}
 use Rattle.service_trips.specs.declared.stop_time.StopTime.{StopTime}
 use Rattle.trip_table.specs.Feed.{or_missing, rows_in}
-use Rattle.trip_table.specs.LeftFeed.{apart_times, bad, bad_time, duplicate_stop, fault_of, good, good_time, is_among, leave_orphans, leave_trips, left_after_rows, left_data, left_frequencies, left_frequency, left_rows, left_services, left_stops, left_times, left_transfers, left_trips, named_frequency, or_nothing, sieve_file, sift, sift_found, tell_found, text_at, timed_rows, times_in, twins, without_trips}
-use Rattle.trip_table.specs.References.{check_services, duplicate_service, duplicate_trip, service_id, trip_id, wrong_names, wrong_time, wrong_trip, wrong_twice}
+use Rattle.trip_table.specs.LeftFeed.{apart_times, bad, bad_time, duplicate_stop, fault_of, good, good_time, is_among, leave_orphans, leave_trips, left_after_rows, left_data, left_frequencies, left_frequency, left_rows, left_services, left_stops, left_times, left_transfers, left_trips, name_row, named_frequency, no_starts, or_no_starts, or_nothing, sieve_file, sift, sift_found, tell_found, text_at, timed_rows, times_in, twins, without_trips}
+use Rattle.trip_table.specs.References.{check_named, check_services, duplicate_service, duplicate_trip, numbered_frequency, service_id, trip_id, trip_number, unknown_trip, wrong_names, wrong_time, wrong_trip, wrong_twice}
 use Rattle.trip_table.specs.Sieves.{Sieved, after, and_look, ended, look_on, silent}
 use Rattle.trip_table.proofs.LeftRowFacts.{names_there}
+use Rattle.trip_table.proofs.RowFacts.{rows_all}
 use Rattle.trip_table.proofs.SiftedRight.{sift_never, sifted_right}
 use Rattle.trip_table.proofs.StopsRight.{left_right, orphans_never}
 use Rattle.trip_table.proofs.TimesRight.{apart_right, times_right}
@@ -164,11 +169,57 @@ transfers_right stops text kept e =
     let a = look_gives (sieve_file file.Transfers transfer_row text) _ kept e in
     sifted_right (wrong_transfer stops []) (unwrap_or a.0 []) kept a.2
 
+-- rows of frequencies.txt that are left name trips that are there
+named_by : (trips : List trip.TripData) (f x : FrequencyData) (o : Option FeedFault) → unknown_trip trips (numbered_frequency trips f) ≡ o → unless_wrong (o ∷ []) (Some f) ≡ Ok (Some x) → unknown_trip trips (numbered_frequency trips x) ≡ None
+named_by trips f x None is e = let same : f ≡ x = cc in subst (λ f. unknown_trip trips (numbered_frequency trips f) ≡ None) same is
+named_by trips f x (Some g) is e = absurd (cc)
+
+row_named : (trips : List trip.TripData) (o : Option FrequencyData) (x : FrequencyData) → name_row trips o ≡ Ok (Some x) → unknown_trip trips (numbered_frequency trips x) ≡ None
+row_named trips None x e = absurd (cc)
+row_named trips (Some f) x e = named_by trips f x (unknown_trip trips (numbered_frequency trips f)) refl e
+
+read_named : (trips : List trip.TripData) (m : Result (Option FrequencyData) FeedFault) (x : FrequencyData) → and_then m (name_row trips) ≡ Ok (Some x) → unknown_trip trips (numbered_frequency trips x) ≡ None
+read_named trips (Ok o) x e = row_named trips o x e
+read_named trips (Err f) x e = absurd (cc)
+
+known_if : (trips : List trip.TripData) (row : ℕ) (id : List ℕ) (b : Bool) (x : FrequencyData) → nat_lt (trip_number trips id) (length trips) ≡ b → (let o : Option FrequencyData = if b then Some (record { row = row; trip = id; start = 0; end = 0; headway = 1 }) else None in o) ≡ Some x
+    → unknown_trip trips (numbered_frequency trips x) ≡ None
+known_if trips row id false x is e = absurd (cc)
+known_if trips row id true x is e =
+    let below : nat_le (length trips) (trip_number trips id) ≡ false = grind (arith, nat_tests, is) in
+    let same : record { row = row; trip = id; start = 0; end = 0; headway = 1 } ≡ x = cc in
+    subst (λ (f : FrequencyData). unknown_trip trips (numbered_frequency trips f) ≡ None) same (rw below refl)
+
+left_named : (trips : List trip.TripData) (raw : RawRow) (x : FrequencyData) → left_frequency trips raw ≡ Ok (Some x) → unknown_trip trips (numbered_frequency trips x) ≡ None
+left_named trips raw x e = by_row (named_frequency trips raw) refl (let here : or_no_starts (no_starts trips raw.row (cell raw frequencies.TRIP_ID)) (named_frequency trips raw) ≡ Some x = cc in here)
+  where
+    by_row : (r : Result (Option FrequencyData) FeedFault) → named_frequency trips raw ≡ r → or_no_starts (no_starts trips raw.row (cell raw frequencies.TRIP_ID)) r ≡ Some x → unknown_trip trips (numbered_frequency trips x) ≡ None
+    by_row (Ok o) is q = read_named trips (frequency_row raw) x (is ∙ ap Ok q)
+    by_row (Err f) is q = known_if trips raw.row (cell raw frequencies.TRIP_ID) (nat_lt (trip_number trips (cell raw frequencies.TRIP_ID)) (length trips)) x refl q
+
+all_known : (trips : List trip.TripData) (rows : List FrequencyData) (x : List TripFrequency) → All (λ f. unknown_trip trips (numbered_frequency trips f) ≡ None) rows → unless_wrong (map (unknown_trip trips) (map (numbered_frequency trips) rows)) x ≡ Ok x
+all_known trips [] x h = refl
+all_known trips (r ∷ rest) x h = rw (All-head (λ f. unknown_trip trips (numbered_frequency trips f) ≡ None) r rest h) (all_known trips rest x (All-tail (λ f. unknown_trip trips (numbered_frequency trips f) ≡ None) r rest h))
+
+found_known : (trips : List trip.TripData) (text : Option (List ℕ)) (found : Option (List FrequencyData)) → rows_in file.Frequencies (left_frequency trips) text ≡ Ok found → All (λ f. unknown_trip trips (numbered_frequency trips f) ≡ None) (unwrap_or found [])
+found_known trips None found e = let same : None ≡ found = cc in subst (λ (o : Option (List FrequencyData)). All (λ f. unknown_trip trips (numbered_frequency trips f) ≡ None) (unwrap_or o [])) same (All-nil (λ f. unknown_trip trips (numbered_frequency trips f) ≡ None))
+found_known trips (Some bytes) found e = by_rows (typed_rows file.Frequencies (left_frequency trips) bytes) refl e
+  where
+    by_rows : (m : Result (List FrequencyData) FeedFault) → typed_rows file.Frequencies (left_frequency trips) bytes ≡ m → and_then m (λ rows. Ok (Some rows)) ≡ Ok found → All (λ f. unknown_trip trips (numbered_frequency trips f) ≡ None) (unwrap_or found [])
+    by_rows (Err f) is q = absurd (cc)
+    by_rows (Ok rows) is q =
+        let same : Some rows ≡ found = cc in
+        subst (λ (o : Option (List FrequencyData)). All (λ f. unknown_trip trips (numbered_frequency trips f) ≡ None) (unwrap_or o [])) same
+        (rows_all (λ f. unknown_trip trips (numbered_frequency trips f) ≡ None) file.Frequencies (left_frequency trips) (λ raw x h. left_named trips raw x h) bytes rows is)
+
 pub frequencies_unborne : (trips : List trip.TripData) (text : Option (List ℕ)) → Unborne (left_frequencies trips text)
 frequencies_unborne trips text =
     tells (rows_in file.Frequencies (bad (named_frequency trips)) text) _ (λ f e. rows_unborne file.Frequencies (λ raw. fault_of (named_frequency trips raw)) text f e)
     (λ f e.
-    either (rows_in file.Frequencies (left_frequency trips) text) (λ rows. Ok (unwrap_or rows [])) f (λ g q. rows_unborne file.Frequencies _ text g q) (λ rows is g q. given (Ok (unwrap_or rows [])) (unwrap_or rows []) refl g q) e)
+    either (rows_in file.Frequencies (left_frequency trips) text) _ f (λ g q. rows_unborne file.Frequencies (λ raw. or_no_starts (no_starts trips raw.row (cell raw frequencies.TRIP_ID)) (named_frequency trips raw)) text g q)
+    (λ found is g q.
+    let rows = map (numbered_frequency trips) (unwrap_or found []) in
+    given (check_named trips rows) rows (all_known trips (unwrap_or found []) rows (found_known trips text found is)) g q) e)
 
 rows_unborne_of : (texts : List (Option (List ℕ))) → Unborne (left_rows texts)
 rows_unborne_of texts =

@@ -29,7 +29,7 @@ use Rattle.service_trips.specs.declared.stop_time.StopTime.{StopTime}
 use Rattle.service_trips.specs.Broken.{broken_trips}
 use Rattle.service_trips.specs.Faults.{first_wrong}
 use Rattle.trip_table.specs.Feed.{Feed, sized, rows_in, or_missing}
-use Rattle.trip_table.specs.References.{Rows, ServiceData, service_id, duplicate_service, duplicate_trip, trip_id, wrong_twice, wrong_trip, trip_number, numbered_row, wrong_names, wrong_time, repeats, check_services, numbered_frequency, unknown_trip}
+use Rattle.trip_table.specs.References.{Rows, ServiceData, service_id, duplicate_service, duplicate_trip, trip_id, wrong_twice, wrong_trip, trip_number, numbered_row, wrong_names, wrong_time, repeats, check_services, numbered_frequency, check_named, unknown_trip}
 use Rattle.trip_table.specs.Day.{DayParts, IsTimetableOf, IsTimetableOfParts, Then, given_footpaths, parts_on}
 use Rattle.trip_table.specs.Sieves.{Sieved, ended, silent, after, and_look}
 
@@ -235,34 +235,30 @@ left_transfers stops text =
     and_look (sieve_file file.Transfers transfer_row text) (λ found.
     sift (wrong_transfer stops []) [] (unwrap_or found []))
 
--- a row of frequencies.txt by the number of its trip, which has to be there
-abbrev pub name_found : List trip.TripData → TripFrequency → Result (Option TripFrequency) FeedFault
-name_found trips f = unless_wrong (unknown_trip trips f ∷ []) (Some f)
-
+-- a row of frequencies.txt whose trip has to be there
 abbrev pub name_row : List trip.TripData → Option FrequencyData →
-    Result (Option TripFrequency) FeedFault
+    Result (Option FrequencyData) FeedFault
 name_row trips None = Ok None
-name_row trips (Some f) = name_found trips (numbered_frequency trips f)
+name_row trips (Some f) = unless_wrong (unknown_trip trips (numbered_frequency trips f) ∷ []) (Some f)
 
-abbrev pub named_frequency : List trip.TripData → RawRow → Result (Option TripFrequency) FeedFault
+abbrev pub named_frequency : List trip.TripData → RawRow → Result (Option FrequencyData) FeedFault
 named_frequency trips raw = and_then (frequency_row raw) (name_row trips)
 
 -- a row that gives no start, of a trip that is there
-abbrev pub no_starts : ℕ → ℕ → ℕ → Option TripFrequency
-no_starts trips row trip =
-    if nat_lt trip trips
-    then Some (record { row = row; trip_row = trip; start = 0; end = 0; headway = 1 }) else None
+abbrev pub no_starts : List trip.TripData → ℕ → List ℕ → Option FrequencyData
+no_starts trips row id =
+    if nat_lt (trip_number trips id) (length trips)
+    then Some (record { row = row; trip = id; start = 0; end = 0; headway = 1 }) else None
 
 -- a bad row gives no start: its trip starts only by its good rows, and not at its own times
-abbrev pub or_no_starts : Option TripFrequency → Result (Option TripFrequency) FeedFault →
-    Option TripFrequency
+abbrev pub or_no_starts : Option FrequencyData → Result (Option FrequencyData) FeedFault →
+    Option FrequencyData
 or_no_starts other (Ok row) = row
 or_no_starts other (Err f) = other
 
-abbrev pub left_frequency : List trip.TripData → RawRow → Result (Option TripFrequency) FeedFault
+abbrev pub left_frequency : List trip.TripData → RawRow → Result (Option FrequencyData) FeedFault
 left_frequency trips raw =
-    Ok (or_no_starts
-    (no_starts (length trips) raw.row (trip_number trips (cell raw frequencies.TRIP_ID)))
+    Ok (or_no_starts (no_starts trips raw.row (cell raw frequencies.TRIP_ID))
     (named_frequency trips raw))
 
 -- frequencies.txt: bad rows, and rows that name a trip that isn't there
@@ -270,7 +266,7 @@ abbrev pub left_frequencies : List trip.TripData → Option (List ℕ) → Sieve
 left_frequencies trips text =
     tell_found (rows_in file.Frequencies (bad (named_frequency trips)) text)
     (and_then (rows_in file.Frequencies (left_frequency trips) text) (λ rows.
-    Ok (unwrap_or rows [])))
+    check_named trips (map (numbered_frequency trips) (unwrap_or rows []))))
 
 -- what is left of the files of a feed
 pub record LeftData : Type 0 where

@@ -37,8 +37,8 @@ fn frequency_rows_of<F: Folder>(
     }
 }
 
-/// A row by the number of its trip.
-pub fn numbered(trips: &TripRowTable, row: &FrequencyRow) -> TripFrequency
+// A row by the number of its trip.
+fn numbered(trips: &TripRowTable, row: &FrequencyRow) -> TripFrequency
     ensures numbered { result ≡ numbered_frequency trips.now row.now }
     ensures good { IsGoodFrequency result }
 {
@@ -85,8 +85,8 @@ fn name_fault(trips: &TripRowTable, rows: &[TripFrequency]) -> Option<FeedFault>
     None
 }
 
-// The rows with a look-up by trip, or the first row that names no row of trips.txt.
-fn table_of(
+/// The rows with a look-up by trip, or the first row that names no row of trips.txt.
+pub fn table_of(
     alloc: Global,
     trips: &TripRowTable,
     rows: Vec<FrequencyRow>,

@@ -1,53 +1,53 @@
 //! What is left of frequencies.txt where bad rows give no start.
-ghost use Rattle.std.specs.Prelude.{◌≡◌, ◌≤◌, [], Err, IfOk, IfSome, MatchResult, Ok, Some, length, option_map, unwrap_or};
+ghost use Rattle.std.specs.Prelude.{◌≡◌, ◌≤◌, [], Err, IfOk, IfSome, MatchResult, Ok, Some, length, map, option_map, unwrap_or};
 ghost use Rattle.gtfs_rows.specs.Refused.{IsRefused, Yields};
 ghost use Rattle.gtfs_rows.specs.Steps.{and_then};
 ghost use Rattle.gtfs_rows.specs.declared.fault.FeedFile.TheVariants as file;
 ghost use Rattle.trip_table.specs.Feed.{rows_in};
-ghost use Rattle.trip_table.specs.LeftFeed.{bad, left_frequencies, left_frequency, name_found, named_frequency, no_starts};
-ghost use Rattle.trip_table.specs.References.{numbered_frequency};
+ghost use Rattle.trip_table.specs.LeftFeed.{bad, left_frequencies, left_frequency, name_row, named_frequency, no_starts};
+ghost use Rattle.trip_table.specs.References.{check_named, numbered_frequency};
 ghost use Rattle.trip_table.specs.Sieves.{Sieves};
 
 use crate::feed::spot;
-use crate::frequencies::numbered;
+use crate::frequencies::table_of;
 use crate::sieve::tell_all;
 use crate::trips::TripRowTable;
 use gtfs_rows::columns::frequencies;
 use gtfs_rows::{
-    FeedFault, FeedFile, FrequencyReader, FrequencyRow, RowCursor, RowReader, RowsFault, typed_rows,
+    FeedFault, FeedFile, FrequencyReader, FrequencyRow, Name, RowCursor, RowReader, RowsFault,
+    typed_rows,
 };
-use service_trips::{FrequencyTable, TripFrequency};
+use service_trips::FrequencyTable;
 use std::alloc::Global;
+use tb_base::Memory;
 
-// A row by the number of its trip, which has to be there.
-fn name_found(trips: &TripRowTable, row: &FrequencyRow) -> Result<TripFrequency, FeedFault>
-    ensures { MatchResult result
-        (λ f. name_found trips.now (numbered_frequency trips.now row.now) ≡ Ok (Some f))
-        (λ f. name_found trips.now (numbered_frequency trips.now row.now) ≡ Err f) }
+// A row whose trip has to be there.
+fn name_row(trips: &TripRowTable, row: FrequencyRow) -> Result<FrequencyRow, FeedFault>
+    ensures { MatchResult result (λ f. name_row trips.now (Some row) ≡ Ok (Some f))
+        (λ f. name_row trips.now (Some row) ≡ Err f) }
 {
-    let found = numbered(trips, row);
-    if found.trip_row as usize >= trips.rows().len() {
+    if trips.number(row.trip.bytes()) as usize >= trips.rows().len() {
         return Err(FeedFault::UnknownTrip(spot(
             FeedFile::Frequencies,
             row.row,
             frequencies::TRIP_ID,
         )));
     }
-    Ok(found)
+    Ok(row)
 }
 
-// What the row at hand gives, by the number of its trip.
+// What the row at hand gives, whose trip has to be there.
 fn named(
     alloc: Global,
     trips: &TripRowTable,
     cursor: &RowCursor,
-) -> Result<Option<TripFrequency>, RowsFault>
+) -> Result<Option<FrequencyRow>, RowsFault>
     ensures { Yields IsRefused result (λ x. x)
         (named_frequency trips.now cursor.now.current) }
 {
     match FrequencyReader.read(alloc, cursor) {
         Ok(None) => Ok(None),
-        Ok(Some(row)) => match name_found(trips, &row) {
+        Ok(Some(row)) => match name_row(trips, row) {
             Ok(found) => Ok(Some(found)),
             Err(fault) => Err(RowsFault::Feed(fault)),
         },
@@ -56,19 +56,25 @@ fn named(
 }
 
 // A row of a trip that gives no start, where the trip is there.
-fn no_starts(trips: &TripRowTable, row: u32, trip: u32) -> Option<TripFrequency>
-    ensures { result ≡ no_starts (length trips.now) row trip }
+fn no_starts(
+    alloc: Global,
+    trips: &TripRowTable,
+    row: u32,
+    id: &[u8],
+) -> Result<Option<FrequencyRow>, Memory>
+    ensures { IfOk result (λ found. found ≡ no_starts trips.now row id.now) }
 {
-    if trip as usize >= trips.rows().len() {
-        return None;
+    if trips.number(id) as usize >= trips.rows().len() {
+        return Ok(None);
     }
-    Some(TripFrequency {
+    let trip = Name::new(alloc, id)?;
+    Ok(Some(FrequencyRow {
         row,
-        trip_row: trip,
+        trip,
         start: 0,
         end: 0,
         headway: 1,
-    })
+    }))
 }
 
 // Reads what is wrong with the bad rows of frequencies.txt.
@@ -100,14 +106,14 @@ impl RowReader for BadFrequencies<'_> {
     }
 }
 
-// Reads the rows of frequencies.txt by the numbers of their trips. A bad one gives no start.
+// Reads the rows of frequencies.txt. A bad one of a trip that is there gives no start.
 #[derive(Drop)]
 struct LeftFrequencies<'a> {
     trips: &'a TripRowTable,
 }
 
 impl RowReader for LeftFrequencies<'_> {
-    type Row = TripFrequency;
+    type Row = FrequencyRow;
 
     ghost use Rattle.gtfs_rows.specs.declared.fault.FeedFile.TheVariants as file;
     ghost use Rattle.trip_table.specs.LeftFeed.{left_frequency};
@@ -120,12 +126,12 @@ impl RowReader for LeftFrequencies<'_> {
         FeedFile::Frequencies
     }
 
-    fn read(&self, alloc: Global, cursor: &RowCursor) -> Result<Option<TripFrequency>, RowsFault> {
+    fn read(&self, alloc: Global, cursor: &RowCursor) -> Result<Option<FrequencyRow>, RowsFault> {
         match named(alloc, self.trips, cursor) {
             Ok(row) => Ok(row),
             Err(RowsFault::Feed(_)) => {
-                let trip = self.trips.number(cursor.cell(frequencies::TRIP_ID));
-                Ok(no_starts(self.trips, cursor.row(), trip))
+                let id = cursor.cell(frequencies::TRIP_ID);
+                Ok(no_starts(alloc, self.trips, cursor.row(), id)?)
             }
             Err(RowsFault::Memory) => Err(RowsFault::Memory),
         }
@@ -141,8 +147,9 @@ fn left_table(
     requires { IfSome text (λ bytes. length bytes.now ≤ 1_073_741_824) }
     ensures rows { Yields IsRefused result (λ table. table.rows)
         (and_then
-        (rows_in file.Frequencies (left_frequency trips.now) (option_map (λ bytes. bytes.now) text.entry))
-        (λ rows. Ok (unwrap_or rows []))) }
+        (rows_in file.Frequencies (left_frequency trips.now)
+        (option_map (λ bytes. bytes.now) text.entry))
+        (λ rows. check_named trips.now (map (numbered_frequency trips.now) (unwrap_or rows [])))) }
     ensures trips { IfOk result (λ table. table.trips ≡ length trips.now) }
 {
     let rows = match text {
@@ -152,8 +159,7 @@ fn left_table(
         },
         None => Vec::new(alloc),
     };
-    let table = FrequencyTable::new(alloc, rows, trips.rows().len())?;
-    Ok(table)
+    table_of(alloc, trips, rows)
 }
 
 // What is wrong with the bad rows.

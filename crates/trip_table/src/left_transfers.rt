@@ -52,22 +52,24 @@ fn transfer_fault(
 }
 
 // The rows that are kept, each beside those that were kept before it; what is wrong with the others
-// is told.
+// is told. The ids are those of the stops.
 fn sifted(
     alloc: Global,
     stops: &StopTable,
+    ids: &NameIndex,
     rows: Vec<TransferRow>,
     told: &mut Vec<FeedFault>,
 ) -> Result<Vec<TransferRow>, Memory>
+    requires ids { AreIdsOf ids.now stops.now }
+    requires few { length ids.now ≤ 100000 }
     ensures { IfOk result (λ kept.
         after told.old.items (sift (wrong_transfer stops.now []) [] rows.items)
         ≡ ended told.new.items (Ok kept.items)) }
 {
-    let ids = known_ids(alloc, stops.key(), stops.rows())?;
     let mut seen = SeenKeys::new(alloc);
     let mut kept: Vec<TransferRow> = Vec::new(alloc);
     for row in rows {
-        match transfer_fault(&ids, &mut seen, &row)? {
+        match transfer_fault(ids, &mut seen, &row)? {
             None => kept.push(row)?,
             Some(fault) => told.push(fault)?,
         }
@@ -92,6 +94,8 @@ pub fn left_transfers(
         Ok(None) => Vec::new(alloc),
         Err(fault) => return Err(fault),
     };
-    let kept = sifted(alloc, stops, rows, told)?;
+    stops.soundness();
+    let ids = known_ids(alloc, stops.key(), stops.rows())?;
+    let kept = sifted(alloc, stops, &ids, rows, told)?;
     Ok(kept)
 }
