@@ -122,7 +122,7 @@ module _ (ids : List (List ℕ)) (stops : List StopData) (are : AreIdsOf ids sto
   }
     where
       same_is : (p q : SequenceKey) → same_key p q ≡ true → p ≡ q
-      same_is p q t = let both = and_parts _ _ t in let a : p.trip_row ≡ q.trip_row = grind (arith, nat_tests, both) in let b : p.sequence ≡ q.sequence = grind (arith, nat_tests, both) in rw (a, b) refl
+      same_is p q t = let both = and_parts (p.trip_row == q.trip_row) (p.sequence == q.sequence) t in let a : p.trip_row ≡ q.trip_row = grind (arith, nat_tests, both) in let b : p.sequence ≡ q.sequence = grind (arith, nat_tests, both) in rw (a, b) refl
 
       absorb_by : (a b : Bool) → (b ≡ true → a ≡ true) → (a || (b || false)) ≡ a
       absorb_by true b f = refl

@@ -21,7 +21,7 @@ use Rattle.trip_table.specs.LeftFeed.{is_among, twin_if, twins, without_trips}
 use Rattle.trip_table.specs.References.{repeats, wrong_names, wrong_time}
 
 -- a trip bears a fault
-Bears : ℕ → List TripFault → Type 0
+abbrev Bears : ℕ → List TripFault → Type 0
 Bears t found = list_any (λ f. TripFault.trip f == t) found ≡ true
 
 or_left : (a b : Bool) → a ≡ true → (a || b) ≡ true
