@@ -66,6 +66,9 @@ position_there ids id k e = (sym (found (bytes_eq id) ids) ∙ ap is_some (sym e
 position_none : (ids : List (List ℕ)) (id : List ℕ) → None ≡ position (bytes_eq id) ids → list_any (bytes_eq id) ids ≡ false
 position_none ids id e = sym (found (bytes_eq id) ids) ∙ ap is_some (sym e)
 
+same_record : (a b c d : ℕ) → a ≡ c → b ≡ d → (let k : SequenceKey = record { trip_row = a; sequence = b } in k) ≡ record { trip_row = c; sequence = d }
+same_record a b c d e f = rw (e, f) refl
+
 module _ (ids : List (List ℕ)) (stops : List StopData) (are : AreIdsOf ids stops) (kept : List TransferData) (r : TransferData) where
   -- its first end isn't there
   pub no_origin : None ≡ position (bytes_eq r.from) ids → Some (fault.UnknownStop (spot file.Transfers r.row transfers.FROM_STOP_ID)) ≡ first_wrong (wrong_transfer stops [] kept r)
@@ -122,7 +125,7 @@ module _ (ids : List (List ℕ)) (stops : List StopData) (are : AreIdsOf ids sto
   }
     where
       same_is : (p q : SequenceKey) → same_key p q ≡ true → p ≡ q
-      same_is p q t = let both = and_parts (p.trip_row == q.trip_row) (p.sequence == q.sequence) t in let a : p.trip_row ≡ q.trip_row = grind (arith, nat_tests, both) in let b : p.sequence ≡ q.sequence = grind (arith, nat_tests, both) in rw (a, b) refl
+      same_is p q t = let both = and_parts (p.trip_row == q.trip_row) (p.sequence == q.sequence) t in let a : p.trip_row ≡ q.trip_row = grind (arith, nat_tests, both) in let b : p.sequence ≡ q.sequence = grind (arith, nat_tests, both) in same_record p.trip_row p.sequence q.trip_row q.sequence a b
 
       absorb_by : (a b : Bool) → (b ≡ true → a ≡ true) → (a || (b || false)) ≡ a
       absorb_by true b f = refl

@@ -15,7 +15,7 @@ use Rattle.gtfs_rows.specs.declared.fault.FeedFault.{FeedFault}
 use Rattle.gtfs_rows.specs.declared.fault.FeedFault.TheVariants as fault
 use Rattle.gtfs_rows.specs.declared.fault.Spot.{Spot}
 use Rattle.gtfs_rows.specs.TransfersFile.{TransferData}
-use Rattle.footpaths.specs.Footpaths.{check_count, path_total, paths_of, changes}
+use Rattle.footpaths.specs.Footpaths.{check_count}
 use Rattle.footpaths.specs.Links.{check_transfers}
 use Rattle.footpaths.specs.declared.law.LawFault.{LawFault}
 use Rattle.footpaths.specs.declared.law.LawFault.TheVariants as law
@@ -46,7 +46,7 @@ never_ends x f e = absurd (cc)
 -- a step or the next one ends it
 either : {A B : Type 0} (m : Result A FeedFault) (next : A → Result B FeedFault) (f : FeedFault) → ((g : FeedFault) → m ≡ Err g → EndsLenient g) → ((x : A) → m ≡ Ok x → (g : FeedFault) → next x ≡ Err g → EndsLenient g) → and_then m next ≡ Err f → EndsLenient f
 either (Ok x) next f first second e = second x refl f e
-either {A} {B} (Err g) next f first second e = ends_by {B} g f (first g refl) e
+either {A} {B} (Err g) next f first second e = ends_by {A = B} g f (first g refl) e
 
 good_step : {A : Type 0} (m : Result A FeedFault) (x : A) → m ≡ Ok x → (f : FeedFault) → m ≡ Err f → EndsLenient f
 good_step (Ok y) x is f e = absurd (cc)
@@ -56,7 +56,7 @@ good_step (Err g) x is f e = absurd (cc)
 wrong_ends : {A : Type 0} (wrong : List (Option FeedFault)) (x : A) (f : FeedFault) → All (λ o. (g : FeedFault) → o ≡ Some g → EndsLenient g) wrong → unless_wrong wrong x ≡ Err f → EndsLenient f
 wrong_ends [] x f h e = never_ends x f e
 wrong_ends (None ∷ rest) x f h e = wrong_ends rest x f (All-tail _ None rest h) e
-wrong_ends {A} (Some g ∷ rest) x f h e = ends_by {A} g f (All-head _ (Some g) rest h g refl) e
+wrong_ends {A} (Some g ∷ rest) x f h e = ends_by {A = A} g f (All-head _ (Some g) rest h g refl) e
 
 unborne_if : (b : Bool) (f g : FeedFault) → bearer f ≡ None → fault_if b f ≡ Some g → EndsLenient g
 unborne_if true f g none e = let same : f ≡ g = cc in inl (ap bearer (sym same) ∙ none)

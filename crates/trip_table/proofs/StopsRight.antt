@@ -39,7 +39,6 @@ apart_kept p earlier (r ∷ rest) h = by_test (p r) refl (apart_kept p (earlier 
     last b e = filter-append p earlier (r ∷ []) ∙ ap (λ b. filter p earlier ++ cond b (r ∷ []) []) e
 
     by_test : (b : Bool) → p r ≡ b → IsApart (filter p (earlier ++ r ∷ [])) (filter p rest) → IsApart (filter p earlier) (cond b (r ∷ filter p rest) (filter p rest))
-    unfolding IsApart
     by_test true e later = (none_kept (has_stop_id r.id) p earlier h.0, subst (λ l. IsApart l (filter p rest)) (last true e) later)
     by_test false e later = subst (λ l. IsApart l (filter p rest)) (last false e ∙ append-nil (filter p earlier)) later
 

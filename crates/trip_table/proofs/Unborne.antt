@@ -21,7 +21,7 @@ is_unborne g f none e = ap bearer (sym (one_fault g f e)) ∙ none
 -- a step or the next one ends it
 pub either : {A B : Type 0} (m : Result A FeedFault) (next : A → Result B FeedFault) (f : FeedFault) → ((g : FeedFault) → m ≡ Err g → bearer g ≡ None) → ((x : A) → m ≡ Ok x → (g : FeedFault) → next x ≡ Err g → bearer g ≡ None) → and_then m next ≡ Err f → bearer f ≡ None
 either (Ok x) next f first second e = second x refl f e
-either {A} {B} (Err g) next f first second e = is_unborne {B} g f (first g refl) e
+either {A} {B} (Err g) next f first second e = is_unborne {A = B} g f (first g refl) e
 
 prepend_err : {A : Type 0} (xs : List A) (rest : Result (List A) FeedFault) (f : FeedFault) → prepend xs rest ≡ Err f → rest ≡ Err f
 prepend_err xs (Ok ys) f e = absurd (cc)
@@ -29,16 +29,16 @@ prepend_err xs (Err g) f e = e
 
 shape_unborne : {A : Type 0} (file : FeedFile) (read : RawRow → Option A) (room : ℕ) (rows : List RawRow) (f : FeedFault) → shape file (λ raw. Ok (read raw)) room rows ≡ Err f → bearer f ≡ None
 shape_unborne file read room [] f e = absurd (cc)
-shape_unborne {A} file read zero (raw ∷ rest) f e = is_unborne {List A} (fault.TooMany (rows_of_file file) raw.row) f refl e
+shape_unborne {A} file read zero (raw ∷ rest) f e = is_unborne {A = List A} (fault.TooMany (rows_of_file file) raw.row) f refl e
 shape_unborne file read (suc room) (raw ∷ rest) f e = shape_unborne file read room rest f (prepend_err (option_to_list (read raw)) (shape file (λ raw. Ok (read raw)) room rest) f e)
 
 utf8_unborne : (file : FeedFile) (bytes : List ℕ) (b : Bool) (f : FeedFault) → (let r : Result (List ℕ) FeedFault = if b then Ok bytes else Err (fault.NotUtf8 file) in r) ≡ Err f → bearer f ≡ None
 utf8_unborne file bytes true f e = absurd (cc)
-utf8_unborne file bytes false f e = is_unborne {List ℕ} (fault.NotUtf8 file) f refl e
+utf8_unborne file bytes false f e = is_unborne {A = List ℕ} (fault.NotUtf8 file) f refl e
 
 column_unborne : {A : Type 0} (file : FeedFile) (o : Option ℕ) (found : A) (f : FeedFault) → missing_fault file o found ≡ Err f → bearer f ≡ None
 column_unborne file None found f e = absurd (cc)
-column_unborne {A} file (Some i) found f e = is_unborne {A} (fault.MissingColumn (record { file = file; row = 1; column = i + 1 })) f refl e
+column_unborne {A} file (Some i) found f e = is_unborne {A = A} (fault.MissingColumn (record { file = file; row = 1; column = i + 1 })) f refl e
 
 none_ends : {A : Type 0} (x : A) (f : FeedFault) → (let r : Result A FeedFault = Ok x in r) ≡ Err f → bearer f ≡ None
 none_ends x f e = absurd (cc)
@@ -60,5 +60,5 @@ rows_unborne file read (Some bytes) f e = either (typed_rows file (λ raw. Ok (r
 
 -- a file that isn't there
 pub missing_unborne : {A : Type 0} (file : FeedFile) (o : Option (List A)) (f : FeedFault) → or_missing file o ≡ Err f → bearer f ≡ None
-missing_unborne {A} file None f e = is_unborne {List A} (fault.MissingFile file) f refl e
+missing_unborne {A} file None f e = is_unborne {A = List A} (fault.MissingFile file) f refl e
 missing_unborne file (Some rows) f e = absurd (cc)
