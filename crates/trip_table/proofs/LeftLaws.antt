@@ -1,31 +1,35 @@
 -- Which faults end what is read for one who is lenient.
 use Rattle.std.proofs.Common.{◌≡◌, ◌∙◌, ◌⊎◌, refl, sym, ap, subst, inl, inr, ℕ, List, [], ◌∷◌, length, map, Bool, true, false, Option, Some, None}
-use Rattle.std.specs.Prelude.{All, Result, Ok, Err, is_some, nat_le, if◌then◌else◌}
+use Rattle.std.specs.Prelude.{All, Result, Ok, Err, is_some, nat_le, nat_lt, if◌then◌else◌}
 use Rattle.std.proofs.lemmas.List.Elements.{All-cons, All-head, All-nil, All-tail}
 use Rattle.std.proofs.lemmas.List.{length-map}
-use Rattle.tb_base.specs.TimetableData.{TimetableData, FootpathData, TripData}
+use Rattle.tb_base.specs.TimetableData.{TimetableData, FootpathData, TripData, path_total}
 use Rattle.tb_base.specs.declared.days.Horizon.{Horizon}
 use Rattle.tb_base.specs.declared.table.Event.{Event}
-use Rattle.gtfs_rows.specs.Faults.{fault_if, unless_wrong}
+use Rattle.gtfs_rows.specs.Faults.{fault_if, spot, unless_wrong}
 use Rattle.gtfs_rows.specs.LeftOut.{bearer, IsUnborne}
 use Rattle.gtfs_rows.specs.Steps.{and_then, prepend}
 use Rattle.gtfs_rows.specs.StopsFile.{StopData}
+use Rattle.gtfs_rows.specs.declared.columns.frequencies.TheConstants as frequencies
 use Rattle.gtfs_rows.specs.declared.fault.FeedFile.{FeedFile}
+use Rattle.gtfs_rows.specs.declared.fault.FeedFile.TheVariants as file
 use Rattle.gtfs_rows.specs.declared.fault.FeedFault.{FeedFault}
 use Rattle.gtfs_rows.specs.declared.fault.FeedFault.TheVariants as fault
+use Rattle.gtfs_rows.specs.declared.fault.Many.TheVariants as many
 use Rattle.gtfs_rows.specs.declared.fault.Spot.{Spot}
 use Rattle.gtfs_rows.specs.TransfersFile.{TransferData}
-use Rattle.footpaths.specs.Footpaths.{check_count}
+use Rattle.footpaths.specs.Footpaths.{changes, check_count, paths_of}
 use Rattle.footpaths.specs.Links.{check_transfers}
+use Rattle.footpaths.specs.Stops.{platforms}
 use Rattle.footpaths.specs.declared.law.LawFault.{LawFault}
 use Rattle.footpaths.specs.declared.law.LawFault.TheVariants as law
 use Rattle.footpaths.specs.declared.paths.Options.{Options}
 use Rattle.service_trips.specs.Limits.{check_frequencies, checked_trips, moves_beyond, wrong_frequency}
 use Rattle.service_trips.specs.Rides.{rides_on}
 use Rattle.service_trips.specs.ServiceDay.{FeedTrips, ride_of}
-use Rattle.service_trips.specs.Sizes.{check_size}
+use Rattle.service_trips.specs.Sizes.{check_size, event_count}
 use Rattle.service_trips.specs.TimeFaults.{wrong_trips}
-use Rattle.service_trips.specs.TimetableTrips.{DayRunsData}
+use Rattle.service_trips.specs.TimetableTrips.{DayRunsData, timetable_trips}
 use Rattle.service_trips.specs.declared.frequency.TripFrequency.{TripFrequency}
 use Rattle.trip_table.specs.Day.{AreClosedOrTested, DayParts, HasFarPair, HasTooMany, IsTimetableOfParts, KeepTheLaw, Then, breach_fault, given_footpaths, parts_on, rides_of, trips_on}
 use Rattle.trip_table.specs.Feed.{Feed, sized}
@@ -52,42 +56,51 @@ good_step : {A : Type 0} (m : Result A FeedFault) (x : A) → m ≡ Ok x → (f 
 good_step (Ok y) x is f e = absurd (cc)
 good_step (Err g) x is f e = absurd (cc)
 
--- where each thing that may be wrong may end it
-wrong_ends : {A : Type 0} (wrong : List (Option FeedFault)) (x : A) (f : FeedFault) → All (λ o. (g : FeedFault) → o ≡ Some g → EndsLenient g) wrong → unless_wrong wrong x ≡ Err f → EndsLenient f
+-- what may be wrong may end it
+abbrev MayEnd : Option FeedFault → Type 0
+MayEnd o = (g : FeedFault) → o ≡ Some g → EndsLenient g
+
+wrong_ends : {A : Type 0} (wrong : List (Option FeedFault)) (x : A) (f : FeedFault) → All MayEnd wrong → unless_wrong wrong x ≡ Err f → EndsLenient f
 wrong_ends [] x f h e = never_ends x f e
-wrong_ends (None ∷ rest) x f h e = wrong_ends rest x f (All-tail _ None rest h) e
-wrong_ends {A} (Some g ∷ rest) x f h e = ends_by {A = A} g f (All-head _ (Some g) rest h g refl) e
+wrong_ends (None ∷ rest) x f h e = wrong_ends rest x f (All-tail MayEnd None rest h) e
+wrong_ends {A} (Some g ∷ rest) x f h e = let first : MayEnd (Some g) = All-head MayEnd (Some g) rest h in ends_by {A = A} g f (first g refl) e
 
-unborne_if : (b : Bool) (f g : FeedFault) → bearer f ≡ None → fault_if b f ≡ Some g → EndsLenient g
-unborne_if true f g none e = let same : f ≡ g = cc in inl (ap bearer (sym same) ∙ none)
-unborne_if false f g none e = absurd (cc)
+unborne_if : (b : Bool) (f : FeedFault) → bearer f ≡ None → MayEnd (fault_if b f)
+unborne_if true f none g e = let same : f ≡ g = cc in inl (ap bearer (sym same) ∙ none)
+unborne_if false f none g e = absurd (cc)
 
-size_ends : (trips : List TripData) (f : FeedFault) → check_size trips ≡ Err f → EndsLenient f
-size_ends trips f e =
-    wrong_ends _ trips f
-    (All-cons _ _ _ (λ g q. unborne_if _ _ g refl q) (All-cons _ _ [] (λ g q. unborne_if _ _ g refl q) (All-nil _))) e
-
-count_ends : (paths : FootpathData) (f : FeedFault) → check_count paths ≡ Err f → EndsLenient f
-count_ends paths f e = wrong_ends _ paths f (All-cons _ _ [] (λ g q. unborne_if _ _ g refl q) (All-nil _)) e
-
-beyond_if : (b : Bool) (spot : Spot) (g : FeedFault) → fault_if b (fault.BeyondDay spot) ≡ Some g → EndsLenient g
+beyond_if : (b : Bool) (spot : Spot) → MayEnd (fault_if b (fault.BeyondDay spot))
 beyond_if true spot g e = let same : fault.BeyondDay spot ≡ g = cc in inr (spot, sym same)
 beyond_if false spot g e = absurd (cc)
 
-starts_end : (feed : FeedTrips) (rows : List TripFrequency) → All (λ o. (g : FeedFault) → o ≡ Some g → EndsLenient g) (map (wrong_frequency feed) rows)
-starts_end feed [] = All-nil _
-starts_end feed (r ∷ rest) = All-cons _ (wrong_frequency feed r) (map (wrong_frequency feed) rest) (λ g q. beyond_if _ _ g q) (starts_end feed rest)
+size_ends : (trips : List TripData) (f : FeedFault) → check_size trips ≡ Err f → EndsLenient f
+size_ends trips f e =
+    let first = fault_if (nat_lt 500000 (length trips)) (fault.TooMany many.RunningTrips 0) in
+    let second = fault_if (nat_lt 10000000 (event_count trips)) (fault.TooMany many.Events 0) in
+    wrong_ends (first ∷ second ∷ []) trips f
+    (All-cons MayEnd first (second ∷ []) (unborne_if (nat_lt 500000 (length trips)) (fault.TooMany many.RunningTrips 0) refl)
+    (All-cons MayEnd second [] (unborne_if (nat_lt 10000000 (event_count trips)) (fault.TooMany many.Events 0) refl) (All-nil MayEnd))) e
+
+count_ends : (paths : FootpathData) (f : FeedFault) → check_count paths ≡ Err f → EndsLenient f
+count_ends paths f e =
+    let only = fault_if (nat_lt 2000000 (path_total paths)) (fault.TooMany many.Footpaths 0) in
+    wrong_ends (only ∷ []) paths f (All-cons MayEnd only [] (unborne_if (nat_lt 2000000 (path_total paths)) (fault.TooMany many.Footpaths 0) refl) (All-nil MayEnd)) e
+
+starts_end : (feed : FeedTrips) (rows : List TripFrequency) → All MayEnd (map (wrong_frequency feed) rows)
+starts_end feed [] = All-nil MayEnd
+starts_end feed (r ∷ rest) =
+    All-cons MayEnd (wrong_frequency feed r) (map (wrong_frequency feed) rest) (beyond_if (moves_beyond (ride_of feed (TripFrequency.trip_row r)) r) (spot file.Frequencies (TripFrequency.row r) frequencies.START_TIME)) (starts_end feed rest)
 
 frequencies_end : (feed : FeedTrips) (f : FeedFault) → check_frequencies feed ≡ Err f → EndsLenient f
 frequencies_end feed f e = wrong_ends (map (wrong_frequency feed) feed.frequencies) feed.frequencies f (starts_end feed feed.frequencies) e
 
 trips_end : (feed : FeedTrips) (days : List DayRunsData) (f : FeedFault) → checked_trips feed days ≡ Err f → EndsLenient f
 unfolding checked_trips
-trips_end feed days f e = either (check_frequencies feed) _ f (λ g q. frequencies_end feed g q) (λ x is g q. size_ends _ g q) e
+trips_end feed days f e = either (check_frequencies feed) _ f (λ g q. frequencies_end feed g q) (λ x is g q. size_ends (timetable_trips feed days) g q) e
 
 given_end : (stops : List StopData) (options : Options) (transfers : List TransferData) (f : FeedFault) → given_footpaths stops options transfers ≡ Err f → EndsLenient f
 unfolding given_footpaths
-given_end stops options transfers f e = count_ends _ f e
+given_end stops options transfers f e = count_ends (paths_of (length (platforms stops)) (changes stops transfers options)) f e
 
 -- what is right in what is left
 record IsRight (left : LeftData) : Type 0 where

@@ -127,7 +127,7 @@ module _ (stops : List StopData) (trips : List trip.TripData) (text : Option (Li
   apart_is_right apart e =
       let a = look_gives (times_in (bad_time stops trips) text) _ apart e in
       let b = look_gives (times_in (good_time stops trips) text) _ apart a.2 in
-      let c = look_gives (leave_trips a.0 b.0) _ apart b.2 in
+      let c = look_gives (leave_trips a.0 b.0) (λ named. leave_trips (twins [] named) named) apart b.2 in
       let named : without_trips a.0 b.0 ≡ c.0 = one_list (without_trips a.0 b.0) c.0 c.1 in
       let left : without_trips (twins [] c.0) c.0 ≡ apart = one_list (without_trips (twins [] c.0) c.0) apart c.2 in
       let bytes = text_of file.StopTimes (good_time stops trips) text b.0 b.1 in
@@ -147,7 +147,7 @@ module _ (stops : List StopData) (trips : List trip.TripData) (text : Option (Li
       (looks (times_in (bad_time stops trips) text) _ (times_in_unborne _)
       (λ found a.
       looks (times_in (good_time stops trips) text) _ (times_in_unborne _)
-      (λ rows b. looks (leave_trips found rows) _ (leave_unborne found rows) (λ named c. leave_unborne (twins [] named) named))))
+      (λ rows b. looks (leave_trips found rows) (λ named. leave_trips (twins [] named) named) (leave_unborne found rows) (λ named c. leave_unborne (twins [] named) named))))
       (λ apart is.
       looks (silent (check_rows (wrong_time stops trips) apart)) _ (given (check_rows (wrong_time stops trips) apart) apart (apart_is_right apart is)) (λ checked k. leave_unborne (broken_trips checked (length trips)) checked))
 
