@@ -113,7 +113,6 @@ module _ (ids : List (List ℕ)) (stops : List StopData) (are : AreIdsOf ids sto
         ∙ sym (list_any-append (λ e. same_key q (ends_in ids e)) kept (r ∷ []));
   }
 
-
   -- what is known stays so where its ends were seen before
   pub knows_same : (j k : ℕ) (seen new : List SequenceKey) (fresh : Bool) → KnowsEnds ids seen kept → fresh ≡ not (list_any (same_key (record { trip_row = j; sequence = k })) seen) → fresh ≡ false
       → ((q : SequenceKey) → list_any (same_key q) new ≡ list_any (same_key q) (seen ++ record { trip_row = j; sequence = k } ∷ [])) → KnowsEnds ids new kept

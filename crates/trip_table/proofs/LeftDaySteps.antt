@@ -24,7 +24,6 @@ use Rattle.trip_table.specs.declared.day_fault.DayFault.{DayFault}
 use Rattle.trip_table.specs.declared.day_fault.DayFault.TheVariants as why
 use Rattle.trip_table.proofs.Looks.{follows, on, silently, stops}
 
-
 -- the rows of transfers.txt are right
 pub transfers_good : (day : ℕ) (options : Options) (left : LeftData) (result : Result TimetableData RowsFault) → check_transfers left.rows.stops left.transfers ≡ Ok left.transfers
     → GivesRows (Then (parts_on left.rows left.frequencies day options.horizon (given_footpaths left.rows.stops options left.transfers)) (IsTimetableOfParts options.close)) result → GivesRows (IsTimetableLeft day options left) result

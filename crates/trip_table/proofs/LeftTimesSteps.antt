@@ -18,7 +18,6 @@ use Rattle.trip_table.specs.GoodTimes.{AreGoodTimes}
 use Rattle.trip_table.specs.LeftFeed.{is_among, without_trips}
 use Rattle.tb_base.proofs.Lists.{length-filter_le}
 
-
 found_more : (t : ℕ) (found : List TripFault) (i : ℕ) (x : TripFault) → i < length found → x ≡ get_or found i x → list_any (λ f. TripFault.trip f == t) (take (i + 1) found) ≡ (list_any (λ f. TripFault.trip f == t) (take i found) || ((x.trip == t) || false))
 found_more t found i x h at = ap (list_any (λ f. TripFault.trip f == t)) (take_more found i x h ∙ ap (λ y. take i found ++ y ∷ []) (sym at)) ∙ list_any-append (λ f. TripFault.trip f == t) (take i found) (x ∷ [])
 
@@ -36,12 +35,12 @@ pub marks_more : (marks : List Bool) (found : List TripFault) (i n t : ℕ) (x :
 marks_more marks found i n t x h at many below before =
     elim (cases_Bool (x.trip == t)) [
       | inl same ↦
-        let e : x.trip ≡ t = grind (arith, nat_tests, same) in
-        let marked : get_or (set marks x.trip true) t false ≡ true = rw (← e) (get_or-set_same marks x.trip true false (omega (arith, many, below))) in
-        marked ∙ or_true (list_any (λ f. TripFault.trip f == t) (take i found)) (x.trip == t) same ∙ sym (found_more t found i x h at)
+          let e : x.trip ≡ t = grind (arith, nat_tests, same) in
+          let marked : get_or (set marks x.trip true) t false ≡ true = rw (← e) (get_or-set_same marks x.trip true false (omega (arith, many, below))) in
+          marked ∙ or_true (list_any (λ f. TripFault.trip f == t) (take i found)) (x.trip == t) same ∙ sym (found_more t found i x h at)
       | inr other ↦
-        let apart : t ≢ x.trip = λ e. absurd (let yes : (x.trip == t) ≡ true = eq-eqb x.trip t (sym e) in let no : true ≡ false = sym yes ∙ other in cc) in
-        get_or-set_other marks x.trip t true false apart ∙ before ∙ or_same (list_any (λ f. TripFault.trip f == t) (take i found)) (x.trip == t) other ∙ sym (found_more t found i x h at)
+          let apart : t ≢ x.trip = λ e. absurd (let yes : (x.trip == t) ≡ true = eq-eqb x.trip t (sym e) in let no : true ≡ false = sym yes ∙ other in cc) in
+          get_or-set_other marks x.trip t true false apart ∙ before ∙ or_same (list_any (λ f. TripFault.trip f == t) (take i found)) (x.trip == t) other ∙ sym (found_more t found i x h at)
     ]
 
 -- what is no trip marks none

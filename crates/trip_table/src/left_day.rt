@@ -7,8 +7,6 @@ ghost use Rattle.trip_table.specs.LeftFeed.{IsLeft, IsLeftOf, IsLenientOf, IsLef
 ghost use Rattle.trip_table.specs.References.{Rows};
 ghost use Rattle.trip_table.specs.Sieves.{Sieves};
 
-use crate::DayFault;
-use crate::Options;
 use crate::bearer::is_borne;
 use crate::day::{read_day, timetable_of};
 use crate::feed::take;
@@ -20,6 +18,7 @@ use crate::left_transfers::left_transfers;
 use crate::left_trips::left_trips;
 use crate::paths::given_footpaths;
 use crate::rows::FeedRows;
+use crate::{DayFault, Options};
 use gtfs_rows::{FeedFault, FeedFile, RowsFault, TransferRow};
 use service_day::Day;
 use service_trips::FrequencyTable;
@@ -163,7 +162,14 @@ fn left_after_rows(
         Ok(frequencies) => frequencies,
         Err(fault) => return Err(fault),
     };
-    timetable_left(alloc, rows, transfers.as_slice(), &frequencies, day, options)
+    timetable_left(
+        alloc,
+        rows,
+        transfers.as_slice(),
+        &frequencies,
+        day,
+        options,
+    )
 }
 
 // The timetable of a day by what is left of the files' bytes.

@@ -11,6 +11,9 @@
 //! before that are still under way after midnight are part of the day, and where the options say so
 //! those of one or two days after it. The definition of the whole is `IsTimetableOf` in
 //! specs/Day.antt.
+//!
+//! [`read_lenient_day`] leaves bad rows out, and what names them in turn, tells the fault of each, and
+//! gives the timetable of what is left: `IsLenientOf` in specs/LeftFeed.antt.
 #![tactic(auto)]
 
 mod assemble;

@@ -27,9 +27,10 @@ returns-then-not-branch c = λ stops kept are known.
     let to_is = c.bytes-2.ensures ∙ ap (λ (r : TransferData). r.to) c.row.view_is in
     let from = rw from_is at c.in-Some.ensures in
     let to = rw to_is at c.in-Some-find.ensures in
-    let twice : c.in_ok-add.field-0 ≡ false = search rules in
-    (rw (c.spot-at-then-not-branch.ensures, row) (ends_twice c.args.ids.now stops are kept c.args.row.now c.in-Some.from c.in-Some-find.to c.args.seen.now c.in_ok-add.field-0 known from to c.in_ok-add.ensures.fresh twice),
-    knows_same c.args.ids.now stops are kept c.args.row.now c.in-Some.from c.in-Some-find.to c.args.seen.now c.add.new.self c.in_ok-add.field-0 known c.in_ok-add.ensures.fresh twice c.in_ok-add.ensures.added)
+    let twice : c.in_ok-add.field-0 ≡ false = search rules in (
+      rw (c.spot-at-then-not-branch.ensures, row) (ends_twice c.args.ids.now stops are kept c.args.row.now c.in-Some.from c.in-Some-find.to c.args.seen.now c.in_ok-add.field-0 known from to c.in_ok-add.ensures.fresh twice),
+      knows_same c.args.ids.now stops are kept c.args.row.now c.in-Some.from c.in-Some-find.to c.args.seen.now c.add.new.self c.in_ok-add.field-0 known c.in_ok-add.ensures.fresh twice c.in_ok-add.ensures.added,
+    )
 
 pub returns : goal.returns
 returns c = λ stops kept are known.
@@ -37,6 +38,7 @@ returns c = λ stops kept are known.
     let to_is = c.bytes-2.ensures ∙ ap (λ (r : TransferData). r.to) c.row.view_is in
     let from = rw from_is at c.in-Some.ensures in
     let to = rw to_is at c.in-Some-find.ensures in
-    let fresh : c.in_ok-add.field-0 ≡ true = search rules in
-    (ends_fresh c.args.ids.now stops are kept c.args.row.now c.in-Some.from c.in-Some-find.to c.args.seen.now c.in_ok-add.field-0 known from to c.in_ok-add.ensures.fresh fresh,
-    knows_more c.args.ids.now stops are kept c.args.row.now c.in-Some.from c.in-Some-find.to c.args.seen.now c.add.new.self known from to c.in_ok-add.ensures.added)
+    let fresh : c.in_ok-add.field-0 ≡ true = search rules in (
+      ends_fresh c.args.ids.now stops are kept c.args.row.now c.in-Some.from c.in-Some-find.to c.args.seen.now c.in_ok-add.field-0 known from to c.in_ok-add.ensures.fresh fresh,
+      knows_more c.args.ids.now stops are kept c.args.row.now c.in-Some.from c.in-Some-find.to c.args.seen.now c.add.new.self known from to c.in_ok-add.ensures.added,
+    )
