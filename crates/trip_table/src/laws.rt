@@ -1,5 +1,5 @@
 //! Laws of the timetable of a day. Each function does nothing: its contract is the law.
-ghost use Rattle.std.specs.Prelude.{◌≡◌, ℕ, Ok, Result};
+ghost use Rattle.std.specs.Prelude.{◌≡◌, ℕ, Err, List, Ok, Result};
 ghost use Rattle.tb_base.specs.TimetableData.{TimetableData};
 ghost use Rattle.gtfs_rows.specs.declared.fault.FeedFault.{FeedFault};
 ghost use Rattle.footpaths.specs.Limits.{AreWithinADay};
@@ -8,6 +8,7 @@ ghost use Rattle.tb_base.specs.Wider.{HasAllOf};
 ghost use Rattle.trip_table.specs.Farther.{IsNoNearer};
 ghost use Rattle.trip_table.specs.Feed.{Feed};
 ghost use Rattle.trip_table.specs.Day.{IsTimetableOf};
+ghost use Rattle.trip_table.specs.LeftFeed.{EndsLenient, IsLenientOf};
 
 /// A feed, a day and options have at most one timetable or first fault, never both: what `read_day`
 /// gives is determined.
@@ -29,4 +30,11 @@ pub fn farther_has_all()
     ensures { (feed : Feed) (day : ℕ) (near far : Options) (T U : TimetableData) →
         IsNoNearer near far → IsTimetableOf feed day near (Ok T) →
         IsTimetableOf feed day far (Ok U) → HasAllOf U T }
+{}
+
+/// What is left where bad rows are left out has no fault that a row bears, but that of a start that
+/// moves a time of its trip beyond a day.
+pub fn no_row_ends_lenient()
+    ensures { (feed : Feed) (day : ℕ) (options : Options) (faults : List FeedFault) (f : FeedFault) →
+        IsLenientOf feed day options faults (Err f) → EndsLenient f }
 {}
