@@ -1,5 +1,8 @@
 //! Laws of the timetable of a day. Each function does nothing: its contract is the law.
-ghost use Rattle.std.specs.Prelude.{◌≡◌, ℕ, Err, List, Ok, Result};
+ghost use Rattle.std.specs.Prelude.{◌≡◌, ℕ, Contains, Err, List, Ok, Result};
+ghost use Rattle.tb_base.specs.BestValues.{AreBestValues, IsAttained, IsNoWorse, QueryData};
+ghost use Rattle.tb_base.specs.Soundness.{IsSound};
+ghost use Rattle.tb_base.specs.declared.query.Value.{Value};
 ghost use Rattle.tb_base.specs.TimetableData.{TimetableData};
 ghost use Rattle.gtfs_rows.specs.declared.fault.FeedFault.{FeedFault};
 ghost use Rattle.footpaths.specs.Limits.{AreWithinADay};
@@ -30,6 +33,16 @@ pub fn farther_has_all()
     ensures { (feed : Feed) (day : ℕ) (near far : Options) (T U : TimetableData) →
         IsNoNearer near far → IsTimetableOf feed day near (Ok T) →
         IsTimetableOf feed day far (Ok U) → HasAllOf U T }
+{}
+
+/// The best values of a farther horizon are no worse: what is attained in the timetable of a nearer
+/// one has a best value that is no worse in that of the farther.
+pub fn farther_no_worse()
+    ensures { (feed : Feed) (day : ℕ) (near far : Options) (T U : TimetableData) → IsSound U →
+        IsNoNearer near far → IsTimetableOf feed day near (Ok T) →
+        IsTimetableOf feed day far (Ok U) → (Q : QueryData) (vs : List Value) →
+        AreBestValues U Q vs → (v : Value) →
+        IsAttained T Q v → (w : Value) × Contains vs w × IsNoWorse w v }
 {}
 
 /// What is left where bad rows are left out has no fault that a row bears, but that of a start that
