@@ -71,6 +71,7 @@ fn options_of(words: &[String]) -> Options
         station,
         close: words.iter().any(|word| word.as_str() == "close"),
         horizon: Horizon::OneDay,
+        lenient: false,
     }
 }
 
