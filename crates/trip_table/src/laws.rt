@@ -1,5 +1,5 @@
 //! Laws of the timetable of a day. Each function does nothing: its contract is the law.
-ghost use Rattle.std.specs.Prelude.{◌≡◌, ℕ, Err, List, Ok, Result};
+ghost use Rattle.std.specs.Prelude.{◌≡◌, ℕ, [], Err, List, Ok, Result};
 ghost use Rattle.tb_base.specs.TimetableData.{TimetableData};
 ghost use Rattle.gtfs_rows.specs.declared.fault.FeedFault.{FeedFault};
 ghost use Rattle.footpaths.specs.Limits.{AreWithinADay};
@@ -8,6 +8,7 @@ ghost use Rattle.tb_base.specs.Wider.{HasAllOf};
 ghost use Rattle.trip_table.specs.Farther.{IsNoNearer};
 ghost use Rattle.trip_table.specs.Feed.{Feed};
 ghost use Rattle.trip_table.specs.Day.{IsTimetableOf};
+ghost use Rattle.trip_table.specs.AskedDay.{IsAskedDay};
 ghost use Rattle.trip_table.specs.LeftFeed.{EndsLenient, IsLenientOf};
 
 /// A feed, a day and options have at most one timetable or first fault, never both: what `read_day`
@@ -37,4 +38,24 @@ pub fn farther_has_all()
 pub fn no_row_ends_lenient()
     ensures { (feed : Feed) (day : ℕ) (options : Options) (faults : List FeedFault) (f : FeedFault) →
         IsLenientOf feed day options faults (Err f) → EndsLenient f }
+{}
+
+/// A feed, a day and options have at most one timetable, or fault that ends it, as the options ask:
+/// what `read_asked_day` gives is determined.
+pub fn asked_determined()
+    ensures { (feed : Feed) (day : ℕ) (options : Options) (a b : Result TimetableData FeedFault) →
+        IsAskedDay feed day options a → IsAskedDay feed day options b → a ≡ b }
+{}
+
+/// And the faults that are told are determined.
+pub fn told_determined()
+    ensures { (feed : Feed) (day : ℕ) (options : Options) (told others : List FeedFault)
+        (a b : Result TimetableData FeedFault) → IsLenientOf feed day options told a →
+        IsLenientOf feed day options others b → told ≡ others }
+{}
+
+/// A feed without a fault gives to one who is lenient what it gives to anyone, and tells nothing.
+pub fn lenient_of_good()
+    ensures { (feed : Feed) (day : ℕ) (options : Options) (T : TimetableData) →
+        IsTimetableOf feed day options (Ok T) → IsLenientOf feed day options [] (Ok T) }
 {}

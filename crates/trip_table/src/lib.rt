@@ -13,9 +13,11 @@
 //! specs/Day.antt.
 //!
 //! [`read_lenient_day`] leaves bad rows out, and what names them in turn, tells the fault of each, and
-//! gives the timetable of what is left: `IsLenientOf` in specs/LeftFeed.antt.
+//! gives the timetable of what is left: `IsLenientOf` in specs/LeftFeed.antt. [`read_asked_day`] is
+//! one or the other, as the options ask; [`check_feed`] gives all that is wrong.
 #![tactic(auto)]
 
+mod asked_day;
 mod assemble;
 mod bearer;
 mod closing;
@@ -43,6 +45,7 @@ mod stops;
 mod times;
 mod trips;
 
+pub use asked_day::{check_feed, read_asked_day};
 pub use day::read_day;
 pub use day_fault::DayFault;
 pub use footpaths::Options;
