@@ -45,9 +45,10 @@ refusal_json number message fault =
 -- the line that it writes to standard error
 abbrev pub status_json : Status → List ℕ
 status_json status.Done = []
+status_json status.FaultsFound = []
 status_json status.Usage =
-    ending_json 2 (codes "usage: router [--change SECS] [--station SECS] [--close] [--days N]"
-    ++ codes " [--workers N] [--plain] [--lanes N] [--mirror] [--csv] [--json] COMMAND WORDS")
+    ending_json 2 (codes "usage: router [--change SECS] [--station SECS] [--close] [--lenient]"
+    ++ codes " [--days N] [--workers N] [--plain] [--lanes N] [--mirror] [--csv] [--json] COMMAND WORDS")
 status_json (status.FeedRefused f) = refusal_json 3 (codes "feed refused") (fault_json f)
 status_json status.ReadFault = ending_json 4 (codes "read fault")
 status_json status.WriteFault = ending_json 5 (codes "write fault")

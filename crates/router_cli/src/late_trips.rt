@@ -308,16 +308,27 @@ pub(crate) fn late_text<R: Threads + Wait + Sync, F: Folder, G: Gate>(
     alloc: Global,
     request: &LateRequest,
     folder: &mut F,
+    left_out: &mut Vec<FeedFault>,
     gate: &G,
 ) -> Result<Vec<u8>, Status>
-    requires { F.faults folder.old < 2 ^ 64 - 1 }
+    requires count { F.faults folder.old < 2 ^ 64 - 1 }
+    requires none { left_out.old.items ≡ [] }
     ensures text { IfOk result (λ text.
         IsLateAnswer (F.files folder.old) request.now text.items) }
     ensures refused { IfErr result (IsNoLateAnswer (F.files folder.old) request.now) }
+    ensures left_out { IfOk result (λ _. LeavesOut (F.files folder.old) request.now.dir
+        request.now.date request.now.options left_out.new.items) }
     ensures leaves { LeavesFolder (result ≡ Err Status.ReadFault) (F.files folder.old)
         (F.files folder.new) (F.faults folder.old) (F.faults folder.new) }
 {
-    let table = match table_of(alloc, folder, request.dir, &request.day, &request.options) {
+    let table = match table_of(
+        alloc,
+        folder,
+        request.dir,
+        &request.day,
+        &request.options,
+        left_out,
+    ) {
         Ok(table) => table,
         Err(status) => return Err(status),
     };

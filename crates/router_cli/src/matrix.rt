@@ -214,13 +214,17 @@ pub(crate) fn matrix_status<R: Threads + Sync, F: Folder, S: Source, K: Sink, G:
     folder: &mut F,
     source: &mut S,
     out: &mut K,
+    left_out: &mut Vec<FeedFault>,
     gate: &G,
 ) -> Status
     requires folder { F.faults folder.old < 2 ^ 64 - 1 }
+    requires none { left_out.old.items ≡ [] }
     requires source { S.faults source.old < 2 ^ 64 - 1 }
     requires out { K.faults out.old < 2 ^ 64 - 1 }
     ensures outcome { IsMatrixOutcome (F.files folder.old) (S.left source.old) request.now result
         (K.written out.old) (K.written out.new) }
+    ensures left_out { result ≡ Status.Done → LeavesOut (F.files folder.old) request.now.dir
+        request.now.date request.now.options left_out.new.items }
     ensures later { result ≡ Status.ReadFault → F.faults folder.new ≡ F.faults folder.old →
         HasMatrixDay (F.files folder.old) request.now }
     ensures read { result ≡ Status.ReadFault → (F.faults folder.old < F.faults folder.new)
@@ -237,7 +241,14 @@ pub(crate) fn matrix_status<R: Threads + Sync, F: Folder, S: Source, K: Sink, G:
     ensures left { LeavesOrigins request.now.origins result (S.left source.old)
         (S.left source.new) (S.faults source.old) (S.faults source.new) }
 {
-    match table_of(alloc, folder, request.dir, &request.day, &request.options) {
+    match table_of(
+        alloc,
+        folder,
+        request.dir,
+        &request.day,
+        &request.options,
+        left_out,
+    ) {
         Ok(table) => rows_over(rt, alloc, request, table, folder, source, out, gate),
         Err(status) => status,
     }

@@ -115,8 +115,10 @@ pub(crate) fn verify_text<F: Folder, S: Source>(
     request: &VerifyRequest,
     folder: &mut F,
     source: &mut S,
+    left_out: &mut Vec<FeedFault>,
 ) -> Result<Vec<u8>, Status>
     requires folder { F.faults folder.old < 2 ^ 64 - 1 }
+    requires none { left_out.old.items ≡ [] }
     requires source { S.faults source.old < 2 ^ 64 - 1 }
     ensures text { IfOk result (λ text.
         IsVerifyAnswer (F.files folder.old) (S.left source.old) request.now text.items) }
@@ -124,13 +126,22 @@ pub(crate) fn verify_text<F: Folder, S: Source>(
         (IsNoVerifyAnswer (F.files folder.old) (S.left source.old) request.now) }
     ensures later { result ≡ Err Status.ReadFault → F.faults folder.new ≡ F.faults folder.old →
         HasDay (F.files folder.old) request.now }
+    ensures left_out { IfOk result (λ _. LeavesOut (F.files folder.old) request.now.dir
+        request.now.date request.now.options left_out.new.items) }
     ensures leaves { LeavesOutside (result ≡ Err Status.ReadFault) (F.files folder.old)
         (F.files folder.new) (F.faults folder.old) (F.faults folder.new) (S.faults source.old)
         (S.faults source.new) }
     ensures left { LeavesClaim (status_of_text result) (S.left source.old) (S.left source.new)
         (S.faults source.old) (S.faults source.new) }
 {
-    let table = match table_of(alloc, folder, request.dir, &request.day, &request.options) {
+    let table = match table_of(
+        alloc,
+        folder,
+        request.dir,
+        &request.day,
+        &request.options,
+        left_out,
+    ) {
         Ok(table) => table,
         Err(status) => return Err(status),
     };

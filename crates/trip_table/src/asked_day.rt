@@ -1,5 +1,6 @@
 //! The timetable of a day as its options ask for it, and all that is wrong with a feed.
-ghost use Rattle.std.specs.Prelude.{◌≡◌, ◌<◌, ◌-◌, ◌^◌, [], IfOk, IsSome};
+ghost use Rattle.std.specs.Prelude.{◌≡◌, ◌<◌, ◌-◌, ◌^◌, [], Err, IfOk, IsSome};
+ghost use Rattle.gtfs_rows.specs.declared.fault.FeedFault.{FeedFault};
 ghost use Rattle.footpaths.specs.Limits.{AreWithinADay};
 ghost use Rattle.trip_table.specs.Answers.{Gives, Leaves, feed_of};
 ghost use Rattle.trip_table.specs.AskedDay.{AreFaultsOf, IsAskedDay, IsAskedOf};
@@ -59,6 +60,7 @@ pub fn check_feed<F: Folder>(
     requires count { F.faults folder.old < 2 ^ 64 - 1 }
     ensures faults { IfOk result (λ faults. IsSome (F.files folder.old) →
         AreFaultsOf (feed_of (F.files folder.old) dir.now) day.now options.now faults.items) }
+    ensures ended { (fault : FeedFault) → result ≡ Err (DayFault.Feed fault) → ⊥ }
     ensures leaves { Leaves (F.files folder.old) (F.files folder.new) (F.faults folder.old)
         (F.faults folder.new) result }
 {
