@@ -22,6 +22,7 @@ pub unread : (asked : Option Request) (s : Status) (told : Option (List ℕ)) (f
 unread None s told faults = (refl, refl)
 unread (Some (request.Day r)) s told faults = (refl, refl)
 unread (Some (request.City r)) s told faults = (refl, refl)
+unread (Some (request.Check r)) s told faults = (refl, refl)
 unread (Some (request.Late r)) s told faults = (refl, refl)
 unread (Some (request.Serve r)) s told faults = none_taken told
 unread (Some (request.Live r)) s told faults = none_taken told
@@ -45,6 +46,7 @@ city_ending r (status.FeedRefused f) before now out write = absurd out
 city_ending r (status.ScriptRefused f) before now out write = absurd out
 city_ending r (status.LateRefused f) before now out write = absurd out
 city_ending r (status.JourneyRefused f) before now out write = absurd out
+city_ending r status.FaultsFound before now out write = absurd out
 city_ending r status.ReadFault before now out write = absurd out
 city_ending r status.Memory before now out write = inr refl
 

@@ -7,16 +7,16 @@ use Rattle.gtfs_rows.specs.declared.fault.FeedFault.{FeedFault}
 use Rattle.tb_io.specs.Files.{FileList}
 use Rattle.trip_table.specs.Answers.{feed_of}
 use Rattle.trip_table.specs.Feed.{Feed}
-use Rattle.trip_table.specs.Day.{IsTimetableOf}
+use Rattle.trip_table.specs.AskedDay.{IsAskedDay}
 use Rattle.command_line.specs.DayCommands.{DayRequestData}
 use Rattle.router_cli.specs.Outcome.{IsDayAnswer, IsDayEnding, IsDayOf, IsNoDayAnswer, Writes}
 use Rattle.router_cli.specs.declared.status.Status.{Status}
 use Rattle.router_cli.specs.declared.status.Status.TheVariants as status
 
--- there is at most one timetable or first fault
+-- there is at most one timetable or fault, as the options ask
 abbrev pub IsDetermined : Type 0
 IsDetermined = (feed : Feed) (day : ℕ) (options : Options) (a b : Result TimetableData FeedFault) →
-    IsTimetableOf feed day options a → IsTimetableOf feed day options b → a ≡ b
+    IsAskedDay feed day options a → IsAskedDay feed day options b → a ≡ b
 
 pub out_of_memory : (day : Result TimetableData FeedFault) → IsDayEnding day status.Memory
 out_of_memory (Ok T) = inr refl
@@ -36,3 +36,4 @@ day_completed same files shown r status.Usage before now h read write day given 
 day_completed same files shown r (status.ScriptRefused f) before now h read write day given = absurd h
 day_completed same files shown r (status.LateRefused f) before now h read write day given = absurd h
 day_completed same files shown r (status.JourneyRefused f) before now h read write day given = absurd h
+day_completed same files shown r status.FaultsFound before now h read write day given = absurd h

@@ -69,6 +69,7 @@ late_completed same files shown r status.WriteFault before now h read write day 
 late_completed same files shown r status.Memory before now h read write day given = out_of_memory files r day
 late_completed same files shown r (status.ScriptRefused f) before now h read write day given = absurd h
 late_completed same files shown r (status.JourneyRefused f) before now h read write day given = absurd h
+late_completed same files shown r status.FaultsFound before now h read write day given = absurd h
 late_completed same files shown r (status.LateRefused f) before now (T, is, why) read write day given =
     subst (λ d. IsLateEnding files r d (status.LateRefused f)) (same (feed_of files r.dir) r.date r.options (Ok T) day (is.1 shown) given)
     (refuses files r T f why)

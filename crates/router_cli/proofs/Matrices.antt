@@ -50,6 +50,7 @@ matrix_completed same files shown told r (status.ScriptRefused f) before now h r
     (without_origins (naming_bytes files told r.origins) h.0.0 f h.1)
 matrix_completed same files shown told r (status.LateRefused f) before now h read write day given = absurd h
 matrix_completed same files shown told r (status.JourneyRefused f) before now h read write day given = absurd h
+matrix_completed same files shown told r status.FaultsFound before now h read write day given = absurd h
 
 -- over the timetable of the day
 pub over_day : (files : Option FileList) (told : Option (List ℕ)) (r : MatrixRequestData) (T : TimetableData) (s : Status) (before now : Option (List ℕ)) →
@@ -64,6 +65,7 @@ over_day files told r T status.Usage before now day h = absurd h
 over_day files told r T (status.FeedRefused f) before now day h = absurd h
 over_day files told r T (status.LateRefused f) before now day h = absurd h
 over_day files told r T (status.JourneyRefused f) before now day h = absurd h
+over_day files told r T status.FaultsFound before now day h = absurd h
 
 -- what was written of origins that are named
 pub written_over : (r : MatrixRequestData) (T : TimetableData) (naming : Option (Option (List ℕ))) (origins : List (List ℕ)) (s : Status) (before now : Option (List ℕ)) → NameOrigins naming (Ok origins) →
@@ -98,6 +100,7 @@ unnamed_over r T naming status.Memory before h = inl refl
 unnamed_over r T naming (status.ScriptRefused f) before h = (h, refl)
 unnamed_over r T naming (status.LateRefused f) before h = absurd h
 unnamed_over r T naming (status.JourneyRefused f) before h = absurd h
+unnamed_over r T naming status.FaultsFound before h = absurd h
 
 -- what is left is the same where the rows are written in part
 pub origins_in_part : (o : OriginsNamed) (before now : Option (List ℕ)) (faults risen : ℕ) → LeavesOrigins o status.Done before now faults risen → LeavesOrigins o status.WriteFault before now faults risen
@@ -120,3 +123,4 @@ without_day files told r faults risen status.Memory before h = inl refl
 without_day files told r faults risen (status.ScriptRefused f) before h = absurd h
 without_day files told r faults risen (status.LateRefused f) before h = absurd h
 without_day files told r faults risen (status.JourneyRefused f) before h = absurd h
+without_day files told r faults risen status.FaultsFound before h = absurd h

@@ -10,7 +10,7 @@ ghost use Rattle.late_edit.specs.LateFiles.{UpdatesGive};
 ghost use Rattle.query_gate.specs.Callers.{CallerData};
 ghost use Rattle.tb_base.specs.Workers.{AreWorkers};
 ghost use Rattle.router_cli.specs.Answers.{ShowsReply};
-ghost use Rattle.router_cli.specs.Outcome.{LeavesFolder};
+ghost use Rattle.router_cli.specs.Outcome.{LeavesFolder, LeavesOut};
 ghost use Rattle.router_cli.specs.LateTrips.{HasNoUpdates, IsAmendedText, IsLateAnswer, IsLateText, IsNoLateAnswer, IsNotAmended, amended_json, amended_shown, amended_text, ask_of};
 
 use crate::day::table_of;
@@ -22,6 +22,7 @@ use edition_build::build_edition;
 use edition_store::{Edition, Last, Naming, Opened, Publisher, Seat, Shared, Store};
 use late_edit::{Amended, LateFault, LateTaken, Update, amend, take_late};
 use query_gate::{Caller, shown_reply};
+use gtfs_rows::FeedFault;
 use std::alloc::Global;
 use std::marker::Brand;
 use std::sync::Wait;

@@ -9,6 +9,7 @@
 #![tactic(auto)]
 
 mod answers;
+mod checking;
 mod day;
 mod late_trips;
 mod living;

@@ -1,8 +1,8 @@
 //! What the program writes of the travel times from many origins.
-ghost use Rattle.std.specs.Prelude.{◌≡◌, ◌⊎◌, ◌<◌, ◌≤◌, ◌-◌, ◌^◌, Err, IfErr, IfOk, IfSome, Ok, option_map, vec_len};
+ghost use Rattle.std.specs.Prelude.{◌≡◌, ◌⊎◌, ◌<◌, ◌≤◌, ◌-◌, ◌^◌, [], Err, IfErr, IfOk, IfSome, Ok, option_map, vec_len};
 ghost use Rattle.command_line.specs.Matrices.{HasDepartures};
 ghost use Rattle.router_cli.specs.Matrices.{HasMatrixDay, IsMatrixOutcome, IsMatrixOver, IsTooLong, LeavesNaming, LeavesOrigins, NameNone, NameOrigins, WritesRows, asked_of, form_of, naming_bytes};
-ghost use Rattle.router_cli.specs.Outcome.{LeavesOutside};
+ghost use Rattle.router_cli.specs.Outcome.{LeavesOut, LeavesOutside};
 
 use crate::day::table_of;
 use crate::status::Status;
@@ -10,6 +10,7 @@ use command_line::{Departing, MatrixRequest, OriginsNamed};
 use edition_build::build;
 use edition_store::Edition;
 use lane_serve::{MatrixFault, RowForm, ScriptFault, TimesAsked, read_origins, write_matrix};
+use gtfs_rows::FeedFault;
 use std::alloc::Global;
 use std::thread::Threads;
 use tb_base::{Gate, Memory, Name, Refused, Timetable};

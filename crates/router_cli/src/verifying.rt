@@ -1,9 +1,9 @@
 //! What the program writes about a claimed journey.
-ghost use Rattle.std.specs.Prelude.{◌≡◌, ◌<◌, ◌-◌, ◌^◌, Err, IfErr, IfOk, List, Ok, length, ℕ};
+ghost use Rattle.std.specs.Prelude.{◌≡◌, ◌<◌, ◌-◌, ◌^◌, [], Err, IfErr, IfOk, List, Ok, length, ℕ};
 ghost use Rattle.std.specs.Io.KnownBytes.{Consumes};
 ghost use Rattle.tb_base.specs.BestValues.{ChoiceData};
 ghost use Rattle.tb_base.specs.Refusals.{Yields};
-ghost use Rattle.router_cli.specs.Outcome.{LeavesOutside, status_of_text};
+ghost use Rattle.router_cli.specs.Outcome.{LeavesOut, LeavesOutside, status_of_text};
 ghost use Rattle.router_cli.specs.Verifying.{ClaimGives, HasDay, IsNoClaim, IsNoVerifyAnswer, IsVerifyAnswer, IsVerifiedText, LeavesClaim, claim_as};
 
 use crate::day::table_of;
@@ -13,6 +13,7 @@ use crate::verdicts::verdict_shown;
 use answer_json::shown_unknown;
 use command_line::{Inquiry, VerifyRequest};
 use journey_read::{Claimed, JourneyFault, judge, read_journey, read_json_journey};
+use gtfs_rows::FeedFault;
 use std::alloc::Global;
 use tb_base::{Memory, Refused, Timetable};
 use tb_io::{Folder, Source, Taken, take_source};
