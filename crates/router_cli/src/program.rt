@@ -21,7 +21,7 @@ use std::sync::Wait;
 use std::thread::Threads;
 use tb_base::{Gate, Memory};
 use tb_io::{Folder, Sink, Source};
-use trip_table::laws::{asked_determined, told_determined};
+use trip_table::laws::{asked_determined, lenient_determined};
 
 // What is written for a request whose text is gathered first, or why nothing is.
 fn request_text<R: Threads + Wait + Sync, F: Folder + Send, S: Source, G: Gate>(
@@ -166,7 +166,7 @@ pub fn route<R: Threads + Wait + Sync, F: Folder + Send, S: Source, K: Sink, G: 
         IsRequestEnding (F.files folder.old) (S.left script.old) r result) }
 {
     asked_determined();
-    told_determined();
+    lenient_determined();
     match request_of(alloc, words) {
         Ok(Some(Request::Live(request))) => {
             live_status(rt, alloc, request, folder, script, out, gate)

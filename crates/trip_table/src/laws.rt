@@ -47,11 +47,11 @@ pub fn asked_determined()
         IsAskedDay feed day options a → IsAskedDay feed day options b → a ≡ b }
 {}
 
-/// And the faults that are told are determined.
-pub fn told_determined()
+/// So is what `read_lenient_day` gives, and which faults it tells.
+pub fn lenient_determined()
     ensures { (feed : Feed) (day : ℕ) (options : Options) (told others : List FeedFault)
         (a b : Result TimetableData FeedFault) → IsLenientOf feed day options told a →
-        IsLenientOf feed day options others b → told ≡ others }
+        IsLenientOf feed day options others b → (told ≡ others) × (a ≡ b) }
 {}
 
 /// A feed without a fault gives to one who is lenient what it gives to anyone, and tells nothing.
