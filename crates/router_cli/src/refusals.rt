@@ -4,7 +4,7 @@ ghost use Rattle.answer_json.specs.Faults.{fault_json};
 ghost use Rattle.edition_build.specs.LateFaults.{late_fault_json};
 ghost use Rattle.std.specs.Process.{exit_status};
 ghost use Rattle.router_cli.specs.Outcome.{status_code};
-ghost use Rattle.router_cli.specs.Refusals.{ending_json, journey_fault_json, refusal_json, script_fault_json, status_head, status_json, status_shown};
+ghost use Rattle.router_cli.specs.Refusals.{end_shown, ending_json, journey_fault_json, refusal_json, script_fault_json, status_head, status_json, status_shown};
 
 use crate::status::{Status, status_text};
 use answer_json::{add_fault, add_line_fault, add_member, shown_left_out};
@@ -147,9 +147,26 @@ pub fn status_shown(alloc: Global, json: bool, status: &Status) -> Result<Vec<u8
     }
 }
 
-/// Writes to standard error, as JSON or as a text, what was left out for faults of the feed, if there
-/// are some, and how the program ended; and gives the number to end with. Where there is no memory for the line, or standard error fails, nothing is said. The number
-/// is in the clause; what is written is in none.
+/// What is written to standard error, as JSON or as a text: with `Done` what was left out for these
+/// faults of the feed, and nothing where there are none; else the line of the status.
+pub fn end_shown(
+    alloc: Global,
+    json: bool,
+    left_out: &[FeedFault],
+    status: &Status,
+) -> Result<Vec<u8>, Memory>
+    ensures { IfOk result (λ v. v.items ≡ end_shown json left_out.now status.now) }
+{
+    match status {
+        Status::Done => shown_left_out(alloc, json, left_out),
+        _ => status_shown(alloc, json, status),
+    }
+}
+
+/// Writes to standard error, as JSON or as a text, how the program ended, and with an answer what was
+/// left out for these faults of the feed; and gives the number to end with. Where there is no memory
+/// for the line, or standard error fails, nothing is said. The number is in the clause; what is
+/// written is in none.
 pub fn end(
     rt: &(impl Eprint + AllocGlobal),
     json: bool,
@@ -158,12 +175,7 @@ pub fn end(
 ) -> ExitCode
     ensures { exit_status result ≡ status_code status }
 {
-    if let Ok(line) = shown_left_out(rt.alloc(), json, left_out) {
-        if let Ok(text) = str::from_utf8(line.as_slice()) {
-            let _ = eprint!(rt; "{text}");
-        }
-    }
-    if let Ok(line) = status_shown(rt.alloc(), json, &status) {
+    if let Ok(line) = end_shown(rt.alloc(), json, left_out, &status) {
         if let Ok(text) = str::from_utf8(line.as_slice()) {
             let _ = eprint!(rt; "{text}");
         }
