@@ -9,7 +9,7 @@ import tempfile
 from harness import BEST, DAY, SCRIPT, Run, Table, commit_of, example, limited, outcome, router
 
 USAGE = (
-    "usage: router [--change SECS] [--station SECS] [--close] [--days N] [--workers N] [--plain]"
+    "usage: router [--change SECS] [--station SECS] [--close] [--lenient] [--days N] [--workers N] [--plain]"
     " [--lanes N] [--mirror] [--csv] COMMAND WORDS"
 )
 ASK = [DAY, "A", "D", "08:00:00"]
