@@ -120,16 +120,7 @@ fn ending_into<R: Threads + Wait + Sync, F: Folder + Send, G: Gate>(
     requires sink { sink.old.inner.calls.faults < 2 ^ 64 - 1 }
 {
     let mut left_out = Vec::new(alloc);
-    let status = status_over(
-        rt,
-        alloc,
-        words,
-        folder,
-        script,
-        sink,
-        &mut left_out,
-        gate,
-    );
+    let status = status_over(rt, alloc, words, folder, script, sink, &mut left_out, gate);
     let json = asks_json(words);
     let ending = ending_of(
         alloc,

@@ -133,7 +133,13 @@ fn shown_of(
             drop(table);
             ending_of(alloc, false, &[], &Status::Done, text?.as_slice())
         }
-        Err(DayFault::Feed(fault)) => ending_of(alloc, false, &[], &Status::FeedRefused(fault), &[]),
+        Err(DayFault::Feed(fault)) => ending_of(
+            alloc,
+            false,
+            &[],
+            &Status::FeedRefused(fault),
+            &[],
+        ),
         Err(DayFault::ReadFault) => ending_of(alloc, false, &[], &Status::ReadFault, &[]),
         Err(DayFault::Memory) => Err(Memory),
     }
