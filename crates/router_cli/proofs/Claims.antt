@@ -30,6 +30,7 @@ claim_unread status.Memory told faults = none_taken told
 claim_unread (status.ScriptRefused f) told faults = none_taken told
 claim_unread (status.LateRefused f) told faults = none_taken told
 claim_unread (status.JourneyRefused f) told faults = none_taken told
+claim_unread status.FaultsFound told faults = none_taken told
 
 -- what a source tells is what was taken of it
 pub claim_given : (json : Bool) (T : TimetableData) (told : Option (List ℕ)) (bytes taken : List ℕ) (claimed : ChoiceData) → IfSome told (λ all. bytes ≡ all) → taken ≡ bytes → claim_as json T taken ≡ Ok claimed → ClaimGives json T told (Ok claimed)
@@ -67,6 +68,7 @@ verify_completed same files shown told r status.WriteFault before now h read wri
 verify_completed same files shown told r status.Memory before now h read write day given = out_of_memory r.json told day
 verify_completed same files shown told r (status.ScriptRefused f) before now h read write day given = absurd h
 verify_completed same files shown told r (status.LateRefused f) before now h read write day given = absurd h
+verify_completed same files shown told r status.FaultsFound before now h read write day given = absurd h
 verify_completed same files shown told r (status.JourneyRefused f) before now (T, is, claim) read write day given =
     subst (λ d. IsVerifyEnding r.json told d (status.JourneyRefused f)) (same (feed_of files r.dir) r.date r.options (Ok T) day (is.1 shown) given)
     (without_claim r.json told T f claim)
