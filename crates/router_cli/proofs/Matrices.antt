@@ -88,6 +88,8 @@ written_over r T naming origins (status.LateRefused f) before now names (inl non
 written_over r T naming origins (status.LateRefused f) before now names (inr rows) = absurd rows
 written_over r T naming origins (status.JourneyRefused f) before now names (inl none) = absurd (let is = none.0 in cc)
 written_over r T naming origins (status.JourneyRefused f) before now names (inr rows) = absurd rows
+written_over r T naming origins status.FaultsFound before now names (inl none) = absurd (let is = none.0 in cc)
+written_over r T naming origins status.FaultsFound before now names (inr rows) = absurd rows
 
 -- no origins are named
 pub unnamed_over : (r : MatrixRequestData) (T : TimetableData) (naming : Option (Option (List ℕ))) (s : Status) (before : Option (List ℕ)) → NameNone naming s → IsMatrixOver r T naming s before before
