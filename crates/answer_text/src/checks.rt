@@ -156,7 +156,11 @@ impl Text {
         ensures { OnOk result (self.new ≡ self.old ++ rows_text rows) }
     {
         self.count(rows)?;
-        self.add(if rows == 1 { b" row" } else { b" rows" })
+        if rows == 1 {
+            self.add(b" row")
+        } else {
+            self.add(b" rows")
+        }
     }
 
     // Adds rows of a file for which something is left out.
