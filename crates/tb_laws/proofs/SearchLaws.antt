@@ -5,28 +5,30 @@ use Rattle.std.proofs.lemmas.List.Elements.{All-contains}
 use Rattle.std.proofs.lemmas.Int.{ints}
 use Rattle.tb_base.specs.declared.transfer.Hop.{Hop}
 use Rattle.tb_base.specs.declared.query.Value.{Value}
-use Rattle.tb_base.specs.TimetableData.{TimetableData, events_of}
+use Rattle.tb_base.specs.TimetableData.{TimetableData, arrival_at, events_of}
 use Rattle.tb_base.specs.Walking.{walk}
 use Rattle.tb_base.specs.Journeys.{Ride, Journey, IsJourney, IsRide, LeadsOn, Leads, LeavesNoEarlier, arrival, arrival_after, walk_secs, alighting_time, boarding_stop, boarding_time}
 use Rattle.tb_base.specs.BestValues.{QueryData, IsAttained, IsBest, value_of}
 use Rattle.tb_base.specs.Sufficiency.{SavesARide, GoesByHop, AreSufficient}
 use Rattle.tb_base.specs.Lines.{IsTripNoLater}
 use Rattle.tb_base.specs.Search.{RoundSegment, segment_at, IsReached, IsCovered, IsSearched, IsFound}
-use Rattle.tb_laws.specs.Pruning.{IsLate, IsPrunedSearch}
+use Rattle.tb_laws.specs.Pruning.{IsLate, IsPrunedBy, IsPrunedSearch}
+use Rattle.tb_laws.specs.Soonest.{AreSoonest}
 use Rattle.tb_base.specs.Soundness.{IsSound}
-use Rattle.tb_laws.proofs.CoverLaws.{arrives_behind}
 use Rattle.tb_base.proofs.Events.{MayAlight-inside}
+use Rattle.tb_laws.proofs.SoonestLaws.{arrivals_soonest}
 use Rattle.tb_laws.proofs.Boarding.{reached_leads}
 use Rattle.tb_laws.proofs.Exchange.{change_in, ≤ℤ-trans, AlightsAs, LeadsOn-alights, arrival_after-alights, Leads-at, arrival-behind}
 use Rattle.tb_laws.proofs.Triangles.{walk_secs-is}
 use Rattle.tb_laws.proofs.UTurnLaws.{some}
 use Rattle.tb_base.proofs.NumberFacts.{less_or_same, ≤ℤ-same_back}
 
--- Where rides lead on in time for v, one does not leave the first of them late.
-abbrev IsNeverLate : TimetableData → List Value → Value → Type 0
-IsNeverLate T values v = (r : Ride) (rest : List Ride) (target rides : ℕ) → LeadsOn T r rest target → arrival_after T r rest target ≤ℤ v.arrive → rides < v.rides → IsLate values (alighting_time T r) rides → ⊥
+-- Where rides lead on in time for v, what is soonest from the first of them is not late.
+abbrev IsNeverLate : TimetableData → List ℕ → (ℕ → ℕ → ℤ) → List Value → Value → Type 0
+IsNeverLate T targets soonest values v =
+    (r : Ride) (rest : List Ride) (target rides : ℕ) → Contains targets target → IsRide T r → LeadsOn T r rest target → arrival_after T r rest target ≤ℤ v.arrive → rides < v.rides → IsLate values (soonest r.trip r.alight) rides → ⊥
 
-module _ (T : TimetableData) (hops : ℕ → ℕ → List Hop) (Q : QueryData) (values : List Value) (segments : List RoundSegment) (searched : IsPrunedSearch T hops Q.from Q.leave values segments) (v : Value) (best : IsBest T Q v) (never_late : IsNeverLate T values v) where
+module _ (T : TimetableData) (hops : ℕ → ℕ → List Hop) (Q : QueryData) (soonest : ℕ → ℕ → ℤ) (values : List Value) (segments : List RoundSegment) (searched : IsPrunedBy T hops Q.from Q.leave soonest values segments) (v : Value) (best : IsBest T Q v) (never_late : IsNeverLate T Q.to soonest values v) where
   abbrev trip_of : ℕ → ℕ
   trip_of n = (segment_at segments n).trip
 
@@ -192,7 +194,7 @@ module _ (T : TimetableData) (hops : ℕ → ℕ → List Hop) (Q : QueryData) (
                   | inl covered ↦ (let c : IsCovered T segments (length segments) (suc round) goes.hop.trip goes.hop.at
                       = subst (λ k. IsCovered T segments (length segments) (suc k) goes.hop.trip goes.hop.at) well.round_is covered in
                       (c.by, take_over (length segments) (suc round) next goes.others well.target c c.within well.to at_there.1.1 at_there.1.2 sooner (omega (arith, all, goes.as_many))))
-                  | inr is_late ↦ absurd (never_late there (next ∷ goes.others) well.target (segment_at segments n).round at_there.1 sooner (omega (arith, well.round_is, more)) is_late)
+                  | inr is_late ↦ absurd (never_late there (next ∷ goes.others) well.target (segment_at segments n).round well.to at_there.0 at_there.1 sooner (omega (arith, well.round_is, more)) is_late)
                 ]
                 by_end (inr past) =
                     let m = before_it round n well.inside well.round_is goes.at (next ∷ goes.others) well.target past well.to at_there.0 at_there.1 sooner (omega (arith, all, goes.as_many)) in
@@ -273,7 +275,7 @@ none_late time rides (w, inside, le) = omega (arith, inside.1)
 
 pub best_value_found : (T : TimetableData) (hops : ℕ → ℕ → List Hop) (Q : QueryData) (segments : List RoundSegment) → IsSearched T hops Q.from Q.leave segments → (v : Value) → IsBest T Q v → AreSufficient T hops → 0 < v.rides → IsFound T Q.to segments v
 best_value_found T hops Q segments searched v best sufficient some_ride =
-    value_found T hops Q [] segments (searched_whole T hops Q.from Q.leave segments searched) v best (λ r rest target rides on in_time fewer is_late. none_late (alighting_time T r) rides is_late) sufficient some_ride
+    value_found T hops Q (arrival_at T) [] segments (searched_whole T hops Q.from Q.leave segments searched) v best (λ r rest target rides to ride on in_time fewer is_late. none_late (alighting_time T r) rides is_late) sufficient some_ride
 
 -- a search that does not go on where it arrives late, with no value before it, is a whole one
 pub whole_search : (T : TimetableData) (hops : ℕ → ℕ → List Hop) (origins : List ℕ) (asked : ℤ) (segments : List RoundSegment) → IsPrunedSearch T hops origins asked [] segments → IsSearched T hops origins asked segments
@@ -284,14 +286,19 @@ whole_search T hops origins asked segments s = record {
   ends = s.ends;
 }
 
--- Where all values are attained, a search that does not go on where it arrives late finds each best value.
-pub pruned_value_found : (T : TimetableData) (hops : ℕ → ℕ → List Hop) (Q : QueryData) (values : List Value) (segments : List RoundSegment) → IsSound T → IsPrunedSearch T hops Q.from Q.leave values segments → All (IsAttained T Q) values → AreSufficient T hops →
+-- Where all values are attained, a search that does not go on where what is soonest is late finds each best value.
+pub bounded_value_found : (T : TimetableData) (hops : ℕ → ℕ → List Hop) (Q : QueryData) (soonest : ℕ → ℕ → ℤ) (values : List Value) (segments : List RoundSegment) → AreSoonest T Q.to soonest → IsPrunedBy T hops Q.from Q.leave soonest values segments → All (IsAttained T Q) values → AreSufficient T hops →
     (v : Value) → IsBest T Q v → 0 < v.rides → IsFound T Q.to segments v
-pruned_value_found T hops Q values segments sound searched attained sufficient v best some_ride = value_found T hops Q values segments searched v best never_late sufficient some_ride
+bounded_value_found T hops Q soonest values segments bounds searched attained sufficient v best some_ride = value_found T hops Q soonest values segments searched v best never_late sufficient some_ride
   where
-    never_late : IsNeverLate T values v
-    never_late r rest target rides on in_time fewer (w, inside, le) =
-        let sooner : w.arrive ≤ℤ v.arrive = ≤ℤ-trans _ _ _ le.0 (≤ℤ-trans _ _ _ (arrives_behind T sound r rest target on) in_time) in
+    never_late : IsNeverLate T Q.to soonest values v
+    never_late r rest target rides to ride on in_time fewer (w, inside, le) =
+        let sooner : w.arrive ≤ℤ v.arrive = ≤ℤ-trans _ _ _ le.0 (≤ℤ-trans _ _ _ (bounds r rest target to ride on) in_time) in
         let same : w ≡ v = best.undominated w (All-contains (IsAttained T Q) values w attained inside) (sooner, omega (arith, le.1, fewer)) in
         let e : w.rides ≡ v.rides = ap (λ (x : Value). x.rides) same in
         omega (arith, e, le.1, fewer)
+
+-- and so does one that does not go on where it arrives late
+pub pruned_value_found : (T : TimetableData) (hops : ℕ → ℕ → List Hop) (Q : QueryData) (values : List Value) (segments : List RoundSegment) → IsSound T → IsPrunedSearch T hops Q.from Q.leave values segments → All (IsAttained T Q) values → AreSufficient T hops →
+    (v : Value) → IsBest T Q v → 0 < v.rides → IsFound T Q.to segments v
+pruned_value_found T hops Q values segments sound searched attained sufficient v best some_ride = bounded_value_found T hops Q (arrival_at T) values segments (arrivals_soonest T Q.to sound) searched attained sufficient v best some_ride

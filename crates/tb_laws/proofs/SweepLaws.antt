@@ -4,7 +4,7 @@ use Rattle.std.specs.Prelude.{All, Contains, int_le, nat_le}
 use Rattle.std.proofs.lemmas.Bool.{leb-true, le-leb, and_parts}
 use Rattle.tb_base.specs.declared.transfer.Hop.{Hop}
 use Rattle.tb_base.specs.declared.query.Value.{Value}
-use Rattle.tb_base.specs.TimetableData.{TimetableData}
+use Rattle.tb_base.specs.TimetableData.{TimetableData, arrival_at}
 use Rattle.tb_base.specs.Walking.{walk}
 use Rattle.tb_base.specs.Journeys.{Ride, Leads}
 use Rattle.tb_base.specs.BestValues.{QueryData, IsAttained, IsBest, IsNoWorse, value_of}
@@ -12,9 +12,11 @@ use Rattle.tb_base.specs.Soundness.{IsSound}
 use Rattle.tb_base.specs.Sufficiency.{AreSufficient}
 use Rattle.tb_base.specs.Search.{RoundSegment}
 use Rattle.tb_base.proofs.Ordered.{Member, Contains-from_Member, Member-from_Contains}
-use Rattle.tb_laws.specs.Pruning.{AreCoveredBy, HoldOffers, HoldWalks, IsLate, IsPrunedSearch}
+use Rattle.tb_laws.specs.Pruning.{AreCoveredBy, HoldOffers, HoldWalks, IsLate, IsPrunedBy, IsPrunedSearch}
+use Rattle.tb_laws.specs.Soonest.{AreSoonest}
 use Rattle.tb_laws.proofs.CoverLaws.{no_best_is_absurd}
-use Rattle.tb_laws.proofs.SearchLaws.{pruned_value_found}
+use Rattle.tb_laws.proofs.SearchLaws.{bounded_value_found}
+use Rattle.tb_laws.proofs.SoonestLaws.{arrivals_soonest}
 use Rattle.tb_laws.proofs.Triangles.{walk_secs-is}
 use Rattle.tb_laws.proofs.UTurnLaws.{some}
 use Rattle.tb_base.proofs.NumberFacts.{≤ℤ-trans, int_le-true, le-int_le}
@@ -23,7 +25,7 @@ pub late_still : (old values : List Value) (time : ℤ) (rides : ℕ) → AreCov
 late_still old values time rides cover (w, inside, le) = let v = cover w inside in (v.0, v.1, (≤ℤ-trans v.0.arrive w.arrive time v.2.0 le.0, omega (arith, v.2.1, le.1)))
 
 -- Attained values that hold all that a search offers, and all walks, hold every attained value.
-module _ (T : TimetableData) (sound : IsSound T) (hops : ℕ → ℕ → List Hop) (sufficient : AreSufficient T hops) (Q : QueryData) (values : List Value) (segments : List RoundSegment) (searched : IsPrunedSearch T hops Q.from Q.leave values segments)
+module _ (T : TimetableData) (sound : IsSound T) (hops : ℕ → ℕ → List Hop) (sufficient : AreSufficient T hops) (Q : QueryData) (soonest : ℕ → ℕ → ℤ) (values : List Value) (segments : List RoundSegment) (bounds : AreSoonest T Q.to soonest) (searched : IsPrunedBy T hops Q.from Q.leave soonest values segments)
     (attained : All (IsAttained T Q) values) (offers : HoldOffers T Q.to values segments) (walks : HoldWalks T Q values) where
   -- each best value is held
   held : (v : Value) → IsBest T Q v → IsLate values v.arrive v.rides
@@ -38,7 +40,7 @@ module _ (T : TimetableData) (sound : IsSound T) (hops : ℕ → ℕ → List Ho
 
       by_rides : (k : ℕ) → k ≡ v.rides → IsLate values v.arrive v.rides
       by_rides zero e = let j = best.attained.0 in on_foot j.origin j.rides j.target best.attained.1.journey.origin best.attained.1.journey.target best.attained.1.journey.leads best.attained.1.value (sym e)
-      by_rides (suc k) e = offers v (pruned_value_found T hops Q values segments sound searched attained sufficient v best (omega (arith, e)))
+      by_rides (suc k) e = offers v (bounded_value_found T hops Q soonest values segments bounds searched attained sufficient v best (omega (arith, e)))
 
   clash : (a b : Bool) → a ≡ true → b ≡ true → (a && b) ≡ false → ⊥
   clash a b g h k = cc
@@ -57,8 +59,13 @@ module _ (T : TimetableData) (sound : IsSound T) (hops : ℕ → ℕ → List Ho
           in_list v (inr k) le = none v k le
 
   -- so each attained value has one of the values that is no worse
-  pub swept_values_cover : (w : Value) → IsAttained T Q w → IsLate values w.arrive w.rides
-  swept_values_cover w has = elim (search_in w values) [
+  pub bounded_values_cover : (w : Value) → IsAttained T Q w → IsLate values w.arrive w.rides
+  bounded_values_cover w has = elim (search_in w values) [
     | inl found ↦ (found.0, Contains-from_Member found.0 values found.1, found.2)
     | inr none ↦ absurd (no_best_is_absurd T sound Q w has (λ v best le. (let h = held v best in none h.0 (Member-from_Contains h.0 values h.1) (≤ℤ-trans h.0.arrive v.arrive w.arrive h.2.0 le.0, omega (arith, h.2.1, le.1)))))
   ]
+
+-- the same of a search that does not go on where it arrives late
+pub swept_values_cover : (T : TimetableData) → IsSound T → (hops : ℕ → ℕ → List Hop) → AreSufficient T hops → (Q : QueryData) (values : List Value) (segments : List RoundSegment) → IsPrunedSearch T hops Q.from Q.leave values segments → All (IsAttained T Q) values →
+    HoldOffers T Q.to values segments → HoldWalks T Q values → (w : Value) → IsAttained T Q w → IsLate values w.arrive w.rides
+swept_values_cover T sound hops sufficient Q values segments searched attained offers walks w has = bounded_values_cover T sound hops sufficient Q (arrival_at T) values segments (arrivals_soonest T Q.to sound) searched attained offers walks w has

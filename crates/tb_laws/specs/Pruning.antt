@@ -12,9 +12,11 @@ abbrev pub IsLate : List Value → ℤ → ℕ → Type 0
 IsLate values time rides =
     (w : Value) × Contains values w × IsNoWorse w (record { arrive = time; rides = rides })
 
--- The search has come to its end, but it need not have gone on where it arrived late.
-pub record IsPrunedSearch (T : TimetableData) (hops : ℕ → ℕ → List Hop) (origins : List ℕ)
-    (asked : ℤ) (values : List Value) (segments : List RoundSegment) : Type 0 where
+-- The search has come to its end, but it need not have gone on from an index of a trip where what
+-- is soonest from there, by these times, is late.
+pub record IsPrunedBy (T : TimetableData) (hops : ℕ → ℕ → List Hop) (origins : List ℕ)
+    (asked : ℤ) (soonest : ℕ → ℕ → ℤ) (values : List Value)
+    (segments : List RoundSegment) : Type 0 where
   pub reached : (n : ℕ) → n < length segments →
       IsReached T origins asked (segment_at segments n).round (segment_at segments n).trip
       (segment_at segments n).board
@@ -23,16 +25,22 @@ pub record IsPrunedSearch (T : TimetableData) (hops : ℕ → ℕ → List Hop) 
       b + 1 < length (events_of T t) → walk T p (stop_at T t b) ≡ Some secs →
       (asked +ℤ pos secs) ≤ℤ departure_at T t b →
       IsCovered T segments (length segments) 1 t b
-  -- each hop from a segment is covered, or one arrives late there
+  -- each hop from a segment is covered, or what is soonest from there is late
   pub goes_on : (n i : ℕ) (h : Hop) → n < length segments → (segment_at segments n).board < i →
       i ≤ (segment_at segments n).end → Contains (hops (segment_at segments n).trip i) h →
       IsCovered T segments (length segments) (suc (segment_at segments n).round) h.trip h.at
-      ⊎ IsLate values (arrival_at T (segment_at segments n).trip i) (segment_at segments n).round
+      ⊎ IsLate values (soonest (segment_at segments n).trip i) (segment_at segments n).round
   -- what lies past the end of a segment is covered by a segment before it
   pub ends : (n : ℕ) → n < length segments →
       (length (events_of T (segment_at segments n).trip) ≤ suc (segment_at segments n).end)
       ⊎ IsCovered T segments n (segment_at segments n).round (segment_at segments n).trip
       (segment_at segments n).end
+
+-- It need not have gone on where it arrived late.
+abbrev pub IsPrunedSearch : TimetableData → (ℕ → ℕ → List Hop) → List ℕ → ℤ → List Value →
+    List RoundSegment → Type 0
+IsPrunedSearch T hops origins asked values segments =
+    IsPrunedBy T hops origins asked (arrival_at T) values segments
 
 -- each of these values has one among others that is no worse
 abbrev pub AreCoveredBy : List Value → List Value → Type 0

@@ -8,7 +8,8 @@ ghost use Rattle.tb_base.specs.TimetableData.{MayAlight, MayBoard, TimetableData
 ghost use Rattle.tb_base.specs.Walking.{walk};
 ghost use Rattle.tb_base.specs.declared.query.Value.{Value};
 ghost use Rattle.tb_base.specs.declared.transfer.Hop.{Hop};
-ghost use Rattle.tb_laws.specs.Pruning.{HoldOffers, HoldWalks, IsLate, IsPrunedSearch};
+ghost use Rattle.tb_laws.specs.Pruning.{HoldOffers, HoldWalks, IsLate, IsPrunedBy, IsPrunedSearch};
+ghost use Rattle.tb_laws.specs.Soonest.{AreLeft, AreSoonest, soonest_by};
 
 /// A search over enough hops finds each best value with rides, by alighting from a segment of its
 /// round.
@@ -85,4 +86,22 @@ pub fn reached_value()
           arrive = arrival_at T t i +ℤ walk_secs T (stop_at T t i) target;
           rides = round;
         }) }
+{}
+
+/// Seconds that are left, told from neighbours, bound every way on: whoever alights somewhere
+/// reaches no target before they have passed.
+pub fn left_soonest()
+    ensures { (T : TimetableData) (targets : List ℕ) (left : ℕ → ℕ → ℕ) →
+        AreLeft T targets left → AreSoonest T targets (soonest_by T left) }
+{}
+
+/// Attained values that hold all that a search over enough hops offers, and all walks, hold every
+/// attained value, also where the search doesn't go on from where what is soonest is late.
+pub fn bounded_values_cover()
+    ensures { (T : TimetableData) → IsSound T → (hops : ℕ → ℕ → List Hop) → AreSufficient T hops →
+        (Q : QueryData) (soonest : ℕ → ℕ → ℤ) (values : List Value)
+        (segments : List RoundSegment) → AreSoonest T Q.to soonest →
+        IsPrunedBy T hops Q.from Q.leave soonest values segments →
+        All (IsAttained T Q) values → HoldOffers T Q.to values segments → HoldWalks T Q values →
+        (w : Value) → IsAttained T Q w → IsLate values w.arrive w.rides }
 {}
