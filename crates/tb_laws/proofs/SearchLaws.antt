@@ -1,34 +1,56 @@
 -- A search over a sufficient set enters a segment for each best value, also where it does not go on from what is late for it.
-use Rattle.std.proofs.Common.{◌≡◌, ℕ, zero, suc, ◌<◌, ◌≤◌, ◌+◌, ◌⊎◌, inl, inr, List, [], ◌∷◌, ◌++◌, length, refl, sym, ap, subst, ◌∙◌, arith, ℤ, pos, ◌+ℤ◌, ◌-ℤ◌, ◌≤ℤ◌, length-append}
+use Rattle.std.proofs.Common.{◌≡◌, ℕ, zero, suc, ◌<◌, ◌≤◌, ◌+◌, ◌⊎◌, inl, inr, List, [], ◌∷◌, ◌++◌, length, refl, sym, ap, subst, ◌∙◌, arith, Some, ℤ, pos, ◌+ℤ◌, ◌-ℤ◌, ◌≤ℤ◌, length-append}
 use Rattle.std.specs.Prelude.{All, Contains}
 use Rattle.std.proofs.lemmas.List.Elements.{All-contains}
 use Rattle.std.proofs.lemmas.Int.{ints}
 use Rattle.tb_base.specs.declared.transfer.Hop.{Hop}
 use Rattle.tb_base.specs.declared.query.Value.{Value}
-use Rattle.tb_base.specs.TimetableData.{TimetableData, arrival_at, events_of}
+use Rattle.tb_base.specs.TimetableData.{TimetableData, arrival_at, departure_at, events_of, stop_at, MayBoard}
 use Rattle.tb_base.specs.Walking.{walk}
 use Rattle.tb_base.specs.Journeys.{Ride, Journey, IsJourney, IsRide, LeadsOn, Leads, LeavesNoEarlier, arrival, arrival_after, walk_secs, alighting_time, boarding_stop, boarding_time}
 use Rattle.tb_base.specs.BestValues.{QueryData, IsAttained, IsBest, value_of}
 use Rattle.tb_base.specs.Sufficiency.{SavesARide, GoesByHop, AreSufficient}
 use Rattle.tb_base.specs.Lines.{IsTripNoLater}
 use Rattle.tb_base.specs.Search.{RoundSegment, segment_at, IsReached, IsCovered, IsSearched, IsFound}
-use Rattle.tb_laws.specs.Pruning.{IsLate, IsPrunedBy, IsPrunedSearch}
+use Rattle.tb_laws.specs.Pruning.{IsBoundedSearch, IsLate, IsLateBehind, IsPrunedSearch}
 use Rattle.tb_laws.specs.Soonest.{AreSoonest}
 use Rattle.tb_base.specs.Soundness.{IsSound}
+use Rattle.tb_laws.proofs.CoverLaws.{arrives_behind}
 use Rattle.tb_base.proofs.Events.{MayAlight-inside}
-use Rattle.tb_laws.proofs.SoonestLaws.{arrivals_soonest}
 use Rattle.tb_laws.proofs.Boarding.{reached_leads}
 use Rattle.tb_laws.proofs.Exchange.{change_in, ≤ℤ-trans, AlightsAs, LeadsOn-alights, arrival_after-alights, Leads-at, arrival-behind}
 use Rattle.tb_laws.proofs.Triangles.{walk_secs-is}
 use Rattle.tb_laws.proofs.UTurnLaws.{some}
 use Rattle.tb_base.proofs.NumberFacts.{less_or_same, ≤ℤ-same_back}
 
--- Where rides lead on in time for v, what is soonest from the first of them is not late.
-abbrev IsNeverLate : TimetableData → List ℕ → (ℕ → ℕ → ℤ) → List Value → Value → Type 0
-IsNeverLate T targets soonest values v =
-    (r : Ride) (rest : List Ride) (target rides : ℕ) → Contains targets target → IsRide T r → LeadsOn T r rest target → arrival_after T r rest target ≤ℤ v.arrive → rides < v.rides → IsLate values (soonest r.trip r.alight) rides → ⊥
+-- A search that need not go on from an index of a trip where it stops, in a round, nor board a trip at an index where that is refused.
+record IsSearchBy (T : TimetableData) (hops : ℕ → ℕ → List Hop) (origins : List ℕ) (asked : ℤ) (Stops Refused : ℕ → ℕ → ℕ → Type 0) (segments : List RoundSegment) : Type 0 where
+  pub reached : (n : ℕ) → n < length segments → IsReached T origins asked (segment_at segments n).round (segment_at segments n).trip (segment_at segments n).board
+  pub starts : (p t b secs : ℕ) → Contains origins p → MayBoard T t b → b + 1 < length (events_of T t) → walk T p (stop_at T t b) ≡ Some secs → (asked +ℤ pos secs) ≤ℤ departure_at T t b → IsCovered T segments (length segments) 1 t b ⊎ Refused t b 1
+  pub goes_on : (n i : ℕ) (h : Hop) → n < length segments → (segment_at segments n).board < i → i ≤ (segment_at segments n).end → Contains (hops (segment_at segments n).trip i) h →
+      IsCovered T segments (length segments) (suc (segment_at segments n).round) h.trip h.at ⊎ (Stops (segment_at segments n).trip i (segment_at segments n).round ⊎ Refused h.trip h.at (suc (segment_at segments n).round))
+  pub ends : (n : ℕ) → n < length segments →
+      (length (events_of T (segment_at segments n).trip) ≤ suc (segment_at segments n).end)
+      ⊎ (IsCovered T segments n (segment_at segments n).round (segment_at segments n).trip (segment_at segments n).end ⊎ Refused (segment_at segments n).trip (segment_at segments n).end (segment_at segments n).round)
 
-module _ (T : TimetableData) (hops : ℕ → ℕ → List Hop) (Q : QueryData) (soonest : ℕ → ℕ → ℤ) (values : List Value) (segments : List RoundSegment) (searched : IsPrunedBy T hops Q.from Q.leave soonest values segments) (v : Value) (best : IsBest T Q v) (never_late : IsNeverLate T Q.to soonest values v) where
+-- With the ride r of this number, these rides lead to a target in time for v, with as many rides.
+record IsInTime (T : TimetableData) (targets : List ℕ) (v : Value) (r : Ride) (rest : List Ride) (target round : ℕ) : Type 0 where
+  pub to : Contains targets target
+  pub rides : IsRide T r
+  pub on : LeadsOn T r rest target
+  pub in_time : arrival_after T r rest target ≤ℤ v.arrive
+  pub all : round + length rest ≡ v.rides
+
+-- Where rides lead on in time for v, the search does not stop before the last of them.
+abbrev NeverStops : TimetableData → List ℕ → (ℕ → ℕ → ℕ → Type 0) → Value → Type 0
+NeverStops T targets Stops v = (r s : Ride) (rest : List Ride) (target round : ℕ) → IsInTime T targets v r (s ∷ rest) target round → Stops r.trip r.alight round → ⊥
+
+-- And no one is refused before where the first of them is left.
+abbrev NeverRefuses : TimetableData → List ℕ → (ℕ → ℕ → ℕ → Type 0) → Value → Type 0
+NeverRefuses T targets Refused v = (r : Ride) (rest : List Ride) (target round b : ℕ) → IsInTime T targets v r rest target round → b < r.alight → Refused r.trip b round → ⊥
+
+module _ (T : TimetableData) (hops : ℕ → ℕ → List Hop) (Q : QueryData) (Stops Refused : ℕ → ℕ → ℕ → Type 0) (segments : List RoundSegment) (searched : IsSearchBy T hops Q.from Q.leave Stops Refused segments) (v : Value) (best : IsBest T Q v)
+    (never_stops : NeverStops T Q.to Stops v) (never_refuses : NeverRefuses T Q.to Refused v) where
   abbrev trip_of : ℕ → ℕ
   trip_of n = (segment_at segments n).trip
 
@@ -103,9 +125,10 @@ module _ (T : TimetableData) (hops : ℕ → ℕ → List Hop) (Q : QueryData) (
       arrival_after T (ride_to n i) rest target ≤ℤ v.arrive → round + length rest ≡ v.rides → (m : ℕ) × (m < n) × GoesWell round m
   before_it round n inside round_is i rest target past to rides on in_time all = by_case (searched.ends n inside)
     where
-      by_case : (length (events_of T (trip_of n)) ≤ suc (segment_at segments n).end) ⊎ IsCovered T segments n (segment_at segments n).round (trip_of n) (segment_at segments n).end → (m : ℕ) × (m < n) × GoesWell round m
+      by_case : (length (events_of T (trip_of n)) ≤ suc (segment_at segments n).end) ⊎ (IsCovered T segments n (segment_at segments n).round (trip_of n) (segment_at segments n).end ⊎ Refused (trip_of n) (segment_at segments n).end (segment_at segments n).round) → (m : ℕ) × (m < n) × GoesWell round m
+      by_case (inr (inr refused)) = absurd (never_refuses (ride_to n i) rest target round (segment_at segments n).end (record { to = to; rides = rides; on = on; in_time = in_time; all = all }) past (subst (λ k. Refused (trip_of n) (segment_at segments n).end k) round_is refused))
       by_case (inl last) = absurd (let there : i < length (events_of T (trip_of n)) = (MayAlight-inside T (trip_of n) i rides.alights).1 in omega (arith, there, last, past))
-      by_case (inr c) = (c.by, c.within, from_end (subst (λ k. IsCovered T segments n k (trip_of n) (segment_at segments n).end) round_is c) refl)
+      by_case (inr (inl c)) = (c.by, c.within, from_end (subst (λ k. IsCovered T segments n k (trip_of n) (segment_at segments n).end) round_is c) refl)
         where
           -- the ride from the end on is no ride of its own, so it is taken over by hand
           from_end : (c' : IsCovered T segments n round (trip_of n) (segment_at segments n).end) → c'.by ≡ c.by → GoesWell round c.by
@@ -141,9 +164,12 @@ module _ (T : TimetableData) (hops : ℕ → ℕ → List Hop) (Q : QueryData) (
           let secs : walk_secs T o (boarding_stop T r) ≡ pos w.0 = walk_secs-is T _ _ _ w.1 in
           let leaves' : Q.leave ≤ℤ (boarding_time T r -ℤ pos w.0) = subst (λ z. Q.leave ≤ℤ (boarding_time T r -ℤ z)) secs leaves in
           let inside : r.alight < length (events_of T r.trip) = (MayAlight-inside T r.trip r.alight leads.1.alights).1 in
-          let c = searched.starts o r.trip r.board w.0 from leads.1.boards (omega (arith, inside, leads.1.onward)) w.1 (moved (boarding_time T r) w.0 leaves') in
+          let in_time : arrival_after T r rest q ≤ℤ v.arrive = ≤ℤ-same_back _ _ (ap (λ (w : Value). w.arrive) value) in
           let e : v.rides ≡ suc (length rest) = ap (λ (w : Value). w.rides) value in
-          (c.by, take_over (length segments) 1 r rest q c c.within to leads.1 leads.2 (≤ℤ-same_back _ _ (ap (λ (w : Value). w.arrive) value)) (omega (arith, e)))
+          elim (searched.starts o r.trip r.board w.0 from leads.1.boards (omega (arith, inside, leads.1.onward)) w.1 (moved (boarding_time T r) w.0 leaves')) [
+            | inl c ↦ (c.by, take_over (length segments) 1 r rest q c c.within to leads.1 leads.2 in_time (omega (arith, e)))
+            | inr refused ↦ absurd (never_refuses r rest q 1 r.board (record { to = to; rides = leads.1; on = leads.2; in_time = in_time; all = omega (arith, e) }) leads.1.onward refused)
+          ]
         where
           moved : (d : ℤ) (n : ℕ) → Q.leave ≤ℤ (d -ℤ pos n) → (Q.leave +ℤ pos n) ≤ℤ d
           moved d n h = omega (arith, ints, h)
@@ -194,7 +220,8 @@ module _ (T : TimetableData) (hops : ℕ → ℕ → List Hop) (Q : QueryData) (
                   | inl covered ↦ (let c : IsCovered T segments (length segments) (suc round) goes.hop.trip goes.hop.at
                       = subst (λ k. IsCovered T segments (length segments) (suc k) goes.hop.trip goes.hop.at) well.round_is covered in
                       (c.by, take_over (length segments) (suc round) next goes.others well.target c c.within well.to at_there.1.1 at_there.1.2 sooner (omega (arith, all, goes.as_many))))
-                  | inr is_late ↦ absurd (never_late there (next ∷ goes.others) well.target (segment_at segments n).round well.to at_there.0 at_there.1 sooner (omega (arith, well.round_is, more)) is_late)
+                  | inr (inl stops) ↦ absurd (never_stops there next goes.others well.target (segment_at segments n).round (record { to = well.to; rides = at_there.0; on = at_there.1; in_time = sooner; all = omega (arith, well.round_is, all, goes.as_many) }) stops)
+                  | inr (inr refused) ↦ absurd (never_refuses next goes.others well.target (suc (segment_at segments n).round) goes.hop.at (record { to = well.to; rides = at_there.1.1; on = at_there.1.2; in_time = sooner; all = omega (arith, well.round_is, all, goes.as_many) }) at_there.1.1.onward refused)
                 ]
                 by_end (inr past) =
                     let m = before_it round n well.inside well.round_is goes.at (next ∷ goes.others) well.target past well.to at_there.0 at_there.1 sooner (omega (arith, all, goes.as_many)) in
@@ -267,15 +294,33 @@ module _ (T : TimetableData) (hops : ℕ → ℕ → List Hop) (Q : QueryData) (
             last_round (suc w.0) w.0 (omega arith) (subst (λ x. GoesWell x w.0) e w.1)
 
 -- a search that goes on from everywhere
-searched_whole : (T : TimetableData) (hops : ℕ → ℕ → List Hop) (origins : List ℕ) (asked : ℤ) (segments : List RoundSegment) → IsSearched T hops origins asked segments → IsPrunedSearch T hops origins asked [] segments
-searched_whole T hops origins asked segments s = record { reached = s.reached; starts = s.starts; goes_on = λ n i h inside onward within in_set. inl (s.goes_on n i h inside onward within in_set); ends = s.ends }
+searched_whole : (T : TimetableData) (hops : ℕ → ℕ → List Hop) (origins : List ℕ) (asked : ℤ) (segments : List RoundSegment) → IsSearched T hops origins asked segments → IsSearchBy T hops origins asked (λ t i round. ⊥) (λ t b round. ⊥) segments
+searched_whole T hops origins asked segments s = record {
+  reached = s.reached;
+  starts = λ p t b secs from boards not_last walks in_time. inl (s.starts p t b secs from boards not_last walks in_time);
+  goes_on = λ n i h inside onward within in_set. inl (s.goes_on n i h inside onward within in_set);
+  ends = λ n inside. elim (s.ends n inside) [ inl last ↦ inl last | inr covered ↦ inr (inl covered) ];
+}
+
+-- a search that does not go on where it arrives late
+searched_pruned : (T : TimetableData) (hops : ℕ → ℕ → List Hop) (origins : List ℕ) (asked : ℤ) (values : List Value) (segments : List RoundSegment) → IsPrunedSearch T hops origins asked values segments → IsSearchBy T hops origins asked (λ t i round. IsLate values (arrival_at T t i) round) (λ t b round. ⊥) segments
+searched_pruned T hops origins asked values segments s = record {
+  reached = s.reached;
+  starts = λ p t b secs from boards not_last walks in_time. inl (s.starts p t b secs from boards not_last walks in_time);
+  goes_on = λ n i h inside onward within in_set. elim (s.goes_on n i h inside onward within in_set) [ inl covered ↦ inl covered | inr is_late ↦ inr (inl is_late) ];
+  ends = λ n inside. elim (s.ends n inside) [ inl last ↦ inl last | inr covered ↦ inr (inl covered) ];
+}
+
+-- a search that neither goes on nor boards where what is soonest is late
+searched_bounded : (T : TimetableData) (hops : ℕ → ℕ → List Hop) (origins : List ℕ) (asked : ℤ) (soonest : ℕ → ℕ → ℤ) (values : List Value) (segments : List RoundSegment) → IsBoundedSearch T hops origins asked soonest values segments → IsSearchBy T hops origins asked (λ t i round. IsLate values (soonest t i) round) (IsLateBehind T soonest values) segments
+searched_bounded T hops origins asked soonest values segments s = record { reached = s.reached; starts = s.starts; goes_on = s.goes_on; ends = s.ends }
 
 none_late : (time : ℤ) (rides : ℕ) → IsLate [] time rides → ⊥
 none_late time rides (w, inside, le) = omega (arith, inside.1)
 
 pub best_value_found : (T : TimetableData) (hops : ℕ → ℕ → List Hop) (Q : QueryData) (segments : List RoundSegment) → IsSearched T hops Q.from Q.leave segments → (v : Value) → IsBest T Q v → AreSufficient T hops → 0 < v.rides → IsFound T Q.to segments v
 best_value_found T hops Q segments searched v best sufficient some_ride =
-    value_found T hops Q (arrival_at T) [] segments (searched_whole T hops Q.from Q.leave segments searched) v best (λ r rest target rides to ride on in_time fewer is_late. none_late (alighting_time T r) rides is_late) sufficient some_ride
+    value_found T hops Q (λ t i round. ⊥) (λ t b round. ⊥) segments (searched_whole T hops Q.from Q.leave segments searched) v best (λ r s rest target round goes stops. stops) (λ r rest target round b goes before refused. refused) sufficient some_ride
 
 -- a search that does not go on where it arrives late, with no value before it, is a whole one
 pub whole_search : (T : TimetableData) (hops : ℕ → ℕ → List Hop) (origins : List ℕ) (asked : ℤ) (segments : List RoundSegment) → IsPrunedSearch T hops origins asked [] segments → IsSearched T hops origins asked segments
@@ -286,19 +331,33 @@ whole_search T hops origins asked segments s = record {
   ends = s.ends;
 }
 
--- Where all values are attained, a search that does not go on where what is soonest is late finds each best value.
-pub bounded_value_found : (T : TimetableData) (hops : ℕ → ℕ → List Hop) (Q : QueryData) (soonest : ℕ → ℕ → ℤ) (values : List Value) (segments : List RoundSegment) → AreSoonest T Q.to soonest → IsPrunedBy T hops Q.from Q.leave soonest values segments → All (IsAttained T Q) values → AreSufficient T hops →
+-- Where all values are attained, a search that does not go on where it arrives late finds each best value.
+pub pruned_value_found : (T : TimetableData) (hops : ℕ → ℕ → List Hop) (Q : QueryData) (values : List Value) (segments : List RoundSegment) → IsSound T → IsPrunedSearch T hops Q.from Q.leave values segments → All (IsAttained T Q) values → AreSufficient T hops →
     (v : Value) → IsBest T Q v → 0 < v.rides → IsFound T Q.to segments v
-bounded_value_found T hops Q soonest values segments bounds searched attained sufficient v best some_ride = value_found T hops Q soonest values segments searched v best never_late sufficient some_ride
+pruned_value_found T hops Q values segments sound searched attained sufficient v best some_ride =
+    value_found T hops Q (λ t i round. IsLate values (arrival_at T t i) round) (λ t b round. ⊥) segments (searched_pruned T hops Q.from Q.leave values segments searched) v best never_late (λ r rest target round b goes before refused. refused) sufficient some_ride
   where
-    never_late : IsNeverLate T Q.to soonest values v
-    never_late r rest target rides to ride on in_time fewer (w, inside, le) =
-        let sooner : w.arrive ≤ℤ v.arrive = ≤ℤ-trans _ _ _ le.0 (≤ℤ-trans _ _ _ (bounds r rest target to ride on) in_time) in
+    never_late : NeverStops T Q.to (λ t i round. IsLate values (arrival_at T t i) round) v
+    never_late r s rest target round goes (w, inside, le) =
+        let sooner : w.arrive ≤ℤ v.arrive = ≤ℤ-trans _ _ _ le.0 (≤ℤ-trans _ _ _ (arrives_behind T sound r (s ∷ rest) target goes.on) goes.in_time) in
+        let fewer : round + suc (length rest) ≡ v.rides = goes.all in
         let same : w ≡ v = best.undominated w (All-contains (IsAttained T Q) values w attained inside) (sooner, omega (arith, le.1, fewer)) in
         let e : w.rides ≡ v.rides = ap (λ (x : Value). x.rides) same in
         omega (arith, e, le.1, fewer)
 
--- and so does one that does not go on where it arrives late
-pub pruned_value_found : (T : TimetableData) (hops : ℕ → ℕ → List Hop) (Q : QueryData) (values : List Value) (segments : List RoundSegment) → IsSound T → IsPrunedSearch T hops Q.from Q.leave values segments → All (IsAttained T Q) values → AreSufficient T hops →
-    (v : Value) → IsBest T Q v → 0 < v.rides → IsFound T Q.to segments v
-pruned_value_found T hops Q values segments sound searched attained sufficient v best some_ride = bounded_value_found T hops Q (arrival_at T) values segments (arrivals_soonest T Q.to sound) searched attained sufficient v best some_ride
+-- A best value that none of the values is as good as is found by a search that neither goes on nor boards where what is soonest is late.
+pub bounded_value_found : (T : TimetableData) (hops : ℕ → ℕ → List Hop) (Q : QueryData) (soonest : ℕ → ℕ → ℤ) (values : List Value) (segments : List RoundSegment) → AreSoonest T Q.to soonest → IsBoundedSearch T hops Q.from Q.leave soonest values segments → AreSufficient T hops →
+    (v : Value) → IsBest T Q v → (IsLate values v.arrive v.rides → ⊥) → 0 < v.rides → IsFound T Q.to segments v
+bounded_value_found T hops Q soonest values segments bounds searched sufficient v best not_held some_ride =
+    value_found T hops Q (λ t i round. IsLate values (soonest t i) round) (IsLateBehind T soonest values) segments (searched_bounded T hops Q.from Q.leave soonest values segments searched) v best never_late never_late_behind sufficient some_ride
+  where
+    none_in_time : (r : Ride) (rest : List Ride) (target round : ℕ) → IsInTime T Q.to v r rest target round → IsLate values (soonest r.trip r.alight) round → ⊥
+    none_in_time r rest target round goes (w, inside, le) =
+        let sooner : w.arrive ≤ℤ v.arrive = ≤ℤ-trans _ _ _ le.0 (≤ℤ-trans _ _ _ (bounds r rest target goes.to goes.rides goes.on) goes.in_time) in
+        not_held (w, inside, (sooner, omega (arith, le.1, goes.all)))
+
+    never_late : NeverStops T Q.to (λ t i round. IsLate values (soonest t i) round) v
+    never_late r s rest target round goes late = none_in_time r (s ∷ rest) target round goes late
+
+    never_late_behind : NeverRefuses T Q.to (IsLateBehind T soonest values) v
+    never_late_behind r rest target round b goes before late = none_in_time r rest target round goes (late r.alight before (MayAlight-inside T r.trip r.alight goes.rides.alights).1)

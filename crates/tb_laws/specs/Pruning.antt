@@ -12,11 +12,9 @@ abbrev pub IsLate : List Value → ℤ → ℕ → Type 0
 IsLate values time rides =
     (w : Value) × Contains values w × IsNoWorse w (record { arrive = time; rides = rides })
 
--- The search has come to its end, but it need not have gone on from an index of a trip where what
--- is soonest from there, by these times, is late.
-pub record IsPrunedBy (T : TimetableData) (hops : ℕ → ℕ → List Hop) (origins : List ℕ)
-    (asked : ℤ) (soonest : ℕ → ℕ → ℤ) (values : List Value)
-    (segments : List RoundSegment) : Type 0 where
+-- The search has come to its end, but it need not have gone on where it arrived late.
+pub record IsPrunedSearch (T : TimetableData) (hops : ℕ → ℕ → List Hop) (origins : List ℕ)
+    (asked : ℤ) (values : List Value) (segments : List RoundSegment) : Type 0 where
   pub reached : (n : ℕ) → n < length segments →
       IsReached T origins asked (segment_at segments n).round (segment_at segments n).trip
       (segment_at segments n).board
@@ -25,22 +23,49 @@ pub record IsPrunedBy (T : TimetableData) (hops : ℕ → ℕ → List Hop) (ori
       b + 1 < length (events_of T t) → walk T p (stop_at T t b) ≡ Some secs →
       (asked +ℤ pos secs) ≤ℤ departure_at T t b →
       IsCovered T segments (length segments) 1 t b
-  -- each hop from a segment is covered, or what is soonest from there is late
+  -- each hop from a segment is covered, or one arrives late there
   pub goes_on : (n i : ℕ) (h : Hop) → n < length segments → (segment_at segments n).board < i →
       i ≤ (segment_at segments n).end → Contains (hops (segment_at segments n).trip i) h →
       IsCovered T segments (length segments) (suc (segment_at segments n).round) h.trip h.at
-      ⊎ IsLate values (soonest (segment_at segments n).trip i) (segment_at segments n).round
+      ⊎ IsLate values (arrival_at T (segment_at segments n).trip i) (segment_at segments n).round
   -- what lies past the end of a segment is covered by a segment before it
   pub ends : (n : ℕ) → n < length segments →
       (length (events_of T (segment_at segments n).trip) ≤ suc (segment_at segments n).end)
       ⊎ IsCovered T segments n (segment_at segments n).round (segment_at segments n).trip
       (segment_at segments n).end
 
--- It need not have gone on where it arrived late.
-abbrev pub IsPrunedSearch : TimetableData → (ℕ → ℕ → List Hop) → List ℕ → ℤ → List Value →
-    List RoundSegment → Type 0
-IsPrunedSearch T hops origins asked values segments =
-    IsPrunedBy T hops origins asked (arrival_at T) values segments
+-- No one need board trip t at index b as a ride of this number: behind b what is soonest, by these
+-- times, is late everywhere.
+abbrev pub IsLateBehind : TimetableData → (ℕ → ℕ → ℤ) → List Value → ℕ → ℕ → ℕ → Type 0
+IsLateBehind T soonest values t b round =
+    (i : ℕ) → b < i → i < length (events_of T t) → IsLate values (soonest t i) round
+
+-- The search has come to its end, but it need not have gone on, nor have boarded, where what is
+-- soonest from there is late.
+pub record IsBoundedSearch (T : TimetableData) (hops : ℕ → ℕ → List Hop) (origins : List ℕ)
+    (asked : ℤ) (soonest : ℕ → ℕ → ℤ) (values : List Value)
+    (segments : List RoundSegment) : Type 0 where
+  pub reached : (n : ℕ) → n < length segments →
+      IsReached T origins asked (segment_at segments n).round (segment_at segments n).trip
+      (segment_at segments n).board
+  -- each first ride is covered, or late
+  pub starts : (p t b secs : ℕ) → Contains origins p → MayBoard T t b →
+      b + 1 < length (events_of T t) → walk T p (stop_at T t b) ≡ Some secs →
+      (asked +ℤ pos secs) ≤ℤ departure_at T t b →
+      IsCovered T segments (length segments) 1 t b ⊎ IsLateBehind T soonest values t b 1
+  -- each hop from a segment is covered, or one is late there, or late where it leads to
+  pub goes_on : (n i : ℕ) (h : Hop) → n < length segments → (segment_at segments n).board < i →
+      i ≤ (segment_at segments n).end → Contains (hops (segment_at segments n).trip i) h →
+      IsCovered T segments (length segments) (suc (segment_at segments n).round) h.trip h.at
+      ⊎ (IsLate values (soonest (segment_at segments n).trip i) (segment_at segments n).round
+      ⊎ IsLateBehind T soonest values h.trip h.at (suc (segment_at segments n).round))
+  -- what lies past the end of a segment is covered by a segment before it, or late
+  pub ends : (n : ℕ) → n < length segments →
+      (length (events_of T (segment_at segments n).trip) ≤ suc (segment_at segments n).end)
+      ⊎ (IsCovered T segments n (segment_at segments n).round (segment_at segments n).trip
+      (segment_at segments n).end
+      ⊎ IsLateBehind T soonest values (segment_at segments n).trip (segment_at segments n).end
+      (segment_at segments n).round)
 
 -- each of these values has one among others that is no worse
 abbrev pub AreCoveredBy : List Value → List Value → Type 0

@@ -8,7 +8,7 @@ ghost use Rattle.tb_base.specs.TimetableData.{MayAlight, MayBoard, TimetableData
 ghost use Rattle.tb_base.specs.Walking.{walk};
 ghost use Rattle.tb_base.specs.declared.query.Value.{Value};
 ghost use Rattle.tb_base.specs.declared.transfer.Hop.{Hop};
-ghost use Rattle.tb_laws.specs.Pruning.{HoldOffers, HoldWalks, IsLate, IsPrunedBy, IsPrunedSearch};
+ghost use Rattle.tb_laws.specs.Pruning.{HoldOffers, HoldWalks, IsBoundedSearch, IsLate, IsPrunedSearch};
 ghost use Rattle.tb_laws.specs.Soonest.{AreLeft, AreSoonest, soonest_by};
 
 /// A search over enough hops finds each best value with rides, by alighting from a segment of its
@@ -95,13 +95,23 @@ pub fn left_soonest()
         AreLeft T targets left → AreSoonest T targets (soonest_by T left) }
 {}
 
-/// Attained values that hold all that a search over enough hops offers, and all walks, hold every
-/// attained value, also where the search doesn't go on from where what is soonest is late.
+/// A search over enough hops that neither goes on nor boards where what is soonest is late still
+/// finds each best value with rides that no value is as good as.
+pub fn bounded_value_found()
+    ensures { (T : TimetableData) (hops : ℕ → ℕ →
+        List Hop) (Q : QueryData) (soonest : ℕ → ℕ → ℤ) (values : List Value)
+        (segments : List RoundSegment) → AreSoonest T Q.to soonest →
+        IsBoundedSearch T hops Q.from Q.leave soonest values segments → AreSufficient T hops →
+        (v : Value) → IsBest T Q v → (IsLate values v.arrive v.rides → ⊥) → 0 < v.rides →
+        IsFound T Q.to segments v }
+{}
+
+/// Values that hold all that such a search offers, and all walks, hold every attained value.
 pub fn bounded_values_cover()
     ensures { (T : TimetableData) → IsSound T → (hops : ℕ → ℕ → List Hop) → AreSufficient T hops →
         (Q : QueryData) (soonest : ℕ → ℕ → ℤ) (values : List Value)
         (segments : List RoundSegment) → AreSoonest T Q.to soonest →
-        IsPrunedBy T hops Q.from Q.leave soonest values segments →
-        All (IsAttained T Q) values → HoldOffers T Q.to values segments → HoldWalks T Q values →
+        IsBoundedSearch T hops Q.from Q.leave soonest values segments →
+        HoldOffers T Q.to values segments → HoldWalks T Q values →
         (w : Value) → IsAttained T Q w → IsLate values w.arrive w.rides }
 {}
