@@ -17,7 +17,7 @@ AreSoonest T targets soonest = (r : Ride) (rest : List Ride) (target : ℕ) →
 pub record AreLeft (T : TimetableData) (targets : List ℕ) (left : ℕ → ℕ → ℕ) : Type 0 where
   pub on_foot : (t i q secs : ℕ) → MayAlight T t i → Contains targets q →
       walk T (stop_at T t i) q ≡ Some secs → left t i ≤ secs
-  pub riding : (t i : ℕ) → i + 1 < length (events_of T t) →
+  pub riding : (t i : ℕ) → t < length T.trips → i + 1 < length (events_of T t) →
       (arrival_at T t i +ℤ pos (left t i))
       ≤ℤ (arrival_at T t (i + 1) +ℤ pos (left t (i + 1)))
   pub changing : (t i u j secs : ℕ) → MayAlight T t i → MayBoard T u j →

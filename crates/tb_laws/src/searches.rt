@@ -88,6 +88,12 @@ pub fn reached_value()
         }) }
 {}
 
+/// Of any timetable it is right that no seconds are left.
+pub fn none_left()
+    ensures { (T : TimetableData) (targets : List ℕ) → IsSound T →
+        AreLeft T targets (λ t i. 0) }
+{}
+
 /// Seconds that are left, told from neighbours, bound every way on: whoever alights somewhere
 /// reaches no target before they have passed.
 pub fn left_soonest()
