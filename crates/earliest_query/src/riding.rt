@@ -17,6 +17,9 @@ use segment_queue::{Desk, Followed, Hit, LastLeg, Look, Note, Scan, Seen, Steps,
 use std::sync::ledger::Ledger;
 use tb_base::{Hop, Path, StopNo, Value};
 
+// How many hops are tried at a time.
+const TRIED: usize = 64;
+
 // Whether one may alight at an event, and it is reached before the best hit so far arrives.
 fn may_improve(best: &Option<Hit>, visit: &Visit) -> bool
     ensures { MatchBool result (IsTrue visit.now.alight) (IsTrue visit.now.alight →
@@ -352,9 +355,58 @@ impl<S: Scan> Search<'_, S> {
         self.enter(desk, hop, Some((segment, at)));
     }
 
+    // Follows the hops with places from one up to another among those from the events that were
+    // noted. First the places of those that lead on are written down: marks only fall, so whoever
+    // was passed then is passed still, and most are.
+    fn follow_some(
+        &self,
+        desk: &mut Desk,
+        segment: u32,
+        followed: &Followed<'_>,
+        from: usize,
+        to: usize,
+        round: u32,
+        places: &mut [usize],
+    )
+        requires queue { IsQueue (S.net self.now.scan.now) self.now.query.now desk.old (suc round) }
+        requires note { IsSoundNote (S.net self.now.scan.now) desk.old.segments round
+            (note_of segment followed.now) }
+        requires hops { lent followed.now.hops ≡ hops_seen (S.net self.now.scan.now).hops
+            (followed_seen followed.now) }
+        requires to { to ≤ length (lent followed.now.hops) }
+        requires room { to - from ≤ length places.old }
+        requires sufficient { AreSufficient (S.net self.now.scan.now).table
+            (S.net self.now.scan.now).hops }
+        ensures queue { IsQueue (S.net self.now.scan.now) self.now.query.now desk.new (suc round) }
+        ensures extends { Extends desk.old desk.new (suc round) }
+        ensures room { room_of desk.new ≡ room_of desk.old }
+        ensures notes { desk.new.notes ≡ desk.old.notes }
+        ensures places { length places.new ≡ length places.old }
+        ensures reached { (k : ℕ) (h : Hop) → from ≤ k → k < to →
+            slice_get (lent followed.now.hops) k ≡ Some h →
+            IsReachedBy (S.net self.now.scan.now).table desk.new (length desk.new.segments)
+            (suc round) h.trip h.at }
+    {
+        let hops = followed.hops;
+        let count = desk.open_places(self.scan, hops, from, to, places);
+        for k in 0..count {
+            let place = places[k];
+            self.follow_hop(desk, hops.at(place), segment, followed, place, round);
+        }
+    }
+
     // Follows the hops from the events that were noted, unless one gets to the first no earlier
     // than the best hit arrives.
-    fn follow_note(&self, desk: &mut Desk, best: &Option<Hit>, note: Note, round: u32)
+    fn follow_note(
+        &self,
+        desk: &mut Desk,
+        best: &Option<Hit>,
+        note: Note,
+        round: u32,
+        places: &mut [usize],
+    )
+        requires room { 64 ≤ length places.old }
+        ensures places { length places.new ≡ length places.old }
         requires queue { IsQueue (S.net self.now.scan.now) self.now.query.now desk.old (suc round) }
         requires note { IsSoundNote (S.net self.now.scan.now) desk.old.segments round note }
         requires sufficient { AreSufficient (S.net self.now.scan.now).table
@@ -373,9 +425,12 @@ impl<S: Scan> Search<'_, S> {
         }
         let segment = note.segment;
         let followed = scan.hops_from(note.seen);
-        let hops = followed.hops;
-        for place in 0..hops.count() {
-            self.follow_hop(desk, hops.at(place), segment, &followed, place, round);
+        let count = followed.hops.count();
+        let mut from = 0;
+        while from < count {
+            let to = count.min(from + TRIED);
+            self.follow_some(desk, segment, &followed, from, to, round, places);
+            from = to;
         }
     }
 
@@ -394,10 +449,11 @@ impl<S: Scan> Search<'_, S> {
             IsDone (S.net self.now.scan.now) desk.new best.now note.segment i }
     {
         self.scan.soundness();
+        let mut places = [0; TRIED];
         for k in 0..desk.note_count() {
             desk.read_notes_ahead(self.scan, k);
             let note = desk.take_note(k);
-            self.follow_note(desk, best, note, round);
+            self.follow_note(desk, best, note, round, places.as_mut_slice());
         }
     }
 

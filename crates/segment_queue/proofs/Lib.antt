@@ -8,3 +8,4 @@ pub mod LineViews
 pub mod KeptLevels
 pub mod Rounds
 pub mod Settled
+pub mod OpenPlaces

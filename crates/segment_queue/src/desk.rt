@@ -250,6 +250,31 @@ impl Desk {
         self.marks.is_passed(trip, at)
     }
 
+    /// Writes down the places, from one up to another, of the hops that lead to a trip that wasn't
+    /// passed, in order, and answers how many they are. No branch hangs on a hop.
+    #[inline(always)]
+    pub fn open_places<S: Scan>(
+        &self,
+        scan: &S,
+        hops: Hops<'_>,
+        from: usize,
+        to: usize,
+        places: &mut [usize],
+    ) -> usize
+        requires step { IsInStep (S.net scan.now) self.now }
+        requires trips { All (λ h. h.trip < length (S.net scan.now).table.trips) (lent hops) }
+        requires to { to ≤ length (lent hops) }
+        requires room { to - from ≤ length places.old }
+        ensures long { length places.new ≡ length places.old }
+        ensures count { result ≤ to - from }
+        ensures within { All (λ k. k < to) (take result places.new) }
+        ensures open { HoldOpen (λ h. mark_of (S.net scan.now).table self.now.marks h.trip ≤ h.at)
+            (lent hops) from to (take result places.new) }
+    {
+        scan.soundness();
+        self.marks.open_places(hops, from, to, places)
+    }
+
     // Enters a trip at an index, as `reach` does: most hops lead to a trip that was passed, and
     // don't come here.
     #[inline(never)]
