@@ -64,6 +64,33 @@ loop-k-preserved g c =
       notes = c.follow_hop.ensures.notes ∙ before.notes;
       reached = λ j d h below got. elim (below_or_at j c.loop-k.k below) [
         | inl earlier ↦ extends-reached N.table E F top (length E.segments) (length F.segments) top top h.trip h.at joined (before.reached j d h earlier got) (omega arith) (extends-long E F top joined) (omega arith)
-        | inr e ↦ ?
+        | inr e ↦ (let here : slice_get hops (get_or places c.loop-k.k d) ≡ Some h = subst (λ m. slice_get hops (get_or places m d) ≡ Some h) e got in
+            let same : c.at.result ≡ h = ? in
+            subst (λ (x : Hop). IsReachedBy N.table F (length F.segments) top x.trip x.at) same c.follow_hop.ensures.reached)
       ];
     }
+
+pub returns-clause-reached : goal.returns-clause-reached
+returns-clause-reached g c = λ k h low high got.
+    let N : NetData = g.S.Scan.net c.args.self.now.scan.now in
+    let Q : QueryData = c.args.self.now.query.now in
+    let D : DeskData = c.args.desk.now in
+    let E : DeskData = c.loop-k.desk in
+    let top : ℕ = suc c.args.round in
+    let note : Note = note_of c.args.segment c.args.followed.now in
+    let before = c.loop-k.invariant in
+    let told = c.open_places-count.ensures in
+    let hops = lent c.args.followed.now.hops in
+    let places = c.open_places-count.new.places in
+    let count : ℕ = c.open_places-count.result in
+    elim (told.open k h low high got) [
+      | inl passed ↦
+          (let f : IsFrom N D note h = from_some N D c.args.round k note h c.requires.note (subst (λ hs. slice_get hs k ≡ Some h) c.requires.hops got) in
+          let inside = hop_trip N.table N.hops D D top note.segment f.at h c.requires.sufficient c.requires.note.inside f.covers (extends-refl D top) f.in_set in
+          let not_last = hop_not_last N.table N.hops D D top note.segment f.at h c.requires.sufficient c.requires.note.inside f.covers (extends-refl D top) f.in_set in
+          extends-reached N.table D E top (length D.segments) (length E.segments) top top h.trip h.at before.extends
+          (reached_before N Q D top h.trip h.at None c.soundness.ensures.divided inside c.requires.queue passed not_last) (omega arith) (extends-long D E top before.extends) (omega arith))
+      | inr one ↦
+          (let w : (j : ℕ) × (j < count) × (get_or places j k ≡ k) = written_one places count k (omega (arith, told.count, told.long, c.requires.room)) one in
+          before.reached w.0 k h (omega (arith, w.1, c.loop-k-test.false)) (subst (λ m. slice_get hops m ≡ Some h) (sym w.2) got))
+    ]
