@@ -387,8 +387,10 @@ impl<S: Scan> Search<'_, S> {
             IsReachedBy (S.net self.now.scan.now).table desk.new (length desk.new.segments)
             (suc round) h.trip h.at }
     {
+        let scan = self.scan;
+        scan.soundness();
         let hops = followed.hops;
-        let count = desk.open_places(self.scan, hops, from, to, places);
+        let count = desk.open_places(scan, hops, from, to, places);
         for k in 0..count {
             let place = places[k];
             self.follow_hop(desk, hops.at(place), segment, followed, place, round);
