@@ -13,7 +13,7 @@ use Rattle.segment_queue.specs.Scans.{hops_seen, seen_first, seen_last, seen_tri
 use Rattle.segment_queue.specs.Traced.{segment_of}
 use Rattle.earliest_query.specs.Noted.{IsNoted, IsOf, IsSoundNote}
 use Rattle.earliest_query.specs.UnderWay.{Covers}
-use Rattle.earliest_query.proofs.Following.{IsInOne, hop_trip, in_one}
+use Rattle.earliest_query.proofs.Following.{IsInOne, get_or-inside, hop_trip, in_one}
 use Rattle.earliest_query.proofs.Growing.{extends-refl}
 
 -- an index that a note is of is one that its segment covers
@@ -56,10 +56,10 @@ trips_inside N D round note hops sufficient s are = λ k d inside.
     hop_trip N.table N.hops D D (suc round) note.segment f.at (get_or hops k d) sufficient s.inside f.covers (extends-refl D (suc round)) f.in_set
 
 -- places that were written down are read again
-pub written_within : (places : List ℕ) (count k d to : ℕ) → count ≤ length places → k < count → All (λ p. p < to) (take count places) → get_or places k d < to
-written_within places count k d to few inside within = subst (λ p. p < to) (get_or-take count places k d inside) (within k d (omega (arith, length-take-le count places few, inside)))
+pub written_within : (places : List ℕ) (count k to : ℕ) → count ≤ length places → k < count → All (λ p. p < to) (take count places) → get_or places k 0 < to
+written_within places count k to few inside within = subst (λ p. p < to) (get_or-take count places k 0 inside) (within k 0 (omega (arith, length-take-le count places few, inside)))
 
-pub written_one : (places : List ℕ) (count k : ℕ) → count ≤ length places → Contains (take count places) k → (j : ℕ) × (j < count) × (get_or places j k ≡ k)
+pub written_one : (places : List ℕ) (count k : ℕ) → count ≤ length places → Contains (take count places) k → (j : ℕ) × (j < count) × (get_or places j 0 ≡ k)
 written_one places count k few one =
     let below : one.0 < count = omega (arith, one.1, length-take-le count places few) in
-    (one.0, below, sym (get_or-take count places one.0 k below) ∙ one.2)
+    (one.0, below, get_or-inside places one.0 0 k (omega (arith, below, few)) ∙ sym (get_or-take count places one.0 k below) ∙ one.2)

@@ -1,4 +1,4 @@
-use Rattle.std.proofs.Common.{◌≡◌, ◌∙◌, ℕ, suc, ◌<◌, ◌≤◌, inl, inr, length, get_or, refl, sym, ap, subst, arith, None, Some}
+use Rattle.std.proofs.Common.{◌≡◌, ◌∙◌, ℕ, suc, ◌<◌, ◌≤◌, inl, inr, length, get_or, refl, sym, ap, subst, arith, Option, None, Some}
 use Rattle.std.specs.Prelude.{slice_get}
 use Rattle.tb_base.specs.Network.{NetData}
 use Rattle.tb_base.specs.BestValues.{QueryData}
@@ -29,13 +29,13 @@ loop-k-init g c = record {
   extends = extends-refl c.args.desk.now (suc c.args.round);
   room = refl;
   notes = refl;
-  reached = λ j d h below got. absurd (omega (arith, below));
+  reached = λ j h below got. absurd (omega (arith, below));
 }
 
 pub at-requires : goal.at-requires
 at-requires g c =
     let told = c.open_places-count.ensures in
-    let within = written_within c.open_places-count.new.places c.open_places-count.result c.loop-k.k 0 c.args.to (omega (arith, told.count, told.long, c.requires.room)) c.loop-k-test.true told.within in
+    let within = written_within c.open_places-count.new.places c.open_places-count.result c.loop-k.k c.args.to (omega (arith, told.count, told.long, c.requires.room)) c.loop-k-test.true told.within in
     omega (arith, within, c.requires.to)
 
 pub follow_hop-requires-clause-note : goal.follow_hop-requires-clause-note
@@ -46,6 +46,9 @@ follow_hop-requires-clause-note g c =
 pub follow_hop-requires-clause-hop : goal.follow_hop-requires-clause-hop
 follow_hop-requires-clause-hop g c =
     subst (λ hs. slice_get hs (get_or c.open_places-count.new.places c.loop-k.k 0) ≡ Some c.at.result) c.requires.hops c.at.ensures
+
+same_some : (o : Option Hop) (a b : Hop) → o ≡ Some a → o ≡ Some b → a ≡ b
+same_some o a b x y = cc
 
 pub loop-k-preserved : goal.loop-k-preserved
 loop-k-preserved g c =
@@ -62,10 +65,10 @@ loop-k-preserved g c =
       extends = extends-trans c.args.desk.now E F top before.extends joined;
       room = c.follow_hop.ensures.room ∙ before.room;
       notes = c.follow_hop.ensures.notes ∙ before.notes;
-      reached = λ j d h below got. elim (below_or_at j c.loop-k.k below) [
-        | inl earlier ↦ extends-reached N.table E F top (length E.segments) (length F.segments) top top h.trip h.at joined (before.reached j d h earlier got) (omega arith) (extends-long E F top joined) (omega arith)
-        | inr e ↦ (let here : slice_get hops (get_or places c.loop-k.k d) ≡ Some h = subst (λ m. slice_get hops (get_or places m d) ≡ Some h) e got in
-            let same : c.at.result ≡ h = ? in
+      reached = λ j h below got. elim (below_or_at j c.loop-k.k below) [
+        | inl earlier ↦ extends-reached N.table E F top (length E.segments) (length F.segments) top top h.trip h.at joined (before.reached j h earlier got) (omega arith) (extends-long E F top joined) (omega arith)
+        | inr e ↦ (let here : slice_get hops (get_or places c.loop-k.k 0) ≡ Some h = subst (λ m. slice_get hops (get_or places m 0) ≡ Some h) e got in
+            let same : c.at.result ≡ h = same_some (slice_get hops (get_or places c.loop-k.k 0)) c.at.result h c.at.ensures here in
             subst (λ (x : Hop). IsReachedBy N.table F (length F.segments) top x.trip x.at) same c.follow_hop.ensures.reached)
       ];
     }
@@ -91,6 +94,6 @@ returns-clause-reached g c = λ k h low high got.
           extends-reached N.table D E top (length D.segments) (length E.segments) top top h.trip h.at before.extends
           (reached_before N Q D top h.trip h.at None c.soundness.ensures.divided inside c.requires.queue passed not_last) (omega arith) (extends-long D E top before.extends) (omega arith))
       | inr one ↦
-          (let w : (j : ℕ) × (j < count) × (get_or places j k ≡ k) = written_one places count k (omega (arith, told.count, told.long, c.requires.room)) one in
-          before.reached w.0 k h (omega (arith, w.1, c.loop-k-test.false)) (subst (λ m. slice_get hops m ≡ Some h) (sym w.2) got))
+          (let w : (j : ℕ) × (j < count) × (get_or places j 0 ≡ k) = written_one places count k (omega (arith, told.count, told.long, c.requires.room)) one in
+          before.reached w.0 h (omega (arith, w.1, c.loop-k-test.false)) (subst (λ m. slice_get hops m ≡ Some h) (sym w.2) got))
     ]

@@ -11,5 +11,5 @@ invariant-loop-k g l = record {
   extends : Extends l.initial.desk l.desk (suc l.round);
   room : room_of l.desk ≡ room_of l.initial.desk;
   notes : l.desk.notes ≡ l.initial.desk.notes;
-  reached : (j d : ℕ) (h : Hop) → j < l.k → slice_get (lent l.followed.hops) (get_or l.places j d) ≡ Some h → IsReachedBy (g.S.Scan.net l.self.scan.now).table l.desk (length l.desk.segments) (suc l.round) h.trip h.at;
+  reached : (j : ℕ) (h : Hop) → j < l.k → slice_get (lent l.followed.hops) (get_or l.places j 0) ≡ Some h → IsReachedBy (g.S.Scan.net l.self.scan.now).table l.desk (length l.desk.segments) (suc l.round) h.trip h.at;
 }
