@@ -408,7 +408,6 @@ impl<S: Scan> Search<'_, S> {
         places: &mut [usize],
     )
         requires room { 64 ≤ length places.old }
-        ensures places { length places.new ≡ length places.old }
         requires queue { IsQueue (S.net self.now.scan.now) self.now.query.now desk.old (suc round) }
         requires note { IsSoundNote (S.net self.now.scan.now) desk.old.segments round note }
         requires sufficient { AreSufficient (S.net self.now.scan.now).table
@@ -417,6 +416,7 @@ impl<S: Scan> Search<'_, S> {
         ensures extends { Extends desk.old desk.new (suc round) }
         ensures room { room_of desk.new ≡ room_of desk.old }
         ensures notes { desk.new.notes ≡ desk.old.notes }
+        ensures places { length places.new ≡ length places.old }
         ensures done { (i : ℕ) → IsOf note note.segment i →
             IsDone (S.net self.now.scan.now) desk.new best.now note.segment i }
     {
