@@ -4,10 +4,12 @@ Changes words, scripts, files of updates, claims and whole feeds: those of `exam
 cases, and small random ones. Runs the program over them, and compares what comes with what the
 documents say, which bench/said says once more: the status; one line on standard error with the
 first fault, and then nothing on standard output; the form of an answer, and over small feeds its
-times and rides; and processor time that grows with the input. The same seed makes the same cases. A
-case with which something is wrong is kept in a folder, with what was run and what came of it.
-Prints how many runs ended with each status and each fault, the seconds of the slowest, and how many
-were wrong.
+times and rides; each fault that `check` tells, and what `--lenient` leaves out; and processor time
+that grows with the input. An answer with `--lenient` is also held against a check of the feed and
+against what comes without the option. The same seed makes the same cases. A case with which
+something is wrong is kept in a folder, with what was run and what came of it. Prints how many runs
+ended with each status and each fault, how many left rows out, the faults that checks told, the
+seconds of the slowest, and how many were wrong.
 """
 import collections
 import json
@@ -20,9 +22,11 @@ import sys
 import tempfile
 import time
 
+from fuzzing.agreeing import disagreement, words_beside
 from fuzzing.cases import Maker, bytes_of, lay_out
-from fuzzing.judging import Ended, Judge
+from fuzzing.judging import FAULTS_FOUND, Ended, Judge
 from harness import Table, commit_of, count, router
+from said.checks import told_in
 
 # A run that takes longer by the clock is killed.
 LONGEST = 120
@@ -64,7 +68,12 @@ def tried(program, case):
     with tempfile.TemporaryDirectory() as folder:
         lay_out(case, folder)
         ended = run_case(program, case, folder)
-        return ended, Judge(case, folder).wrong(ended)
+        wrong = Judge(case, folder).wrong(ended)
+        others = None if wrong else words_beside(case.words)
+        if others:
+            runs = [run_case(program, case._replace(words=words), folder) for words in others]
+            wrong = disagreement(ended, *runs)
+        return ended, wrong
 
 
 def keep(folder, name, case, ended, wrong):
@@ -91,13 +100,17 @@ class Counts:
 
     def __init__(self):
         self.statuses, self.faults = collections.Counter(), collections.Counter()
-        self.bytes = self.slowest = self.wrong = 0
+        self.told = collections.Counter()
+        self.bytes = self.slowest = self.wrong = self.left_out = 0
 
     def add(self, case, ended, wrong):
         self.statuses[str(ended.status)] += 1
         fault = ended.err.partition("refused: ")[2].split(" ")[:2]
         if fault != [""]:
             self.faults[f"{ended.status} {' '.join(fault)}".strip()] += 1
+        if ended.status == FAULTS_FOUND:
+            self.told.update(" ".join(it.split(" ")[:2]) for it in told_in(ended.out) or ())
+        self.left_out += ended.status == 0 and ended.err != ""
         self.bytes += bytes_of(case)
         self.slowest = max(self.slowest, ended.seconds)
         self.wrong += wrong is not None
@@ -105,6 +118,8 @@ class Counts:
     def __iadd__(self, other):
         self.statuses += other.statuses
         self.faults += other.faults
+        self.told += other.told
+        self.left_out += other.left_out
         self.bytes, self.wrong = self.bytes + other.bytes, self.wrong + other.wrong
         self.slowest = max(self.slowest, other.slowest)
         return self
@@ -159,6 +174,9 @@ def run(words):
         table.row(f"status {status}", number)
     for fault, number in sorted(counts.faults.items()):
         table.row(f"status {fault}", number)
+    table.row("status 0 with rows left out", counts.left_out)
+    for fault, number in sorted(counts.told.items()):
+        table.row(f"told {fault}", number)
     table.row("all", runs)
     table.row("MB of input", f"{counts.bytes / 1e6:.0f}")
     table.row("seconds of the slowest", f"{counts.slowest:.2f}")

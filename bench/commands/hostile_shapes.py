@@ -2,10 +2,10 @@
 
 Writes each shape at one size, at twice and at four times that size, and runs over it the command
 that the shape makes costly. Prints status and first line, the processor seconds of each size, by
-how much they grow, and what `direct`, which only reads, takes over the largest one. Time that grows
-with the bytes doubles from size to size. With `--most` or `--reading`, names on standard error the
-shapes that grow by more, or that take more beside reading, and ends with status 1. Shapes of keys
-that collide need a C compiler.
+how much they grow, and what `direct`, which only reads, takes over the largest one, up to the first
+fault if it has one. Time that grows with the bytes doubles from size to size. With `--most` or
+`--reading`, names on standard error the shapes that grow by more, or that take more beside reading,
+and ends with status 1. Shapes of keys that collide need a C compiler.
 """
 import argparse
 import os
@@ -48,6 +48,8 @@ def words_for(command, folder):
         "direct": ["direct", folder, *ask],
         "station": ["--station", "60", "direct", folder, *ask],
         "close": ["--close", "direct", folder, *ask],
+        "lenient": ["--lenient", "direct", folder, *ask],
+        "check": ["check", folder, DAY],
         "build": ["build", folder, DAY],
         "late": ["late", folder, DAY, os.path.join(folder, "late"), *ask[1:]],
         "serve": ["serve", f"{folder}@{DAY}"],

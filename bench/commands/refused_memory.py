@@ -1,6 +1,6 @@
 """Each call for memory refused once.
 
-Runs four commands on the example once for each of their calls for memory, and refuses that call. A
+Runs some commands on the examples once for each of their calls for memory, and refuses that call. A
 small library in front of the C library counts the calls and refuses one of them; it needs a C
 compiler. Each run has to end with status 6 and nothing written, or with an answer that the command
 may give. Prints how many calls there are and how the runs ended.
@@ -12,8 +12,9 @@ import shutil
 import subprocess
 import sys
 import tempfile
+import typing
 
-from harness import BEST, DAY, FEEDS, SCRIPT, BenchError, Run, Table, commit_of, router, write
+from harness import BEST, DAY, FEEDS, SCRIPT, TOP, BenchError, Run, Table, commit_of, router, write
 
 SHIM = r"""
 #define _GNU_SOURCE
@@ -52,6 +53,7 @@ T1@1 T2@0
 SLOTS = BEST.replace("arrive 08:5", "leave 08:05:00 arrive 08:5")
 SLOTS = SLOTS.replace("arrive 08:3", "leave 08:00:00 arrive 08:3")
 LATER = BEST.replace("08:30:00", "08:25:00")
+FIRST = BEST[: BEST.index("arrive 08:30")]
 # The replies by either edition, and whichever the closing ones are, as an expression.
 SERVED = f"""edition 1 f1@20260302 trips 3 lines 3 kept 1
 edition 2 f2@20260302 trips 3 lines 3 kept 1
@@ -66,11 +68,31 @@ lane a
 1 edition 2
 {LATER}(2 edition 2
 {LATER})?"""
+FAULTY = os.path.join(os.path.relpath(TOP, FEEDS), "examples", "faulty")
+TOLD = r"8 BadCode stops\.txt .+\n11 .+\n11 .+\nfaults 3\n"
+LEFT = "router: left out 1 row of stops.txt, trips for 2 rows of stop_times.txt (see check)\n"
+
+
+class Command(typing.NamedTuple):
+    """The words of a command, what it reads, what it may write, the status that it ends with, and
+    what it writes to standard error if there is memory for that.
+    """
+
+    words: list
+    given: bytes
+    answer: str
+    status: int = 0
+    line: str = ""
+
+
+ASK = [DAY, "A", "D", "08:00:00"]
 COMMANDS = [
-    (["ask", "f1", DAY, "A", "D", "08:00:00"], b"", BEST),
-    (["build", "f1", DAY, "list"], b"", BUILT),
-    (["serve", f"f1@{DAY}", f"f2@{DAY}"], SCRIPT.encode(), SERVED),
-    (["profile", "f1", DAY, "A", "D", "07:00:00", "08:05:00"], b"", SLOTS),
+    Command(["ask", "f1", *ASK], b"", BEST),
+    Command(["build", "f1", DAY, "list"], b"", BUILT),
+    Command(["serve", f"f1@{DAY}", f"f2@{DAY}"], SCRIPT.encode(), SERVED),
+    Command(["profile", "f1", DAY, "A", "D", "07:00:00", "08:05:00"], b"", SLOTS),
+    Command(["check", FAULTY, DAY], b"", TOLD, status=10),
+    Command(["--lenient", "ask", FAULTY, *ASK], b"", FIRST, line=LEFT),
 ]
 
 
@@ -78,10 +100,11 @@ def add_arguments(parser):
     pass
 
 
-def is_allowed(run, answer):
+def is_allowed(run, command):
     if run.status == 6:
         return run.out == "" and run.err == "router: out of memory\n"
-    return run.status == 0 and run.err == "" and re.fullmatch(answer, run.out) is not None
+    is_end = run.status == command.status and run.err in ("", command.line)
+    return is_end and re.fullmatch(command.answer, run.out) is not None
 
 
 def library(folder):
@@ -94,14 +117,14 @@ def library(folder):
     return os.path.join(folder, "refuse.so")
 
 
-def calls_of(program, words, given, answer, env):
+def calls_of(program, command, env):
     """How many calls for memory a run makes of which none is refused."""
     counts = env["CALLS_FILE"]
     with open(counts, "wb") as file:
         file.write(bytes(8))
-    run = Run(program, words, given, cwd=FEEDS, env=env)
-    if run.status != 0 or not is_allowed(run, answer):
-        raise BenchError(f"{' '.join(words)} ended with {run.status}: {run.first_line()}")
+    run = Run(program, command.words, command.given, cwd=FEEDS, env=env)
+    if run.status == 6 or not is_allowed(run, command):
+        raise BenchError(f"{' '.join(command.words)} ended with {run.status}: {run.first_line()}")
     with open(counts, "rb") as file:
         return int.from_bytes(file.read(8), sys.byteorder)
 
@@ -118,16 +141,17 @@ def run(words):
             "status 6, nothing written",
             "the answer all the same",
         )
-        for command, given, answer in COMMANDS:
-            calls = calls_of(program, command, given, answer, env)
+        for command in COMMANDS:
+            asked = " ".join(command.words)
+            calls = calls_of(program, command, env)
             ended = collections.Counter()
             for number in range(1, calls + 1):
                 how = {"cwd": FEEDS, "env": {**env, "REFUSED_CALL": str(number)}}
-                one = Run(program, command, given, **how)
+                one = Run(program, command.words, command.given, **how)
                 ended[one.status] += 1
-                if not is_allowed(one, answer):
+                if not is_allowed(one, command):
                     bad += 1
-                    said = f"call {number} of {' '.join(command)}: status {one.status}"
+                    said = f"call {number} of {asked}: status {one.status}"
                     print(f"{said}\n{one.out}{one.err}", file=sys.stderr)
-            table.row(f"`{' '.join(command)}`", calls, ended[6], ended[0])
+            table.row(f"`{asked}`", calls, ended[6], ended[command.status])
     return 1 if bad else 0

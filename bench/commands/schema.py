@@ -18,6 +18,9 @@ from said.texts import day_of
 SCHEMAS = os.path.join(TOP, "docs", "schema")
 REFUSAL = "refusal"
 CLAIM = "claim"
+# The status of a check that tells faults, and how a line begins that says what is left out.
+FAULTS_FOUND = 10
+LEFT_OUT = '{"message":"left out"'
 # What stands in a line of a claim, by its first word.
 LEGS = {
     "walk": ("from", "to", "seconds"),
@@ -38,6 +41,8 @@ FILES = {
         "T 1,24:20:00,24:20:00,C,2",
     ],
 }
+# Rows of stop_times.txt with a fault.
+WRONG = ["T 2,24:10:00,24:10:00,C,1", ",24:10:00,24:10:00,C,2"]
 
 
 def add_arguments(parser):
@@ -102,13 +107,20 @@ def asked():
                 yield words[1:], given_to(words[1:], given) if given else ""
 
 
-def more(folder):
-    """Commands whose names need escapes, and some that are refused."""
-    feed = os.path.join(folder, "named")
+def feed_of(folder, name, files):
+    """The path of a feed of these files."""
+    feed = os.path.join(folder, name)
     os.mkdir(feed)
-    for name, rows in FILES.items():
+    for name, rows in files.items():
         with open(os.path.join(feed, name), "w", encoding="utf-8") as file:
             file.write("".join(f"{row}\n" for row in rows))
+    return feed
+
+
+def more(folder):
+    """Commands whose names need escapes, some that are refused, and some over a feed with faults."""
+    feed = feed_of(folder, "named", FILES)
+    wrong = feed_of(folder, "wrong", {**FILES, "stop_times.txt": [*FILES["stop_times.txt"], *WRONG]})
     day, ends, late = "20260303", [NAMED, "C"], "00:00:00"
     quoted = NAMED.replace('"', '""')
     script = (
@@ -146,6 +158,8 @@ def more(folder):
     yield ["live", f"{feed}-none@{day}"], lines
     yield ["city", "4"], ""
     yield ["ask", f"{feed}-none", day, *ends, late], ""
+    yield ["check", f"{feed}-none", day], ""
+    yield ["check", feed, day], ""
     yield ["serve", f"{feed}@{day}"], "\n".join(FILES["stops.txt"])
     yield ["verify", feed, day, *ends, late], claim
     yield ["verify", feed, day, *ends, "00:10:01"], claim
@@ -153,6 +167,10 @@ def more(folder):
     yield ["verify", feed, day, *ends, late], script
     yield ["late", feed, day, updates, *ends, late], ""
     yield ["ask", feed], ""
+    for checked in (feed, wrong, f"{feed}-none"):
+        yield ["check", checked, day], ""
+    yield ["--lenient", "direct", wrong, day, *ends, late], ""
+    yield ["ask", wrong, day, *ends, late], ""
 
 
 def faults(validator, text):
@@ -182,6 +200,14 @@ def answer(program, words, given):
     return ended.returncode, ended.stdout.decode(), ended.stderr.decode()
 
 
+def says_enough(status, err):
+    """Whether standard error has a line where the status wants one, and else at most one that says
+    what is left out beside an answer."""
+    if err.startswith(LEFT_OUT):
+        return status == 0
+    return bool(err) == (status not in (0, FAULTS_FOUND))
+
+
 def claims_of(words, out):
     """Each journey that ask or profile wrote, and the words by which verify holds it to be one."""
     place = words.index(name_of(words))
@@ -200,12 +226,13 @@ def run(words):
         for asks, given in [*asked(), *more(folder)]:
             status, out, err = answer(program, asks, given)
             found = [*faults(schemas[name_of(asks)], out), *faults(schemas[REFUSAL], err)]
-            if (status == 0) == bool(err):
+            says = status not in (0, 10) or "--lenient" in asks
+            if says != bool(err):
                 found.append(f"status {status}, and on standard error {err!r}")
             for holds, claim in claims_of(asks, out):
                 found += faults(schemas[CLAIM], claim)
                 said = answer(program, holds, claim)
-                if said != (0, '{"valid":true}\n', ""):
+                if said != (0, '{"valid":true}\n', err):
                     found.append(f"verify says {said} of {claim}")
             bad += bool(found)
             print(f"{'DIFFERS' if found else 'ok'}: {status} {shlex.join(asks)}")

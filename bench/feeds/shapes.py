@@ -127,6 +127,14 @@ def stations_behind_their_platforms(folder, n):
     feed(folder, stops=f"stop_id,location_type,parent_station\nA,,\nB,,\n{rows}")
 
 
+def parents_in_a_chain(folder, n):
+    """Each stop names the next one as its parent, and the last one that isn't there: what is left
+    lacks one more stop, again and again.
+    """
+    rows = "".join(f"P{i},P{i + 1}\n" for i in range(n))
+    feed(folder, stops=f"stop_id,parent_station\nA,\nB,\n{rows}")
+
+
 def platforms_of_one_station(folder, n):
     """Which an option joins each to each."""
     rows = "".join(f"P{i},,S\n" for i in range(int(n**0.5)))
@@ -143,6 +151,18 @@ def starts_of_one_trip(folder, n):
     """A row of frequencies.txt for each start."""
     rows = "".join(f"t0,{clock(i // 8)},{clock(i // 8 + 1)},1\n" for i in range(n))
     feed(folder, frequencies=f"trip_id,start_time,end_time,headway_secs\n{rows}")
+
+
+def faults_of_one_trip(folder, n):
+    """A row of frequencies.txt each, of a trip that starts by none of them."""
+    feed(folder, frequencies="trip_id,start_time,end_time,headway_secs\n" + "t0,x,,\n" * n)
+
+
+def trips_with_a_fault(folder, n):
+    """A third of the trips each calls at no stop that is there, repeats a number, runs back."""
+    seconds = "9:00:00,,X,1", "9:00:00,,B,0", "7:00:00,,B,1"
+    rows = (f"t{i},8:00:00,,A,0\nt{i},{seconds[i % 3]}\n" for i in range(n))
+    smallest.make(folder, trips=(f"S,t{i}\n" for i in range(n)), times=rows)
 
 
 def one_row_of_many_starts(folder, n):
@@ -360,6 +380,9 @@ OTHERS = {
     one_trip: (500_000, "direct"),
     stations_behind_their_platforms: (12_000, "direct"),
     platforms_of_one_station: (400_000, "station"),
+    parents_in_a_chain: (2_000, "check"),
+    faults_of_one_trip: (50_000, "lenient"),
+    trips_with_a_fault: (100_000, "lenient"),
     services: (50_000, "direct"),
     starts_of_one_trip: (50_000, "direct"),
     one_row_of_many_starts: (25_000, "direct"),
@@ -397,6 +420,8 @@ SHAPES = {
     **{make.__name__: Shape(make, 20_000, "build") for make in lines.SHAPES},
     **{make.__name__: Shape(make, *how) for make, how in OTHERS.items()},
     "footpaths_between_all_to_close": Shape(footpaths_between_all, 250_000, "close"),
+    "equal_ids_to_tell": Shape(equal_ids, 250_000, "check"),
+    "equal_transfers_to_tell": Shape(equal_transfers, 250_000, "check"),
 }
 # A name for several shapes.
 GROUPS = {"trips_that_overtake": [make.__name__ for make in lines.OVERTAKING]}

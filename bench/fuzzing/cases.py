@@ -5,7 +5,7 @@ import random
 
 from fuzzing import changes, made
 from harness import DAY, FEEDS, TOP
-from said.words import time_of
+from said.words import FLAGS, time_of
 
 EXAMPLES = os.path.join(TOP, "examples")
 EXAMPLE_FEEDS = [os.path.join(EXAMPLES, name) for name in ("f1", "town", "valley")]
@@ -23,6 +23,7 @@ COMMANDS = (
     "build",
     "serve",
     "live",
+    "check",
 )
 TIMES = ("0:00:00", "06:55:00", "08:00:00", "08:05:00", "8:30:00", "24:10:00", "75:59:59")
 DATES = (DAY, DAY, DAY, DAY, DAY, "20260303", "20260307", "20260406", "20270101", "00010101")
@@ -112,8 +113,7 @@ class Draw:
             if self.often(0.2):
                 value = self.drawn.choice(wrong if self.often(0.03) else values)
                 words += [f"{name}={value}"] if self.often(0.3) else [name, value]
-        flags = ("--close", "--plain", "--mirror", "--csv")
-        return words + [word for word in flags if self.often(0.25)]
+        return words + [word for word in FLAGS if self.often(0.25)]
 
     def words_behind(self, command):
         time, later = self.two_times()
@@ -130,6 +130,7 @@ class Draw:
             "matrix": [*day, self.drawn.choice(("-", "origins")), *self.departures()],
             "late": [*day, "late", *ends, time],
             "build": [*day, *(["list"] if self.often(0.5) else [])],
+            "check": day,
         }.get(command, [*day, *ends, time])
 
     def updates(self):
@@ -173,7 +174,7 @@ class Draw:
         return [word.replace(b"\0", b"0") for word in words[:300]]
 
     def known_words(self):
-        options = ("--close", "--plain", "--change", "--station=60", "--workers", "--help", "-h")
+        options = ("--change", "--station=60", "--workers", "--help", "-h", *FLAGS)
         others = ("--", "-", "f", "g", "late", "list", f"f@{DAY}", "late:late", "city")
         return (*options, *others, *COMMANDS, *DATES, *TIMES, *self.stops)
 

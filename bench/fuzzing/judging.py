@@ -1,7 +1,7 @@
 """What a run of a case may come to, by the documents, and whether it did."""
 import os
 
-from said import answers, claims, feeds, lived, matrix, replies, served, texts
+from said import answers, checks, claims, feeds, left, lived, matrix, replies, served, texts
 from said import words as command_lines
 from said.journeys import Options, Timetable
 from said.words import time_of
@@ -14,6 +14,9 @@ FEW_EVENTS, FEW_STOPS = 600, 20
 # Faults of footpaths, which are looked at last, where they aren't found again.
 LAW = ("18 ", "19 ")
 CLOSING = ("20 TooMany footpaths", "22 ")
+# The status of a check that tells faults.
+FAULTS_FOUND = 10
+READ_FAULT = 4, ""
 
 
 class Ended:
@@ -21,6 +24,9 @@ class Ended:
 
     def __init__(self, status, out, err, seconds):
         self.status, self.out, self.err, self.seconds = status, out, err, seconds
+
+    def said(self):
+        return self.status, self.out, self.err
 
 
 class Judge:
@@ -31,17 +37,20 @@ class Judge:
         self.events = 0
         self.is_valid = command_lines.are_valid(case.words)
         self.command, self.rest, self.options = "", [], Options()
-        self.is_mirrored = self.is_table = False
+        self.is_mirrored = self.is_table = self.is_lenient = False
         self.feed = self.timetable = None
+        # faults that are told of the feed that was read last, as they are shown, and whether one of
+        # its footpaths may follow
+        self.told, self.may_break_law = [], False
         self.items, self.feeds, self.claim, self.origins = [], [], None, None
         # the last published day of `serve` or `live`, with its feed, where it is small
         self.last_day = None
         if self.is_valid:
             plain = [word.decode() for word in case.words]
-            self.command, *self.rest = command_lines.without_options(plain)
-            self.options = options_of(plain)
-            self.is_mirrored = "--mirror" in before_rest(plain)
-            self.is_table = "--csv" in before_rest(plain)
+            options, (self.command, *self.rest) = command_lines.parted(plain)
+            self.options = options_of(options)
+            self.is_mirrored, self.is_table = "--mirror" in options, "--csv" in options
+            self.is_lenient = "--lenient" in options
 
     def wrong(self, ended):
         """What is wrong with what came, or None."""
@@ -54,8 +63,9 @@ class Judge:
         allowed = self.allowed()
         if not any(may_be(one, ended.status, fault) for one in allowed):
             return f"ended with {ended.status} {fault}, and not with one of {allowed}"
-        if ended.status == 0 and self.wrong_answer(ended.out):
-            return self.wrong_answer(ended.out)
+        wrong = self.wrong_end(ended) if self.is_whole(ended) else None
+        if wrong:
+            return wrong
         most = AT_ONCE + BY_BYTE * self.bytes() + BY_EVENT * self.events
         if ended.seconds > most:
             return f"took {ended.seconds:.2f} seconds, and not {most:.2f}"
@@ -67,9 +77,13 @@ class Judge:
             sizes += [os.path.getsize(os.path.join(folder, name)) for name in names]
         return sum(sizes)
 
+    def is_whole(self, ended):
+        """Whether a run wrote all that it had to."""
+        return ended.status == 0 or (ended.status, self.command) == (FAULTS_FOUND, "check")
+
     def wrong_form(self, ended):
-        if ended.status == 0:
-            return "standard error isn't empty" if ended.err else None
+        if self.is_whole(ended):
+            return None
         if ended.out:
             return "standard output isn't empty"
         if not ended.err.endswith("\n") or ended.err.count("\n") != 1:
@@ -78,10 +92,26 @@ class Judge:
             return f"status {ended.status} has another line on standard error"
         return None
 
-    def wrong_answer(self, out):
+    def wrong_end(self, ended):
+        line = checks.left_out(self.told) if self.is_lenient else ""
+        if ended.err != (line if self.command in checks.OF_A_DAY else ""):
+            return f"standard error isn't {line or 'empty'}"
         names = [*self.feed.stops, *self.feed.calls, *self.rest] if self.feed else []
         if any(len(name.splitlines()) > 1 for name in names):
             return None
+        if self.command == "check":
+            return self.wrong_check(ended)
+        return self.wrong_answer(ended.out)
+
+    def wrong_check(self, ended):
+        found = checks.told_in(ended.out)
+        if found is None or bool(found) != (ended.status == FAULTS_FOUND):
+            return "the check has another form"
+        of_law = [fault for fault in found[-1:] if fault.startswith(self.law())]
+        wanted = checks.text_of(self.told + (of_law if self.may_break_law else []))
+        return None if ended.out == wanted else f"the check isn't {wanted}"
+
+    def wrong_answer(self, out):
         if not answers.is_answer(self.command, out):
             return "the answer has another form"
         if self.command == "serve" and self.items:
@@ -148,6 +178,8 @@ class Judge:
         if self.command == "live":
             return self.allowed_of_live()
         found = self.read_feed(self.rest[0])
+        if self.command == "check":
+            return self.allowed_of_check(found)
         if found:
             return [found]
         if self.is_small():
@@ -157,8 +189,25 @@ class Judge:
             return self.allowed_of_texts()
         return [*self.allowed_of_law(), *self.allowed_of_texts()]
 
+    def allowed_of_check(self, found):
+        """The same of a check, of whose feed this is known: all that is told then is."""
+        if found == READ_FAULT:
+            return [found]
+        if not found and self.is_small():
+            self.timetable = Timetable(self.feed, self.rest[1], self.options)
+            found = self.timetable.fault and (3, self.timetable.fault)
+        if found:
+            self.told.append(found[1])
+        self.may_break_law = not found and not self.timetable
+        allowed = [(FAULTS_FOUND if self.told else 0, "")]
+        return [*allowed, (FAULTS_FOUND, "")] if self.may_break_law else allowed
+
+    def law(self):
+        """How the faults of footpaths begin."""
+        return CLOSING if self.options.close else LAW
+
     def allowed_of_law(self):
-        return [(3, fault) for fault in (CLOSING if self.options.close else LAW)]
+        return [(3, fault) for fault in self.law()]
 
     def allowed_of_serve(self):
         fault = texts.script_fault(self.case.given)
@@ -215,7 +264,7 @@ class Judge:
         try:
             data = self.bytes_at(path)
         except OSError:
-            return 4, ""
+            return READ_FAULT
         fault = "6 MissingFile" if data is None else texts.late_fault(data)
         fault = fault or replies.amend(timetable.trips, data)
         if fault:
@@ -248,7 +297,7 @@ class Judge:
         try:
             data = self.bytes_at(self.rest[2])
         except OSError:
-            return [(4, "")]
+            return [READ_FAULT]
         fault = "6 MissingFile" if data is None else texts.late_fault(data)
         if not fault and self.timetable:
             fault = replies.amend(self.timetable.trips, data)
@@ -260,7 +309,7 @@ class Judge:
         try:
             data = self.case.given if self.rest[2] == "-" else self.bytes_at(self.rest[2])
         except OSError:
-            return [(4, "")]
+            return [READ_FAULT]
         fault = "6 MissingFile" if data is None else texts.origins_fault(data)
         if fault:
             return [(7, fault)]
@@ -269,14 +318,16 @@ class Judge:
         return [(0, "")]
 
     def read_feed(self, folder):
-        """How the program ends if the feed has a fault, and what is in it else."""
+        """How the program ends if the feed has a fault that ends it, and what is in it else."""
+        read = left.left_of if self.is_lenient or self.command == "check" else left.whole
         try:
-            feed = feeds.check(self.folder, folder)
-        except feeds.Fault as fault:
-            return 3, str(fault)
+            found = read(self.folder, folder)
         except OSError:
-            return 4, ""
-        self.feed, self.events = feed, self.events + feed.events
+            return READ_FAULT
+        self.told = list(map(str, found.told))
+        if found.fault:
+            return 3, str(found.fault)
+        self.feed, self.events = found.feed, self.events + found.feed.events
         return None
 
 
@@ -298,20 +349,10 @@ def item_of(word, path, found):
     return served.Item(word, path is None, fault=found[1] or "read fault")
 
 
-def before_rest(words):
-    """The words before `--`, where options stand."""
-    return words[: words.index("--")] if "--" in words else words
-
-
-def options_of(words):
-    """The options of a valid command line."""
-    words = before_rest(words)
-    values = {"--change": 0, "--station": None, "--days": 1}
-    for word, after in zip(words, [*words[1:], ""]):
-        name, equals, value = word.partition("=")
-        if name in values:
-            values[name] = int(value if equals else after)
-    return Options(values["--change"], values["--station"], "--close" in words, values["--days"])
+def options_of(options):
+    """What the options of a valid command line ask of a timetable."""
+    given = (options.get(name, other) for name, other in (("--change", 0), ("--station", None)))
+    return Options(*given, "--close" in options, options.get("--days", 1))
 
 
 def may_be(allowed, status, fault):

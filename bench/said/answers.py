@@ -6,8 +6,8 @@ import re
 from said import feeds
 
 USAGE = (
-    "usage: router [--change SECS] [--station SECS] [--close] [--days N] [--workers N] [--plain]"
-    " [--lanes N] [--mirror] [--csv] COMMAND WORDS"
+    "usage: router [--change SECS] [--station SECS] [--close] [--lenient] [--days N] [--workers N]"
+    " [--plain] [--lanes N] [--mirror] [--csv] COMMAND WORDS"
 )
 TIME = r"-?\d{2,3}:[0-5]\d:[0-5]\d"
 LEG = rf"  (?:ride .+ .+ {TIME} .+ {TIME}(?: day-before| day-after| day\+2)?|walk .+ .+ \d+)\n"

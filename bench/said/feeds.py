@@ -64,9 +64,10 @@ DAY_END = 359_999
 
 
 class Fault(Exception):
-    """The first fault, as it is shown."""
+    """A fault, as it is shown, with its number and its file."""
 
     def __init__(self, number, file, row=0, column=0):
+        self.number, self.file = number, file
         text = f"{number} {NAMES[number]} {file}"
         if row:
             text += f" row {row} column {COLUMNS[file][column]}"
@@ -188,8 +189,7 @@ def checked_rows(folder, name):
         return None
     rows = []
     for row, fields in rows_of(name, data):
-        check = transfer_fault if name == "transfers.txt" else field_fault
-        column, fault = check(name, fields)
+        column, fault = field_fault(name, fields)
         if fault:
             raise Fault(fault, name, row, column)
         rows.append((row, fields))
@@ -197,6 +197,9 @@ def checked_rows(folder, name):
 
 
 def field_fault(name, fields):
+    """The column of the first wrong field of a row, and its fault; or zeros."""
+    if name == "transfers.txt":
+        return transfer_fault(fields)
     for column, (check, field) in enumerate(zip(CHECKS[name], fields), 1):
         if check(field):
             return column, check(field)
@@ -207,7 +210,7 @@ def is_skipped(fields):
     return fields[2] in ("4", "5") or any(fields[4:])
 
 
-def transfer_fault(_, fields):
+def transfer_fault(fields):
     if code("", "0", "1", "2", "3", "4", "5")(fields[2]):
         return 3, 8
     if not is_skipped(fields):
@@ -261,40 +264,65 @@ class Call(typing.NamedTuple):
     alight: bool
 
 
+def name_fault(fields, stops, trips):
+    """The column of the first name of a row of stop_times.txt that is wrong, and its fault; or
+    zeros.
+    """
+    if fields[0] not in trips:
+        return 1, 12
+    if fields[3] not in stops:
+        return 4, 11
+    return (0, 0) if stops[fields[3]][0] in PLATFORM else (4, 16)
+
+
+def call_of(row, fields):
+    """The number of a row of stop_times.txt in its trip, and its call."""
+    _, arrival, departure, stop, sequence, pickup, drop_off = fields
+    times = time_of(arrival or departure), time_of(departure or arrival)
+    return int(sequence), Call(row, *times, stop, pickup != "1", drop_off != "1")
+
+
+def in_order(found):
+    """The calls of each trip in the order of their numbers."""
+    return {trip: [calls[number] for number in sorted(calls)] for trip, calls in found.items()}
+
+
 def calls_of(folder, stops, trips):
     """The rows of stop_times.txt by trip, in order."""
     name = "stop_times.txt"
-    rows = needed(checked_rows(folder, name), name)
     found = {trip: {} for trip in trips}
-    for row, (trip, arrival, departure, stop, sequence, pickup, drop_off) in rows:
-        if trip not in found:
-            raise Fault(12, name, row, 1)
-        if stop not in stops:
-            raise Fault(11, name, row, 4)
-        if stops[stop][0] not in PLATFORM:
-            raise Fault(16, name, row, 4)
-        if int(sequence) in found[trip]:
+    for row, fields in needed(checked_rows(folder, name), name):
+        column, fault = name_fault(fields, stops, found)
+        if fault:
+            raise Fault(fault, name, row, column)
+        number, call = call_of(row, fields)
+        if number in found[fields[0]]:
             raise Fault(13, name, row, 5)
-        times = time_of(arrival or departure), time_of(departure or arrival)
-        found[trip][int(sequence)] = Call(row, *times, stop, pickup != "1", drop_off != "1")
-    return {trip: [calls[number] for number in sorted(calls)] for trip, calls in found.items()}
+        found[fields[0]][number] = call
+    return in_order(found)
+
+
+def link_fault(fields, stops, earlier):
+    """The column of the first end of a row of transfers.txt that is wrong, and its fault; or
+    zeros. The earlier rows are given by their ends.
+    """
+    for column in (1, 2):
+        if fields[column - 1] not in stops:
+            return column, 11
+    return (1, 17) if tuple(fields[:2]) in earlier else (0, 0)
 
 
 def transfers_of(folder, stops):
     """The rows of transfers.txt that aren't skipped."""
     name = "transfers.txt"
-    seen, found = set(), []
+    found = {}
     for row, fields in checked_rows(folder, name) or []:
-        if is_skipped(fields):
-            continue
-        for column in (1, 2):
-            if fields[column - 1] not in stops:
-                raise Fault(11, name, row, column)
-        if tuple(fields[:2]) in seen:
-            raise Fault(17, name, row, 1)
-        seen.add(tuple(fields[:2]))
-        found.append(fields)
-    return found
+        if not is_skipped(fields):
+            column, fault = link_fault(fields, stops, found)
+            if fault:
+                raise Fault(fault, name, row, column)
+            found[tuple(fields[:2])] = fields
+    return list(found.values())
 
 
 def check_calls(calls):
@@ -347,9 +375,14 @@ class Feed(typing.NamedTuple):
     events: int
 
 
+def path_of(top, folder):
+    """The path of a folder that is named as it is in another one."""
+    return folder if folder.startswith("/") else f"{top}/{folder}"
+
+
 def check(top, folder):
     """What is in a feed, whose folder is named as it is in another one; raises its first fault."""
-    folder = folder if folder.startswith("/") else f"{top}/{folder}"
+    folder = path_of(top, folder)
     stops = stops_of(folder)
     calendar = checked_rows(folder, "calendar.txt")
     distinct(calendar or [], "calendar.txt", 1)
@@ -366,6 +399,11 @@ def check(top, folder):
             raise Fault(12, "frequencies.txt", row, 1)
     for _, (_, trip) in trips:
         check_calls(calls[trip])
+    return feed_of(stops, calendar, dates, trips, calls, transfers, frequencies)
+
+
+def feed_of(stops, calendar, dates, trips, calls, transfers, frequencies):
+    """The feed of what its files give; raises that a start moves a time beyond the day."""
     events = sum(map(len, calls.values()))
     for row, fields in frequencies:
         events += starts_of(row, fields, calls[fields[0]]) * len(calls[fields[0]])

@@ -8,7 +8,7 @@ VALUES = {
     "--workers": (1, 64),
     "--lanes": (1, 64),
 }
-FLAGS = ("--close", "--plain", "--mirror", "--csv")
+FLAGS = ("--close", "--lenient", "--plain", "--mirror", "--csv")
 LATEST = 273_599
 MOST_STEP, MOST_LATER = 3_600, 1_439
 DAYS_OF_MONTH = (31, 28, 31, 30, 31, 30, 31, 31, 30, 31, 30, 31)
@@ -35,32 +35,34 @@ def is_date(text):
     return 1 <= day <= DAYS_OF_MONTH[month - 1] + (month == 2 and leap)
 
 
-def without_options(words):
-    """The words without options, or None where an option isn't as it has to be."""
-    left, seen, at = [], set(), 0
+def parted(words):
+    """The options among words, each with its number if it has one, and the other words; or None
+    where an option isn't as it has to be.
+    """
+    options, left, at = {}, [], 0
     while at < len(words):
         word = words[at]
         at += 1
         if word == "--":
-            return left + words[at:]
+            return options, left + words[at:]
         name, equals, value = word.partition("=")
-        if name in VALUES and name not in seen:
+        if name in VALUES and name not in options:
             if not equals:
                 if at == len(words):
                     return None
                 value = words[at]
                 at += 1
             least, most = VALUES[name]
-            number = number_of(value)
-            if number is None or not least <= number <= most:
+            options[name] = number_of(value)
+            if options[name] is None or not least <= options[name] <= most:
                 return None
-        elif word not in FLAGS or word in seen:
-            if word.startswith("-") and word != "-":
-                return None
+        elif word in FLAGS and word not in options:
+            options[word] = None
+        elif word.startswith("-") and word != "-":
+            return None
+        else:
             left.append(word)
-            continue
-        seen.add(name)
-    return left
+    return options, left
 
 
 def are_of_day(folder_date, rest, *checks):
@@ -122,18 +124,19 @@ CHECKS = {
     "latest": (*ENDS, is_latest_time),
     "reach": (anything, is_time),
     "verify": (*ENDS, is_time),
+    "check": (),
 }
 
 
 def are_valid(words):
     """Whether words, as bytes, are a command line."""
     try:
-        words = without_options([word.decode() for word in words])
+        found = parted([word.decode() for word in words])
     except UnicodeDecodeError:
         return False
-    if not words:
+    if not found or not found[1]:
         return False
-    name, *rest = words
+    name, *rest = found[1]
     if name in CHECKS:
         return are_of_day(rest[:2], rest[2:], *CHECKS[name])
     if name == "late":

@@ -9,7 +9,7 @@ import sys
 import tempfile
 import unittest
 
-from commands import documents, hostile_shapes
+from commands import documents, hostile_shapes, refused_memory
 from feeds import city, collisions, network, shapes
 from harness import TOP, BenchError, Run, Table, commit, commit_of, done, limited, write
 
@@ -57,6 +57,21 @@ class Tables(unittest.TestCase):
             self.assertEqual("0123abc", commit_of(program))
             os.utime(program, ns=(2**61, 2**61))
             self.assertEqual(commit(), commit_of(program))
+
+
+class RefusedMemory(unittest.TestCase):
+    def test_what_may_come(self):
+        ended = collections.namedtuple("Ended", "status out err")
+        check, lenient = refused_memory.COMMANDS[-2:]
+        told = ended(10, "8 BadCode stops.txt x\n11 x\n11 x\nfaults 3\n", "")
+        answer = ended(0, lenient.answer, lenient.line)
+        none = ended(6, "", "router: out of memory\n")
+        silent = answer._replace(err="")
+        for command, right in ((check, told), (lenient, answer), (lenient, silent)):
+            for run in (right, none):
+                self.assertTrue(refused_memory.is_allowed(run, command), run)
+            for other in (right._replace(status=3), right._replace(out=""), none._replace(out="x")):
+                self.assertFalse(refused_memory.is_allowed(other, command), other)
 
 
 class Examples(unittest.TestCase):

@@ -53,6 +53,7 @@ class Words(unittest.TestCase):
         self.assertTrue(self.valid("--plain -- ask f 20260302 -A --close 8:00:00"))
         self.assertTrue(self.valid("serve a@b@20260302 f@20260303"))
         self.assertTrue(self.valid("build f 20240229 list"))
+        self.assertTrue(self.valid("check f 20240229 --lenient --days=2"))
 
     def test_no_command_line(self):
         self.assertFalse(words.are_valid([]))
@@ -66,6 +67,9 @@ class Words(unittest.TestCase):
             "latest f 20260302 A D 76:00:00",
             "serve @20260302",
             "city 41",
+            "check f",
+            "check f 20260302 A",
+            "--lenient=1 check f 20260302",
             "--help",
         ):
             self.assertFalse(self.valid(line), line)

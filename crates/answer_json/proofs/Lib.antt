@@ -3,3 +3,4 @@ pub mod Numbers
 pub mod Framed
 pub mod Digits
 pub mod Names
+pub mod Checked

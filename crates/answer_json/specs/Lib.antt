@@ -4,4 +4,5 @@ pub mod Reached
 pub mod Travel
 pub mod Builds
 pub mod Faults
+pub mod Checks
 pub mod Shown

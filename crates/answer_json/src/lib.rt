@@ -9,6 +9,7 @@
 #![tactic(auto)]
 
 mod builds;
+mod checks;
 mod faults;
 mod frame;
 mod journeys;
@@ -19,6 +20,7 @@ mod strings;
 mod travel;
 
 pub use builds::{build_json, build_list_json};
+pub use checks::{shown_check, shown_left_out};
 pub use faults::{add_fault, add_line_fault};
 pub use frame::{Frame, add_moment};
 pub use journeys::{

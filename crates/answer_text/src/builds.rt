@@ -31,7 +31,7 @@ fn event_mark(day: ServiceDay) -> &'static [u8]
 
 impl Text {
     // Adds a label and a number.
-    fn labelled(&mut self, label: &[u8], n: u64) -> Result<(), Memory>
+    pub(crate) fn labelled(&mut self, label: &[u8], n: u64) -> Result<(), Memory>
         ensures { OnOk result (self.new ≡ self.old ++ labelled label.now n) }
     {
         self.add(label)?;

@@ -92,7 +92,7 @@ impl Text {
     }
 
     // Adds a fault.
-    fn fault(&mut self, fault: &FeedFault) -> Result<(), Memory>
+    pub(crate) fn fault(&mut self, fault: &FeedFault) -> Result<(), Memory>
         ensures { OnOk result (self.new ≡ self.old ++ fault_text fault.now) }
     {
         match fault {

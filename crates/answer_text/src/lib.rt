@@ -9,12 +9,14 @@
 #![tactic(auto)]
 
 mod builds;
+mod checks;
 mod faults;
 mod journeys;
 mod question;
 mod text;
 
 pub use builds::{BuildCounts, build_list_text, build_text};
+pub use checks::{ALL_FILES, FAULT_NUMBERS, bad_rows, check_text, left_out_text, more_of};
 pub use faults::{column_name, fault_text, many_text};
 pub use journeys::{NO_JOURNEY, arrival_text, choices_text, offers_text, unknown_text};
 pub use question::{Question, QuestionFault, question_of};

@@ -16,7 +16,7 @@ differ xs ys other = by (bytes_eq xs ys) (bytes_eq-Decides xs ys) where
   by false same = refl
 
 -- a name that is none of those of other requests asks about one day
-pub about_a_day : (s : Settings) (name : Text) (words : List Text) → (name ≡ codes "serve" → ⊥) → (name ≡ codes "live" → ⊥) → (name ≡ codes "matrix" → ⊥) → (name ≡ codes "city" → ⊥) → (name ≡ codes "verify" → ⊥) → (name ≡ codes "late" → ⊥) →
+pub about_a_day : (s : Settings) (name : Text) (words : List Text) → (name ≡ codes "serve" → ⊥) → (name ≡ codes "live" → ⊥) → (name ≡ codes "matrix" → ⊥) → (name ≡ codes "city" → ⊥) → (name ≡ codes "verify" → ⊥) → (name ≡ codes "check" → ⊥) → (name ≡ codes "late" → ⊥) →
     request_named s name words ≡ option_map request.Day (day_request_from s name words)
-about_a_day s name words serve live matrix city verify late =
-    rw (differ name (codes "serve") serve, differ name (codes "live") live, differ name (codes "matrix") matrix, differ name (codes "city") city, differ name (codes "verify") verify, differ name (codes "late") late) refl
+about_a_day s name words serve live matrix city verify check late =
+    rw (differ name (codes "serve") serve, differ name (codes "live") live, differ name (codes "matrix") matrix, differ name (codes "city") city, differ name (codes "verify") verify, differ name (codes "check") check, differ name (codes "late") late) refl

@@ -35,9 +35,9 @@ with_options =
 
 abbrev pub with_flags : App
 with_flags =
-    with_rule (with_rule (with_rule (with_rule (with_rule with_options
-    (flag_rule (codes "close"))) (flag_rule (codes "plain"))) (flag_rule (codes "mirror")))
-    (flag_rule (codes "json"))) (flag_rule (codes "csv"))
+    with_rule (with_rule (with_rule (with_rule (with_rule (with_rule with_options
+    (flag_rule (codes "close"))) (flag_rule (codes "lenient"))) (flag_rule (codes "plain")))
+    (flag_rule (codes "mirror"))) (flag_rule (codes "json"))) (flag_rule (codes "csv"))
 
 abbrev pub router_arguments : App
 router_arguments = with_rule with_flags words_rule

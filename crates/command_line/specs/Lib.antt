@@ -6,6 +6,7 @@ pub mod Verifications
 pub mod LateTrips
 pub mod PlannedDays
 pub mod Plans
+pub mod Checks
 pub mod Cities
 pub mod Requests
 pub mod Matrices

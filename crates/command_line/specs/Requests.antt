@@ -3,6 +3,7 @@ use Rattle.std.specs.Prelude.{List, [], ◌∷◌, codes, bytes_eq, Bool, false,
 use Rattle.std.specs.Option.{option_and_then, option_map, unwrap_or}
 use Rattle.clap.specs.Words.{Row, Text, all_of}
 use Rattle.command_line.specs.Arguments.{given}
+use Rattle.command_line.specs.Checks.{check_request_from}
 use Rattle.command_line.specs.Cities.{city_request}
 use Rattle.command_line.specs.DayCommands.{day_request_from}
 use Rattle.command_line.specs.LateTrips.{late_request_from}
@@ -16,7 +17,7 @@ use Rattle.command_line.specs.declared.settings.Settings.{Settings}
 
 -- a request by the command's name and the words behind it: `serve DIR@DATE ..`, `live DIR@DATE ..`,
 -- `matrix DIR DATE FILE FIRST LAST STEP`, with or without `rides N`, `city N`, `verify DIR DATE FROM TO
--- TIME`, `late DIR DATE FILE FROM TO TIME`, or `NAME DIR DATE WORDS`
+-- TIME`, `check DIR DATE`, `late DIR DATE FILE FROM TO TIME`, or `NAME DIR DATE WORDS`
 abbrev pub request_named : Settings → Text → List Text → Option Request
 request_named s name words =
     if bytes_eq name (codes "serve") then option_map request.Serve (serve_request s words)
@@ -26,6 +27,7 @@ request_named s name words =
     else if bytes_eq name (codes "city") then option_map request.City (city_request s words)
     else if bytes_eq name (codes "verify")
     then option_map request.Verify (verify_request_from s words)
+    else if bytes_eq name (codes "check") then option_map request.Check (check_request_from s words)
     else if bytes_eq name (codes "late") then option_map request.Late (late_request_from s words)
     else option_map request.Day (day_request_from s name words)
 

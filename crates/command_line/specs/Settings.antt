@@ -77,6 +77,7 @@ options_given rows =
       station = station;
       close = is_given (codes "close") rows;
       horizon = horizon;
+      lenient = is_given (codes "lenient") rows;
     }) (horizon_given (first_of (codes "days") rows)))
     (station_given (first_of (codes "station") rows)))
     (change_given (first_of (codes "change") rows))

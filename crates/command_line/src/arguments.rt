@@ -45,6 +45,7 @@ pub(crate) fn router_arguments<'a>(alloc: Global) -> Result<clap::Command<'a>, A
         .arg(option(alloc, "workers"))?
         .arg(option(alloc, "lanes"))?
         .arg(flag(alloc, "close"))?
+        .arg(flag(alloc, "lenient"))?
         .arg(flag(alloc, "plain"))?
         .arg(flag(alloc, "mirror"))?
         .arg(flag(alloc, "json"))?

@@ -8,6 +8,7 @@
 #![tactic(auto)]
 
 mod arguments;
+mod check;
 mod city;
 mod day;
 mod late_trips;
@@ -19,8 +20,8 @@ mod verification;
 mod words;
 
 pub use request::{
-    CityRequest, Command, DayRequest, Departing, Inquiry, LateRequest, LiveRequest, MatrixRequest,
-    OriginsNamed, PlannedDay, PlannedFile, PlannedItem, PlannedSource, Request, ServeRequest,
-    VerifyRequest,
+    CheckRequest, CityRequest, Command, DayRequest, Departing, Inquiry, LateRequest, LiveRequest,
+    MatrixRequest, OriginsNamed, PlannedDay, PlannedFile, PlannedItem, PlannedSource, Request,
+    ServeRequest, VerifyRequest,
 };
 pub use words::{asks_json, request_of};

@@ -105,6 +105,32 @@ impl<'a> Model for VerifyRequest<'a> {
     ghost invariant = { λ r. AreWithinADay r.options };
 }
 
+/// A request for all that is wrong with a feed on one day.
+#[derive(Drop)]
+pub struct CheckRequest<'a> {
+    pub options: Options,
+    /// As JSON, in place of a text.
+    pub json: bool,
+    pub dir: &'a str,
+    pub day: Day,
+}
+
+impl<'a> Model for CheckRequest<'a> {
+    ghost use Rattle.command_line.specs.Checks.{CheckRequestData};
+    ghost use Rattle.footpaths.specs.Limits.{AreWithinADay};
+
+    ghost Value = { CheckRequestData };
+
+    ghost view = { λ r. record {
+      options = r.options;
+      json = r.json;
+      dir = r.dir.now;
+      date = r.day;
+    } };
+
+    ghost invariant = { λ r. AreWithinADay r.options };
+}
+
 /// A request about one day of a feed, amended by late trips.
 #[derive(Drop)]
 pub struct LateRequest<'a> {
@@ -355,6 +381,8 @@ pub enum Request<'a> {
     City(CityRequest),
     /// Whether the journey that a source claims is one, with its value.
     Verify(VerifyRequest<'a>),
+    /// All that is wrong with a feed.
+    Check(CheckRequest<'a>),
     /// The best values over a day that late trips amend.
     Late(LateRequest<'a>),
 }

@@ -159,6 +159,7 @@ fn options_given(matches: &ArgMatches<'_>) -> Option<Options>
         station,
         close: is_given(matches, "close"),
         horizon,
+        lenient: is_given(matches, "lenient"),
     })
 }
 

@@ -5,6 +5,7 @@ ghost use Rattle.command_line.specs.Requests.{asks_json, json_word, request_by, 
 ghost use Rattle.command_line.specs.Settings.{AreSettings};
 
 use crate::arguments::router_arguments;
+use crate::check::check_request_from;
 use crate::city::city_request;
 use crate::day::day_request_from;
 use crate::late_trips::late_request_from;
@@ -48,6 +49,10 @@ fn request_named<'a>(
         },
         "verify" => match verify_request_from(settings, words) {
             Some(request) => Ok(Some(Request::Verify(request))),
+            None => Ok(None),
+        },
+        "check" => match check_request_from(settings, words) {
+            Some(request) => Ok(Some(Request::Check(request))),
             None => Ok(None),
         },
         "late" => match late_request_from(settings, words) {
@@ -112,14 +117,15 @@ pub fn asks_json(words: &[String]) -> bool
 }
 
 /// What the words mean, the program's name left out: `COMMAND WORDS` with the options `--change
-/// SECS`, `--station SECS`, `--workers N`, `--lanes N` and the flags `--close`, `--plain`,
-/// `--mirror`, `--json` and `--csv`, each at most once and anywhere before `--`; behind `--` every
-/// word is taken as it is. The commands are `direct DIR DATE FROM TO TIME`, `ask DIR DATE FROM TO
-/// TIME`, `profile DIR DATE FROM TO FIRST LAST`, `latest DIR DATE FROM TO TIME`, `reach DIR DATE
-/// FROM TIME`, `build DIR DATE`, `build DIR DATE list`, `verify DIR DATE FROM TO TIME`, `late DIR
-/// DATE FILE FROM TO TIME`, `matrix DIR DATE FILE FIRST LAST STEP` with or without `rides N`, `serve
-/// DIR@DATE ..` and `live DIR@DATE ..` of 1 to 100 days, and `city N` of 2 to 40 rows. `None` comes
-/// exactly where the words have no meaning, `Memory` only for want of it.
+/// SECS`, `--station SECS`, `--days N`, `--workers N`, `--lanes N` and the flags `--close`,
+/// `--lenient`, `--plain`, `--mirror`, `--json` and `--csv`, each at most once and anywhere before
+/// `--`; behind `--` every word is taken as it is. The commands are `check DIR DATE`, `direct DIR
+/// DATE FROM TO TIME`, `ask DIR DATE FROM TO TIME`, `profile DIR DATE FROM TO FIRST LAST`, `latest
+/// DIR DATE FROM TO TIME`, `reach DIR DATE FROM TIME`, `build DIR DATE`, `build DIR DATE list`,
+/// `verify DIR DATE FROM TO TIME`, `late DIR DATE FILE FROM TO TIME`, `matrix DIR DATE FILE FIRST
+/// LAST STEP` with or without `rides N`, `serve DIR@DATE ..` and `live DIR@DATE ..` of 1 to 100
+/// days, and `city N` of 2 to 40 rows. `None` comes exactly where the words have no meaning,
+/// `Memory` only for want of it.
 pub fn request_of<'a>(alloc: Global, words: &'a [String]) -> Result<Option<Request<'a>>, Memory>
     ensures { IfOk result (λ request. request ≡ request_of (map string_bytes words.now)) }
 {

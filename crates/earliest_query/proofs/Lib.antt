@@ -22,3 +22,4 @@ pub mod SweptOnto
 pub mod FoundValues
 pub mod SweptBegin
 pub mod SweptDown
+pub mod RoundWeighed

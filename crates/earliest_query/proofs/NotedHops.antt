@@ -1,9 +1,11 @@
 -- Hops from events that were noted.
-use Rattle.std.proofs.Common.{◌≡◌, ℕ, suc, ◌-◌, ◌≤◌, inl, inr, [], ◌∷◌, sym, subst, arith, Some}
-use Rattle.std.specs.Prelude.{Contains, slice_get}
-use Rattle.std.proofs.lemmas.Option.{get_or_from_slice_get, slice_get_within}
+use Rattle.std.proofs.Common.{◌≡◌, ◌∙◌, ℕ, suc, ◌-◌, ◌<◌, ◌≤◌, inl, inr, List, [], ◌∷◌, length, get_or, take, sym, subst, arith, Some}
+use Rattle.std.specs.Prelude.{All, Contains, slice_get}
+use Rattle.std.proofs.lemmas.List.{get_or-take, length-take-le}
+use Rattle.std.proofs.lemmas.Option.{get_or_from_slice_get, slice_get-get_or, slice_get_within}
 use Rattle.tb_base.specs.Network.{NetData}
 use Rattle.tb_base.specs.declared.transfer.Hop.{Hop}
+use Rattle.tb_base.specs.Sufficiency.{AreSufficient}
 use Rattle.tb_base.proofs.Ordered.{Member-from_Contains}
 use Rattle.segment_queue.specs.declared.notes.Note.{Note}
 use Rattle.segment_queue.specs.Queue.{DeskData}
@@ -11,7 +13,8 @@ use Rattle.segment_queue.specs.Scans.{hops_seen, seen_first, seen_last, seen_tri
 use Rattle.segment_queue.specs.Traced.{segment_of}
 use Rattle.earliest_query.specs.Noted.{IsNoted, IsOf, IsSoundNote}
 use Rattle.earliest_query.specs.UnderWay.{Covers}
-use Rattle.earliest_query.proofs.Following.{IsInOne, in_one}
+use Rattle.earliest_query.proofs.Following.{IsInOne, get_or-inside, hop_trip, in_one}
+use Rattle.earliest_query.proofs.Growing.{extends-refl}
 
 -- an index that a note is of is one that its segment covers
 pub covers_of : (N : NetData) (D : DeskData) (round i : ℕ) (note : Note) → IsSoundNote N D.segments round note → seen_first note.seen ≤ i → i ≤ seen_last note.seen → Covers D note.segment i
@@ -44,3 +47,19 @@ noted_by_one note n i noted = elim (Member-from_Contains noted.by (note ∷ []) 
   | inl same ↦ subst (λ x. IsOf x n i) (sym same) noted.of
   | inr none ↦ absurd none
 ]
+
+-- each hop from events that were noted leads to a trip
+pub trips_inside : (N : NetData) (D : DeskData) (round : ℕ) (note : Note) (hops : List Hop) → AreSufficient N.table N.hops → IsSoundNote N D.segments round note → hops ≡ hops_seen N.hops note.seen → All (λ h. h.trip < length N.table.trips) hops
+trips_inside N D round note hops sufficient s are = λ k d inside.
+    let got : slice_get (hops_seen N.hops note.seen) k ≡ Some (get_or hops k d) = subst (λ hs. slice_get hs k ≡ Some (get_or hops k d)) are (slice_get-get_or hops k d inside) in
+    let f : IsFrom N D note (get_or hops k d) = from_some N D round k note (get_or hops k d) s got in
+    hop_trip N.table N.hops D D (suc round) note.segment f.at (get_or hops k d) sufficient s.inside f.covers (extends-refl D (suc round)) f.in_set
+
+-- places that were written down are read again
+pub written_within : (places : List ℕ) (count k to : ℕ) → count ≤ length places → k < count → All (λ p. p < to) (take count places) → get_or places k 0 < to
+written_within places count k to few inside within = subst (λ p. p < to) (get_or-take count places k 0 inside) (within k 0 (omega (arith, length-take-le count places few, inside)))
+
+pub written_one : (places : List ℕ) (count k : ℕ) → count ≤ length places → Contains (take count places) k → (j : ℕ) × (j < count) × (get_or places j 0 ≡ k)
+written_one places count k few one =
+    let below : one.0 < count = omega (arith, one.1, length-take-le count places few) in
+    (one.0, below, get_or-inside places one.0 0 k (omega (arith, below, few)) ∙ sym (get_or-take count places one.0 k below) ∙ one.2)

@@ -1,10 +1,12 @@
-ghost use Rattle.std.specs.Prelude.{◌≡◌, ◌+◌, ◌<◌, ◌≤◌, ◌⊎◌, ◌++◌, ℕ, suc, Some, All, Contains, IfSome, IsTrue, ◌↔◌, MatchBool, MatchOption, length, pos, slice_get, ◌≤ℤ◌};
+ghost use Rattle.std.specs.Prelude.{◌≡◌, ◌+◌, ◌-◌, ◌<◌, ◌≤◌, ◌⊎◌, ◌++◌, ℕ, suc, Some, All, Contains, IfSome, IsTrue, ◌↔◌, MatchBool, MatchOption, length, pos, slice_get, ◌≤ℤ◌};
 ghost use Rattle.tb_base.specs.Sufficiency.{AreSufficient};
 ghost use Rattle.tb_base.specs.Walking.{walk};
-ghost use Rattle.segment_queue.specs.Queue.{covered_indices};
+ghost use Rattle.segment_queue.specs.Queue.{IsClipped, covered_indices};
 ghost use Rattle.segment_queue.specs.Scans.{followed_seen, hops_seen, seen_arr, seen_first, seen_last, seen_trip};
 ghost use Rattle.segment_queue.specs.Traced.{round_of, segment_of};
+ghost use Rattle.segment_queue.specs.declared.desk.Segment.{Segment};
 ghost use Rattle.segment_queue.specs.declared.notes.Note.{Note};
+ghost use Rattle.transfer_pack.specs.Words.{lent};
 ghost use Rattle.earliest_query.specs.Choices.{ArrivesBy, IsWeighed, alighting_hit, earlier_hit};
 ghost use Rattle.earliest_query.specs.Meeting.{IsMetInTime};
 ghost use Rattle.earliest_query.specs.Noted.{IsOf, IsSeenBehind, IsSoundNote, IsWeighedOff, note_of, notes_of};
@@ -16,6 +18,13 @@ use super::walks::{nearest, targets};
 use segment_queue::{Desk, Followed, Hit, LastLeg, Look, Note, Scan, Seen, Steps, Visit};
 use std::sync::ledger::Ledger;
 use tb_base::{Hop, Path, StopNo, Value};
+
+// How many segments are clipped at a time: so few that what was read then is still at hand when
+// they are weighed.
+const STRETCH: u32 = 128;
+
+// How many hops are tried at a time.
+const TRIED: usize = 64;
 
 // Whether one may alight at an event, and it is reached before the best hit so far arrives.
 fn may_improve(best: &Option<Hit>, visit: &Visit) -> bool
@@ -168,13 +177,14 @@ impl<S: Scan> Search<'_, S> {
     }
 
     // Looks at the indices that a segment covers one by one, and weighs to alight there. It ends
-    // where one gets no earlier than the best hit so far arrives, and where the trip before on the
-    // line has been entered, in which one is there as early with no more rides. Answers what it has
-    // seen before, too.
+    // where one gets no earlier than the best hit so far arrives, and where it is clipped: there
+    // the trip before on the line has been entered, in which one is there as early with no more
+    // rides. Answers what it has seen before, too.
     fn weigh_events<L: Ledger, A: AtEvent<S>>(
         &self,
         desk: &Desk,
         n: u32,
+        end: u32,
         round: u32,
         so_far: Option<Hit>,
         also: &mut A,
@@ -187,6 +197,8 @@ impl<S: Scan> Search<'_, S> {
         requires round { round_of desk.now.segments n ≡ round }
         requires ready { (later : ℕ) → round ≤ later →
             A.is_ready also.old (S.net self.now.scan.now) self.now.query.now later }
+        requires clipped { (s : Segment) → slice_get desk.now.segments n ≡ Some s →
+            IsClipped (S.net self.now.scan.now) desk.now.marks s end }
         ensures seen { All (IsSoundNote (S.net self.now.scan.now) desk.now.segments round)
             (notes_of n result.1) }
         ensures weighed { (i : ℕ) → Covers desk.now n i →
@@ -209,7 +221,6 @@ impl<S: Scan> Search<'_, S> {
         let Some(segment) = desk.segment(n) else {
             return (so_far, None);
         };
-        let end = desk.clipped_end(scan, &segment);
         let mut best = so_far;
         let mut seen = None;
         for before in segment.board..end {
@@ -230,6 +241,7 @@ impl<S: Scan> Search<'_, S> {
         &self,
         desk: &mut Desk,
         n: u32,
+        end: u32,
         round: u32,
         so_far: Option<Hit>,
         also: &mut A,
@@ -246,6 +258,8 @@ impl<S: Scan> Search<'_, S> {
             desk.old.notes }
         requires ready { (later : ℕ) → round ≤ later →
             A.is_ready also.old (S.net self.now.scan.now) self.now.query.now later }
+        requires clipped { (s : Segment) → slice_get desk.old.segments n ≡ Some s →
+            IsClipped (S.net self.now.scan.now) desk.old.marks s end }
         ensures rest { desk.new ≡ record desk.old { notes = desk.new.notes } }
         ensures notes { All (IsSoundNote (S.net self.now.scan.now) desk.old.segments round)
             desk.new.notes }
@@ -267,7 +281,7 @@ impl<S: Scan> Search<'_, S> {
             ≤ length desk.old.notes + covered_indices (segment_of desk.old.segments n) }
         ensures steps { steps.new ≤ steps.old + covered_indices (segment_of desk.old.segments n) }
     {
-        let (best, seen) = self.weigh_events(desk, n, round, so_far, also, steps);
+        let (best, seen) = self.weigh_events(desk, n, end, round, so_far, also, steps);
         note_down(desk, n, seen);
         best
     }
@@ -311,10 +325,18 @@ impl<S: Scan> Search<'_, S> {
             ≤ steps.old + covered_before desk.old.segments to }
     {
         desk.clear_notes();
+        let mut ends = [0; STRETCH as usize];
         let mut best = so_far;
-        for n in from..to {
-            desk.read_segments_ahead(self.scan, from, n, to);
-            best = self.weigh_segment(desk, n, round, best, also, steps);
+        let mut next = from;
+        while next < to {
+            let ahead = (to - next).min(STRETCH);
+            let stop = next + ahead;
+            desk.clip_ahead(self.scan, next, stop, &mut ends);
+            for n in next..stop {
+                let end = ends[(n - next) as usize];
+                best = self.weigh_segment(desk, n, end, round, best, also, steps);
+            }
+            next = stop;
         }
         best
     }
@@ -352,9 +374,60 @@ impl<S: Scan> Search<'_, S> {
         self.enter(desk, hop, Some((segment, at)));
     }
 
+    // Follows the hops with places from one up to another among those from the events that were
+    // noted. First the places of those that lead on are written down: marks only fall, so whoever
+    // was passed then is passed still, and most are.
+    fn follow_some(
+        &self,
+        desk: &mut Desk,
+        segment: u32,
+        followed: &Followed<'_>,
+        from: usize,
+        to: usize,
+        round: u32,
+        places: &mut [usize],
+    )
+        requires queue { IsQueue (S.net self.now.scan.now) self.now.query.now desk.old (suc round) }
+        requires note { IsSoundNote (S.net self.now.scan.now) desk.old.segments round
+            (note_of segment followed.now) }
+        requires hops { lent followed.now.hops ≡ hops_seen (S.net self.now.scan.now).hops
+            (followed_seen followed.now) }
+        requires from { from ≤ to }
+        requires to { to ≤ length (lent followed.now.hops) }
+        requires room { to - from ≤ length places.old }
+        requires sufficient { AreSufficient (S.net self.now.scan.now).table
+            (S.net self.now.scan.now).hops }
+        ensures queue { IsQueue (S.net self.now.scan.now) self.now.query.now desk.new (suc round) }
+        ensures extends { Extends desk.old desk.new (suc round) }
+        ensures room { room_of desk.new ≡ room_of desk.old }
+        ensures notes { desk.new.notes ≡ desk.old.notes }
+        ensures places { length places.new ≡ length places.old }
+        ensures reached { (k : ℕ) (h : Hop) → from ≤ k → k < to →
+            slice_get (lent followed.now.hops) k ≡ Some h →
+            IsReachedBy (S.net self.now.scan.now).table desk.new (length desk.new.segments)
+            (suc round) h.trip h.at }
+    {
+        let scan = self.scan;
+        scan.soundness();
+        let hops = followed.hops;
+        let count = desk.open_places(scan, &hops, from, to, places);
+        for k in 0..count {
+            let place = places[k];
+            self.follow_hop(desk, hops.at(place), segment, followed, place, round);
+        }
+    }
+
     // Follows the hops from the events that were noted, unless one gets to the first no earlier
     // than the best hit arrives.
-    fn follow_note(&self, desk: &mut Desk, best: &Option<Hit>, note: Note, round: u32)
+    fn follow_note(
+        &self,
+        desk: &mut Desk,
+        best: &Option<Hit>,
+        note: Note,
+        round: u32,
+        places: &mut [usize],
+    )
+        requires room { 64 ≤ length places.old }
         requires queue { IsQueue (S.net self.now.scan.now) self.now.query.now desk.old (suc round) }
         requires note { IsSoundNote (S.net self.now.scan.now) desk.old.segments round note }
         requires sufficient { AreSufficient (S.net self.now.scan.now).table
@@ -363,6 +436,7 @@ impl<S: Scan> Search<'_, S> {
         ensures extends { Extends desk.old desk.new (suc round) }
         ensures room { room_of desk.new ≡ room_of desk.old }
         ensures notes { desk.new.notes ≡ desk.old.notes }
+        ensures places { length places.new ≡ length places.old }
         ensures done { (i : ℕ) → IsOf note note.segment i →
             IsDone (S.net self.now.scan.now) desk.new best.now note.segment i }
     {
@@ -373,9 +447,12 @@ impl<S: Scan> Search<'_, S> {
         }
         let segment = note.segment;
         let followed = scan.hops_from(note.seen);
-        let hops = followed.hops;
-        for place in 0..hops.count() {
-            self.follow_hop(desk, hops.at(place), segment, &followed, place, round);
+        let count = followed.hops.count();
+        let mut from = 0;
+        while from < count {
+            let tried = (count - from).min(TRIED);
+            self.follow_some(desk, segment, &followed, from, from + tried, round, places);
+            from += tried;
         }
     }
 
@@ -394,10 +471,11 @@ impl<S: Scan> Search<'_, S> {
             IsDone (S.net self.now.scan.now) desk.new best.now note.segment i }
     {
         self.scan.soundness();
+        let mut places = [0; TRIED];
         for k in 0..desk.note_count() {
             desk.read_notes_ahead(self.scan, k);
             let note = desk.take_note(k);
-            self.follow_note(desk, best, note, round);
+            self.follow_note(desk, best, note, round, &mut places);
         }
     }
 

@@ -8,7 +8,7 @@ use Rattle.footpaths.specs.Limits.{AreWithinADay}
 use Rattle.footpaths.specs.declared.paths.Options.{Options}
 use Rattle.tb_base.specs.Workers.{AreWorkers}
 use Rattle.trip_table.specs.Answers.{feed_of}
-use Rattle.trip_table.specs.Day.{IsTimetableOf}
+use Rattle.trip_table.specs.AskedDay.{IsAskedDay}
 use Rattle.trip_table.specs.declared.day_fault.DayFault.{DayFault}
 use Rattle.trip_table.specs.declared.day_fault.DayFault.TheVariants as why
 use Rattle.edition_store.specs.Editions.{EditionData, IsEdition}
@@ -49,11 +49,12 @@ abbrev pub BeginsWithFeed : List ItemData → FeedDayData → Type 0
 BeginsWithFeed [] d = ⊥
 BeginsWithFeed (item ∷ items) d = item.source ≡ source.Day d
 
--- where the folder tells its files, the feed gives on the day this timetable or first fault
+-- where the folder tells its files, the feed gives on the day, as the options ask for it, this
+-- timetable or fault
 abbrev pub DayGives :
     Option FileList → Options → FeedDayData → Result TimetableData FeedFault → Type 0
 DayGives files options d result =
-    IsSome files → IsTimetableOf (feed_of files d.dir) d.day options result
+    IsSome files → IsAskedDay (feed_of files d.dir) d.day options result
 
 -- a timetable amended by what a file says, or the first fault of the file or of an update
 pub record LateGives (files : Option FileList) (T : TimetableData) (path : List ℕ)

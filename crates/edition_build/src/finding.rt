@@ -17,7 +17,7 @@ use std::alloc::Global;
 use std::thread::Threads;
 use tb_base::{Gate, Memory, Refused, Timetable};
 use tb_io::Folder;
-use trip_table::{DayFault, read_day};
+use trip_table::{DayFault, read_asked_day};
 
 /// How the items of a plan are read and built: what is said of the footpaths of feeds, how many
 /// workers share the reduction of transfers, 1 to 64, and whether editions have their mirrors.
@@ -65,7 +65,8 @@ fn edition_of<G: Gate, R: Threads + Sync>(
     }
 }
 
-/// The edition of a day of a feed, or the first thing that is wrong with the feed.
+/// The edition of a day of a feed, read as the options ask for it, or the fault for which the feed is
+/// refused.
 pub fn build_day<F: Folder, G: Gate, R: Threads + Sync>(
     rt: &R,
     alloc: Global,
@@ -83,13 +84,17 @@ pub fn build_day<F: Folder, G: Gate, R: Threads + Sync>(
     ensures built { IfOk result (IsEditionOfDay (F.files folder.old) building.options
         building.mirrored feed.now) }
 {
-    match read_day(
+    let mut left = Vec::new(alloc);
+    let read = read_asked_day(
         alloc,
         folder,
         feed.dir.as_str(),
         &feed.day,
         &building.options,
-    ) {
+        &mut left,
+    );
+    drop(left);
+    match read {
         Ok(table) => match edition_of(rt, alloc, gate, building, table) {
             Ok(edition) => {
                 edition.edition().soundness();

@@ -1,5 +1,5 @@
-ghost use Rattle.std.specs.Prelude.{◌≡◌, ◌≢◌, ◌⊎◌, ◌-◌, ◌<◌, length, slice_get};
-ghost use Rattle.std.specs.Prelude.{IfErr, IfNone, IfOk, IfSome, MatchBool, MatchOption, Some};
+ghost use Rattle.std.specs.Prelude.{◌≡◌, ◌≢◌, ◌⊎◌, ◌↔◌, ◌+◌, ◌-◌, ◌<◌, length, slice_get};
+ghost use Rattle.std.specs.Prelude.{IfErr, IfNone, IfOk, IfSome, IsTrue, MatchBool, MatchOption, Some};
 
 use crate::edition::Edition;
 use crate::pinned::Pinned;
@@ -51,6 +51,8 @@ impl<J: Naming> Shelf<J> {
     pub fn add(&mut self, pinned: &Pinned<J>) -> Result<bool, Memory>
         ensures added { IfOk result (λ added. MatchBool added (self.new ≡ pinned.now.list)
             (self.new ≡ self.old)) }
+        ensures told { IfOk result (λ added. IsTrue added
+            ↔ (length pinned.now.list ≡ length self.old + 1)) }
         ensures refused { IfErr result (λ _. self.new ≡ self.old) }
     {
         if pinned.number() as usize != self.editions.len() + 1 {

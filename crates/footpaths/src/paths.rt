@@ -15,6 +15,8 @@ pub struct Options {
     pub close: bool,
     /// From how many service days the timetable has all trips.
     pub horizon: Horizon,
+    /// Bad rows are left out, in place of being refused.
+    pub lenient: bool,
 }
 
 /// The change time of each stop, and the footpaths that leave it.

@@ -6,7 +6,7 @@ use Rattle.tb_io.specs.Files.{FileList}
 use Rattle.gtfs_rows.specs.declared.fault.FeedFault.{FeedFault}
 use Rattle.footpaths.specs.declared.paths.Options.{Options}
 use Rattle.trip_table.specs.Answers.{feed_of}
-use Rattle.trip_table.specs.Day.{IsTimetableOf}
+use Rattle.trip_table.specs.AskedDay.{IsAskedDay}
 use Rattle.trip_table.specs.Feed.{Feed}
 use Rattle.edition_store.specs.Editions.{EditionData}
 use Rattle.edition_build.specs.declared.plan.Outcome.{Outcome}
@@ -29,7 +29,7 @@ outcome_each files options plan script (Err f) none = tt
 
 -- a day has one timetable or first fault
 abbrev pub IsDetermined : Type 0
-IsDetermined = (feed : Feed) (day : ℕ) (options : Options) (a b : Result TimetableData FeedFault) → IsTimetableOf feed day options a → IsTimetableOf feed day options b → a ≡ b
+IsDetermined = (feed : Feed) (day : ℕ) (options : Options) (a b : Result TimetableData FeedFault) → IsAskedDay feed day options a → IsAskedDay feed day options b → a ≡ b
 
 not_both : (T : TimetableData) (f : FeedFault) → Ok T ≡ Err f → ⊥
 not_both T f e = cc

@@ -30,7 +30,7 @@ use std::thread::{Threads, join_mut};
 use tb_base::{Gate, Memory, Name};
 use tb_io::Folder;
 use trip_table::DayFault;
-use trip_table::laws::timetable_determined;
+use trip_table::laws::asked_determined;
 
 /// What a run gives: the outcome of each item of the plan, what each lane was answered, the number
 /// of the last edition, and what each lane was answered by it in the end.
@@ -668,7 +668,7 @@ pub fn serve<F: Folder + Send, G: Gate, R: Threads + Wait + Sync>(
         TellsFault f result }
     ensures outcomes { IfOk result (λ s. length (ServedData.outcomes s) ≡ length plan.now) }
 {
-    timetable_determined();
+    asked_determined();
     let building = Building {
         options: *options,
         workers,

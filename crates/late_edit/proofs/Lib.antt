@@ -1,5 +1,5 @@
 pub mod AmendedTrips
-pub mod FarTrips
+pub mod DoubtSteps
 pub mod Finds
 pub mod InTurn
 pub mod KeptRows
@@ -11,7 +11,7 @@ pub mod Numbers
 pub mod OnlyEvents
 pub mod Reading
 pub mod SameEvents
-pub mod SameLines
+pub mod SettledEvents
 pub mod Sound
 pub mod TouchedEvents
 pub mod Untouched

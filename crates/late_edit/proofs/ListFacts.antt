@@ -1,7 +1,7 @@
 -- Facts on lists that std has under no name.
-use Rattle.std.proofs.Common.{◌≡◌, ◌∙◌, sym, ap, refl, ℕ, zero, suc, ◌<◌, ◌⊎◌, inl, inr, Bool, true, false, cond, ◌||◌, List, [], ◌∷◌, ◌++◌, Option, Some, None, find, length, get_or, arith}
-use Rattle.std.specs.Prelude.{filter, filter_map, flat_map, AllPairs}
-use Rattle.std.specs.List.{list_any, cons_option}
+use Rattle.std.proofs.Common.{◌≡◌, ◌∙◌, sym, ap, refl, ℕ, zero, suc, ◌<◌, ◌⊎◌, inl, inr, Bool, true, false, cond, ◌||◌, List, [], ◌∷◌, ◌++◌, Some, find, length, get_or, arith}
+use Rattle.std.specs.Prelude.{filter, flat_map}
+use Rattle.std.specs.List.{list_any}
 use Rattle.std.proofs.lemmas.Bool.{or_parts, or_left, or_right}
 use Rattle.std.proofs.lemmas.List.{get_or_default}
 use Rattle.tb_base.specs.Transfers.{numbers_down}
@@ -12,7 +12,7 @@ use Rattle.tb_base.proofs.Ordered.{Member, Member-from_Contains}
 pub Member-get_or : {X : Type 0} (xs : List X) (i : ℕ) (d : X) → i < length xs → Member (get_or xs i d) xs
 Member-get_or xs i d inside = Member-from_Contains (get_or xs i d) xs (i, inside, get_or_default xs i (get_or xs i d) d inside)
 
--- ---- no element passes, or gives anything
+-- ---- no element passes
 
 pub list_any-none : {X : Type 0} (p : X → Bool) (xs : List X) → list_any p xs ≡ false → (x : X) → Member x xs → p x ≡ false
 list_any-none p [] h x m = absurd m
@@ -23,26 +23,6 @@ pub list_any-by : {X : Type 0} (p : X → Bool) (xs : List X) (x : X) → Member
 list_any-by p [] x m h = absurd m
 list_any-by p (y ∷ ys) x (inl e) h = or_left (p y) (list_any p ys) (ap p e ∙ h)
 list_any-by p (y ∷ ys) x (inr m) h = or_right (p y) (list_any p ys) (list_any-by p ys x m h)
-
-pub list_any-found : {X : Type 0} (p : X → Bool) (xs : List X) → list_any p xs ≡ true → (x : X) × Member x xs × (p x ≡ true)
-list_any-found p [] h = cc
-list_any-found {X} p (y ∷ ys) h = by_test (λ k. list_any-found p ys k) (p y) refl h
-  where
-    by_test : (list_any p ys ≡ true → (x : X) × Member x ys × (p x ≡ true)) → (b : Bool) → b ≡ p y → (b || list_any p ys) ≡ true → (x : X) × Member x (y ∷ ys) × (p x ≡ true)
-    by_test more true e k = (y, inl refl, sym e)
-    by_test more false e k = let r : (x : X) × Member x ys × (p x ≡ true) = more k in (r.0, inr r.1, r.2)
-
-pub filter-none : {X : Type 0} (p : X → Bool) (xs : List X) → ((x : X) → Member x xs → p x ≡ false) → filter p xs ≡ []
-filter-none p [] h = refl
-filter-none p (x ∷ xs) h = ap (λ b. cond b (x ∷ filter p xs) (filter p xs)) (h x (inl refl)) ∙ filter-none p xs (λ y m. h y (inr m))
-
-pub filter_map-none : {X Y : Type 0} (f : X → Option Y) (xs : List X) → ((x : X) → Member x xs → f x ≡ None) → filter_map f xs ≡ []
-filter_map-none f [] h = refl
-filter_map-none f (x ∷ xs) h = ap (λ o. cons_option o (filter_map f xs)) (h x (inl refl)) ∙ filter_map-none f xs (λ y m. h y (inr m))
-
-pub flat_map-none : {X Y : Type 0} (f : X → List Y) (xs : List X) → ((x : X) → Member x xs → f x ≡ []) → flat_map f xs ≡ []
-flat_map-none f [] h = refl
-flat_map-none f (x ∷ xs) h = ap (λ ys. ys ++ flat_map f xs) (h x (inl refl)) ∙ flat_map-none f xs (λ y m. h y (inr m))
 
 -- ---- two functions that give the same of each element
 
@@ -57,21 +37,6 @@ filter-same p q (x ∷ xs) h = (λ k. cond (h x (inl refl) k) (x ∷ filter-same
 pub find-same : {X : Type 0} (p q : X → Bool) (xs : List X) → ((x : X) → Member x xs → p x ≡ q x) → find p xs ≡ find q xs
 find-same p q [] h = refl
 find-same p q (x ∷ xs) h = (λ k. cond (h x (inl refl) k) (Some x) (find-same p q xs (λ y m. h y (inr m)) k))
-
--- where elements that fail a test give nothing, the others are enough
-pub flat_map-filter : {X Y : Type 0} (f : X → List Y) (p : X → Bool) (xs : List X) → ((x : X) → Member x xs → p x ≡ false → f x ≡ []) → flat_map f xs ≡ flat_map f (filter p xs)
-flat_map-filter f p [] h = refl
-flat_map-filter f p (x ∷ xs) h = by_test (flat_map-filter f p xs (λ y m. h y (inr m))) (p x) refl
-  where
-    by_test : flat_map f xs ≡ flat_map f (filter p xs) → (b : Bool) → b ≡ p x → f x ++ flat_map f xs ≡ flat_map f (cond b (x ∷ filter p xs) (filter p xs))
-    by_test more true e = ap (λ ys. f x ++ ys) more
-    by_test more false e = ap (λ ys. ys ++ flat_map f xs) (h x (inl refl) (sym e)) ∙ more
-
--- ---- an order that holds of the elements too
-
-pub AllPairs-also : {X : Type 0} (R S : X → X → Type 0) (xs : List X) → ((x y : X) → Member x xs → Member y xs → R x y → S x y) → AllPairs R xs → AllPairs S xs
-AllPairs-also R S xs also h i j d before below =
-    also (get_or xs i d) (get_or xs j d) (Member-get_or xs i d (omega (arith, before, below))) (Member-get_or xs j d below) (h i j d before below)
 
 -- ---- numbers
 

@@ -6,8 +6,6 @@ use Rattle.std.proofs.Math.ListN.{get_or-map}
 use Rattle.std.proofs.lemmas.Bool.{and_parts, eqb-true, eq-eqb, not-false}
 use Rattle.std.proofs.lemmas.Bool.Decides.{Decides-int_eq}
 use Rattle.std.proofs.lemmas.List.{length-map}
-use Rattle.std.specs.List.{list_any}
-use Rattle.tb_base.proofs.Lists.{list_any-over_map}
 use lib.Pointwise.{pointwise, pointwise_decides}
 use Rattle.tb_base.specs.declared.table.Event.{Event}
 use Rattle.tb_base.specs.declared.transfer.Transfer.{Transfer}
@@ -89,12 +87,3 @@ transfer_decides r s = (told r s, λ e. subst (λ (x : Transfer). same_transfer 
 
 pub same_rows : (rs ss : List Transfer) → (pointwise same_transfer rs ss ≡ true → rs ≡ ss) × (rs ≡ ss → pointwise same_transfer rs ss ≡ true)
 same_rows = pointwise_decides transfer_decides
-
--- ---- the same calls
-
-pub same_calls : (T U : TimetableData) → IsUpdated T U → (q t : ℕ) → list_any (λ e. e.stop == q) (events_of T t) ≡ list_any (λ e. e.stop == q) (events_of U t)
-same_calls T U same q t =
-    sym (bare (events_of T t)) ∙ ap (list_any (λ (e : Event). e.stop == q)) (bare_events T U same t) ∙ bare (events_of U t)
-  where
-    bare : (es : List Event) → list_any (λ (e : Event). e.stop == q) (map bare_event es) ≡ list_any (λ (e : Event). e.stop == q) es
-    bare es = list_any-over_map (λ (e : Event). e.stop == q) bare_event es

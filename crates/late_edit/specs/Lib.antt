@@ -3,7 +3,7 @@ pub mod Amending
 pub mod Finding
 pub mod LateFiles
 pub mod Updates
-pub mod Near
+pub mod Doubts
 pub mod UpdateData
 pub mod Updated
 pub mod Touched

@@ -44,11 +44,17 @@ fn kept_of(alloc: Global, old: &Edition, table: &Timetable, lines: &Lines) -> Re
     ensures kept { IfOk result (λ k. k.kept ≡ kept_count table.now lines.now.lines) }
     ensures redone { IfOk result (λ k. k.redone ≡ touched_count (edition_lines old.now) lines.now) }
 {
-    reduce_workers::laws::kept_rows();
+    crate::laws::untouched_kept();
     table.soundness();
     lines.soundness();
     let rows = Rows::of(alloc, old, table, lines)?;
-    let set = Set::build(alloc, table, rows.rows.as_slice())?;
+    let set = Set::rebuild(
+        alloc,
+        table,
+        old.set(),
+        rows.touched.as_slice(),
+        rows.rows.as_slice(),
+    )?;
     Ok(Kept {
         set,
         kept: rows.kept,

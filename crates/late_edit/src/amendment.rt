@@ -1,42 +1,46 @@
 //! The trips that a change of times touches.
-ghost use Rattle.std.specs.Prelude.{◌≡◌, ◌<◌, ◌||◌, IfOk, false, length, not};
-ghost use Rattle.std.specs.List.{list_any};
-ghost use lib.Pointwise.{pointwise};
+ghost use Rattle.std.specs.Prelude.{◌≡◌, ◌<◌, ◌≤◌, ◌+ℤ◌, ℕ, All, IfOk, IfSome, false, length, pos};
+ghost use Rattle.std.specs.Bool.{OnTrue};
 ghost use Rattle.late_edit.specs.Updated.{IsUpdated};
+ghost use Rattle.tb_base.specs.Soundness.{IsSoundEvent, IsSoundPath};
 ghost use Rattle.tb_base.specs.TimetableData.{events_of};
-ghost use Rattle.late_edit.specs.Touched.{has_other_events, is_touched, is_touched_at, same_transfer};
+ghost use Rattle.late_edit.specs.Touched.{has_other_events, is_touched, is_touched_at};
 
-use crate::events::other_events;
-use crate::lined_timetable::LinedTimetable;
-use crate::near::{is_at, near_stops};
+use crate::compared::Compared;
+use crate::doubts::{Doubt, all_doubts};
+use crate::lined_timetable::{Changing, LinedTimetable};
+use crate::near::{is_marked, near_stops};
+use crate::settled::are_settled;
 use std::alloc::Global;
 use std::marker::Model;
-use tb_base::{Memory, Transfer, TripNo};
+use tb_base::{Event, Memory, Path, StopNo, Transfer, TripNo};
 
 /// A timetable with its lines, and the same with other events.
 #[derive(Drop)]
 pub struct Amendment<'a> {
-    before: LinedTimetable<'a>,
-    after: LinedTimetable<'a>,
-    other_events: Vec<bool>,
+    compared: Compared<'a>,
+    doubts: Vec<Vec<Doubt>>,
     near: Vec<bool>,
 }
 
 impl<'a> Model for Amendment<'a> {
-    ghost use Rattle.late_edit.specs.Updated.{IsUpdated, AmendmentData};
-    ghost use Rattle.late_edit.specs.Near.{MarksNear};
-    ghost use Rattle.late_edit.specs.Touched.{TellsOtherEvents};
+    ghost use Rattle.std.specs.Prelude.{map};
+    ghost use Rattle.late_edit.specs.Updated.{AmendmentData};
+    ghost use Rattle.late_edit.specs.Doubts.{AreAllDoubts, MarksNear};
 
     ghost Value = { AmendmentData };
 
-    ghost view = { λ r. record { before = r.before; after = r.after } };
+    ghost view = { λ r. r.compared };
 
-    ghost invariant = { λ r. IsUpdated r.before.table r.after.table
-        × TellsOtherEvents r.before.table r.after.table r.other_events.items
-        × MarksNear r.before.table r.other_events.items r.near.items };
+    ghost invariant = { λ r. AreAllDoubts r.compared.before r.compared.after
+        (map (λ row. row.items) r.doubts.items)
+        × MarksNear r.compared.before.table (map (λ row. row.items) r.doubts.items) r.near.items };
 }
 
 impl<'a> Amendment<'a> {
+    ghost use Rattle.tb_base.specs.Walking.{change};
+    ghost use Rattle.late_edit.specs.Doubts.{AreSettled, rows_to};
+
     /// Of two timetables with their lines that differ in times and marks alone. Refused only for want
     /// of memory.
     pub fn between(
@@ -48,69 +52,106 @@ impl<'a> Amendment<'a> {
         ensures before { IfOk result (λ amendment. amendment.before ≡ before.entry) }
         ensures after { IfOk result (λ amendment. amendment.after ≡ after.entry) }
     {
-        let other_events = other_events(alloc, before.table(), after.table())?;
-        let near = near_stops(alloc, before.table(), other_events.as_slice())?;
+        let compared = Compared::new(alloc, before, after)?;
+        let doubts = all_doubts(alloc, &compared)?;
+        let near = near_stops(alloc, compared.before().table(), doubts.as_slice())?;
         Ok(Amendment {
-            before,
-            after,
-            other_events,
+            compared,
+            doubts,
             near,
         })
     }
 
-    // Whether a trip has other events; one that isn't there has none.
-    fn has_other_events(&self, trip: TripNo) -> bool
-        ensures { result
-            ≡ has_other_events self.now.before.table self.now.after.table trip }
+    // Whether the transfers of a change onto the lines at a stop are plainly the same in both
+    // timetables, and none leads to a trip with other events.
+    fn is_settled_to(&self, stop: StopNo, from: &Changing) -> bool
+        requires trip { from.now.trip < length self.now.before.table.trips }
+        requires stop { stop < length self.now.before.table.stops }
+        ensures { OnTrue result (AreSettled self.now.before self.now.after
+            (rows_to self.now.before from.now.trip from.now.at stop from.now.time)
+            (rows_to self.now.after from.now.trip from.now.at stop from.now.time)) }
     {
-        trip.index() < self.other_events.len() && self.other_events[trip.index()]
+        let doubts = self.doubts[stop.index()].as_slice();
+        are_settled(&self.compared, doubts, from)
     }
 
-    // Whether one of the trips that some transfers lead to has other events.
-    fn leads_to_other_events(&self, rows: &[Transfer]) -> bool
-        ensures { result ≡ list_any
-            (λ r. has_other_events self.now.before.table self.now.after.table r.to_trip)
-            rows.now }
+    // The same of the stops that footpaths lead to, from an event.
+    fn is_settled_along(&self, paths: &[Path], trip: TripNo, at: u32, event: &Event) -> bool
+        requires trip { trip < length self.now.before.table.trips }
+        requires event { IsSoundEvent (length self.now.before.table.stops) event.now }
+        requires paths { All (IsSoundPath (length self.now.before.table.stops) event.now.stop)
+            paths.now }
+        ensures { OnTrue result (All (λ f. AreSettled self.now.before self.now.after
+            (rows_to self.now.before trip at f.to (event.now.arr +ℤ pos f.secs))
+            (rows_to self.now.after trip at f.to (event.now.arr +ℤ pos f.secs))) paths.now) }
     {
-        rows.iter().any(|row| self.has_other_events(row.to_trip))
+        for path in paths {
+            let from = changing(trip, at, event, path.secs);
+            if !self.is_settled_to(path.to, &from) {
+                return false;
+            }
+        }
+        true
     }
 
-    // Whether candidates touch a trip: they were others, or one leads to a trip with other events.
-    fn do_touch(&self, old: &[Transfer], new: &[Transfer]) -> bool
-        ensures { result ≡ (not (pointwise same_transfer old.now new.now) || list_any
-            (λ r. has_other_events self.now.before.table self.now.after.table r.to_trip) old.now) }
+    // The same of the stop of an event itself.
+    fn is_settled_here(&self, trip: TripNo, at: u32, event: &Event) -> bool
+        requires trip { trip < length self.now.before.table.trips }
+        requires event { IsSoundEvent (length self.now.before.table.stops) event.now }
+        ensures { OnTrue result
+            (IfSome (change self.now.before.table event.now.stop event.now.stop)
+            (λ secs. AreSettled self.now.before self.now.after
+            (rows_to self.now.before trip at event.now.stop (event.now.arr +ℤ pos secs))
+            (rows_to self.now.after trip at event.now.stop (event.now.arr +ℤ pos secs)))) }
     {
-        !same_transfers(old, new) || self.leads_to_other_events(old)
+        let table = self.compared.before().table();
+        match table.change(event.stop, event.stop) {
+            Some(secs) => self.is_settled_to(event.stop, &changing(trip, at, event, secs)),
+            None => true,
+        }
     }
 
-    // Whether an event of a trip is at a marked stop. One that isn't doesn't touch the trip, if that
-    // has the same events.
-    fn is_near(&self, trip: TripNo, at: u32) -> bool
+    // Whether from an event of a trip all transfers are plainly the same in both timetables, and none
+    // leads to a trip with other events.
+    fn is_settled(&self, trip: TripNo, at: u32) -> bool
         requires trip { trip < length self.now.before.table.trips }
         requires at { at < length (events_of self.now.before.table trip) }
-        ensures { has_other_events self.now.before.table self.now.after.table trip ≡ false →
-            result ≡ false → is_touched_at self.now.before self.now.after trip at ≡ false }
+        requires same { has_other_events self.now.before.table self.now.after.table trip ≡ false }
+        ensures { OnTrue result (is_touched_at self.now.before self.now.after trip at ≡ false) }
     {
-        self.before.soundness();
-        self.after.soundness();
-        is_at(self.before.events(trip), at as usize, self.near.as_slice())
+        self.compared.soundness();
+        let table = self.compared.before().table();
+        table.soundness();
+        let event = table.event(trip, at);
+        let paths = table.paths(event.stop);
+        if !is_marked(self.near.as_slice(), event.stop) {
+            return true;
+        }
+        if !self.is_settled_here(trip, at, &event) {
+            return false;
+        }
+        self.is_settled_along(paths, trip, at, &event)
     }
 
     // Whether an event of a trip touches it, by the candidates from there: others than before, or
-    // one that leads to a trip with other events.
-    fn is_touched_at(&self, alloc: Global, trip: TripNo, at: u32) -> Result<bool, Memory>
+    // one that leads to a trip with other events. They may be put into `old` and `new`.
+    fn is_touched_at(
+        &self,
+        old: &mut Vec<Transfer>,
+        new: &mut Vec<Transfer>,
+        trip: TripNo,
+        at: u32,
+    ) -> Result<bool, Memory>
         requires trip { trip < length self.now.before.table.trips }
         requires at { at < length (events_of self.now.before.table trip) }
         requires same { has_other_events self.now.before.table self.now.after.table trip ≡ false }
         ensures { IfOk result (λ touched.
             touched ≡ is_touched_at self.now.before self.now.after trip at) }
     {
-        if !self.is_near(trip, at) {
+        if self.is_settled(trip, at) {
             return Ok(false);
         }
-        let old = self.before.candidates_at(alloc, trip, at)?;
-        let new = self.after.candidates_at(alloc, trip, at)?;
-        Ok(self.do_touch(old.as_slice(), new.as_slice()))
+        self.compared.is_touched_at(old, new, trip, at)
     }
 
     /// Whether a trip is touched: it has other events, or another list of candidates, or a trip in
@@ -120,11 +161,13 @@ impl<'a> Amendment<'a> {
         ensures { IfOk result (λ touched.
             touched ≡ is_touched self.now.before self.now.after trip) }
     {
-        if self.has_other_events(trip) {
+        if self.compared.has_other_events(trip) {
             return Ok(true);
         }
-        for at in 0..self.before.event_count(trip) {
-            let touched = self.is_touched_at(alloc, trip, at)?;
+        let mut old = Vec::new(alloc);
+        let mut new = Vec::new(alloc);
+        for at in 0..self.compared.before().event_count(trip) {
+            let touched = self.is_touched_at(&mut old, &mut new, trip, at)?;
             if touched {
                 return Ok(true);
             }
@@ -133,9 +176,15 @@ impl<'a> Amendment<'a> {
     }
 }
 
-// Whether two lists of transfers are the same.
-fn same_transfers(old: &[Transfer], new: &[Transfer]) -> bool
-    ensures { result ≡ pointwise same_transfer old.now new.now }
+// The change from an event of a trip that takes so many seconds.
+fn changing(trip: TripNo, at: u32, event: &Event, secs: u32) -> Changing
+    requires event { (n : ℕ) × IsSoundEvent n event.now }
+    requires secs { secs ≤ 86400 }
+    ensures { result ≡ record { trip = trip; at = at; time = event.now.arr +ℤ pos secs } }
 {
-    old == new
+    Changing {
+        trip,
+        at,
+        time: event.arr + secs as i32,
+    }
 }

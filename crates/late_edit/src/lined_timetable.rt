@@ -1,15 +1,25 @@
 //! A timetable with its lines.
-ghost use Rattle.std.specs.Prelude.{◌≡◌, ◌<◌, All, IfOk, length};
+ghost use Rattle.std.specs.Prelude.{◌≡◌, ◌<◌, ◌==◌, ◌&&◌, [], All, OnOk, length, nat_le, slice_index_or};
+ghost use Rattle.line_split.specs.Layout.{AreBoardings, IsBoarding, berth_of};
+ghost use Rattle.line_split.specs.LinesOf.{berths_at};
+ghost use Rattle.transfer_make.specs.ByBerth.{hop_at, row_by};
 ghost use Rattle.tb_base.specs.Lines.{AreLines};
 ghost use Rattle.tb_base.specs.Soundness.{IsSoundEvent};
 ghost use Rattle.tb_base.specs.TimetableData.{events_of};
 ghost use Rattle.late_edit.specs.Touched.{candidates_at};
 
-use line_split::Lines;
-use std::alloc::Global;
+use line_split::{Boarding, Lines};
 use std::marker::Model;
-use tb_base::{Event, Memory, Timetable, Transfer, TripNo};
+use tb_base::{Event, LineNo, Memory, Sec, StopNo, Timetable, Transfer, TripNo};
 use transfer_make::add_event;
+
+/// A change from an event of a trip: the time when one comes to a stop from there.
+#[derive(Clone, Copy)]
+pub(crate) struct Changing {
+    pub(crate) trip: TripNo,
+    pub(crate) at: u32,
+    pub(crate) time: Sec,
+}
 
 /// A timetable, and its lines.
 #[derive(Drop)]
@@ -72,19 +82,94 @@ impl<'a> LinedTimetable<'a> {
         table.events(trip).len() as u32
     }
 
-    // The candidates of an event of a trip, in order.
-    pub(crate) fn candidates_at(
+    // Puts the candidates of an event of a trip, in order, in the place of some rows.
+    pub(crate) fn take_candidates(
         &self,
-        alloc: Global,
+        rows: &mut Vec<Transfer>,
         trip: TripNo,
         at: u32,
-    ) -> Result<Vec<Transfer>, Memory>
+    ) -> Result<(), Memory>
         requires trip { trip < length self.now.table.trips }
         requires at { at < length (events_of self.now.table trip) }
-        ensures { IfOk result (λ rows. rows.items ≡ candidates_at self.now trip at) }
+        ensures { OnOk result (rows.new.items ≡ candidates_at self.now trip at) }
     {
-        let mut rows = Vec::new(alloc);
-        add_event(&mut rows, self.table, self.lines, trip, at as usize)?;
-        Ok(rows)
+        rows.clear();
+        add_event(rows, self.table, self.lines, trip, at as usize)
     }
+
+    // The lines that may be boarded at a stop.
+    pub(crate) fn boardings(&self, stop: StopNo) -> &'a [Boarding]
+        requires { stop < length self.now.table.stops }
+        ensures { AreBoardings self.now.table self.now.lines
+            (berths_at self.now.table self.now.lines stop) result.now }
+    {
+        let lines = self.lines;
+        lines.boardings(stop)
+    }
+
+    // The trips of a line, in order.
+    pub(crate) fn trips(&self, line: LineNo) -> &'a [TripNo]
+        requires { line < length self.now.lines }
+        ensures { result.now ≡ slice_index_or self.now.lines line [] }
+    {
+        let lines = self.lines;
+        lines.trips(line)
+    }
+
+    // The trips of a trip's line, in order, and none where there is no such trip.
+    pub(crate) fn trips_beside(&self, trip: TripNo) -> &'a [TripNo] {
+        let lines = self.lines;
+        if trip.index() >= self.table.trip_count() as usize {
+            return &[];
+        }
+        let (line, _) = lines.of(trip);
+        if line.index() >= lines.count() as usize {
+            return &[];
+        }
+        lines.trips(line)
+    }
+
+    // The trip that is hopped onto at a change where a line is boarded, unless staying does as well.
+    fn hop(&self, from: &Changing, boarding: &Boarding) -> Option<TripNo>
+        requires trip { from.now.trip < length self.now.table.trips }
+        requires boarding { IsBoarding self.now.table self.now.lines boarding.now }
+        ensures { result ≡ hop_at self.now.table self.now.lines from.now.trip from.now.at
+            from.now.time (berth_of boarding.now) }
+    {
+        self.lines.soundness();
+        let Some(found) = self.lines.boarded(boarding, from.time) else {
+            return None;
+        };
+        if is_onward(self.lines.of(from.trip), from.at, boarding, found.1) {
+            return None;
+        }
+        Some(found.0)
+    }
+
+    // The transfer of a change onto a line where it is boarded, unless staying does as well.
+    pub(crate) fn row_onto(&self, from: &Changing, boarding: &Boarding) -> Option<Transfer>
+        requires trip { from.now.trip < length self.now.table.trips }
+        requires boarding { IsBoarding self.now.table self.now.lines boarding.now }
+        ensures { result ≡ row_by self.now.table self.now.lines from.now.trip from.now.at
+            from.now.time (berth_of boarding.now) }
+    {
+        match self.hop(from, boarding) {
+            Some(to_trip) => Some(Transfer {
+                trip: from.trip,
+                at: from.at,
+                to_trip,
+                to_at: boarding.at,
+            }),
+            None => None,
+        }
+    }
+}
+
+// Whether a trip at a place of a line is the one at this place, or comes after it on the same line,
+// and is boarded no earlier than at this index.
+fn is_onward(place: (LineNo, u32), at: u32, boarding: &Boarding, found: usize) -> bool
+    ensures { result ≡ ((boarding.now.line == place.0) && nat_le at boarding.now.at
+        && nat_le place.1 found) }
+{
+    boarding.line.index() == place.0.index() && at <= boarding.at && place.1 as usize <= found
 }

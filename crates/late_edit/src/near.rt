@@ -1,40 +1,20 @@
-//! The stops from which a change leads to a trip with other events.
-ghost use Rattle.std.specs.Prelude.{◌≡◌, ◌<◌, ◌||◌, ℕ, All, IfOk, IsTrue, [], false, length, slice_index_or};
+//! The stops from which a change leads to a stop with doubts.
+ghost use Rattle.std.specs.Prelude.{◌≡◌, ◌<◌, ◌||◌, ℕ, [], All, IfOk, false, length, map, slice_index_or};
 ghost use Rattle.std.specs.List.{list_any};
-ghost use Rattle.tb_base.specs.Soundness.{IsSoundEvent, IsSoundPath};
-ghost use Rattle.tb_base.specs.TimetableData.{no_event};
-ghost use Rattle.tb_base.specs.declared.table.Event.{Event};
-ghost use Rattle.late_edit.specs.Near.{MarksCalls, MarksNear};
+ghost use Rattle.tb_base.specs.Soundness.{IsSoundPath};
+ghost use Rattle.late_edit.specs.Doubts.{MarksDoubts, MarksNear};
 
+use crate::doubts::Doubt;
 use std::alloc::Global;
-use tb_base::{Event, Memory, Path, StopNo, Timetable, TripNo};
+use tb_base::{Memory, Path, StopNo, Timetable};
 
-// Marks the stops of some events.
-fn mark_stops(marks: &mut [bool], events: &[Event])
-    requires { All (IsSoundEvent (length marks.old)) events.now }
-    ensures kept { (q : ℕ) → IsTrue (slice_index_or marks.old q false) →
-        IsTrue (slice_index_or marks.new q false) }
-    ensures marked { All (λ e. IsTrue (slice_index_or marks.new e.stop false)) events.now }
+// For each stop whether it has doubts.
+fn doubtful_stops(alloc: Global, doubts: &[Vec<Doubt>]) -> Result<Vec<bool>, Memory>
+    ensures { IfOk result (λ marks. MarksDoubts (map (λ row. row.items) doubts.now) marks.items) }
 {
-    for event in events {
-        marks[event.stop.index()] = true;
-    }
-}
-
-// Marks the stops where one of the marked trips calls.
-fn called_stops(alloc: Global, table: &Timetable, trips: &[bool]) -> Result<Vec<bool>, Memory>
-    requires { length trips.now ≡ length table.now.trips }
-    ensures { IfOk result (λ marks. MarksCalls table.now trips.now marks.items) }
-{
-    table.soundness();
-    let mut marks = vec![in alloc; false; table.stop_count() as usize]?;
-    for number in 0..trips.len() {
-        if trips[number] {
-            mark_stops(
-                marks.as_mut_slice(),
-                table.trip(TripNo(number as u32)).events.as_slice(),
-            );
-        }
+    let mut marks = Vec::new(alloc);
+    for row in doubts {
+        marks.push(!row.as_slice().is_empty())?;
     }
     Ok(marks)
 }
@@ -58,32 +38,30 @@ fn is_near(table: &Timetable, marks: &[bool], stop: StopNo) -> bool
     marks[stop.index()] || lead_to(table.paths(stop), marks)
 }
 
-/// For each stop a mark, which it has at least where a change from it leads to a stop where one of
-/// the marked trips calls. A mark too many only costs time.
+/// For each stop a mark, which it has where a change from it leads to a stop with doubts.
 pub(crate) fn near_stops(
     alloc: Global,
     table: &Timetable,
-    trips: &[bool],
+    doubts: &[Vec<Doubt>],
 ) -> Result<Vec<bool>, Memory>
-    requires { length trips.now ≡ length table.now.trips }
-    ensures { IfOk result (λ near. MarksNear table.now trips.now near.items) }
+    requires { length doubts.now ≡ length table.now.stops }
+    ensures { IfOk result
+        (λ near. MarksNear table.now (map (λ row. row.items) doubts.now) near.items) }
 {
     table.soundness();
-    let called = called_stops(alloc, table, trips)?;
+    let marks = doubtful_stops(alloc, doubts)?;
     let mut near = Vec::new(alloc);
     near.reserve(table.stop_count() as usize)?;
     for number in 0..table.stop_count() {
-        near.push(is_near(table, called.as_slice(), StopNo(number)))?;
+        near.push(is_near(table, marks.as_slice(), StopNo(number)))?;
     }
     Ok(near)
 }
 
-/// Whether an event is at a marked stop.
-pub(crate) fn is_at(events: &[Event], at: usize, marks: &[bool]) -> bool
-    requires sound { All (IsSoundEvent (length marks.now)) events.now }
-    requires at { at < length events.now }
-    ensures { result
-        ≡ slice_index_or marks.now (Event.stop (slice_index_or events.now at no_event)) false }
+/// Whether a stop is marked.
+pub(crate) fn is_marked(marks: &[bool], stop: StopNo) -> bool
+    requires { stop < length marks.now }
+    ensures { result ≡ slice_index_or marks.now stop false }
 {
-    marks[events[at].stop.index()]
+    marks[stop.index()]
 }

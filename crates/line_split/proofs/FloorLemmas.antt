@@ -1,17 +1,19 @@
 -- A line whose floor is later than a trip is not joined by it.
-use Rattle.std.proofs.Common.{◌≡◌, ◌≢◌, ◌∙◌, sym, ap, subst, refl, ℕ, zero, suc, ◌+◌, ◌*◌, ◌/◌, ◌%◌, ◌-◌, ◌<◌, ◌≤◌, ◌⊎◌, inl, inr, Bool, true, false, cond, List, [], ◌∷◌, ◌++◌, length, get_or, set, replicate, find, Some, None, ℤ, ◌≤ℤ◌, arith, length-set, get_or-set_same, get_or-set_other}
-use Rattle.std.specs.Prelude.{All}
+use Rattle.std.proofs.Common.{◌≡◌, ◌≢◌, ◌∙◌, sym, ap, subst, refl, ℕ, zero, suc, ◌+◌, ◌*◌, ◌/◌, ◌%◌, ◌<◌, ◌≤◌, ◌⊎◌, inl, inr, Bool, true, false, cond, List, [], ◌∷◌, ◌++◌, length, get_or, set, replicate, find, Some, None, ℤ, ◌≤ℤ◌, arith, length-set, get_or-set_same, get_or-set_other}
+use Rattle.std.specs.Prelude.{All, Option, is_some}
 use Rattle.std.proofs.lemmas.Bool.{cases_eq}
 use Rattle.std.proofs.lemmas.Int.{ints}
-use Rattle.std.proofs.lemmas.List.{get_or_append_left, get_or_push, length_push}
+use Rattle.std.proofs.lemmas.List.{append-nil, get_or_append_left, get_or_push, length_push}
 use Rattle.tb_base.specs.declared.table.Event.{Event}
 use Rattle.tb_base.specs.TimetableData.{TimetableData, events_of, no_event}
 use Rattle.tb_base.specs.Lines.{last_trip, may_follow}
 use Rattle.tb_base.proofs.LineFacts.{no_later}
 use Rattle.tb_base.proofs.NumberFacts.{below_or_at}
-use Rattle.line_split.specs.Buckets.{last_of}
-use Rattle.line_split.specs.Floors.{IsEarlier, AreNoLater, IsLower, AreBelow, FloorsData, no_floor, AreFloorsOf, AreFloors, IsNoted, AreNoted}
-use Rattle.line_split.proofs.Placing.{joins, none_in}
+use Rattle.line_split.specs.Buckets.{IsFirstPlace, IsFirstWithin, NonePasses, last_of}
+use Rattle.line_split.specs.Bitmaps.{AreBitmapsOf, AreMarked, IsPicked}
+use Rattle.line_split.specs.Floors.{IsEarlier, AreNoLater, IsLower, AreBelow, FloorsData, no_floor, AreFloorsOf, AreFloors, IsNoted, AreNoted, IsPassed, IsSameBut}
+use Rattle.line_split.proofs.Placing.{joins, last_trip-push, none_in}
+use Rattle.line_split.proofs.BitmapLemmas.{bitmaps_joined, bitmaps_marked, bitmaps_opened, out_unjoined}
 
 -- ---- the first that passes
 
@@ -32,6 +34,23 @@ module _ (test : ℕ → Bool) where
   pub find_nowhere : (xs : List ℕ) → ((k : ℕ) → k < length xs → test (get_or xs k 0) ≡ false) → find test xs ≡ None
   find_nowhere [] none = refl
   find_nowhere (x ∷ xs) none = ap (λ b. cond b (Some x) (find test xs)) (none 0 (omega arith)) ∙ find_nowhere xs (λ k below. none (suc k) (omega (arith, below)))
+
+  -- up to one place, and then at this place
+  pub none_more : (row : List ℕ) (low place : ℕ) → NonePasses test row low place → test (get_or row place 0) ≡ false → NonePasses test row low (place + 1)
+  none_more row low place none here = λ k above below inside. by_case k above below inside (cases_eq k place)
+    where
+      by_case : (k : ℕ) → low ≤ k → k < place + 1 → k < length row → (k ≡ place) ⊎ (k ≢ place) → test (get_or row k 0) ≡ false
+      by_case k above below inside (inl is) = ap (λ i. test (get_or row i 0)) is ∙ here
+      by_case k above below inside (inr other) = none k above (omega (arith, below, other)) inside
+
+  -- up to one place, and then from it on
+  pub first_behind : (row : List ℕ) (place : ℕ) (found : Option ℕ) → NonePasses test row 0 place → IsFirstWithin test row place (place + 64) found → is_some found ≡ true → IsFirstPlace test row found
+  first_behind row place None none is some = cc
+  first_behind row place (Some p) none is some = (is.0, find_at row p is.0 (λ k below inside. by_case k below inside (before_or_from k place)) is.1)
+    where
+      by_case : (k : ℕ) → k < p → k < length row → (k < place) ⊎ (place ≤ k) → test (get_or row k 0) ≡ false
+      by_case k below inside (inl low) = none k (omega arith) low inside
+      by_case k below inside (inr high) = is.2 k high below inside
 
 -- ---- floors
 
@@ -106,19 +125,20 @@ floor_later T lines row floors are t k below later = by_test (joins T lines (eve
     by_test false e = sym e
     by_test true e = absurd (later (later_trip T (get_or floors.near (k / 64) []) (last_of lines (get_or row k 0)) t (sym e) (are.no_later k below)))
 
--- ---- the floors stay right
+-- no line is joined that is passed over
+pub passed_unjoined : (T : TimetableData) (lines : List (List ℕ)) (row : List ℕ) (floors : FloorsData) (picked : List ℕ) → AreFloorsOf T lines row floors → (t k : ℕ) → k < length row → All (IsPicked floors.bitmaps (events_of T t)) picked
+    → IsPassed floors (events_of T t) picked k → joins T lines (events_of T t) (get_or row k 0) ≡ false
+passed_unjoined T lines row floors picked are t k below chosen (inl later) = floor_later T lines row floors are t k below later
+passed_unjoined T lines row floors picked are t k below chosen (inr out) = out_unjoined T lines row floors.bitmaps picked t k are.bitmaps chosen out
 
-last_pushed : (line : List ℕ) (t : ℕ) → last_trip (line ++ t ∷ []) ≡ t
-last_pushed line t =
-    let long : length line ≡ length (line ++ t ∷ []) - 1 = omega (arith, length_push line t) in
-    get_or_push line t 0 (length (line ++ t ∷ []) - 1) long
+-- ---- the floors stay right
 
 -- a trip joins line l
 pub floors_joined : (T : TimetableData) (lines buckets : List (List ℕ)) (floors : List FloorsData) (t l : ℕ) → l < length lines → joins T lines (events_of T t) l ≡ true → AreFloors T lines buckets floors
     → AreFloors T (set lines l (get_or lines l [] ++ t ∷ [])) buckets floors
 floors_joined T lines buckets floors t l h j are = record {
   many = are.many;
-  each = λ b. record { room = (are.each b).room; no_later = λ k below. rises b k below (cases_eq (get_or (get_or buckets b []) k 0) l); far = (are.each b).far };
+  each = λ b. record { room = (are.each b).room; no_later = λ k below. rises b k below (cases_eq (get_or (get_or buckets b []) k 0) l); far = (are.each b).far; bitmaps = bitmaps_joined T lines (get_or buckets b []) (get_or floors b no_floor).bitmaps t l h j (are.each b).bitmaps };
 }
   where
     rises : (b k : ℕ) → k < length (get_or buckets b []) → (get_or (get_or buckets b []) k 0 ≡ l) ⊎ (get_or (get_or buckets b []) k 0 ≢ l)
@@ -126,7 +146,7 @@ floors_joined T lines buckets floors t l h j are = record {
     rises b k below (inl e) =
         let floor = get_or (get_or floors b no_floor).near (k / 64) [] in
         let before = subst (λ i. AreNoLater floor (events_of T (last_of lines i))) e ((are.each b).no_later k below) in
-        let last : last_of (set lines l (get_or lines l [] ++ t ∷ [])) (get_or (get_or buckets b []) k 0) ≡ t = ap (last_of (set lines l (get_or lines l [] ++ t ∷ []))) e ∙ ap last_trip (get_or-set_same lines l (get_or lines l [] ++ t ∷ []) [] h) ∙ last_pushed (get_or lines l []) t in
+        let last : last_of (set lines l (get_or lines l [] ++ t ∷ [])) (get_or (get_or buckets b []) k 0) ≡ t = ap (last_of (set lines l (get_or lines l [] ++ t ∷ []))) e ∙ ap last_trip (get_or-set_same lines l (get_or lines l [] ++ t ∷ []) [] h) ∙ last_trip-push (get_or lines l []) t in
         subst (λ u. AreNoLater floor (events_of T u)) (sym last) (later_trip T floor (last_of lines l) t j before)
     rises b k below (inr e) =
         subst (λ line. AreNoLater (get_or (get_or floors b no_floor).near (k / 64) []) (events_of T (last_trip line))) (sym (get_or-set_other lines l (get_or (get_or buckets b []) k 0) (get_or lines l [] ++ t ∷ []) [] e)) ((are.each b).no_later k below)
@@ -144,11 +164,20 @@ module _ (T : TimetableData) (lines buckets : List (List ℕ)) (floors new : Lis
   still c k below =
       subst (λ line. AreNoLater (get_or (get_or floors c no_floor).near (k / 64) []) (events_of T (last_trip line))) (sym (get_or_append_left lines ((t ∷ []) ∷ []) [] (get_or (get_or buckets c []) k 0) (known c k 0 below))) ((are.each c).no_later k below)
 
+  unmoved : (c : ℕ) → AreBitmapsOf T opened (get_or buckets c []) (get_or floors c no_floor).bitmaps
+  unmoved c = subst (λ r. AreBitmapsOf T opened r (get_or floors c no_floor).bitmaps) (append-nil (get_or buckets c [])) (bitmaps_opened T lines (get_or buckets c []) [] (t ∷ []) (get_or floors c no_floor).bitmaps (known c) (are.each c).bitmaps)
+
+  last_new : (k : ℕ) → k ≡ length row → last_of opened (get_or (row ++ length lines ∷ []) k 0) ≡ t
+  last_new k at = ap (last_of opened) (get_or_push row (length lines) 0 k (sym at)) ∙ ap last_trip (get_or_push lines (t ∷ []) [] (length lines) refl)
+
   one_more : AreFloorsOf T opened (row ++ length lines ∷ []) (get_or new b no_floor)
   one_more = record {
     room = omega (arith, length_push row (length lines), noted.near.room);
     no_later = λ k below. by_case k (below_or_at k (length row) (omega (arith, below, length_push row (length lines))));
     far = still_below (get_or floors b no_floor).far (get_or floors b no_floor).near (get_or new b no_floor).far (get_or new b no_floor).near (length row) (events_of T t) (are.each b).far noted.near noted.far;
+    bitmaps = bitmaps_marked T opened (row ++ length lines ∷ []) (get_or floors b no_floor).bitmaps (get_or new b no_floor).bitmaps (length row) (omega (arith, length_push row (length lines)))
+        (subst (λ u. AreMarked (length row) (events_of T u) (get_or floors b no_floor).bitmaps (get_or new b no_floor).bitmaps) (sym (last_new (length row) refl)) noted.bitmaps)
+        (bitmaps_opened T lines row (length lines ∷ []) (t ∷ []) (get_or floors b no_floor).bitmaps (known b) (are.each b).bitmaps);
   }
     where
       by_case : (k : ℕ) → (k < length row) ⊎ (k ≡ length row) → AreNoLater (get_or (get_or new b no_floor).near (k / 64) []) (events_of T (last_of opened (get_or (row ++ length lines ∷ []) k 0)))
@@ -157,9 +186,7 @@ module _ (T : TimetableData) (lines buckets : List (List ℕ)) (floors new : Lis
           subst (λ i. AreNoLater (get_or (get_or new b no_floor).near (k / 64) []) (events_of T (last_of opened i))) (sym l)
           (lower_floor (get_or (get_or new b no_floor).near (k / 64) []) (get_or (get_or floors b no_floor).near (k / 64) []) (events_of T (last_of opened (get_or row k 0))) (still_lower (length row) (events_of T t) (get_or floors b no_floor).near (get_or new b no_floor).near noted.near (k / 64) (omega (arith, low, (are.each b).room))) (still b k low))
       by_case k (inr at) =
-          let l : get_or (row ++ length lines ∷ []) k 0 ≡ length lines = get_or_push row (length lines) 0 k (sym at) in
-          let last : last_of opened (get_or (row ++ length lines ∷ []) k 0) ≡ t = ap (last_of opened) l ∙ ap last_trip (get_or_push lines (t ∷ []) [] (length lines) refl) in
-          subst (λ u. AreNoLater (get_or (get_or new b no_floor).near (k / 64) []) (events_of T u)) (sym last) (subst (λ i. AreNoLater (get_or (get_or new b no_floor).near (i / 64) []) (events_of T t)) (sym at) noted.near.here.at)
+          subst (λ u. AreNoLater (get_or (get_or new b no_floor).near (k / 64) []) (events_of T u)) (sym (last_new k at)) (subst (λ i. AreNoLater (get_or (get_or new b no_floor).near (i / 64) []) (events_of T t)) (sym at) noted.near.here.at)
 
   pub floors_opened : AreFloors T (lines ++ (t ∷ []) ∷ []) (set buckets b (get_or buckets b [] ++ length lines ∷ [])) new
   floors_opened = record {
@@ -173,7 +200,7 @@ module _ (T : TimetableData) (lines buckets : List (List ℕ)) (floors new : Lis
           (subst (λ r. AreFloorsOf T opened r (get_or new b no_floor)) (sym (get_or-set_same buckets b (row ++ length lines ∷ []) [] inside)) one_more)
       by_case c (inr e) =
           subst (λ r. AreFloorsOf T opened r (get_or new c no_floor)) (sym (get_or-set_other buckets b c (row ++ length lines ∷ []) [] e))
-          (subst (λ fs. AreFloorsOf T opened (get_or buckets c []) fs) (sym (others c e)) (record { room = (are.each c).room; no_later = still c; far = (are.each c).far }))
+          (subst (λ fs. AreFloorsOf T opened (get_or buckets c []) fs) (sym (others c e)) (record { room = (are.each c).room; no_later = still c; far = (are.each c).far; bitmaps = unmoved c }))
 
 pub replicated : {X : Type 0} (x : X) (n : ℕ) → length (replicate n x) ≡ n
 replicated x zero = refl
@@ -184,10 +211,36 @@ pub no_floors_yet : (T : TimetableData) (n m : ℕ) → n ≡ m → AreFloors T 
 no_floors_yet T n m e = record {
   many = replicated no_floor m ∙ sym e ∙ sym (replicated (let none : List ℕ = [] in none) n);
   each = λ b. subst (λ row. AreFloorsOf T [] row (get_or (replicate m no_floor) b no_floor)) (sym (none_in n b))
-      (subst (λ fs. AreFloorsOf T [] [] fs) (sym (nowhere m b)) (record { room = omega arith; no_later = λ k below. absurd (omega (arith, below)); far = record { room = omega arith; lower = λ j below. absurd (omega (arith, below)) } }));
+      (subst (λ fs. AreFloorsOf T [] [] fs) (sym (nowhere m b)) (record { room = omega arith; no_later = λ k below. absurd (omega (arith, below)); far = record { room = omega arith; lower = λ j below. absurd (omega (arith, below)) }; bitmaps = λ i d below. absurd (omega (arith, below)) }));
 }
   where
     nowhere : (m b : ℕ) → get_or (replicate m no_floor) b no_floor ≡ no_floor
     nowhere zero b = refl
     nowhere (suc m) zero = refl
     nowhere (suc m) (suc b) = nowhere m b
+
+-- the bitmaps of one bucket change
+pub floors_changed : (T : TimetableData) (lines buckets : List (List ℕ)) (floors new : List FloorsData) (b : ℕ) → AreFloors T lines buckets floors → IsSameBut b floors new → AreBitmapsOf T lines (get_or buckets b []) (get_or new b no_floor).bitmaps → AreFloors T lines buckets new
+floors_changed T lines buckets floors new b are same bitmaps = record { many = same.many ∙ are.many; each = λ c. by_case c (cases_eq c b) }
+  where
+    by_case : (c : ℕ) → (c ≡ b) ⊎ (c ≢ b) → AreFloorsOf T lines (get_or buckets c []) (get_or new c no_floor)
+    by_case c (inl e) =
+        subst (λ i. AreFloorsOf T lines (get_or buckets i []) (get_or new i no_floor)) (sym e)
+        (record {
+          room = subst (λ rows. length (get_or buckets b []) ≤ 64 * length rows) (sym same.near) (are.each b).room;
+          no_later = λ k below. subst (λ rows. AreNoLater (get_or rows (k / 64) []) (events_of T (last_of lines (get_or (get_or buckets b []) k 0)))) (sym same.near) ((are.each b).no_later k below);
+          far = subst (λ rows. AreBelow rows (get_or new b no_floor).near) (sym same.far) (subst (λ rows. AreBelow (get_or floors b no_floor).far rows) (sym same.near) (are.each b).far);
+          bitmaps = bitmaps;
+        })
+    by_case c (inr e) = subst (λ fs. AreFloorsOf T lines (get_or buckets c []) fs) (sym (same.others c e)) (are.each c)
+
+-- a trip joins the line at a place of a bucket, which is marked there
+pub floors_marked : (T : TimetableData) (lines buckets : List (List ℕ)) (floors new : List FloorsData) (t b place l : ℕ) → l < length lines → joins T lines (events_of T t) l ≡ true → place < length (get_or buckets b []) → get_or (get_or buckets b []) place 0 ≡ l
+    → AreFloors T lines buckets floors → IsSameBut b floors new → AreMarked place (events_of T t) (get_or floors b no_floor).bitmaps (get_or new b no_floor).bitmaps → AreFloors T (set lines l (get_or lines l [] ++ t ∷ [])) buckets new
+floors_marked T lines buckets floors new t b place l h j inside is are same marked =
+    let more = set lines l (get_or lines l [] ++ t ∷ []) in
+    let row = get_or buckets b [] in
+    let joined = floors_joined T lines buckets floors t l h j are in
+    let last : last_of (set lines l (get_or lines l [] ++ t ∷ [])) (get_or (get_or buckets b []) place 0) ≡ t = ap (last_of more) is ∙ ap last_trip (get_or-set_same lines l (get_or lines l [] ++ t ∷ []) [] h) ∙ last_trip-push (get_or lines l []) t in
+    floors_changed T more buckets floors new b joined same
+    (bitmaps_marked T more row (get_or floors b no_floor).bitmaps (get_or new b no_floor).bitmaps place inside (subst (λ u. AreMarked place (events_of T u) (get_or floors b no_floor).bitmaps (get_or new b no_floor).bitmaps) (sym last) marked) (joined.each b).bitmaps)

@@ -13,3 +13,4 @@ pub mod Counts
 pub mod CallTotals
 pub mod BerthLemmas
 pub mod FloorLemmas
+pub mod BitmapLemmas

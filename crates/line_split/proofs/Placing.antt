@@ -91,7 +91,7 @@ module _ (T : TimetableData) (numbers : List ℕ) (lines buckets : List (List �
 
 -- ---- the last trip of a line
 
-last_trip-push : (line : List ℕ) (t : ℕ) → last_trip (line ++ t ∷ []) ≡ t
+pub last_trip-push : (line : List ℕ) (t : ℕ) → last_trip (line ++ t ∷ []) ≡ t
 last_trip-push line t =
     let long : length line ≡ length (line ++ t ∷ []) - 1 = omega (arith, length_push line t) in
     get_or_push line t 0 (length (line ++ t ∷ []) - 1) long

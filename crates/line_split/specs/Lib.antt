@@ -6,3 +6,4 @@ pub mod Layout
 pub mod Places
 pub mod Calls
 pub mod Floors
+pub mod Bitmaps

@@ -3,7 +3,7 @@ ghost use Rattle.std.specs.Prelude.{◌≡◌, ◌<◌, ◌==◌, ◌&&◌, int_
 ghost use Rattle.std.specs.Ordering.{int_cmp, nat_cmp, ordering_then};
 ghost use Rattle.std.specs.Cmp.Lexicographic.{slice_cmp};
 ghost use Rattle.tb_base.specs.TimetableData.{events_of};
-ghost use Rattle.tb_base.specs.Lines.{may_follow, same_mark, times_of};
+ghost use Rattle.tb_base.specs.Lines.{last_trip, may_follow, same_mark, times_of};
 ghost use Rattle.line_split.specs.Patterns.{mix, pattern_hash, pattern_of, marks_of};
 
 use std::cmp::Ordering;
@@ -18,6 +18,16 @@ pub(crate) fn events_of(table: &Timetable, trip: TripNo) -> &[Event]
     } else {
         &[]
     }
+}
+
+/// The last trip of a line.
+pub(crate) fn last_trip(trips: &[TripNo]) -> TripNo
+    ensures { result ≡ last_trip trips.now }
+{
+    if trips.is_empty() {
+        return TripNo(0);
+    }
+    trips[trips.len() - 1]
 }
 
 // Whether the second event has the first one's stop and marks, and is nowhere earlier.

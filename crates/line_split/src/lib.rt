@@ -13,6 +13,7 @@ ghost use Rattle.tb_base.specs.Lines.{AreLines};
 
 mod before;
 mod berths;
+mod bitmaps;
 mod boardings;
 mod departures;
 mod events;

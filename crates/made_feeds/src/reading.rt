@@ -59,6 +59,7 @@ impl Reading {
             station: if self.joins_stations { Some(120) } else { None },
             close: self.closes,
             horizon,
+            lenient: false,
         }
     }
 }

@@ -7,7 +7,7 @@
 //! draw pieces until none is left. The layer above is promised that the kept transfers and the
 //! counts are those of the definitions, whatever the number of workers and whoever draws which
 //! piece, and that the set made of the kept transfers has exactly their hops and is sufficient: a
-//! search over it finds all best values. That a gate is told of each piece that is begun and done
+//! search over it finds all best values. `kept_row` is the same of one trip. That a gate is told of each piece that is begun and done
 //! is so in the code and in no clause.
 #![tactic(auto)]
 
@@ -25,4 +25,5 @@ pub use claim::{Claim, Drawn};
 pub use reduced::Reduced;
 pub use seat::ClaimSeat;
 pub use tb_base::{Gate, IdleGate, Work};
+pub use trips::kept_row;
 pub use workers::reduce_all;

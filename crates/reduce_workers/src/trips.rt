@@ -103,6 +103,30 @@ fn reduce_trip(
     Ok(done)
 }
 
+/// The kept transfers of one trip, from its last event down, and within an event in their order. The
+/// lines and the calls are those of the timetable; the labels are for its stops, and may have
+/// served any trip before. Takes memory for the kept transfers, and for the candidates of one event
+/// besides. Refused only for want of memory; the labels may serve any trip then too.
+pub fn kept_row(
+    alloc: Global,
+    table: &Timetable,
+    lines: &Lines,
+    calls: &FlatCalls,
+    labels: &mut Labels,
+    trip: TripNo,
+) -> Result<Vec<Transfer>, Memory>
+    requires lines { lines.now.table ≡ table.now }
+    requires calls { calls.now ≡ table.now }
+    requires labels { labels.old.table ≡ table.now }
+    requires trip { trip < length table.now.trips }
+    ensures labels { labels.new.table ≡ table.now }
+    ensures row { IfOk result (λ row. row.items
+        ≡ transfers_of table.now (kept_hops table.now lines.now.lines trip) trip) }
+{
+    let reduced = reduce_trip(alloc, table, lines, calls, labels, trip)?;
+    Ok(reduced.rows)
+}
+
 impl Reduced {
     // Adds what the reduction makes of the trip that comes next.
     fn add(

@@ -33,11 +33,12 @@ fn words_of(rt: &(impl Env + AllocGlobal)) -> Result<Vec<String>, Status> {
 fn main(rt: HostRuntime) -> ExitCode {
     let words = match words_of(&rt) {
         Ok(words) => words,
-        Err(status) => return end(&rt, false, status),
+        Err(status) => return end(&rt, false, &[], status),
     };
     let mut folder = HostFolder::new(&rt, HashKey::drawn(&rt));
     let mut script = InSource::new(rt.stdin());
     let mut out = OutSink::new(rt.stdout());
+    let mut left_out = Vec::new(rt.alloc());
     let status = route(
         &rt,
         rt.alloc(),
@@ -45,7 +46,13 @@ fn main(rt: HostRuntime) -> ExitCode {
         &mut folder,
         &mut script,
         &mut out,
+        &mut left_out,
         &IdleGate,
     );
-    end(&rt, asks_json(words.as_slice()), status)
+    end(
+        &rt,
+        asks_json(words.as_slice()),
+        left_out.as_slice(),
+        status,
+    )
 }

@@ -6,10 +6,9 @@ use Rattle.tb_base.specs.BestValues.{ChoiceData}
 use Rattle.tb_base.specs.TimetableData.{TimetableData}
 use Rattle.gtfs_rows.specs.declared.fault.FeedFault.{FeedFault}
 use Rattle.tb_io.specs.Files.{FileList}
-use Rattle.trip_table.specs.Answers.{feed_of}
 use Rattle.journey_read.specs.declared.claim.JourneyFault.{JourneyFault}
 use Rattle.command_line.specs.Verifications.{VerifyRequestData}
-use Rattle.router_cli.proofs.Endings.{IsDetermined}
+use Rattle.router_cli.proofs.Endings.{IsDetermined, same_day}
 use Rattle.router_cli.specs.Outcome.{IsDayOf, Writes}
 use Rattle.router_cli.specs.Verifying.{ClaimGives, IsClaimEnding, IsNoVerifyAnswer, IsVerifyAnswer, IsVerifyEnding, LeavesClaim, claim_as}
 use Rattle.router_cli.specs.declared.status.Status.{Status}
@@ -30,6 +29,7 @@ claim_unread status.Memory told faults = none_taken told
 claim_unread (status.ScriptRefused f) told faults = none_taken told
 claim_unread (status.LateRefused f) told faults = none_taken told
 claim_unread (status.JourneyRefused f) told faults = none_taken told
+claim_unread status.FaultsFound told faults = none_taken told
 
 -- what a source tells is what was taken of it
 pub claim_given : (json : Bool) (T : TimetableData) (told : Option (List ℕ)) (bytes taken : List ℕ) (claimed : ChoiceData) → IfSome told (λ all. bytes ≡ all) → taken ≡ bytes → claim_as json T taken ≡ Ok claimed → ClaimGives json T told (Ok claimed)
@@ -57,16 +57,17 @@ pub verify_completed : IsDetermined → (files : Option FileList) → IsSome fil
     Writes (IsVerifyAnswer files told r) (IsNoVerifyAnswer files told r) s before now → (s ≡ status.ReadFault → ⊥) → (s ≡ status.WriteFault → ⊥) →
     (day : Result TimetableData FeedFault) → IsDayOf files r.dir r.date r.options day → IsVerifyEnding r.json told day s
 verify_completed same files shown told r status.Done before now (bytes, is, added) read write day given =
-    subst (λ d. IsVerifyEnding r.json told d status.Done) (same (feed_of files r.dir) r.date r.options (Ok is.table) day (is.day.1 shown) given)
+    subst (λ d. IsVerifyEnding r.json told d status.Done) (same_day same files r.dir r.date r.options (Ok is.table) day (is.day.1 shown) given)
     (with_claim r.json told is.table is.claimed is.claim)
 verify_completed same files shown told r status.Usage before now h read write day given = absurd h
 verify_completed same files shown told r (status.FeedRefused f) before now h read write day given =
-    subst (λ d. IsVerifyEnding r.json told d (status.FeedRefused f)) (same (feed_of files r.dir) r.date r.options (Err f) day (h.1 shown) given) (inl refl)
+    subst (λ d. IsVerifyEnding r.json told d (status.FeedRefused f)) (same_day same files r.dir r.date r.options (Err f) day (h.1 shown) given) (inl refl)
 verify_completed same files shown told r status.ReadFault before now h read write day given = absurd (read refl)
 verify_completed same files shown told r status.WriteFault before now h read write day given = absurd (write refl)
 verify_completed same files shown told r status.Memory before now h read write day given = out_of_memory r.json told day
 verify_completed same files shown told r (status.ScriptRefused f) before now h read write day given = absurd h
 verify_completed same files shown told r (status.LateRefused f) before now h read write day given = absurd h
+verify_completed same files shown told r status.FaultsFound before now h read write day given = absurd h
 verify_completed same files shown told r (status.JourneyRefused f) before now (T, is, claim) read write day given =
-    subst (λ d. IsVerifyEnding r.json told d (status.JourneyRefused f)) (same (feed_of files r.dir) r.date r.options (Ok T) day (is.1 shown) given)
+    subst (λ d. IsVerifyEnding r.json told d (status.JourneyRefused f)) (same_day same files r.dir r.date r.options (Ok T) day (is.1 shown) given)
     (without_claim r.json told T f claim)

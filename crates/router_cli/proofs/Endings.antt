@@ -7,16 +7,20 @@ use Rattle.gtfs_rows.specs.declared.fault.FeedFault.{FeedFault}
 use Rattle.tb_io.specs.Files.{FileList}
 use Rattle.trip_table.specs.Answers.{feed_of}
 use Rattle.trip_table.specs.Feed.{Feed}
-use Rattle.trip_table.specs.Day.{IsTimetableOf}
+use Rattle.trip_table.specs.AskedDay.{IsAskedDay}
 use Rattle.command_line.specs.DayCommands.{DayRequestData}
 use Rattle.router_cli.specs.Outcome.{IsDayAnswer, IsDayEnding, IsDayOf, IsNoDayAnswer, Writes}
 use Rattle.router_cli.specs.declared.status.Status.{Status}
 use Rattle.router_cli.specs.declared.status.Status.TheVariants as status
 
--- there is at most one timetable or first fault
+-- there is at most one timetable or fault, as the options ask
 abbrev pub IsDetermined : Type 0
 IsDetermined = (feed : Feed) (day : ℕ) (options : Options) (a b : Result TimetableData FeedFault) →
-    IsTimetableOf feed day options a → IsTimetableOf feed day options b → a ≡ b
+    IsAskedDay feed day options a → IsAskedDay feed day options b → a ≡ b
+
+pub same_day : IsDetermined → (files : Option FileList) (dir : List ℕ) (date : ℕ) (options : Options) (a b : Result TimetableData FeedFault) →
+    IsDayOf files dir date options a → IsDayOf files dir date options b → a ≡ b
+same_day same files dir date options a b x y = same (feed_of files dir) date options a b x.asked y.asked
 
 pub out_of_memory : (day : Result TimetableData FeedFault) → IsDayEnding day status.Memory
 out_of_memory (Ok T) = inr refl
@@ -26,9 +30,9 @@ pub day_completed : IsDetermined → (files : Option FileList) → IsSome files 
     Writes (IsDayAnswer files r) (IsNoDayAnswer files r) s before now → (s ≡ status.ReadFault → ⊥) → (s ≡ status.WriteFault → ⊥) →
     (day : Result TimetableData FeedFault) → IsDayOf files r.dir r.date r.options day → IsDayEnding day s
 day_completed same files shown r status.Done before now (bytes, is, added) read write day given =
-    subst (λ d. IsDayEnding d status.Done) (same (feed_of files r.dir) r.date r.options (Ok is.table) day (is.day.1 shown) given) (inl refl)
+    subst (λ d. IsDayEnding d status.Done) (same_day same files r.dir r.date r.options (Ok is.table) day (is.day.1 shown) given) (inl refl)
 day_completed same files shown r (status.FeedRefused f) before now h read write day given =
-    subst (λ d. IsDayEnding d (status.FeedRefused f)) (same (feed_of files r.dir) r.date r.options (Err f) day (h.1 shown) given) (inl refl)
+    subst (λ d. IsDayEnding d (status.FeedRefused f)) (same_day same files r.dir r.date r.options (Err f) day (h.1 shown) given) (inl refl)
 day_completed same files shown r status.ReadFault before now h read write day given = absurd (read refl)
 day_completed same files shown r status.WriteFault before now h read write day given = absurd (write refl)
 day_completed same files shown r status.Memory before now h read write day given = out_of_memory day
@@ -36,3 +40,4 @@ day_completed same files shown r status.Usage before now h read write day given 
 day_completed same files shown r (status.ScriptRefused f) before now h read write day given = absurd h
 day_completed same files shown r (status.LateRefused f) before now h read write day given = absurd h
 day_completed same files shown r (status.JourneyRefused f) before now h read write day given = absurd h
+day_completed same files shown r status.FaultsFound before now h read write day given = absurd h

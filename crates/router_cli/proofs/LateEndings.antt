@@ -5,12 +5,11 @@ use Rattle.tb_base.specs.TimetableData.{TimetableData}
 use Rattle.gtfs_rows.specs.Steps.{and_then}
 use Rattle.gtfs_rows.specs.declared.fault.FeedFault.{FeedFault}
 use Rattle.tb_io.specs.Files.{FileList, file_at}
-use Rattle.trip_table.specs.Answers.{feed_of}
 use Rattle.late_edit.specs.Amended.{amended}
 use Rattle.late_edit.specs.declared.update.Update.{Update}
 use Rattle.late_edit.specs.declared.late.LateFault.{LateFault}
 use Rattle.command_line.specs.LateTrips.{LateRequestData}
-use Rattle.router_cli.proofs.Endings.{IsDetermined}
+use Rattle.router_cli.proofs.Endings.{IsDetermined, same_day}
 use Rattle.router_cli.specs.Outcome.{IsDayOf, Writes}
 use Rattle.late_edit.specs.LateFiles.{UpdatesGive, updates_in}
 use Rattle.router_cli.specs.LateTrips.{IsAmendEnding, IsLateAnswer, IsLateEnding, IsNoLateAnswer}
@@ -59,16 +58,17 @@ pub late_completed : IsDetermined → (files : Option FileList) → IsSome files
     Writes (IsLateAnswer files r) (IsNoLateAnswer files r) s before now → (s ≡ status.ReadFault → ⊥) → (s ≡ status.WriteFault → ⊥) →
     (day : Result TimetableData FeedFault) → IsDayOf files r.dir r.date r.options day → IsLateEnding files r day s
 late_completed same files shown r status.Done before now (bytes, is, added) read write day given =
-    subst (λ d. IsLateEnding files r d status.Done) (same (feed_of files r.dir) r.date r.options (Ok is.table) day (is.day.1 shown) given)
+    subst (λ d. IsLateEnding files r d status.Done) (same_day same files r.dir r.date r.options (Ok is.table) day (is.day.1 shown) given)
     (amends files r is.table is.text.table is.updates is.file is.text.amended)
 late_completed same files shown r status.Usage before now h read write day given = absurd h
 late_completed same files shown r (status.FeedRefused f) before now h read write day given =
-    subst (λ d. IsLateEnding files r d (status.FeedRefused f)) (same (feed_of files r.dir) r.date r.options (Err f) day (h.1 shown) given) (inl refl)
+    subst (λ d. IsLateEnding files r d (status.FeedRefused f)) (same_day same files r.dir r.date r.options (Err f) day (h.1 shown) given) (inl refl)
 late_completed same files shown r status.ReadFault before now h read write day given = absurd (read refl)
 late_completed same files shown r status.WriteFault before now h read write day given = absurd (write refl)
 late_completed same files shown r status.Memory before now h read write day given = out_of_memory files r day
 late_completed same files shown r (status.ScriptRefused f) before now h read write day given = absurd h
 late_completed same files shown r (status.JourneyRefused f) before now h read write day given = absurd h
+late_completed same files shown r status.FaultsFound before now h read write day given = absurd h
 late_completed same files shown r (status.LateRefused f) before now (T, is, why) read write day given =
-    subst (λ d. IsLateEnding files r d (status.LateRefused f)) (same (feed_of files r.dir) r.date r.options (Ok T) day (is.1 shown) given)
+    subst (λ d. IsLateEnding files r d (status.LateRefused f)) (same_day same files r.dir r.date r.options (Ok T) day (is.1 shown) given)
     (refuses files r T f why)

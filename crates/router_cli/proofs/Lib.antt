@@ -6,6 +6,7 @@ pub mod Claims
 pub mod LateEndings
 pub mod Matrices
 pub mod LastEdition
+pub mod CheckEndings
 pub mod Completed
 pub mod Written
 pub mod Corners

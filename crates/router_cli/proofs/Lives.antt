@@ -29,3 +29,4 @@ live_completed same files shown faults risen told left r status.Usage before now
 live_completed same files shown faults risen told left r (status.ScriptRefused f) before now h read write day is = absurd h
 live_completed same files shown faults risen told left r (status.LateRefused f) before now h read write day is = absurd h
 live_completed same files shown faults risen told left r (status.JourneyRefused f) before now h read write day is = absurd h
+live_completed same files shown faults risen told left r status.FaultsFound before now h read write day is = absurd h

@@ -4,13 +4,12 @@ use Rattle.std.specs.Prelude.{IsSome}
 use Rattle.tb_base.specs.TimetableData.{TimetableData}
 use Rattle.gtfs_rows.specs.declared.fault.FeedFault.{FeedFault}
 use Rattle.tb_io.specs.Files.{FileList}
-use Rattle.trip_table.specs.Answers.{feed_of}
 use Rattle.command_line.specs.Matrices.{MatrixRequestData}
 use Rattle.command_line.specs.declared.request.OriginsNamed.{OriginsNamed}
 use Rattle.command_line.specs.declared.request.OriginsNamed.TheVariants as by
 use Rattle.lane_serve.specs.declared.script.ScriptFault.{ScriptFault}
 use Rattle.router_cli.proofs.Claims.{claim_unread}
-use Rattle.router_cli.proofs.Endings.{IsDetermined}
+use Rattle.router_cli.proofs.Endings.{IsDetermined, same_day}
 use Rattle.router_cli.specs.Matrices.{IsMatrixEnding, IsMatrixOutcome, IsMatrixOver, IsOriginsEnding, LeavesOrigins, NameNone, NameOrigins, Origins, WritesRows, naming_bytes, origins_in}
 use Rattle.router_cli.specs.Outcome.{GivesDay, IsDayOf, IsNoTable}
 use Rattle.router_cli.specs.declared.status.Status.{Status}
@@ -37,19 +36,20 @@ pub matrix_completed : IsDetermined → (files : Option FileList) → IsSome fil
     IsMatrixOutcome files told r s before now → (s ≡ status.ReadFault → ⊥) → (s ≡ status.WriteFault → ⊥) →
     (day : Result TimetableData FeedFault) → IsDayOf files r.dir r.date r.options day → IsMatrixEnding (naming_bytes files told r.origins) day s
 matrix_completed same files shown told r status.Done before now h read write day given =
-    subst (λ d. IsMatrixEnding (naming_bytes files told r.origins) d status.Done) (same (feed_of files r.dir) r.date r.options (Ok h.table) day (h.day.1 shown) given)
+    subst (λ d. IsMatrixEnding (naming_bytes files told r.origins) d status.Done) (same_day same files r.dir r.date r.options (Ok h.table) day (h.day.1 shown) given)
     (with_origins (naming_bytes files told r.origins) h.table h.rows.origins h.rows.named)
 matrix_completed same files shown told r status.Usage before now h read write day given = absurd h
 matrix_completed same files shown told r (status.FeedRefused f) before now h read write day given =
-    subst (λ d. IsMatrixEnding (naming_bytes files told r.origins) d (status.FeedRefused f)) (same (feed_of files r.dir) r.date r.options (Err f) day (h.0.1 shown) given) (inl refl)
+    subst (λ d. IsMatrixEnding (naming_bytes files told r.origins) d (status.FeedRefused f)) (same_day same files r.dir r.date r.options (Err f) day (h.0.1 shown) given) (inl refl)
 matrix_completed same files shown told r status.ReadFault before now h read write day given = absurd (read refl)
 matrix_completed same files shown told r status.WriteFault before now h read write day given = absurd (write refl)
 matrix_completed same files shown told r status.Memory before now h read write day given = out_of_memory (naming_bytes files told r.origins) day
 matrix_completed same files shown told r (status.ScriptRefused f) before now h read write day given =
-    subst (λ d. IsMatrixEnding (naming_bytes files told r.origins) d (status.ScriptRefused f)) (same (feed_of files r.dir) r.date r.options (Ok h.0.0) day (h.0.1.1 shown) given)
+    subst (λ d. IsMatrixEnding (naming_bytes files told r.origins) d (status.ScriptRefused f)) (same_day same files r.dir r.date r.options (Ok h.0.0) day (h.0.1.1 shown) given)
     (without_origins (naming_bytes files told r.origins) h.0.0 f h.1)
 matrix_completed same files shown told r (status.LateRefused f) before now h read write day given = absurd h
 matrix_completed same files shown told r (status.JourneyRefused f) before now h read write day given = absurd h
+matrix_completed same files shown told r status.FaultsFound before now h read write day given = absurd h
 
 -- over the timetable of the day
 pub over_day : (files : Option FileList) (told : Option (List ℕ)) (r : MatrixRequestData) (T : TimetableData) (s : Status) (before now : Option (List ℕ)) →
@@ -64,6 +64,7 @@ over_day files told r T status.Usage before now day h = absurd h
 over_day files told r T (status.FeedRefused f) before now day h = absurd h
 over_day files told r T (status.LateRefused f) before now day h = absurd h
 over_day files told r T (status.JourneyRefused f) before now day h = absurd h
+over_day files told r T status.FaultsFound before now day h = absurd h
 
 -- what was written of origins that are named
 pub written_over : (r : MatrixRequestData) (T : TimetableData) (naming : Option (Option (List ℕ))) (origins : List (List ℕ)) (s : Status) (before now : Option (List ℕ)) → NameOrigins naming (Ok origins) →
@@ -86,6 +87,8 @@ written_over r T naming origins (status.LateRefused f) before now names (inl non
 written_over r T naming origins (status.LateRefused f) before now names (inr rows) = absurd rows
 written_over r T naming origins (status.JourneyRefused f) before now names (inl none) = absurd (let is = none.0 in cc)
 written_over r T naming origins (status.JourneyRefused f) before now names (inr rows) = absurd rows
+written_over r T naming origins status.FaultsFound before now names (inl none) = absurd (let is = none.0 in cc)
+written_over r T naming origins status.FaultsFound before now names (inr rows) = absurd rows
 
 -- no origins are named
 pub unnamed_over : (r : MatrixRequestData) (T : TimetableData) (naming : Option (Option (List ℕ))) (s : Status) (before : Option (List ℕ)) → NameNone naming s → IsMatrixOver r T naming s before before
@@ -98,6 +101,7 @@ unnamed_over r T naming status.Memory before h = inl refl
 unnamed_over r T naming (status.ScriptRefused f) before h = (h, refl)
 unnamed_over r T naming (status.LateRefused f) before h = absurd h
 unnamed_over r T naming (status.JourneyRefused f) before h = absurd h
+unnamed_over r T naming status.FaultsFound before h = absurd h
 
 -- what is left is the same where the rows are written in part
 pub origins_in_part : (o : OriginsNamed) (before now : Option (List ℕ)) (faults risen : ℕ) → LeavesOrigins o status.Done before now faults risen → LeavesOrigins o status.WriteFault before now faults risen
@@ -120,3 +124,4 @@ without_day files told r faults risen status.Memory before h = inl refl
 without_day files told r faults risen (status.ScriptRefused f) before h = absurd h
 without_day files told r faults risen (status.LateRefused f) before h = absurd h
 without_day files told r faults risen (status.JourneyRefused f) before h = absurd h
+without_day files told r faults risen status.FaultsFound before h = absurd h

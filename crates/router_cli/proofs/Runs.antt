@@ -64,6 +64,7 @@ run_completed same files told bytes r status.Done before now (text, ran, added) 
 run_completed same files told bytes r status.Usage before now h read write day is = absurd h
 run_completed same files told bytes r (status.LateRefused f) before now h read write day is = absurd h
 run_completed same files told bytes r (status.JourneyRefused f) before now h read write day is = absurd h
+run_completed same files told bytes r status.FaultsFound before now h read write day is = absurd h
 run_completed same files told bytes r (status.FeedRefused f) before now ((lanes, script), refused) read write day is =
     let plan = map item_of r.plan in
     by_script (script_of r.json bytes) lanes day (status.FeedRefused f) script

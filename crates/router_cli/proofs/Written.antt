@@ -13,7 +13,7 @@ use Rattle.router_cli.specs.declared.status.Status.{Status}
 use Rattle.router_cli.specs.declared.status.Status.TheVariants as status
 
 -- a text, or why there is none
-abbrev Text : Type 0
+abbrev pub Text : Type 0
 Text = Result (Vec ℕ Global) Status
 
 -- what writing a text makes of it, by the status that it ends with
@@ -26,6 +26,7 @@ no_usage files told (request.Day r) h = h
 no_usage files told (request.Serve r) h = h
 no_usage files told (request.Live r) h = h
 no_usage files told (request.Matrix r) h = h
+no_usage files told (request.Check r) h = h
 no_usage files told (request.City r) h = h
 no_usage files told (request.Verify r) h = h
 no_usage files told (request.Late r) h = h
@@ -35,6 +36,7 @@ not_done files told (request.Day r) h = h
 not_done files told (request.Serve r) h = h
 not_done files told (request.Live r) h = h
 not_done files told (request.Matrix r) h = h
+not_done files told (request.Check r) h = h
 not_done files told (request.City r) h = h
 not_done files told (request.Verify r) h = h
 not_done files told (request.Late r) h = h
@@ -44,9 +46,20 @@ not_begun files told (request.Day r) h = h
 not_begun files told (request.Serve r) h = h
 not_begun files told (request.Live r) h = h
 not_begun files told (request.Matrix r) h = h
+not_begun files told (request.Check r) h = h
 not_begun files told (request.City r) h = h
 not_begun files told (request.Verify r) h = h
 not_begun files told (request.Late r) h = h
+
+not_found : (files : Option FileList) (told : Option (List ℕ)) (r : Request) → IsNoRequestAnswer files told r status.FaultsFound → ⊥
+not_found files told (request.Day r) h = h
+not_found files told (request.Serve r) h = h
+not_found files told (request.Live r) h = h
+not_found files told (request.Matrix r) h = h
+not_found files told (request.Check r) h = h
+not_found files told (request.City r) h = h
+not_found files told (request.Verify r) h = h
+not_found files told (request.Late r) h = h
 
 unwritten : (files : Option FileList) (told : Option (List ℕ)) (r : Request) (s : Status) → IsNoRequestAnswer files told r s → IsUnwritten s
 unwritten files told r status.Done h = not_done files told r h
@@ -58,6 +71,7 @@ unwritten files told r status.Memory h = tt
 unwritten files told r (status.ScriptRefused f) h = tt
 unwritten files told r (status.LateRefused f) h = tt
 unwritten files told r (status.JourneyRefused f) h = tt
+unwritten files told r status.FaultsFound h = absurd (not_found files told r h)
 
 pub none_written : (files : Option FileList) (told : Option (List ℕ)) (r : Request) (text : Text) → IfErr text (IsNoRequestAnswer files told r) → IfErr text IsUnwritten
 none_written files told r (Ok v) h = tt
@@ -75,6 +89,7 @@ with_text IsText Comes bytes status.Memory before now is h = absurd h
 with_text IsText Comes bytes (status.ScriptRefused f) before now is h = absurd h
 with_text IsText Comes bytes (status.LateRefused f) before now is h = absurd h
 with_text IsText Comes bytes (status.JourneyRefused f) before now is h = absurd h
+with_text IsText Comes bytes status.FaultsFound before now is h = absurd h
 
 without_text : (IsText : List ℕ → Type 0) (Comes : Status → Type 0) (s : Status) (before now : Option (List ℕ)) →
     IsUnwritten s → Comes s → Writes IsText Comes s before now
@@ -87,6 +102,7 @@ without_text IsText Comes status.Memory before now none comes = comes
 without_text IsText Comes (status.ScriptRefused f) before now none comes = comes
 without_text IsText Comes (status.LateRefused f) before now none comes = comes
 without_text IsText Comes (status.JourneyRefused f) before now none comes = comes
+without_text IsText Comes status.FaultsFound before now none comes = absurd none
 
 -- the outcome of a request by its text, by what is said of such a text and of why there is none
 promised_by : (IsText : List ℕ → Type 0) (Comes : Status → Type 0) (text : Text) (s : Status) (before now : Option (List ℕ)) → IfErr text IsUnwritten →
@@ -108,6 +124,7 @@ promised files faults risen told left r text s before now is refused written = b
       IsRequestOutcome files faults risen told left q s before now
   by (request.Live q) none is refused = no_text text is refused
   by (request.Matrix q) none is refused = no_text text is refused
+  by (request.Check q) none is refused = no_text text is refused
   by (request.Day q) none is refused = promised_by (IsRequestAnswer files told (request.Day q)) (IsNoRequestAnswer files told (request.Day q)) text s before now none is refused written
   by (request.Serve q) none is refused = promised_by (IsRequestAnswer files told (request.Serve q)) (IsNoRequestAnswer files told (request.Serve q)) text s before now none is refused written
   by (request.City q) none is refused = promised_by (IsRequestAnswer files told (request.City q)) (IsNoRequestAnswer files told (request.City q)) text s before now none is refused written
@@ -147,6 +164,7 @@ at_end P (Ok v) status.Memory before now part written h = absurd written
 at_end P (Ok v) (status.ScriptRefused f) before now part written h = absurd written
 at_end P (Ok v) (status.LateRefused f) before now part written h = absurd written
 at_end P (Ok v) (status.JourneyRefused f) before now part written h = absurd written
+at_end P (Ok v) status.FaultsFound before now part written h = absurd written
 
 not_refused : (f : ScriptFault) → (status.Done ≡ status.ScriptRefused f) ⊎ (status.Done ≡ status.Memory) → ⊥
 not_refused f (inl is) = cc
@@ -157,6 +175,7 @@ first_in_part told (request.Day r) h = h
 first_in_part told (request.Live r) h = h
 first_in_part told (request.Matrix r) h = h
 first_in_part told (request.City r) h = h
+first_in_part told (request.Check r) h = h
 first_in_part told (request.Verify r) h = h
 first_in_part told (request.Late r) h = h
 first_in_part None (request.Serve r) h = tt
@@ -169,6 +188,7 @@ left_in_part (request.Serve r) before now faults risen h = h
 left_in_part (request.Live r) before now faults risen h = h
 left_in_part (request.Matrix r) before now faults risen h = origins_in_part r.origins before now faults risen h
 left_in_part (request.City r) before now faults risen h = h
+left_in_part (request.Check r) before now faults risen h = h
 left_in_part (request.Verify r) before now faults risen h = h
 left_in_part (request.Late r) before now faults risen h = h
 
@@ -193,8 +213,15 @@ pub read_behind : (files : Option FileList) (told left : Option (List ℕ)) (r :
     IfOk text (λ v. IsRequestAnswer files told r v.items) → IfErr text (IsNoRequestAnswer files told r) → ReadsBehind files r → HasReadBehind files told left r before now
 read_behind files told left (request.Live q) text before now is refused h = no_text text is refused
 read_behind files told left (request.Matrix q) text before now is refused h = no_text text is refused
+read_behind files told left (request.Check q) text before now is refused h = no_text text is refused
 read_behind files told left (request.Day q) text before now is refused h = h
 read_behind files told left (request.Serve q) text before now is refused h = h
 read_behind files told left (request.City q) text before now is refused h = h
 read_behind files told left (request.Verify q) text before now is refused h = h
 read_behind files told left (request.Late q) text before now is refused h = h
+
+-- what holds where a text is there, holds where it was written whole
+pub where_done : (P : Type 0) (text : Text) (s : Status) (before now : Option (List ℕ)) → IfErr text IsUnwritten → IsWritten text s before now →
+    IfOk text (λ v. P) → s ≡ status.Done → P
+where_done P (Ok v) s before now none written h is = h
+where_done P (Err why) s before now none same h is = absurd (subst IsUnwritten (sym same ∙ is) none)

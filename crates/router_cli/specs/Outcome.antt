@@ -9,7 +9,7 @@ use Rattle.footpaths.specs.declared.paths.Options.{Options}
 use Rattle.gtfs_rows.specs.declared.fault.FeedFault.{FeedFault}
 use Rattle.tb_io.specs.Files.{FileList}
 use Rattle.trip_table.specs.Answers.{feed_of}
-use Rattle.trip_table.specs.Day.{IsTimetableOf}
+use Rattle.trip_table.specs.AskedDay.{IsAskedDay, IsAskedOf}
 use Rattle.command_line.specs.DayCommands.{DayRequestData}
 use Rattle.journey_read.specs.declared.claim.JourneyFault.{JourneyFault}
 use Rattle.journey_read.specs.declared.claim.JourneyFault.TheVariants as claim
@@ -32,6 +32,7 @@ status_code status.Memory = 6
 status_code (status.ScriptRefused f) = 7
 status_code (status.LateRefused f) = 8
 status_code (status.JourneyRefused f) = 9
+status_code status.FaultsFound = 10
 
 -- the text of a fault by its number and name, and by its line where it has one
 abbrev pub row_text : List ℕ → Option ℕ → List ℕ
@@ -58,8 +59,8 @@ journey_fault_text claim.TooLong = codes "4 TooLong"
 abbrev pub status_text : Status → List ℕ
 status_text status.Done = []
 status_text status.Usage =
-    codes "usage: router [--change SECS] [--station SECS] [--close] [--days N] [--workers N]"
-    ++ codes " [--plain] [--lanes N] [--mirror] [--csv] COMMAND WORDS\n"
+    codes "usage: router [--change SECS] [--station SECS] [--close] [--lenient] [--days N]"
+    ++ codes " [--workers N] [--plain] [--lanes N] [--mirror] [--csv] COMMAND WORDS\n"
 status_text (status.FeedRefused f) = codes "router: feed refused: " ++ fault_text f ++ codes "\n"
 status_text status.ReadFault = codes "router: read fault\n"
 status_text status.WriteFault = codes "router: write fault\n"
@@ -70,6 +71,7 @@ status_text (status.LateRefused f) =
     codes "router: late refused: " ++ late_fault_text f ++ codes "\n"
 status_text (status.JourneyRefused f) =
     codes "router: journey refused: " ++ journey_fault_text f ++ codes "\n"
+status_text status.FaultsFound = []
 
 -- Whether a text is written whole, or only some first bytes of it, by the bytes that a sink held
 -- before and holds now.
@@ -83,6 +85,7 @@ WritesText text s before now = ⊥
 abbrev pub IsUnwritten : Status → Type 0
 IsUnwritten status.Done = ⊥
 IsUnwritten status.WriteFault = ⊥
+IsUnwritten status.FaultsFound = ⊥
 IsUnwritten s = ⊤
 
 -- the status of a request whose text is written whole, or that has none for this reason
@@ -105,11 +108,21 @@ Writes IsText Comes s before now = Comes s
 abbrev pub EndsBy : Status → Status → Type 0
 EndsBy expected s = (s ≡ expected) ⊎ (s ≡ status.Memory)
 
--- what becomes of a day, by the files that a folder tells: its timetable, or the first thing that
--- is wrong with the feed
-abbrev pub IsDayOf : Option FileList → List ℕ → ℕ → Options → Result TimetableData FeedFault
-    → Type 0
-IsDayOf files dir date options = IsTimetableOf (feed_of files dir) date options
+-- what becomes of a day, by the files that a folder tells: its timetable, or the fault for which
+-- the feed is refused, as the options ask for it
+pub record IsDayOf (files : Option FileList) (dir : List ℕ) (date : ℕ) (options : Options)
+    (day : Result TimetableData FeedFault) : Type 0 where
+  pub asked : IsAskedDay (feed_of files dir) date options day
+
+-- rows are left out of a day for these faults, and it has a timetable
+pub record IsLeftOut (files : Option FileList) (dir : List ℕ) (date : ℕ) (options : Options)
+    (faults : List FeedFault) : Type 0 where
+  pub table : TimetableData
+  pub asked : IsAskedOf (feed_of files dir) date options faults (Ok table)
+
+-- the same where the folder tells its files
+abbrev pub LeavesOut : Option FileList → List ℕ → ℕ → Options → List FeedFault → Type 0
+LeavesOut files dir date options faults = IsSome files → IsLeftOut files dir date options faults
 
 -- a day of a folder gives this: a sound timetable, that of the day where the folder tells its
 -- files; or, where it tells them, the feed's first fault

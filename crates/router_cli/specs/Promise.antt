@@ -4,27 +4,31 @@ use Rattle.std.specs.Io.KnownBytes.{Consumes}
 use Rattle.tb_base.specs.TimetableData.{TimetableData}
 use Rattle.gtfs_rows.specs.declared.fault.FeedFault.{FeedFault}
 use Rattle.tb_io.specs.Files.{FileList}
+use Rattle.trip_table.specs.Answers.{feed_of}
+use Rattle.trip_table.specs.AskedDay.{AreFaultsOf}
 use Rattle.command_line.specs.declared.request.Request.{Request}
 use Rattle.command_line.specs.declared.request.Request.TheVariants as request
 use Rattle.live_turns.specs.Live.{HasLivedUntil}
 use Rattle.live_turns.specs.declared.live.lived.LiveFault.TheVariants as live
 use Rattle.lane_serve.specs.Script.{script_of}
 use Rattle.edition_build.specs.Plans.{FirstGives}
+use Rattle.router_cli.specs.Checks.{IsCheckEnding, IsCheckOutcome}
 use Rattle.router_cli.specs.Cities.{IsCityText, IsNoCityText}
 use Rattle.router_cli.specs.LateTrips.{IsLateAnswer, IsLateEnding, IsNoLateAnswer}
 use Rattle.router_cli.specs.Living.{IsLiveOutcome, first_items, mode_of}
 use Rattle.router_cli.specs.Matrices.{HasMatrixDay, IsMatrixEnding, IsMatrixOutcome, LeavesOrigins, naming_bytes}
-use Rattle.router_cli.specs.Outcome.{EndsBy, IsDayAnswer, IsDayEnding, IsDayOf, IsNoDayAnswer, Writes}
+use Rattle.router_cli.specs.Outcome.{EndsBy, IsDayAnswer, IsDayEnding, IsDayOf, IsNoDayAnswer, LeavesOut, Writes}
 use Rattle.router_cli.specs.Serving.{IsNoRunAnswer, IsRunAnswer, IsRunEnding, TellsScript, plan_of}
 use Rattle.router_cli.specs.Verifying.{HasDay, IsNoVerifyAnswer, IsVerifyAnswer, IsVerifyEnding, LeavesClaim}
 use Rattle.router_cli.specs.declared.status.Status.{Status}
 use Rattle.router_cli.specs.declared.status.Status.TheVariants as status
 
--- a request whose text is gathered before its first byte is written: any one but that for a
--- process that lives and that for a matrix, which write as they go
+-- a request whose text alone says how it ends, and is gathered before its first byte is written:
+-- any one but a check, and those for a process that lives and for a matrix, which write as they go
 abbrev pub IsGathered : Request → Type 0
 IsGathered (request.Live r) = ⊥
 IsGathered (request.Matrix r) = ⊥
+IsGathered (request.Check r) = ⊥
 IsGathered r = ⊤
 
 -- the words ask for a process that lives
@@ -45,6 +49,7 @@ IsRequestAnswer files told (request.Day r) = IsDayAnswer files r
 IsRequestAnswer files told (request.Serve r) = IsRunAnswer files told r
 IsRequestAnswer files told (request.Live r) = λ bytes. ⊥
 IsRequestAnswer files told (request.Matrix r) = λ bytes. ⊥
+IsRequestAnswer files told (request.Check r) = λ bytes. ⊥
 IsRequestAnswer files told (request.City r) = IsCityText r.json r.side
 IsRequestAnswer files told (request.Verify r) = IsVerifyAnswer files told r
 IsRequestAnswer files told (request.Late r) = IsLateAnswer files r
@@ -55,6 +60,7 @@ IsNoRequestAnswer files told (request.Day r) = IsNoDayAnswer files r
 IsNoRequestAnswer files told (request.Serve r) = IsNoRunAnswer files told r
 IsNoRequestAnswer files told (request.Live r) = λ s. ⊥
 IsNoRequestAnswer files told (request.Matrix r) = λ s. ⊥
+IsNoRequestAnswer files told (request.Check r) = λ s. ⊥
 IsNoRequestAnswer files told (request.City r) = IsNoCityText
 IsNoRequestAnswer files told (request.Verify r) = IsNoVerifyAnswer files told r
 IsNoRequestAnswer files told (request.Late r) = IsNoLateAnswer files r
@@ -67,6 +73,7 @@ abbrev pub IsRequestOutcome : Option FileList → ℕ → ℕ → Option (List �
 IsRequestOutcome files faults risen told left (request.Live r) =
     IsLiveOutcome files r.options (mode_of r) (first_items r) faults risen told left
 IsRequestOutcome files faults risen told left (request.Matrix r) = IsMatrixOutcome files told r
+IsRequestOutcome files faults risen told left (request.Check r) = IsCheckOutcome files r
 IsRequestOutcome files faults risen told left r =
     Writes (IsRequestAnswer files told r) (IsNoRequestAnswer files told r)
 
@@ -84,6 +91,9 @@ IsRequestEnding files told (request.Live r) s =
 IsRequestEnding files told (request.Matrix r) s =
     (day : Result TimetableData FeedFault) → IsDayOf files r.dir r.date r.options day →
     IsMatrixEnding (naming_bytes files told r.origins) day s
+IsRequestEnding files told (request.Check r) s =
+    (faults : List FeedFault) → AreFaultsOf (feed_of files r.dir) r.date r.options faults →
+    IsCheckEnding faults s
 IsRequestEnding files told (request.City r) s = EndsBy status.Done s
 IsRequestEnding files told (request.Verify r) s =
     (day : Result TimetableData FeedFault) → IsDayOf files r.dir r.date r.options day →
@@ -91,6 +101,14 @@ IsRequestEnding files told (request.Verify r) s =
 IsRequestEnding files told (request.Late r) s =
     (day : Result TimetableData FeedFault) → IsDayOf files r.dir r.date r.options day →
     IsLateEnding files r day s
+
+-- for which faults rows are left out of the day of a request; of the days of a run nothing is told
+abbrev pub TellsLeftOut : Option FileList → Request → List FeedFault → Type 0
+TellsLeftOut files (request.Day r) faults = LeavesOut files r.dir r.date r.options faults
+TellsLeftOut files (request.Verify r) faults = LeavesOut files r.dir r.date r.options faults
+TellsLeftOut files (request.Late r) faults = LeavesOut files r.dir r.date r.options faults
+TellsLeftOut files (request.Matrix r) faults = LeavesOut files r.dir r.date r.options faults
+TellsLeftOut files r faults = faults ≡ []
 
 -- a script's first fault comes before what the feeds give
 abbrev pub TellsFirst : Option (List ℕ) → Request → Status → Type 0

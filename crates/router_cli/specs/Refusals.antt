@@ -1,8 +1,10 @@
 -- The line of standard error as JSON.
 use Rattle.std.specs.Prelude.{ℕ, List, [], ◌++◌, codes, Bool, Some, None, if◌then◌else◌}
 use Rattle.std.specs.Fmt.{decimal}
+use Rattle.answer_json.specs.Checks.{shown_left_out}
 use Rattle.answer_json.specs.Faults.{fault_json, line_fault_json}
 use Rattle.answer_json.specs.Frames.{member_json}
+use Rattle.gtfs_rows.specs.declared.fault.FeedFault.{FeedFault}
 use Rattle.journey_read.specs.declared.claim.JourneyFault.{JourneyFault}
 use Rattle.journey_read.specs.declared.claim.JourneyFault.TheVariants as claim
 use Rattle.edition_build.specs.LateFaults.{late_fault_json}
@@ -45,9 +47,10 @@ refusal_json number message fault =
 -- the line that it writes to standard error
 abbrev pub status_json : Status → List ℕ
 status_json status.Done = []
+status_json status.FaultsFound = []
 status_json status.Usage =
-    ending_json 2 (codes "usage: router [--change SECS] [--station SECS] [--close] [--days N]"
-    ++ codes " [--workers N] [--plain] [--lanes N] [--mirror] [--csv] [--json] COMMAND WORDS")
+    ending_json 2 (codes "usage: router [--change SECS] [--station SECS] [--close] [--lenient]"
+    ++ codes " [--days N] [--workers N] [--plain] [--lanes N] [--mirror] [--csv] [--json] COMMAND WORDS")
 status_json (status.FeedRefused f) = refusal_json 3 (codes "feed refused") (fault_json f)
 status_json status.ReadFault = ending_json 4 (codes "read fault")
 status_json status.WriteFault = ending_json 5 (codes "write fault")
@@ -61,3 +64,8 @@ status_json (status.JourneyRefused f) =
 -- the line as JSON, or as a text
 abbrev pub status_shown : Bool → Status → List ℕ
 status_shown json s = if json then status_json s else status_text s
+
+-- all that it writes to standard error: with an answer for which faults rows were left out
+abbrev pub end_shown : Bool → List FeedFault → Status → List ℕ
+end_shown json left_out status.Done = shown_left_out json left_out
+end_shown json left_out s = status_shown json s

@@ -10,7 +10,7 @@ ghost use Rattle.late_edit.specs.LateFiles.{UpdatesGive};
 ghost use Rattle.query_gate.specs.Callers.{CallerData};
 ghost use Rattle.tb_base.specs.Workers.{AreWorkers};
 ghost use Rattle.router_cli.specs.Answers.{ShowsReply};
-ghost use Rattle.router_cli.specs.Outcome.{LeavesFolder};
+ghost use Rattle.router_cli.specs.Outcome.{LeavesFolder, LeavesOut};
 ghost use Rattle.router_cli.specs.LateTrips.{HasNoUpdates, IsAmendedText, IsLateAnswer, IsLateText, IsNoLateAnswer, IsNotAmended, amended_json, amended_shown, amended_text, ask_of};
 
 use crate::day::table_of;
@@ -20,6 +20,7 @@ use answer_text::{Question, Text};
 use command_line::{Inquiry, LateRequest};
 use edition_build::build_edition;
 use edition_store::{Edition, Last, Naming, Opened, Publisher, Seat, Shared, Store};
+use gtfs_rows::FeedFault;
 use late_edit::{Amended, LateFault, LateTaken, Update, amend, take_late};
 use query_gate::{Caller, shown_reply};
 use std::alloc::Global;
@@ -308,16 +309,27 @@ pub(crate) fn late_text<R: Threads + Wait + Sync, F: Folder, G: Gate>(
     alloc: Global,
     request: &LateRequest,
     folder: &mut F,
+    left_out: &mut Vec<FeedFault>,
     gate: &G,
 ) -> Result<Vec<u8>, Status>
-    requires { F.faults folder.old < 2 ^ 64 - 1 }
+    requires count { F.faults folder.old < 2 ^ 64 - 1 }
+    requires none { left_out.old.items ≡ [] }
     ensures text { IfOk result (λ text.
         IsLateAnswer (F.files folder.old) request.now text.items) }
     ensures refused { IfErr result (IsNoLateAnswer (F.files folder.old) request.now) }
+    ensures left_out { IfOk result (λ _. LeavesOut (F.files folder.old) request.now.dir
+        request.now.date request.now.options left_out.new.items) }
     ensures leaves { LeavesFolder (result ≡ Err Status.ReadFault) (F.files folder.old)
         (F.files folder.new) (F.faults folder.old) (F.faults folder.new) }
 {
-    let table = match table_of(alloc, folder, request.dir, &request.day, &request.options) {
+    let table = match table_of(
+        alloc,
+        folder,
+        request.dir,
+        &request.day,
+        &request.options,
+        left_out,
+    ) {
         Ok(table) => table,
         Err(status) => return Err(status),
     };

@@ -9,6 +9,7 @@
 #![tactic(auto)]
 
 mod answers;
+mod checking;
 mod day;
 mod late_trips;
 mod living;
@@ -25,5 +26,5 @@ mod writing;
 
 pub use command_line::asks_json;
 pub use program::route;
-pub use refusals::{end, status_shown};
+pub use refusals::{end, end_shown, status_shown};
 pub use status::Status;

@@ -1,14 +1,15 @@
 //! What the program writes of the travel times from many origins.
-ghost use Rattle.std.specs.Prelude.{◌≡◌, ◌⊎◌, ◌<◌, ◌≤◌, ◌-◌, ◌^◌, Err, IfErr, IfOk, IfSome, Ok, option_map, vec_len};
+ghost use Rattle.std.specs.Prelude.{◌≡◌, ◌⊎◌, ◌<◌, ◌≤◌, ◌-◌, ◌^◌, [], Err, IfErr, IfOk, IfSome, Ok, option_map, vec_len};
 ghost use Rattle.command_line.specs.Matrices.{HasDepartures};
 ghost use Rattle.router_cli.specs.Matrices.{HasMatrixDay, IsMatrixOutcome, IsMatrixOver, IsTooLong, LeavesNaming, LeavesOrigins, NameNone, NameOrigins, WritesRows, asked_of, form_of, naming_bytes};
-ghost use Rattle.router_cli.specs.Outcome.{LeavesOutside};
+ghost use Rattle.router_cli.specs.Outcome.{LeavesOut, LeavesOutside};
 
 use crate::day::table_of;
 use crate::status::Status;
 use command_line::{Departing, MatrixRequest, OriginsNamed};
 use edition_build::build;
 use edition_store::Edition;
+use gtfs_rows::FeedFault;
 use lane_serve::{MatrixFault, RowForm, ScriptFault, TimesAsked, read_origins, write_matrix};
 use std::alloc::Global;
 use std::thread::Threads;
@@ -214,13 +215,17 @@ pub(crate) fn matrix_status<R: Threads + Sync, F: Folder, S: Source, K: Sink, G:
     folder: &mut F,
     source: &mut S,
     out: &mut K,
+    left_out: &mut Vec<FeedFault>,
     gate: &G,
 ) -> Status
     requires folder { F.faults folder.old < 2 ^ 64 - 1 }
+    requires none { left_out.old.items ≡ [] }
     requires source { S.faults source.old < 2 ^ 64 - 1 }
     requires out { K.faults out.old < 2 ^ 64 - 1 }
     ensures outcome { IsMatrixOutcome (F.files folder.old) (S.left source.old) request.now result
         (K.written out.old) (K.written out.new) }
+    ensures left_out { result ≡ Status.Done → LeavesOut (F.files folder.old) request.now.dir
+        request.now.date request.now.options left_out.new.items }
     ensures later { result ≡ Status.ReadFault → F.faults folder.new ≡ F.faults folder.old →
         HasMatrixDay (F.files folder.old) request.now }
     ensures read { result ≡ Status.ReadFault → (F.faults folder.old < F.faults folder.new)
@@ -237,7 +242,14 @@ pub(crate) fn matrix_status<R: Threads + Sync, F: Folder, S: Source, K: Sink, G:
     ensures left { LeavesOrigins request.now.origins result (S.left source.old)
         (S.left source.new) (S.faults source.old) (S.faults source.new) }
 {
-    match table_of(alloc, folder, request.dir, &request.day, &request.options) {
+    match table_of(
+        alloc,
+        folder,
+        request.dir,
+        &request.day,
+        &request.options,
+        left_out,
+    ) {
         Ok(table) => rows_over(rt, alloc, request, table, folder, source, out, gate),
         Err(status) => status,
     }

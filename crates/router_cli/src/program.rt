@@ -1,9 +1,10 @@
 //! All that the program does.
-ghost use Rattle.std.specs.Prelude.{◌≡◌, ◌⊎◌, ◌<◌, ◌-◌, ◌^◌, Err, IfErr, IfOk, IfSome, IsSome, None, Some, map, string_bytes};
+ghost use Rattle.std.specs.Prelude.{◌≡◌, ◌⊎◌, ◌<◌, ◌-◌, ◌^◌, [], Err, IfErr, IfOk, IfSome, IsSome, None, Some, map, string_bytes};
 ghost use Rattle.command_line.specs.Requests.{request_of};
 ghost use Rattle.router_cli.specs.Outcome.{LeavesOutside, status_of_text};
-ghost use Rattle.router_cli.specs.Promise.{AskLive, HasReadBehind, IsGathered, IsNoRequestAnswer, IsRequestAnswer, IsRequestEnding, IsRequestOutcome, LeavesScript, ReadsBehind, TellsFirst, WriteAsTheyGo};
+ghost use Rattle.router_cli.specs.Promise.{AskLive, HasReadBehind, IsGathered, IsNoRequestAnswer, IsRequestAnswer, IsRequestEnding, IsRequestOutcome, LeavesScript, ReadsBehind, TellsFirst, TellsLeftOut, WriteAsTheyGo};
 
+use crate::checking::check_status;
 use crate::day::day_text;
 use crate::late_trips::late_text;
 use crate::living::live_status;
@@ -14,12 +15,13 @@ use crate::status::Status;
 use crate::verifying::verify_text;
 use crate::writing::write;
 use command_line::{Request, request_of};
+use gtfs_rows::FeedFault;
 use std::alloc::Global;
 use std::sync::Wait;
 use std::thread::Threads;
 use tb_base::{Gate, Memory};
 use tb_io::{Folder, Sink, Source};
-use trip_table::laws::timetable_determined;
+use trip_table::laws::{asked_determined, lenient_determined};
 
 // What is written for a request whose text is gathered first, or why nothing is.
 fn request_text<R: Threads + Wait + Sync, F: Folder + Send, S: Source, G: Gate>(
@@ -28,9 +30,11 @@ fn request_text<R: Threads + Wait + Sync, F: Folder + Send, S: Source, G: Gate>(
     request: Request,
     folder: &mut F,
     source: &mut S,
+    left_out: &mut Vec<FeedFault>,
     gate: &G,
 ) -> Result<Vec<u8>, Status>
     requires gathered { IsGathered request }
+    requires none { left_out.old.items ≡ [] }
     requires folder { F.faults folder.old < 2 ^ 64 - 1 }
     requires source { S.faults source.old < 2 ^ 64 - 1 }
     ensures text { IfOk result (λ text.
@@ -41,6 +45,8 @@ fn request_text<R: Threads + Wait + Sync, F: Folder + Send, S: Source, G: Gate>(
         TellsFirst (S.left source.old) request.entry (status_of_text result) }
     ensures later { result ≡ Err Status.ReadFault → F.faults folder.new ≡ F.faults folder.old →
         ReadsBehind (F.files folder.old) request.entry }
+    ensures left_out { IfOk result (λ _.
+        TellsLeftOut (F.files folder.old) request.entry left_out.new.items) }
     ensures leaves { LeavesOutside (result ≡ Err Status.ReadFault) (F.files folder.old)
         (F.files folder.new) (F.faults folder.old) (F.faults folder.new) (S.faults source.old)
         (S.faults source.new) }
@@ -49,23 +55,23 @@ fn request_text<R: Threads + Wait + Sync, F: Folder + Send, S: Source, G: Gate>(
 {
     match request {
         Request::Day(request) => {
-            let text = day_text(rt, alloc, &request, folder, gate);
+            let text = day_text(rt, alloc, &request, folder, left_out, gate);
             drop(request);
             text
         }
         Request::Serve(request) => run_text(rt, alloc, request, folder, source, gate),
-        Request::Live(_) | Request::Matrix(_) => unreachable!(),
+        Request::Live(_) | Request::Matrix(_) | Request::Check(_) => unreachable!(),
         Request::City(request) => {
             let workers = request.workers;
             Ok(city_text(rt, alloc, request.json, request.side, workers, gate)?)
         }
         Request::Verify(request) => {
-            let text = verify_text(alloc, &request, folder, source);
+            let text = verify_text(alloc, &request, folder, source, left_out);
             drop(request);
             text
         }
         Request::Late(request) => {
-            let text = late_text(rt, alloc, &request, folder, gate);
+            let text = late_text(rt, alloc, &request, folder, left_out, gate);
             drop(request);
             text
         }
@@ -76,10 +82,11 @@ fn request_text<R: Threads + Wait + Sync, F: Folder + Send, S: Source, G: Gate>(
 /// script to the bytes written to `out`. The order is: words, script, feeds, work, output.
 ///
 /// `Usage` comes only where the words have no meaning, and there nothing comes but it and `Memory`.
-/// With any status but `Done` and `WriteFault` nothing is written, since the whole text is gathered
-/// before its first byte is written; with `WriteFault` a first part of it. Only `live` and `matrix`
-/// write as they go: `live` as the lines of the script come, `matrix` as rows are found, so that with
-/// `Memory` those of some first origins may be written. It is JSON where the words ask for that.
+/// With any status but `Done`, `FaultsFound` and `WriteFault` nothing is written, since the whole
+/// text is gathered before its first byte is written; with `WriteFault` a first part of it. Only
+/// `live` and `matrix` write as they go: `live` as the lines of the script come, `matrix` as rows are
+/// found, so that with `Memory` those of some first origins may be written. It is JSON where the
+/// words ask for that. `FaultsFound` comes for a check alone: it was written whole, and tells faults.
 /// Whatever the folder is, what is written is the answer over sound timetables; where it tells its
 /// contents, over those of the days. A script is read by a run of several days alone; its first fault
 /// comes before what the feeds give. A claim is read from the same source, and so are origins that no
@@ -87,7 +94,10 @@ fn request_text<R: Threads + Wait + Sync, F: Folder + Send, S: Source, G: Gate>(
 /// trips, come only where the day has a timetable. Where a read fails, it is of the folder or of the
 /// source, and never of both. `Memory` may come at any time, and no fault in another status tells of
 /// it. Where contents are told and no count of faults rises, the end is the first fault, or `Done`
-/// where there is none; or `Memory`.
+/// where there is none; or `Memory`; a check ends with `Done` exactly where there is no fault.
+///
+/// With `Done` the faults for which rows of the request's day are left out are in `left_out`. There
+/// are none but with `--lenient`; of the days of a run, which are read likewise, none are told.
 ///
 /// For `live`, where the script tells its bytes, what is written with `Done` is for each of its lines
 /// in order the text of the right reply by the edition of which it is, and these never go back; the
@@ -112,8 +122,10 @@ pub fn route<R: Threads + Wait + Sync, F: Folder + Send, S: Source, K: Sink, G: 
     folder: &mut F,
     script: &mut S,
     out: &mut K,
+    left_out: &mut Vec<FeedFault>,
     gate: &G,
 ) -> Status
+    requires none { left_out.old.items ≡ [] }
     requires folder { F.faults folder.old < 2 ^ 64 - 1 }
     requires script { S.faults script.old < 2 ^ 64 - 1 }
     requires out { K.faults out.old < 2 ^ 64 - 1 }
@@ -130,8 +142,10 @@ pub fn route<R: Threads + Wait + Sync, F: Folder + Send, S: Source, K: Sink, G: 
         result ≡ Status.ReadFault → F.faults folder.new ≡ F.faults folder.old →
         HasReadBehind (F.files folder.old) (S.left script.old) (S.left script.new) r
         (K.written out.old) (K.written out.new)) }
-    ensures quiet { (result ≡ Status.Done) ⊎ (result ≡ Status.WriteFault)
-        ⊎ (K.written out.new ≡ K.written out.old)
+    ensures left_out { IfSome (request_of (map string_bytes words.now)) (λ r.
+        result ≡ Status.Done → TellsLeftOut (F.files folder.old) r left_out.new.items) }
+    ensures quiet { (result ≡ Status.Done) ⊎ (result ≡ Status.FaultsFound)
+        ⊎ (result ≡ Status.WriteFault) ⊎ (K.written out.new ≡ K.written out.old)
         ⊎ WriteAsTheyGo (request_of (map string_bytes words.now)) }
     ensures read { result ≡ Status.ReadFault → (F.faults folder.old < F.faults folder.new)
         ⊎ (S.faults script.old < S.faults script.new) }
@@ -153,18 +167,24 @@ pub fn route<R: Threads + Wait + Sync, F: Folder + Send, S: Source, K: Sink, G: 
         S.faults script.new ≡ S.faults script.old → K.faults out.new ≡ K.faults out.old →
         IsRequestEnding (F.files folder.old) (S.left script.old) r result) }
 {
-    timetable_determined();
+    asked_determined();
+    lenient_determined();
     match request_of(alloc, words) {
         Ok(Some(Request::Live(request))) => {
             live_status(rt, alloc, request, folder, script, out, gate)
         }
         Ok(Some(Request::Matrix(request))) => {
-            let status = matrix_status(rt, alloc, &request, folder, script, out, gate);
+            let status = matrix_status(rt, alloc, &request, folder, script, out, left_out, gate);
+            drop(request);
+            status
+        }
+        Ok(Some(Request::Check(request))) => {
+            let status = check_status(alloc, &request, folder, out);
             drop(request);
             status
         }
         Ok(Some(request)) => {
-            let text = request_text(rt, alloc, request, folder, script, gate);
+            let text = request_text(rt, alloc, request, folder, script, left_out, gate);
             write(out, text)
         }
         Ok(None) => Status::Usage,

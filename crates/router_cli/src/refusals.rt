@@ -4,10 +4,10 @@ ghost use Rattle.answer_json.specs.Faults.{fault_json};
 ghost use Rattle.edition_build.specs.LateFaults.{late_fault_json};
 ghost use Rattle.std.specs.Process.{exit_status};
 ghost use Rattle.router_cli.specs.Outcome.{status_code};
-ghost use Rattle.router_cli.specs.Refusals.{ending_json, journey_fault_json, refusal_json, script_fault_json, status_head, status_json, status_shown};
+ghost use Rattle.router_cli.specs.Refusals.{end_shown, ending_json, journey_fault_json, refusal_json, script_fault_json, status_head, status_json, status_shown};
 
 use crate::status::{Status, status_text};
-use answer_json::{add_fault, add_line_fault, add_member};
+use answer_json::{add_fault, add_line_fault, add_member, shown_left_out};
 use answer_text::Text;
 use edition_build::add_late_fault_json;
 use gtfs_rows::FeedFault;
@@ -20,7 +20,7 @@ use std::str;
 use tb_base::Memory;
 
 const USAGE: &[u8] =
-    b"usage: router [--change SECS] [--station SECS] [--close] [--days N] [--workers N] [--plain] [--lanes N] [--mirror] [--csv] [--json] COMMAND WORDS";
+    b"usage: router [--change SECS] [--station SECS] [--close] [--lenient] [--days N] [--workers N] [--plain] [--lanes N] [--mirror] [--csv] [--json] COMMAND WORDS";
 
 // Adds a fault of a script.
 fn add_script_fault(text: &mut Text, fault: ScriptFault) -> Result<(), Memory>
@@ -114,7 +114,7 @@ fn add_status(text: &mut Text, status: &Status) -> Result<(), Memory>
     ensures { OnOk result (text.new ≡ text.old ++ status_json status.now) }
 {
     match status {
-        Status::Done => Ok(()),
+        Status::Done | Status::FaultsFound => Ok(()),
         Status::Usage => add_ending(text, 2, USAGE),
         Status::FeedRefused(fault) => add_feed_refusal(text, fault),
         Status::ReadFault => add_ending(text, 4, b"read fault"),
@@ -126,7 +126,7 @@ fn add_status(text: &mut Text, status: &Status) -> Result<(), Memory>
     }
 }
 
-// The line for standard error as JSON. Nothing for `Done`.
+// The line for standard error as JSON. Nothing for `Done` and `FaultsFound`.
 fn status_json(alloc: Global, status: &Status) -> Result<Vec<u8>, Memory>
     ensures { IfOk result (λ v. v.items ≡ status_json status.now) }
 {
@@ -135,7 +135,8 @@ fn status_json(alloc: Global, status: &Status) -> Result<Vec<u8>, Memory>
     Ok(text.into_bytes())
 }
 
-/// The line for standard error with its end of line, as JSON or as a text. Nothing for `Done`.
+/// The line for standard error with its end of line, as JSON or as a text. Nothing for `Done` and
+/// `FaultsFound`.
 pub fn status_shown(alloc: Global, json: bool, status: &Status) -> Result<Vec<u8>, Memory>
     ensures { IfOk result (λ v. v.items ≡ status_shown json status.now) }
 {
@@ -146,13 +147,35 @@ pub fn status_shown(alloc: Global, json: bool, status: &Status) -> Result<Vec<u8
     }
 }
 
-/// Writes how the program ended to standard error, as JSON or as a text, and gives the number to end
-/// with. Where there is no memory for the line, or standard error fails, nothing is said. The number
-/// is in the clause; what is written is in none.
-pub fn end(rt: &(impl Eprint + AllocGlobal), json: bool, status: Status) -> ExitCode
+/// What is written to standard error, as JSON or as a text: with `Done` what was left out for these
+/// faults of the feed, and nothing where there are none; else the line of the status.
+pub fn end_shown(
+    alloc: Global,
+    json: bool,
+    left_out: &[FeedFault],
+    status: &Status,
+) -> Result<Vec<u8>, Memory>
+    ensures { IfOk result (λ v. v.items ≡ end_shown json left_out.now status.now) }
+{
+    match status {
+        Status::Done => shown_left_out(alloc, json, left_out),
+        _ => status_shown(alloc, json, status),
+    }
+}
+
+/// Writes to standard error, as JSON or as a text, how the program ended, and with an answer what was
+/// left out for these faults of the feed; and gives the number to end with. Where there is no memory
+/// for the line, or standard error fails, nothing is said. The number is in the clause; what is
+/// written is in none.
+pub fn end(
+    rt: &(impl Eprint + AllocGlobal),
+    json: bool,
+    left_out: &[FeedFault],
+    status: Status,
+) -> ExitCode
     ensures { exit_status result ≡ status_code status }
 {
-    if let Ok(line) = status_shown(rt.alloc(), json, &status) {
+    if let Ok(line) = end_shown(rt.alloc(), json, left_out, &status) {
         if let Ok(text) = str::from_utf8(line.as_slice()) {
             let _ = eprint!(rt; "{text}");
         }

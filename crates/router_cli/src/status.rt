@@ -13,7 +13,7 @@ use std::alloc::Global;
 use tb_base::Memory;
 
 const USAGE: &[u8] =
-    b"usage: router [--change SECS] [--station SECS] [--close] [--days N] [--workers N] [--plain] [--lanes N] [--mirror] [--csv] COMMAND WORDS\n";
+    b"usage: router [--change SECS] [--station SECS] [--close] [--lenient] [--days N] [--workers N] [--plain] [--lanes N] [--mirror] [--csv] COMMAND WORDS\n";
 
 /// How the program ends. No status but `Memory` tells of want of memory.
 #[derive(Debug, Drop)]
@@ -36,6 +36,8 @@ pub enum Status {
     LateRefused(LateFault),
     /// The claimed journey has this first fault.
     JourneyRefused(JourneyFault),
+    /// The check was written whole, and it tells faults.
+    FaultsFound,
 }
 
 impl From<Memory> for Status {
@@ -50,7 +52,7 @@ impl From<Memory> for Status {
 }
 
 impl Status {
-    /// The number with which the program ends: 0 for `Done`, and 2 to 9 for the others in their
+    /// The number with which the program ends: 0 for `Done`, and 2 to 10 for the others in their
     /// order.
     pub fn code(&self) -> u8
         ensures { result ≡ status_code self.now }
@@ -65,16 +67,17 @@ impl Status {
             Status::ScriptRefused(_) => 7,
             Status::LateRefused(_) => 8,
             Status::JourneyRefused(_) => 9,
+            Status::FaultsFound => 10,
         }
     }
 }
 
-/// The line for standard error, with its end of line. Nothing for `Done`.
+/// The line for standard error, with its end of line. Nothing for `Done` and `FaultsFound`.
 pub(crate) fn status_text(alloc: Global, status: &Status) -> Result<Vec<u8>, Memory>
     ensures { IfOk result (λ v. v.items ≡ status_text status.now) }
 {
     match status {
-        Status::Done => Ok(Vec::new(alloc)),
+        Status::Done | Status::FaultsFound => Ok(Vec::new(alloc)),
         Status::Usage => copied(alloc, USAGE),
         Status::FeedRefused(fault) => feed_refusal_text(alloc, fault),
         Status::ReadFault => copied(alloc, b"router: read fault\n"),

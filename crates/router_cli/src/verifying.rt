@@ -1,9 +1,9 @@
 //! What the program writes about a claimed journey.
-ghost use Rattle.std.specs.Prelude.{◌≡◌, ◌<◌, ◌-◌, ◌^◌, Err, IfErr, IfOk, List, Ok, length, ℕ};
+ghost use Rattle.std.specs.Prelude.{◌≡◌, ◌<◌, ◌-◌, ◌^◌, [], Err, IfErr, IfOk, List, Ok, length, ℕ};
 ghost use Rattle.std.specs.Io.KnownBytes.{Consumes};
 ghost use Rattle.tb_base.specs.BestValues.{ChoiceData};
 ghost use Rattle.tb_base.specs.Refusals.{Yields};
-ghost use Rattle.router_cli.specs.Outcome.{LeavesOutside, status_of_text};
+ghost use Rattle.router_cli.specs.Outcome.{LeavesOut, LeavesOutside, status_of_text};
 ghost use Rattle.router_cli.specs.Verifying.{ClaimGives, HasDay, IsNoClaim, IsNoVerifyAnswer, IsVerifyAnswer, IsVerifiedText, LeavesClaim, claim_as};
 
 use crate::day::table_of;
@@ -12,6 +12,7 @@ use crate::status::Status;
 use crate::verdicts::verdict_shown;
 use answer_json::shown_unknown;
 use command_line::{Inquiry, VerifyRequest};
+use gtfs_rows::FeedFault;
 use journey_read::{Claimed, JourneyFault, judge, read_journey, read_json_journey};
 use std::alloc::Global;
 use tb_base::{Memory, Refused, Timetable};
@@ -115,8 +116,10 @@ pub(crate) fn verify_text<F: Folder, S: Source>(
     request: &VerifyRequest,
     folder: &mut F,
     source: &mut S,
+    left_out: &mut Vec<FeedFault>,
 ) -> Result<Vec<u8>, Status>
     requires folder { F.faults folder.old < 2 ^ 64 - 1 }
+    requires none { left_out.old.items ≡ [] }
     requires source { S.faults source.old < 2 ^ 64 - 1 }
     ensures text { IfOk result (λ text.
         IsVerifyAnswer (F.files folder.old) (S.left source.old) request.now text.items) }
@@ -124,13 +127,22 @@ pub(crate) fn verify_text<F: Folder, S: Source>(
         (IsNoVerifyAnswer (F.files folder.old) (S.left source.old) request.now) }
     ensures later { result ≡ Err Status.ReadFault → F.faults folder.new ≡ F.faults folder.old →
         HasDay (F.files folder.old) request.now }
+    ensures left_out { IfOk result (λ _. LeavesOut (F.files folder.old) request.now.dir
+        request.now.date request.now.options left_out.new.items) }
     ensures leaves { LeavesOutside (result ≡ Err Status.ReadFault) (F.files folder.old)
         (F.files folder.new) (F.faults folder.old) (F.faults folder.new) (S.faults source.old)
         (S.faults source.new) }
     ensures left { LeavesClaim (status_of_text result) (S.left source.old) (S.left source.new)
         (S.faults source.old) (S.faults source.new) }
 {
-    let table = match table_of(alloc, folder, request.dir, &request.day, &request.options) {
+    let table = match table_of(
+        alloc,
+        folder,
+        request.dir,
+        &request.day,
+        &request.options,
+        left_out,
+    ) {
         Ok(table) => table,
         Err(status) => return Err(status),
     };

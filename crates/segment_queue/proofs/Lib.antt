@@ -8,3 +8,5 @@ pub mod LineViews
 pub mod KeptLevels
 pub mod Rounds
 pub mod Settled
+pub mod OpenPlaces
+pub mod Clips

@@ -1,6 +1,6 @@
 -- What a search sees of lines: the trips from one on, the line indices at a stop, and who boards
 -- there.
-use Rattle.std.specs.Prelude.{◌≡◌, ℕ, ◌<◌, ◌≤◌, ◌==◌, Contains, List, [], ◌∷◌, Option, None, length, map, filter, flat_map, slice_index_or, if◌then◌else◌, ℤ, pos}
+use Rattle.std.specs.Prelude.{◌≡◌, ℕ, ◌<◌, ◌≤◌, ◌==◌, ◌⊎◌, Contains, List, [], ◌∷◌, Option, None, Some, slice_get, length, map, filter, flat_map, slice_index_or, if◌then◌else◌, ℤ, pos}
 use Rattle.std.specs.List.{list_any}
 use Rattle.std.specs.Option.{option_map}
 use Rattle.tb_base.specs.declared.transfer.Hop.{Hop}
@@ -95,3 +95,8 @@ boarding_hop T b time =
     if may_be_boarded T (first_trip b.line) b.at
     then option_map (λ u. record { trip = u; at = b.at }) (earliest_trip T b.line b.at time)
     else None
+
+-- each of the hops with a place from one up to another has been passed, or its place is one of these
+abbrev pub HoldOpen : (Hop → Type 0) → List Hop → ℕ → ℕ → List ℕ → Type 0
+HoldOpen passed hops from to places = (k : ℕ) (h : Hop) → from ≤ k → k < to →
+    slice_get hops k ≡ Some h → passed h ⊎ Contains places k

@@ -1,5 +1,6 @@
-ghost use Rattle.std.specs.Prelude.{◌≡◌, ◌≤◌, All, length};
+ghost use Rattle.std.specs.Prelude.{◌≡◌, ◌-◌, ◌≤◌, All, length};
 ghost use Rattle.std.specs.List.{AllWithin};
+ghost use Rattle.segment_queue.specs.Clipped.{AreClipped};
 ghost use Rattle.segment_queue.specs.Queue.{IsInStep, IsSoundSegment};
 ghost use Rattle.segment_queue.specs.Scans.{AreEvents};
 
@@ -60,17 +61,20 @@ fn stretch_end(n: u32, to: u32) -> u32
 }
 
 impl Desk {
-    // Reads ahead what clips each of these segments.
-    fn read_clips<S: Scan>(&self, scan: &S, from: u32, to: u32) -> Ahead
+    // Writes down up to which index each of these segments has to be looked at.
+    fn clip<S: Scan>(&self, scan: &S, from: u32, to: u32, ends: &mut [u32])
         requires step { IsInStep (S.net scan.now) self.now }
+        requires from { from ≤ to }
         requires to { to ≤ length self.now.segments }
+        requires room { to - from ≤ length ends.old }
+        ensures long { length ends.new ≡ length ends.old }
+        ensures clipped { AreClipped (S.net scan.now) self.now.marks self.now.segments from to
+            ends.new }
     {
-        let mut ahead = Ahead::new();
         for n in from..to {
             let end = self.clipped_end(scan, &self.segments[n as usize]);
-            ahead.read.take(end);
+            ends[(n - from) as usize] = end;
         }
-        ahead
     }
 
     // Reads the first event that each of these segments covers ahead.
@@ -99,34 +103,23 @@ impl Desk {
         ahead
     }
 
-    // Reads ahead what clips each segment of the stretch that begins here, and the first event that
-    // it covers.
+    /// Before segments of a round are looked at: writes down up to which index each of them has to
+    /// be looked at, and reads the first event that it covers ahead. They should be so few that
+    /// what was read is still at hand when it is looked at.
     #[inline(never)]
-    fn read_stretch<S: Scan>(&mut self, scan: &S, n: u32, to: u32)
+    pub fn clip_ahead<S: Scan>(&mut self, scan: &S, from: u32, to: u32, ends: &mut [u32])
         requires step { IsInStep (S.net scan.now) self.old }
+        requires from { from ≤ to }
         requires to { to ≤ length self.old.segments }
-        ensures { self.new ≡ self.old }
+        requires room { to - from ≤ length ends.old }
+        ensures same { self.new ≡ self.old }
+        ensures long { length ends.new ≡ length ends.old }
+        ensures clipped { AreClipped (S.net scan.now) self.old.marks self.old.segments from to
+            ends.new }
     {
-        let end = stretch_end(n, to);
-        let clips = self.read_clips(scan, n, end);
-        self.ahead.join(clips);
-        let events = self.read_events(scan, n, end);
+        self.clip(scan, from, to, ends);
+        let events = self.read_events(scan, from, to);
         self.ahead.join(events);
-    }
-
-    /// Before segment `n` of a round is looked at: at the first segment of each stretch of 128,
-    /// counted from where the round begins, reads ahead what clips each segment of the stretch and
-    /// the first event that it covers, up to number `to`. At any other segment it does nothing.
-    #[inline(always)]
-    pub fn read_segments_ahead<S: Scan>(&mut self, scan: &S, begin: u32, n: u32, to: u32)
-        requires step { IsInStep (S.net scan.now) self.old }
-        requires begin { begin ≤ n }
-        requires to { to ≤ length self.old.segments }
-        ensures { self.new ≡ self.old }
-    {
-        if begins_stretch(begin, n) {
-            self.read_stretch(scan, n, to);
-        }
     }
 
     // Reads ahead the first event that each segment of the stretch that begins here covers, and hops
@@ -144,8 +137,10 @@ impl Desk {
         self.ahead.join(hops);
     }
 
-    /// The same in a sweep, whose segments nothing clips: reads ahead the first event that each
-    /// segment of the stretch covers, and hops from there.
+    /// Before segment `n` of a round of a sweep is looked at: at the first segment of each stretch
+    /// of 128, counted from where the round begins, reads ahead the first event that each segment
+    /// of the stretch covers, up to number `to`, and hops from there. At any other segment it does
+    /// nothing.
     #[inline(always)]
     pub fn read_level_ahead<S: Scan>(&mut self, scan: &S, begin: u32, n: u32, to: u32)
         requires sound { All (IsSoundSegment (S.net scan.now).table) self.old.segments }

@@ -1,8 +1,9 @@
-ghost use Rattle.std.specs.Prelude.{◌≡◌, ◌+◌, ◌<◌, ◌≤◌, ◌++◌, ◌∷◌, [], ℕ, None, IsSomeAnd, IsTrue, ◌↔◌, MatchBool, OnErr, OnOk, All, length, replicate, slice_get, slice_index_or, vec_capacity, vec_len};
+ghost use Rattle.std.specs.Prelude.{◌≡◌, ◌+◌, ◌-◌, ◌<◌, ◌≤◌, ◌++◌, ◌∷◌, [], ℕ, None, IsSomeAnd, IsTrue, ◌↔◌, MatchBool, OnErr, OnOk, All, length, replicate, slice_get, slice_index_or, take, vec_capacity, vec_len};
+ghost use Rattle.transfer_pack.specs.Words.{lent};
 ghost use Rattle.tb_base.specs.Lines.{AreDividedInto};
 ghost use Rattle.tb_base.specs.Network.{NetData};
 ghost use Rattle.tb_base.specs.TimetableData.{TimetableData};
-ghost use Rattle.segment_queue.specs.Scans.{trips_from};
+ghost use Rattle.segment_queue.specs.Scans.{HoldOpen, trips_from};
 ghost use Rattle.segment_queue.specs.Queue.{EntersSegment, Fits, IsClipped, IsFalling, IsInStep, IsSoundSegment, last_index, lowered, mark_of};
 
 use super::ahead::Ahead;
@@ -12,6 +13,7 @@ use super::scan::Scan;
 use std::alloc::Global;
 use std::marker::Model;
 use tb_base::{Memory, Query, StopNo, TripNo, Value};
+use transfer_pack::Hops;
 
 /// A part of a trip: boarded at `board`, and looked at no further than `end`. It was hopped onto
 /// from the segment with the first number of `parent`, at the second number, an index of that
@@ -181,18 +183,6 @@ impl Desk {
         Ok(())
     }
 
-    /// Whether there is room for the scan: a mark for each trip, a segment and a note for each
-    /// event, and one hit more.
-    pub fn fits<S: Scan>(&self, scan: &S) -> bool
-        ensures { IsTrue result ↔ Fits (S.net scan.now).table self.now }
-    {
-        let shape = scan.shape();
-        shape.trips as usize <= self.marks.trips()
-            && shape.events <= self.segments.capacity() as u64
-            && shape.events < self.hits.capacity() as u64
-            && shape.events <= self.notes.capacity() as u64
-    }
-
     /// Empties the queue, the marks, the hits and the notes.
     pub fn begin<S: Scan>(&mut self, scan: &S, _query: &Query)
         requires { Fits (S.net scan.now).table self.old }
@@ -248,6 +238,32 @@ impl Desk {
     {
         scan.soundness();
         self.marks.is_passed(trip, at)
+    }
+
+    /// Writes down the places, from one up to another, of the hops that lead to a trip that wasn't
+    /// passed, and answers how many they are. No branch hangs on a hop.
+    #[inline(always)]
+    pub fn open_places<S: Scan>(
+        &self,
+        scan: &S,
+        hops: &Hops<'_>,
+        from: usize,
+        to: usize,
+        places: &mut [usize],
+    ) -> usize
+        requires step { IsInStep (S.net scan.now) self.now }
+        requires trips { All (λ h. h.trip < length (S.net scan.now).table.trips) (lent hops.now) }
+        requires from { from ≤ to }
+        requires to { to ≤ length (lent hops.now) }
+        requires room { to - from ≤ length places.old }
+        ensures long { length places.new ≡ length places.old }
+        ensures count { result ≤ to - from }
+        ensures within { All (λ k. k < to) (take result places.new) }
+        ensures open { HoldOpen (λ h. mark_of (S.net scan.now).table self.now.marks h.trip ≤ h.at)
+            (lent hops.now) from to (take result places.new) }
+    {
+        scan.soundness();
+        self.marks.open_places(hops, from, to, places)
     }
 
     // Enters a trip at an index, as `reach` does: most hops lead to a trip that was passed, and

@@ -1,9 +1,12 @@
-ghost use Rattle.std.specs.Prelude.{◌≡◌, ◌-◌, ◌<◌, ◌≤◌, ◌++◌, ◌⊎◌, [], All, IsSomeAnd, IsTrue, MatchBool, ◌↔◌, None, Some, OnErr, OnOk, length, replicate, slice_index_or, slice_set, unwrap_or};
+ghost use Rattle.std.specs.Prelude.{◌≡◌, ◌-◌, ◌<◌, ◌≤◌, ◌++◌, ◌⊎◌, [], All, IsSomeAnd, IsTrue, MatchBool, ◌↔◌, None, Some, OnErr, OnOk, length, replicate, slice_index_or, slice_set, take, unwrap_or};
+ghost use Rattle.transfer_pack.specs.Words.{lent};
+ghost use Rattle.segment_queue.specs.Scans.{HoldOpen};
 ghost use Rattle.segment_queue.specs.Words.{IsAbove, lowered_marks, lowered_words};
 
 use std::alloc::Global;
 use std::marker::Model;
 use tb_base::{Memory, TripNo};
+use transfer_pack::Hops;
 
 // How many indices there are: no timetable has more events.
 const INDICES: u32 = 10_000_000;
@@ -156,6 +159,37 @@ impl Marks {
             (IsSomeAnd (slice_index_or self.now trip None) (λ m. m ≤ at) → ⊥) }
     {
         self.above(trip) <= at
+    }
+
+    /// Writes down the places, from one up to another, of the hops that lead to a trip without an
+    /// index, or with a greater one, and answers how many they are. No branch hangs on a hop.
+    #[inline(always)]
+    pub(crate) fn open_places(
+        &self,
+        hops: &Hops<'_>,
+        from: usize,
+        to: usize,
+        places: &mut [usize],
+    ) -> usize
+        requires trips { All (λ h. h.trip < length self.now) (lent hops.now) }
+        requires from { from ≤ to }
+        requires to { to ≤ length (lent hops.now) }
+        requires room { to - from ≤ length places.old }
+        ensures long { length places.new ≡ length places.old }
+        ensures count { result ≤ to - from }
+        ensures within { All (λ k. k < to) (take result places.new) }
+        ensures open { HoldOpen (λ h. IsSomeAnd (slice_index_or self.now h.trip None) (λ m. m ≤ h.at)
+            ⊎ (10000000 ≤ h.at)) (lent hops.now) from to (take result places.new) }
+    {
+        let mut count = 0;
+        for place in from..to {
+            let hop = hops.at(place);
+            places[count] = place;
+            if !self.is_passed(hop.trip, hop.at) {
+                count += 1;
+            }
+        }
+        count
     }
 
     /// Gives a trip this index, and answers true. A number from 10,000,000 on is no index of an

@@ -6,6 +6,7 @@ pub mod Sorted
 pub mod ChainSteps
 pub mod TripRows
 pub mod TripSteps
+pub mod BrokenSteps
 pub mod TimedEvents
 pub mod Walk
 pub mod Parts

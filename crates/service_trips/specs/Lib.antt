@@ -3,6 +3,7 @@ pub mod Times
 pub mod Faults
 pub mod TimeFaults
 pub mod Rides
+pub mod Broken
 pub mod Chains
 pub mod Starts
 pub mod ServiceDay

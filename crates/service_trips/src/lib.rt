@@ -17,6 +17,7 @@
 #![tactic(auto)]
 
 mod beyond;
+mod broken;
 mod by_starts;
 mod chains;
 mod faults;
@@ -31,6 +32,7 @@ mod times;
 mod timetable;
 mod trips;
 
+pub use broken::{TripFault, broken_trips};
 pub use frequency::{FrequencyTable, TripFrequency};
 pub use rides::rides_of;
 pub use stop_time::StopTime;

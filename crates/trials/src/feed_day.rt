@@ -39,6 +39,7 @@ impl FeedDay<'_> {
             station: None,
             close: false,
             horizon: Horizon::OneDay,
+            lenient: false,
         };
         let mut folder = HostFolder::new(rt, HashKey::known());
         let Ok(table) = read_day(alloc, &mut folder, self.dir, &self.day, &options) else {

@@ -70,7 +70,7 @@ parts_unique close parts (Ok a) (Err g) (footpaths, settled, is) other = absurd 
 parts_unique close parts (Err f) (Ok b) settled (others, also, by) = absurd (let e : Err f ≡ Ok others = settled_unique close parts.stops parts.footpaths (Err f) (Ok others) settled also in cc)
 parts_unique close parts (Err f) (Err g) settled other = let e : Err f ≡ Err g = settled_unique close parts.stops parts.footpaths (Err f) (Err g) settled other in let one : f ≡ g = cc in ap Err one
 
-then_unique : (close : Bool) (meant : Result DayParts FeedFault) (a b : Result TimetableData FeedFault) → Then meant (IsTimetableOfParts close) a → Then meant (IsTimetableOfParts close) b → a ≡ b
+pub then_unique : (close : Bool) (meant : Result DayParts FeedFault) (a b : Result TimetableData FeedFault) → Then meant (IsTimetableOfParts close) a → Then meant (IsTimetableOfParts close) b → a ≡ b
 then_unique close (Ok parts) a b p q = parts_unique close parts a b p q
 then_unique close (Err f) a b p q = p ∙ sym q
 

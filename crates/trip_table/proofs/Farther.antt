@@ -78,7 +78,7 @@ trips_among rows feed date near far some more have one other =
 same_given : (stops : List StopData) (near far : Options) (transfers : List TransferData) → near.change ≡ far.change → near.station ≡ far.station → given_footpaths stops near transfers ≡ given_footpaths stops far transfers
 unfolding given_footpaths
 same_given stops near far transfers change station =
-    λ i. given_footpaths stops (record { change = change i; station = station i; close = near.close; horizon = near.horizon }) transfers
+    λ i. given_footpaths stops (record { change = change i; station = station i; close = near.close; horizon = near.horizon; lenient = near.lenient }) transfers
 
 -- the parts of which a timetable is made
 parts_of : (close : Bool) (meant : Result DayParts FeedFault) (T : TimetableData) → Then meant (IsTimetableOfParts close) (Ok T) → (parts : DayParts) × (meant ≡ Ok parts) × IsTimetableOfParts close parts (Ok T)

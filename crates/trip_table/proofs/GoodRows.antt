@@ -52,6 +52,10 @@ row_times stops trips (Ok (Some t)) x h e =
     let both = h t refl in
     subst (λ (y : StopTime). HasFileTimes y) same (record { arr = both.0; dep = both.1 })
 
+-- a stop time that is read has times of a file
+pub timed_row : (stops : List StopData) (trips : List TripData) (raw : RawRow) (x : StopTime) → numbered_row stops trips raw ≡ Ok (Some x) → HasFileTimes x
+timed_row stops trips raw x e = row_times stops trips (time_row raw) x (time_parts raw) e
+
 -- stop times that are read have times of a file
 all_timed : (stops : List StopData) (trips : List TripData) (text : List ℕ) (rows : List StopTime) → typed_rows file.StopTimes (numbered_row stops trips) text ≡ Ok rows → All HasFileTimes rows
 all_timed stops trips text rows = rows_all HasFileTimes file.StopTimes (numbered_row stops trips) (λ raw x e. row_times stops trips (time_row raw) x (time_parts raw) e) text rows
@@ -109,7 +113,7 @@ good_by m n s p f g h e = by_trip (nat_le n m) refl e
 
 -- along rows after earlier ones, each names things that are there, and repeats no earlier one
 module _ (stops : List StopData) (trips : List TripData) where
-  good_row : (r : StopTime) → wrong_names stops trips r ≡ None → IsGood stops trips r
+  pub good_row : (r : StopTime) → wrong_names stops trips r ≡ None → IsGood stops trips r
   good_row r e = let h = good_by r.trip_row (length trips) r.stop (length (platforms stops)) _ _ _ e in record { trip = h.0; stop = h.1 }
 
   IsClean : List StopTime → List StopTime → Type 0
@@ -146,16 +150,20 @@ module _ (stops : List StopData) (trips : List TripData) where
   good_rows earlier (r ∷ rest) c = All-cons (IsGood stops trips) r rest (good_row r c.0) (good_rows (earlier ++ r ∷ []) rest c.2)
 
   -- stop times with which nothing is wrong name their trips and platforms, and no two of a trip have one number
-  pub good_times : (text : List ℕ) (rows : List StopTime) → length rows ≤ 20000000 → typed_rows file.StopTimes (numbered_row stops trips) text ≡ Ok rows → check_rows (wrong_time stops trips) rows ≡ Ok rows
-      → AreGoodTimes stops trips rows
+  pub good_timed : (rows : List StopTime) → length rows ≤ 20000000 → All HasFileTimes rows → check_rows (wrong_time stops trips) rows ≡ Ok rows → AreGoodTimes stops trips rows
   unfolding Differs
-  good_times text rows few read checked =
+  good_timed rows few given checked =
       let c = clean [] rows rows checked in
       let g = good_rows [] rows c in
       record {
         few = few;
         trip = λ k d b. (g k d b).trip;
         stop = λ k d b. (g k d b).stop;
-        given = all_timed stops trips text rows read;
+        given = given;
         sequences = pairs [] rows c;
       }
+
+  -- the same of those that are read
+  pub good_times : (text : List ℕ) (rows : List StopTime) → length rows ≤ 20000000 → typed_rows file.StopTimes (numbered_row stops trips) text ≡ Ok rows → check_rows (wrong_time stops trips) rows ≡ Ok rows
+      → AreGoodTimes stops trips rows
+  good_times text rows few read checked = good_timed rows few (all_timed stops trips text rows read) checked

@@ -52,7 +52,7 @@ stop_parts row parent (Some id) (Some kind) f g s e = by_option (Some (record { 
     by_option : (a b : Option StopData) → a ≡ b → id_in a ≡ id_in b
     by_option a b q = ap id_in q
 
-named_row : (raw : RawRow) (s : StopData) → stop_row raw ≡ Ok (Some s) → s.id ≢ []
+pub named_row : (raw : RawRow) (s : StopData) → stop_row raw ≡ Ok (Some s) → s.id ≢ []
 named_row raw s e = id_filled (cell raw 1) s.id (stop_parts raw.row (cell raw 3) (id_of (cell raw 1)) (kind_of (cell raw 2)) _ _ s e)
 
 -- the ids of stops aren't empty

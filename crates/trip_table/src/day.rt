@@ -25,9 +25,9 @@ use std::alloc::Global;
 use tb_base::{Memory, Timetable};
 use tb_io::Folder;
 
-// The timetable of the rows of a feed on a day, or the first thing that is wrong with the times of
-// a trip, with those that starts give, with the size of the day, or with its footpaths.
-fn timetable_of(
+/// The timetable of the rows of a feed on a day, or the first thing that is wrong with the times of
+/// a trip, with those that starts give, with the size of the day, or with its footpaths.
+pub(crate) fn timetable_of(
     alloc: Global,
     rows: &FeedRows,
     frequencies: &FrequencyTable,

@@ -1,15 +1,18 @@
 //! Rows whose ids differ.
-ghost use Rattle.std.specs.Prelude.{◌≡◌, ℕ, List, Ok, MatchResult, map};
+ghost use Rattle.std.specs.Prelude.{◌≡◌, ◌≤◌, [], ℕ, List, Ok, IfOk, MatchResult, length, map};
+ghost use Rattle.footpaths.specs.Stops.{stop_id};
+ghost use Rattle.trip_table.specs.LeftFeed.{duplicate_stop, sift};
+ghost use Rattle.trip_table.specs.Sieves.{after, ended};
 ghost use Rattle.gtfs_rows.specs.Faults.{check_rows};
 ghost use Rattle.gtfs_rows.specs.Refused.{IsRefused};
 ghost use Rattle.gtfs_rows.specs.declared.fault.FeedFault.{FeedFault};
 ghost use Rattle.trip_table.specs.References.{service_id, duplicate_service, trip_id, duplicate_trip, wrong_twice};
 
 use crate::feed::spot;
-use gtfs_rows::columns::{calendar, trips};
-use gtfs_rows::{CalendarRow, FeedFault, FeedFile, RowsFault, TripRow};
+use gtfs_rows::columns::{calendar, stops, trips};
+use gtfs_rows::{CalendarRow, FeedFault, FeedFile, RowsFault, StopRow, TripRow};
 use std::alloc::Global;
-use tb_base::{HashKey, NameIndex};
+use tb_base::{HashKey, Memory, NameIndex};
 
 /// A row with an id that no other row of its file may have.
 pub trait Identified {
@@ -54,6 +57,20 @@ impl Identified for TripRow {
     }
 }
 
+impl Identified for StopRow {
+    ghost id = { stop_id };
+
+    ghost duplicate = { duplicate_stop };
+
+    fn id(&self) -> &[u8] {
+        self.id.bytes()
+    }
+
+    fn duplicate(&self) -> FeedFault {
+        FeedFault::DuplicateId(spot(FeedFile::Stops, self.row, stops::STOP_ID))
+    }
+}
+
 /// The ids of rows, which all differ, hashed by the key; or what is wrong with the first row that
 /// has the id of an earlier one.
 pub fn distinct_ids<R: Identified>(
@@ -75,4 +92,28 @@ pub fn distinct_ids<R: Identified>(
         }
     }
     Ok(ids)
+}
+
+/// Rows without those that have the id of an earlier one, which are told. Ids are hashed by the key.
+pub fn without_twins<R: Identified + Drop>(
+    alloc: Global,
+    key: HashKey,
+    rows: Vec<R>,
+    told: &mut Vec<FeedFault>,
+) -> Result<Vec<R>, Memory>
+    ensures kept { IfOk result (λ kept.
+        after told.old.items (sift (wrong_twice R.id R.duplicate) [] rows.items)
+        ≡ ended told.new.items (Ok kept.items)) }
+    ensures few { IfOk result (λ kept. length kept.items ≤ length rows.items) }
+{
+    let mut ids = NameIndex::new(alloc, key);
+    let mut kept: Vec<R> = Vec::new(alloc);
+    for row in rows {
+        match ids.add(alloc, row.id()) {
+            Ok(true) => kept.push(row)?,
+            Ok(false) => told.push(row.duplicate())?,
+            Err(_) => return Err(Memory),
+        }
+    }
+    Ok(kept)
 }

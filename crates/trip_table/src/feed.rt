@@ -34,8 +34,8 @@ fn path_in(alloc: Global, dir: &str, file: FeedFile) -> Result<String, Memory>
     Ok(path)
 }
 
-// The bytes of a file, where it is there.
-fn take<F: Folder>(
+/// The bytes of a file, where it is there.
+pub fn take<F: Folder>(
     alloc: Global,
     folder: &mut F,
     dir: &str,

@@ -85,8 +85,8 @@ fn name_fault(trips: &TripRowTable, rows: &[TripFrequency]) -> Option<FeedFault>
     None
 }
 
-// The rows with a look-up by trip, or the first row that names no row of trips.txt.
-fn table_of(
+/// The rows with a look-up by trip, or the first row that names no row of trips.txt.
+pub fn table_of(
     alloc: Global,
     trips: &TripRowTable,
     rows: Vec<FrequencyRow>,

@@ -11,9 +11,15 @@
 //! before that are still under way after midnight are part of the day, and where the options say so
 //! those of one or two days after it. The definition of the whole is `IsTimetableOf` in
 //! specs/Day.antt.
+//!
+//! [`read_lenient_day`] leaves bad rows out, and what names them in turn, tells the fault of each, and
+//! gives the timetable of what is left: `IsLenientOf` in specs/LeftFeed.antt. [`read_asked_day`] is
+//! one or the other, as the options ask; [`check_feed`] gives all that is wrong.
 #![tactic(auto)]
 
+mod asked_day;
 mod assemble;
+mod bearer;
 mod closing;
 mod day;
 mod day_fault;
@@ -23,15 +29,25 @@ mod feed;
 mod frequencies;
 mod law;
 pub mod laws;
+mod left_day;
+mod left_frequencies;
+mod left_services;
+mod left_stops;
+mod left_times;
+mod left_transfers;
+mod left_trips;
 mod paths;
 mod rows;
 mod seen;
 mod services;
+mod sieve;
 mod stops;
 mod times;
 mod trips;
 
+pub use asked_day::{check_feed, read_asked_day};
 pub use day::read_day;
 pub use day_fault::DayFault;
 pub use footpaths::Options;
+pub use left_day::read_lenient_day;
 pub use service_day::{Day, day_of};

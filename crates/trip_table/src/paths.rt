@@ -40,8 +40,8 @@ fn transfer_rows_of<F: Folder>(
     }
 }
 
-// The change times and footpaths of good rows: None where they are too many.
-fn given_footpaths(
+/// The change times and footpaths of good rows: None where they are too many.
+pub(crate) fn given_footpaths(
     alloc: Global,
     rows: &[TransferRow],
     stops: &StopTable,

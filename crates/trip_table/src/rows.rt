@@ -43,6 +43,26 @@ impl Model for FeedRows {
 }
 
 impl FeedRows {
+    /// The rows of these.
+    pub fn of_parts(
+        stops: StopTable,
+        services: ServiceRows,
+        trips: TripRowTable,
+        times: Vec<StopTime>,
+    ) -> FeedRows
+        requires good { AreGoodTimes stops trips times.items }
+        requires named { All (λ s. StopData.id s ≢ []) stops }
+        ensures { result
+            ≡ record { stops = stops; services = services; trips = trips; times = times.items } }
+    {
+        FeedRows {
+            stops,
+            services,
+            trips,
+            times,
+        }
+    }
+
     /// The rows of stops.txt: their ids aren't empty.
     pub fn stops(&self) -> &StopTable
         ensures stops { result.now ≡ self.now.stops }

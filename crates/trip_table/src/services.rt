@@ -70,8 +70,8 @@ fn read_calendar<F: Folder>(
     Ok(calendar)
 }
 
-// The rows of both files, of which one has to be there.
-fn services(
+/// The rows of both files, of which one has to be there.
+pub fn services(
     alloc: Global,
     calendar: Option<Vec<CalendarRow>>,
     dates: Option<Vec<DateRow>>,

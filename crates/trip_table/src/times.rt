@@ -25,7 +25,7 @@ use tb_io::Folder;
 // What the next row may name: the trip of the row before, and the stop that followed the stop of
 // that row the last time. It decides only where one looks first.
 #[derive(Drop)]
-struct Guesses {
+pub struct Guesses {
     trip: Cell<u32>,
     stop: Cell<u32>,
     // For each stop the one that followed it.
@@ -64,11 +64,11 @@ impl Guesses {
     }
 }
 
-// Reads the rows of stop_times.txt, and numbers what their ids name.
+/// Reads the rows of stop_times.txt, and numbers what their ids name.
 #[derive(Drop)]
-struct StopTimeReader<'a> {
-    stops: &'a StopTable,
-    trips: &'a TripRowTable,
+pub struct StopTimeReader<'a> {
+    pub stops: &'a StopTable,
+    pub trips: &'a TripRowTable,
     guesses: Guesses,
 }
 
@@ -131,10 +131,10 @@ fn platform_number(count: u32, found: &Option<Found>) -> u32
     }
 }
 
-// Refuses the first row that names no trip or no platform, or whose trip has had its
-// `stop_sequence`. The rows of a trip mostly stand in order, and as long as they do, one number a
-// trip tells: the least that its next row may have.
-fn check_times(
+/// Refuses the first row that names no trip or no platform, or whose trip has had its
+/// `stop_sequence`. The rows of a trip mostly stand in order, and as long as they do, one number a
+/// trip tells: the least that its next row may have.
+pub fn check_times(
     alloc: Global,
     stops: &StopTable,
     trips: &TripRowTable,
@@ -194,8 +194,8 @@ fn check_keys(
     Ok(())
 }
 
-// What is wrong with what a row names.
-fn name_fault(stops: &StopTable, trips: &TripRowTable, row: &StopTime) -> Option<FeedFault>
+/// What is wrong with what a row names.
+pub fn name_fault(stops: &StopTable, trips: &TripRowTable, row: &StopTime) -> Option<FeedFault>
     ensures { result ≡ wrong_names stops.now trips.now row.now }
 {
     if row.trip_row as usize >= trips.rows().len() {
@@ -223,13 +223,30 @@ fn name_fault(stops: &StopTable, trips: &TripRowTable, row: &StopTime) -> Option
     None
 }
 
-fn key_of(row: &StopTime) -> SequenceKey
+/// The trip of a row, and its number within the trip.
+pub fn key_of(row: &StopTime) -> SequenceKey
     ensures { result ≡ key_of row.now }
 {
     SequenceKey {
         trip_row: row.trip_row,
         sequence: row.sequence,
     }
+}
+
+/// A reader of rows that name these stops and trips.
+pub fn time_reader<'a>(
+    alloc: Global,
+    stops: &'a StopTable,
+    trips: &'a TripRowTable,
+) -> Result<StopTimeReader<'a>, Memory>
+    ensures { IfOk result (λ r. (r.stops.now ≡ stops.now) × (r.trips.now ≡ trips.now)) }
+{
+    let guesses = Guesses::new(alloc, stops.platforms())?;
+    Ok(StopTimeReader {
+        stops,
+        trips,
+        guesses,
+    })
 }
 
 /// The rows of stop_times.txt by the numbers of their trips and platforms.

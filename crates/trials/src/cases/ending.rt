@@ -1,11 +1,12 @@
 //! How the program ends over files in memory. `route` is called in one function, since whatever
 //! calls it is proved over all that its contract names.
-ghost use Rattle.std.specs.Prelude.{◌≡◌, ◌<◌, ◌-◌, ◌^◌, IfOk};
+ghost use Rattle.std.specs.Prelude.{◌≡◌, ◌<◌, ◌-◌, ◌^◌, [], IfOk};
 
 use super::feeds::Files;
 use super::question::Trouble;
 use super::watched::Watched;
-use router_cli::{Status, asks_json, route, status_shown};
+use gtfs_rows::FeedFault;
+use router_cli::{Status, asks_json, end_shown, route};
 use std::alloc::Global;
 use std::sync::Wait;
 use std::thread::Threads;
@@ -25,12 +26,19 @@ pub struct Ending {
     pub is_called_again: bool,
 }
 
-/// How a run ended with a status, and what it wrote; whether the status is told as JSON.
-pub fn ending_of(alloc: Global, json: bool, status: &Status, out: &[u8]) -> Result<Ending, Memory> {
+/// How a run ended with a status, and what it wrote; for which faults rows were left out, and whether
+/// that and the status are told as JSON.
+pub fn ending_of(
+    alloc: Global,
+    json: bool,
+    left_out: &[FeedFault],
+    status: &Status,
+    out: &[u8],
+) -> Result<Ending, Memory> {
     Ok(Ending {
         code: status.code(),
         out: out.to_vec(alloc)?,
-        err: status_shown(alloc, json, status)?,
+        err: end_shown(alloc, json, left_out, status)?,
         met: Vec::new(alloc),
         is_called_again: false,
     })
@@ -77,13 +85,15 @@ fn status_over<R: Threads + Wait + Sync, F: Folder + Send, S: Source, K: Sink, G
     folder: &mut F,
     script: &mut S,
     sink: &mut K,
+    left_out: &mut Vec<FeedFault>,
     gate: &G,
 ) -> Status
+    requires none { left_out.old.items ≡ [] }
     requires folder { F.faults folder.old < 2 ^ 64 - 1 }
     requires script { S.faults script.old < 2 ^ 64 - 1 }
     requires sink { K.faults sink.old < 2 ^ 64 - 1 }
 {
-    route(rt, alloc, words, folder, script, sink, gate)
+    route(rt, alloc, words, folder, script, sink, left_out, gate)
 }
 
 // How a run ended, in which an object was called after it failed, or none.
@@ -109,9 +119,18 @@ fn ending_into<R: Threads + Wait + Sync, F: Folder + Send, G: Gate>(
     requires script { script.old.inner.calls.faults < 2 ^ 64 - 1 }
     requires sink { sink.old.inner.calls.faults < 2 ^ 64 - 1 }
 {
-    let status = status_over(rt, alloc, words, folder, script, sink, gate);
-    let ending = ending_of(alloc, asks_json(words), &status, sink.inner.bytes());
+    let mut left_out = Vec::new(alloc);
+    let status = status_over(rt, alloc, words, folder, script, sink, &mut left_out, gate);
+    let json = asks_json(words);
+    let ending = ending_of(
+        alloc,
+        json,
+        left_out.as_slice(),
+        &status,
+        sink.inner.bytes(),
+    );
     drop(status);
+    drop(left_out);
     noting(ending, script.is_called_again() || sink.is_called_again())
 }
 

@@ -71,6 +71,7 @@ fn options_of(words: &[String]) -> Options
         station,
         close: words.iter().any(|word| word.as_str() == "close"),
         horizon: Horizon::OneDay,
+        lenient: false,
     }
 }
 
@@ -130,10 +131,16 @@ fn shown_of(
         Ok(table) => {
             let text = paths_text(alloc, &table, mostly);
             drop(table);
-            ending_of(alloc, false, &Status::Done, text?.as_slice())
+            ending_of(alloc, false, &[], &Status::Done, text?.as_slice())
         }
-        Err(DayFault::Feed(fault)) => ending_of(alloc, false, &Status::FeedRefused(fault), &[]),
-        Err(DayFault::ReadFault) => ending_of(alloc, false, &Status::ReadFault, &[]),
+        Err(DayFault::Feed(fault)) => ending_of(
+            alloc,
+            false,
+            &[],
+            &Status::FeedRefused(fault),
+            &[],
+        ),
+        Err(DayFault::ReadFault) => ending_of(alloc, false, &[], &Status::ReadFault, &[]),
         Err(DayFault::Memory) => Err(Memory),
     }
 }
@@ -148,13 +155,13 @@ pub fn shown_paths(
     requires { folder.old.calls.faults < 2 ^ 64 - 1 }
 {
     let (Some(dir), Some(date)) = (words.first(), words.get(1)) else {
-        return ending_of(alloc, false, &Status::Usage, &[]);
+        return ending_of(alloc, false, &[], &Status::Usage, &[]);
     };
     let Ok(day) = day_of(date.as_bytes()) else {
-        return ending_of(alloc, false, &Status::Usage, &[]);
+        return ending_of(alloc, false, &[], &Status::Usage, &[]);
     };
     if !are_options(words) {
-        return ending_of(alloc, false, &Status::Usage, &[]);
+        return ending_of(alloc, false, &[], &Status::Usage, &[]);
     }
     let options = options_of(words);
     let read = read_day(alloc, folder, dir.as_str(), &day, &options);

@@ -5,9 +5,12 @@
 //! the best values by both ways, the latest departures, the best values to every stop, and the kept
 //! transfers. Each ends with an answer, or with a status that names a fault of the feed and nothing
 //! written; all with the same one; both ways show the same best values, and the order of rows
-//! changes none. Each best value that is written as JSON is a true claim when it is read again.
+//! changes none. Each best value that is written as JSON is a true claim when it is read again. With
+//! `--lenient` there is an answer, or a fault that ends what is left of the feed; and a check tells no
+//! fault exactly where there is an answer without it.
 mod asking;
 pub mod breaks;
+mod lenient;
 pub mod trial;
 
 use crate::comparing::refused::{Ended, FeedName};
@@ -42,8 +45,14 @@ pub fn compare<R: Threads + Wait + Sync + Print>(
     alloc: Global,
     seeds: Seeds,
 ) -> Result<(), Ended> {
-    let BrokenTally { broken, answered } = try_feeds(rt, alloc, seeds)?;
+    let BrokenTally {
+        broken,
+        answered,
+        left_out,
+        whole,
+    } = try_feeds(rt, alloc, seeds)?;
     let refused = broken.wrapping_sub(answered);
-    let _ = println!(rt; "broken feeds {broken} answered {answered} refused {refused}");
+    let _ = print!(rt; "broken feeds {broken} answered {answered} refused {refused}");
+    let _ = println!(rt; " with rows left out {left_out} checks without a fault {whole}");
     Ok(())
 }

@@ -22,14 +22,16 @@ returns c =
     ∙ ap₂ with_rule workers c.option-5.ensures.rule in
     let close = c.in_ok-arg-6.ensures.shape c.flag.ensures.here
     ∙ ap₂ with_rule options c.flag.ensures.rule in
-    let plain = c.in_ok-arg-7.ensures.shape c.flag-2.ensures.here
+    let lenient = c.in_ok-arg-7.ensures.shape c.flag-2.ensures.here
     ∙ ap₂ with_rule close c.flag-2.ensures.rule in
-    let mirror = c.in_ok-arg-8.ensures.shape c.flag-3.ensures.here
-    ∙ ap₂ with_rule plain c.flag-3.ensures.rule in
-    let json = c.in_ok-arg-9.ensures.shape c.flag-4.ensures.here
-    ∙ ap₂ with_rule mirror c.flag-4.ensures.rule in
-    let csv = c.in_ok-arg-10.ensures.shape c.flag-5.ensures.here
-    ∙ ap₂ with_rule json c.flag-5.ensures.rule in
-    IfOk-weaker c.arg-11.result _ _
+    let plain = c.in_ok-arg-8.ensures.shape c.flag-3.ensures.here
+    ∙ ap₂ with_rule lenient c.flag-3.ensures.rule in
+    let mirror = c.in_ok-arg-9.ensures.shape c.flag-4.ensures.here
+    ∙ ap₂ with_rule plain c.flag-4.ensures.rule in
+    let json = c.in_ok-arg-10.ensures.shape c.flag-5.ensures.here
+    ∙ ap₂ with_rule mirror c.flag-5.ensures.rule in
+    let csv = c.in_ok-arg-11.ensures.shape c.flag-6.ensures.here
+    ∙ ap₂ with_rule json c.flag-6.ensures.rule in
+    IfOk-weaker c.arg-12.result _ _
     (λ command added. added.shape c.words.ensures.here ∙ ap₂ with_rule csv c.words.ensures.rule)
-    c.arg-11.ensures
+    c.arg-12.ensures

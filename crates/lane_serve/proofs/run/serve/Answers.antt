@@ -3,7 +3,7 @@ use Rattle.lane_serve.proofs.run.serve.Goals as goal
 
 pub returns-clause-refused : goal.returns-clause-refused
 returns-clause-refused g c =
-    told_fault c.timetable_determined.ensures (g.F.Folder.files c.args.folder.now) c.args.options.now c.args.plan.now c.args.script.now _ _ _
+    told_fault c.asked_determined.ensures (g.F.Folder.files c.args.folder.now) c.args.options.now c.args.plan.now c.args.script.now _ _ _
     c.serve_plan.ensures.served c.serve_plan.ensures.fault
 
 pub returns-clause-outcomes : goal.returns-clause-outcomes

@@ -7,6 +7,6 @@ abbrev pub invariant-loop-number : goal.invariant-loop-number
 invariant-loop-number l = record {
   long : length l.near.items ≡ l.number;
   near : (p : ℕ) → p < l.number → slice_index_or l.near.items p false
-      ≡ (slice_index_or l.called.items p false
-      || list_any (λ f. slice_index_or l.called.items f.to false) (slice_index_or l.table.footpaths.paths p []));
+      ≡ (slice_index_or l.marks.items p false
+      || list_any (λ f. slice_index_or l.marks.items f.to false) (slice_index_or l.table.footpaths.paths p []));
 }

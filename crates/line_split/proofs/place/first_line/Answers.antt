@@ -1,29 +1,34 @@
-use Rattle.std.proofs.Common.{◌∙◌, ◌/◌, [], inl, inr, sym, ap, subst, arith, get_or}
-use Rattle.tb_base.specs.TimetableData.{events_of}
-use Rattle.tb_base.specs.Lines.{last_trip, may_follow}
-use Rattle.line_split.specs.Floors.{AreNoLater}
-use Rattle.line_split.proofs.FloorLemmas.{floor_later, find_at, find_nowhere, before_or_from}
-use Rattle.line_split.proofs.Placing.{joins}
+use Rattle.std.proofs.Common.{◌∙◌, inl, inr, sym, subst, arith}
+use Rattle.std.specs.Prelude.{All}
+use Rattle.line_split.specs.Bitmaps.{IsOutBy, IsPicked}
+use Rattle.line_split.specs.Buckets.{may_join_line}
+use Rattle.line_split.specs.Floors.{IsPassed}
+use Rattle.line_split.proofs.FloorLemmas.{passed_unjoined, find_nowhere, before_or_from, first_behind}
 use Rattle.line_split.proofs.place.first_line.Goals as goal
 
 pub loop-place-preserved-then-later-gt0 : goal.loop-place-preserved-then-later-gt0
-loop-place-preserved-then-later-gt0 c = λ k low below.
-    elim (before_or_from k c.loop-place.place) [
-      | inl before ↦ c.loop-place.invariant k before below
-      | inr behind ↦
-          floor_later c.args.table.now c.args.lines.now c.args.among.now c.args.floors.now c.requires.floors c.args.trip k below
-          (λ h. c.later_from-later.ensures.later k behind low (omega (arith, below, c.requires.floors.room)) (subst (λ es. AreNoLater (get_or c.args.floors.now.near (k / 64) []) es) (sym c.events_of-events.ensures) h))
-    ]
+loop-place-preserved-then-later-gt0 c = record {
+  whole = omega (arith, c.loop-place.invariant.whole, c.later_from-later.ensures.whole);
+  none = λ k low below inside.
+      elim (before_or_from k c.loop-place.place) [
+        | inl before ↦ c.loop-place.invariant.none k low before inside
+        | inr behind ↦
+            let chosen = subst (λ es. All (IsPicked c.args.floors.now.bitmaps es) c.in_ok-picked.picked.items) c.events_of-events.ensures c.in_ok-picked.ensures in
+            let passed = c.later_from-later.ensures.later k behind below (omega (arith, inside, c.requires.floors.room)) in
+            passed_unjoined c.args.table.now c.args.lines.now c.args.among.now c.args.floors.now c.in_ok-picked.picked.items c.requires.floors c.args.trip k inside chosen
+            (subst (λ es. IsPassed c.args.floors.now es c.in_ok-picked.picked.items k) c.events_of-events.ensures (subst (λ is. IsPassed c.args.floors.now c.events_of-events.result.now is k) c.as_slice.ensures.value passed))
+      ];
+}
 
-pub returns-then-may_follow : goal.returns-then-may_follow
-returns-then-may_follow c =
-    let T = c.args.table.now in
-    let lines = c.args.lines.now in
-    let own = c.events_of.ensures ∙ ap (events_of T) (c.last_trip.ensures ∙ ap last_trip c.row.ensures) in
-    sym (find_at (joins T lines (events_of T c.args.trip)) c.args.among.now c.loop-place.place c.loop-place-test.true c.loop-place.invariant
-    (sym (λ i. may_follow (own i) (c.events_of-events.ensures i)) ∙ sym c.may_follow.ensures ∙ c.if-may_follow.true))
+pub first_of_word-found-requires-clause-out : goal.first_of_word-found-requires-clause-out
+first_of_word-found-requires-clause-out c = λ k inside word one.
+    let chosen = subst (λ es. All (IsPicked c.args.floors.now.bitmaps es) c.in_ok-picked.picked.items) c.events_of-events.ensures c.in_ok-picked.ensures in
+    passed_unjoined c.args.table.now c.args.lines.now c.args.among.now c.args.floors.now c.in_ok-picked.picked.items c.requires.floors c.args.trip k inside chosen
+    (inr (subst (λ is. IsOutBy c.args.floors.now.bitmaps is k) c.as_slice-in-loop-place.ensures.value (c.out_at-out.ensures k word one)))
+
+pub returns-then-is_some : goal.returns-then-is_some
+returns-then-is_some c =
+    first_behind (may_join_line c.args.table.now c.args.lines.now c.args.trip) c.args.among.now c.loop-place.place c.first_of_word-found.result c.loop-place.invariant.none c.first_of_word-found.ensures (sym c.is_some.ensures ∙ c.if-is_some.true)
 
 pub returns : goal.returns
-returns c =
-    let T = c.args.table.now in
-    sym (find_nowhere (joins T c.args.lines.now (events_of T c.args.trip)) c.args.among.now (λ k below. c.loop-place.invariant k (omega (arith, below, c.loop-place-test.false)) below))
+returns c = find_nowhere (may_join_line c.args.table.now c.args.lines.now c.args.trip) c.args.among.now (λ k below. c.loop-place.invariant.none k (omega arith) (omega (arith, below, c.loop-place-test.false)) below)

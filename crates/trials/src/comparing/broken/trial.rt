@@ -1,30 +1,19 @@
 //! Feeds that look random, of which one file is broken, and what is asked over each.
 ghost use Rattle.std.specs.Prelude.{◌<◌};
 
-use super::asking::asked;
+use super::asking::{AskedCommand, PlatformQuestion, command_ending, ending_with};
 use super::breaks::{Break, Broken, broken_files, some_broken};
+use super::lenient::{LenientEnds, lenient_ends};
 use crate::cases::ending::Ending;
 use crate::comparing::refused::Refused;
 use made_feeds::{Draw, small_feed};
-use std::alloc::{AllocError, Global};
+use std::alloc::Global;
 use std::sync::Wait;
 use std::thread::Threads;
 use tb_base::Memory;
 
 // How often a feed is broken.
 const BREAKS: u32 = 16;
-
-/// What is asked over each feed.
-#[derive(Clone, Copy, Debug, PartialEq, Eq)]
-pub enum AskedCommand {
-    Ask,
-    PlainAsk,
-    Latest,
-    Reach,
-    Build,
-    JsonAsk,
-    JsonVerify,
-}
 
 // What is asked after `Ask`, and held against how that ended.
 const FURTHER: [AskedCommand; 4] = [
@@ -41,6 +30,10 @@ pub struct BrokenTally {
     pub broken: u64,
     /// Those of them that have an answer all the same.
     pub answered: u64,
+    /// Those that have one where rows are left out.
+    pub left_out: u64,
+    /// Those of which a check tells no fault.
+    pub whole: u64,
 }
 
 impl BrokenTally {
@@ -48,12 +41,16 @@ impl BrokenTally {
     pub const NOTHING: BrokenTally = BrokenTally {
         broken: 0,
         answered: 0,
+        left_out: 0,
+        whole: 0,
     };
 
     /// Adds what else was tried.
     pub fn add(&mut self, other: BrokenTally) {
         self.broken = self.broken.wrapping_add(other.broken);
         self.answered = self.answered.wrapping_add(other.answered);
+        self.left_out = self.left_out.wrapping_add(other.left_out);
+        self.whole = self.whole.wrapping_add(other.whole);
     }
 }
 
@@ -72,83 +69,10 @@ pub enum Wrong {
     OrderMatters,
     /// A journey that is written as JSON is none when it is read again.
     NotReadBack,
-}
-
-// Between which platforms, and when, it is asked.
-#[derive(Clone, Copy)]
-struct PlatformQuestion {
-    from: u32,
-    to: u32,
-    hour: u32,
-    minute: u32,
-}
-
-impl PlatformQuestion {
-    fn some(draw: &mut Draw) -> PlatformQuestion {
-        PlatformQuestion {
-            from: draw.below(7),
-            to: draw.below(7),
-            hour: if draw.one_in(4) { 24 } else { 8 },
-            minute: draw.below(60),
-        }
-    }
-
-    // The words of a command.
-    fn line(self, alloc: Global, command: AskedCommand) -> Result<String, AllocError> {
-        let PlatformQuestion {
-            from,
-            to,
-            hour,
-            minute,
-        } = self;
-        match command {
-            AskedCommand::Ask => format!(in alloc;
-                "--close --workers 1 ask made 20260302 P{from} P{to} {hour}:{minute:02}:00"
-            ),
-            AskedCommand::PlainAsk => format!(in alloc;
-                "--close --plain ask made 20260302 P{from} P{to} {hour}:{minute:02}:00"
-            ),
-            AskedCommand::Latest => format!(in alloc;
-                "--close --workers 1 latest made 20260302 P{from} P{to} {hour}:{minute:02}:00"
-            ),
-            AskedCommand::Reach => format!(in alloc;
-                "--close --workers 1 reach made 20260302 P{from} {hour}:{minute:02}:00"
-            ),
-            AskedCommand::JsonAsk => format!(in alloc;
-                "--json --close --plain ask made 20260302 P{from} P{to} {hour}:{minute:02}:00"
-            ),
-            AskedCommand::JsonVerify => format!(in alloc;
-                "--json --close verify made 20260302 P{from} P{to} {hour}:{minute:02}:00"
-            ),
-            AskedCommand::Build => {
-                String::from_str(alloc, "--close --workers 2 build made 20260302 list")
-            }
-        }
-    }
-}
-
-// How a command ends over files, with a text on standard input.
-fn ending_with<R: Threads + Wait + Sync>(
-    rt: &R,
-    alloc: Global,
-    files: &[(String, Vec<u8>)],
-    question: PlatformQuestion,
-    command: AskedCommand,
-    script: &str,
-) -> Result<Ending, Memory> {
-    let line = question.line(alloc, command)?;
-    asked(rt, alloc, files, line.as_str(), script)
-}
-
-// How a command ends over files.
-fn command_ending<R: Threads + Wait + Sync>(
-    rt: &R,
-    alloc: Global,
-    files: &[(String, Vec<u8>)],
-    question: PlatformQuestion,
-    command: AskedCommand,
-) -> Result<Ending, Memory> {
-    ending_with(rt, alloc, files, question, command, "")
+    /// What comes with `--lenient` doesn't fit what comes without it.
+    NotLenient,
+    /// A check doesn't fit either.
+    NotChecked,
 }
 
 // Whether a line of JSON claims a journey with its value.
@@ -256,15 +180,38 @@ fn sound_ending<R: Threads + Wait + Sync>(
 }
 
 // Holds how the first command ends over files of which one is broken against how it ended before.
-fn compared(came: &Ending, whole: &Ending, broken: Broken) -> Result<BrokenTally, Refused> {
+fn compared(came: &Ending, whole: &Ending, broken: Broken) -> Result<(), Refused> {
     let same = came.has_status_of(whole) && came.has_values_of(whole);
     if broken.how == Break::Turned && !same {
         return Err(Refused::Found(Wrong::OrderMatters, Some(broken)));
     }
-    Ok(BrokenTally {
+    Ok(())
+}
+
+// What was tried over files, where the first command and what is asked beside it ended so.
+fn tally_of(came: &Ending, beside: LenientEnds) -> BrokenTally {
+    BrokenTally {
         broken: 1,
         answered: u64::from(came.is_answer()),
-    })
+        left_out: u64::from(beside.is_left_out),
+        whole: u64::from(beside.is_whole),
+    }
+}
+
+// Holds how the first command ends over files of which one is broken against how it ended before,
+// and against how a check ends, and what is asked with `--lenient`.
+fn held_against<R: Threads + Wait + Sync>(
+    rt: &R,
+    alloc: Global,
+    files: &[(String, Vec<u8>)],
+    question: PlatformQuestion,
+    broken: Broken,
+    whole: &Ending,
+    came: &Ending,
+) -> Result<BrokenTally, Refused> {
+    compared(came, whole, broken)?;
+    let beside = lenient_ends(rt, alloc, files, question, broken, came)?;
+    Ok(tally_of(came, beside))
 }
 
 // Tries files of which one is broken. They were answered so before.
@@ -277,9 +224,9 @@ fn try_broken<R: Threads + Wait + Sync>(
     whole: &Ending,
 ) -> Result<BrokenTally, Refused> {
     let came = sound_ending(rt, alloc, files, question, Some(broken))?;
-    let compared = compared(&came, whole, broken);
+    let held = held_against(rt, alloc, files, question, broken, whole, &came);
     drop(came);
-    compared
+    held
 }
 
 // Breaks files, and tries them.

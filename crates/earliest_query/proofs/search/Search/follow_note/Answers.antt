@@ -1,9 +1,8 @@
-use Rattle.std.proofs.Common.{◌≡◌, ◌∙◌, ℕ, suc, ◌-◌, inl, inr, length, get_or, refl, sym, ap, subst, arith, Some}
+use Rattle.std.proofs.Common.{◌≡◌, ◌∙◌, ℕ, suc, ◌-◌, inl, inr, length, refl, sym, ap, subst, arith, Some}
 use Rattle.std.specs.Prelude.{Contains, slice_get}
-use Rattle.std.proofs.lemmas.Option.{get_or_from_slice_get, slice_get_within}
+use Rattle.std.proofs.lemmas.Bool.{cases_lt}
+use Rattle.std.proofs.lemmas.Option.{slice_get-get_or}
 use Rattle.tb_base.specs.Network.{NetData}
-use Rattle.tb_base.specs.declared.transfer.Hop.{Hop}
-use Rattle.tb_base.proofs.NumberFacts.{below_or_at}
 use Rattle.segment_queue.specs.declared.desk.Segment.{Segment}
 use Rattle.segment_queue.specs.declared.notes.Note.{Note}
 use Rattle.segment_queue.specs.declared.seen.Seen.{Seen}
@@ -13,8 +12,8 @@ use Rattle.segment_queue.specs.Scans.{hops_seen, seen_first, seen_last, seen_tri
 use Rattle.segment_queue.specs.Traced.{no_segment, segment_of}
 use Rattle.earliest_query.specs.Choices.{ArrivesBy}
 use Rattle.earliest_query.specs.Noted.{IsSoundNote}
-use Rattle.earliest_query.specs.UnderWay.{Extends, IsReachedBy}
-use Rattle.earliest_query.proofs.Following.{get_or-inside, in_all}
+use Rattle.earliest_query.specs.UnderWay.{IsReachedBy}
+use Rattle.earliest_query.proofs.Following.{in_all}
 use Rattle.earliest_query.proofs.Growing.{extends-long, extends-reached, extends-refl, extends-round, extends-segment, extends-trans}
 use Rattle.earliest_query.proofs.Lateness.{arrives_by-later, arrives_on}
 use Rattle.earliest_query.proofs.Noting.{note_events, sound_note-kept}
@@ -32,55 +31,61 @@ returns-then-is_noted_late g c =
       extends = extends-refl D (suc c.args.round);
       room = refl;
       notes = refl;
+      places = refl;
       done = λ i of. inr (arrives_by-later c.args.best.now _ _ (arrives_on N.table (segment_of D.segments note.segment).trip (seen_first note.seen) i c.soundness.ensures.sound whole.trip of.from (omega (arith, of.to, c.requires.note.within, whole.within))) late);
     }
 
 pub hops_from-followed-requires : goal.hops_from-followed-requires
 hops_from-followed-requires g c = note_events (g.S.Scan.net c.args.self.now.scan.now) c.args.desk.now.segments c.args.round c.args.note c.requires.queue.step.segments c.requires.note
 
-pub loop-place-init : goal.loop-place-init
-loop-place-init g c = record {
+pub loop-from-init : goal.loop-from-init
+loop-from-init g c = record {
   queue = c.requires.queue;
   extends = extends-refl c.args.desk.now (suc c.args.round);
   room = refl;
   notes = refl;
-  reached = λ k d below. absurd (omega (arith, below));
+  places = refl;
+  within = omega arith;
+  reached = λ k h below got. absurd (omega (arith, below));
 }
 
-pub follow_hop-requires-clause-queue : goal.follow_hop-requires-clause-queue
-follow_hop-requires-clause-queue g c = c.loop-place.invariant.queue
+pub follow_some-requires-clause-queue : goal.follow_some-requires-clause-queue
+follow_some-requires-clause-queue g c = c.loop-from.invariant.queue
 
-pub follow_hop-requires-clause-note : goal.follow_hop-requires-clause-note
-follow_hop-requires-clause-note g c =
+pub follow_some-requires-clause-note : goal.follow_some-requires-clause-note
+follow_some-requires-clause-note g c =
     let N : NetData = g.S.Scan.net c.args.self.now.scan.now in
-    let E : DeskData = c.loop-place.desk in
+    let E : DeskData = c.loop-from.desk in
     subst (λ (seen : Seen). IsSoundNote N E.segments c.args.round (record { segment = c.args.note.segment; seen = seen })) (sym c.hops_from-followed.ensures.seen)
-    (sound_note-kept N c.args.desk.now E (suc c.args.round) c.args.round c.args.note c.loop-place.invariant.extends c.requires.note)
+    (sound_note-kept N c.args.desk.now E (suc c.args.round) c.args.round c.args.note c.loop-from.invariant.extends c.requires.note)
 
-pub follow_hop-requires-clause-hop : goal.follow_hop-requires-clause-hop
-follow_hop-requires-clause-hop g c =
-    let hop : Hop = c.at.result in
-    let place : ℕ = c.loop-place.place in
-    subst (λ hs. slice_get hs place ≡ Some hop) (c.hops_from-followed.ensures.hops ∙ ap (hops_seen (g.S.Scan.net c.args.self.now.scan.now).hops) (sym c.hops_from-followed.ensures.seen)) c.at.ensures
+pub follow_some-requires-clause-hops : goal.follow_some-requires-clause-hops
+follow_some-requires-clause-hops g c = c.hops_from-followed.ensures.hops ∙ ap (hops_seen (g.S.Scan.net c.args.self.now.scan.now).hops) (sym c.hops_from-followed.ensures.seen)
 
-pub loop-place-preserved : goal.loop-place-preserved
-loop-place-preserved g c =
+pub follow_some-requires-clause-to : goal.follow_some-requires-clause-to
+follow_some-requires-clause-to g c = omega (arith, c.min-tried.ensures, c.count-count.ensures, c.loop-from-test.true)
+
+pub follow_some-requires-clause-room : goal.follow_some-requires-clause-room
+follow_some-requires-clause-room g c = omega (arith, c.min-tried.ensures, c.loop-from.invariant.places, c.requires.room)
+
+pub loop-from-preserved : goal.loop-from-preserved
+loop-from-preserved g c =
     let N : NetData = g.S.Scan.net c.args.self.now.scan.now in
     let top : ℕ = suc c.args.round in
-    let E : DeskData = c.loop-place.desk in
-    let F : DeskData = c.follow_hop.new.desk in
-    let hops = (lent c.hops_from-followed.result.hops) in
-    let joined : Extends E F top = c.follow_hop.ensures.extends in
+    let E : DeskData = c.loop-from.desk in
+    let F : DeskData = c.follow_some.new.desk in
+    let on = c.follow_some.ensures in
+    let before = c.loop-from.invariant in
     record {
-      queue = c.follow_hop.ensures.queue;
-      extends = extends-trans c.args.desk.now E F top c.loop-place.invariant.extends joined;
-      room = c.follow_hop.ensures.room ∙ c.loop-place.invariant.room;
-      notes = c.follow_hop.ensures.notes ∙ c.loop-place.invariant.notes;
-      reached = λ k d below. elim (below_or_at k c.loop-place.place below) [
-        | inl before ↦ extends-reached N.table E F top (length E.segments) (length F.segments) top top (get_or hops k d).trip (get_or hops k d).at joined
-            (c.loop-place.invariant.reached k d before) (omega arith) (extends-long E F top joined) (omega arith)
-        | inr e ↦ subst (λ (h : Hop). IsReachedBy N.table F (length F.segments) top h.trip h.at)
-            (sym (get_or_from_slice_get hops c.loop-place.place c.at.result c.at.result c.at.ensures) ∙ get_or-inside hops c.loop-place.place c.at.result d (slice_get_within (lent c.hops_from-followed.result.hops) c.loop-place.place c.at.result c.at.ensures) ∙ ap (λ m. get_or hops m d) (sym e)) c.follow_hop.ensures.reached
+      queue = on.queue;
+      extends = extends-trans c.args.desk.now E F top before.extends on.extends;
+      room = on.room ∙ before.room;
+      notes = on.notes ∙ before.notes;
+      places = on.places ∙ before.places;
+      within = omega (arith, c.min-tried.ensures, c.count-count.ensures, c.loop-from-test.true);
+      reached = λ k h below got. elim (cases_lt k c.loop-from.from) [
+        | inl earlier ↦ extends-reached N.table E F top (length E.segments) (length F.segments) top top h.trip h.at on.extends (before.reached k h earlier got) (omega arith) (extends-long E F top on.extends) (omega arith)
+        | inr now ↦ on.reached k h now below got
       ];
     }
 
@@ -88,15 +93,16 @@ pub returns-clause-done : goal.returns-clause-done
 returns-clause-done g c = λ i of. inl (λ h in_set.
     let N : NetData = g.S.Scan.net c.args.self.now.scan.now in
     let D : DeskData = c.args.desk.now in
-    let E : DeskData = c.loop-place.desk in
+    let E : DeskData = c.loop-from.desk in
     let note : Note = c.args.note in
     let top : ℕ = suc c.args.round in
-    let before = c.loop-place.invariant in
+    let before = c.loop-from.invariant in
+    let hops = lent c.hops_from-followed.result.hops in
     let same : segment_of E.segments note.segment ≡ segment_of D.segments note.segment = extends-segment D E top before.extends note.segment c.requires.note.inside in
     let here : Contains (N.hops (seen_trip note.seen) i) h
     = subst (λ t. Contains (N.hops t i) h) (sym c.requires.note.trip) (subst (λ (s : Segment). Contains (N.hops s.trip i) h) same in_set) in
-    let found : Contains (lent c.hops_from-followed.result.hops) h
+    let found : Contains hops h
     = subst (λ hs. Contains hs h) (sym c.hops_from-followed.ensures.hops) (in_all (N.hops (seen_trip note.seen)) (seen_first note.seen) (suc (seen_last note.seen) - seen_first note.seen) i h of.from (omega (arith, of.to, c.requires.note.order)) here) in
-    let reached : IsReachedBy N.table E (length E.segments) top h.trip h.at
-    = subst (λ (x : Hop). IsReachedBy N.table E (length E.segments) top x.trip x.at) found.2 (before.reached found.0 h (omega (arith, c.loop-place-test.false, c.count-place-end.ensures, found.1))) in
+    let got : slice_get hops found.0 ≡ Some h = slice_get-get_or hops found.0 h found.1 ∙ ap Some found.2 in
+    let reached : IsReachedBy N.table E (length E.segments) top h.trip h.at = before.reached found.0 h (omega (arith, c.loop-from-test.false, c.count-count.ensures, found.1)) got in
     subst (λ r. IsReachedBy N.table E (length E.segments) r h.trip h.at) (ap suc (sym (extends-round D E top before.extends note.segment c.requires.note.inside ∙ c.requires.note.this_round))) reached)

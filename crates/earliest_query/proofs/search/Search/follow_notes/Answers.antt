@@ -19,6 +19,7 @@ loop-k-init g c = record {
   queue = c.requires.queue;
   extends = extends-refl c.args.desk.now (suc c.args.round);
   room = refl;
+  places = omega arith;
   left = record { long = refl; same = λ j d above. refl };
   done = λ j d i below of. absurd (omega (arith, below));
 }
@@ -83,6 +84,7 @@ loop-k-preserved g c =
       queue = c.follow_note.ensures.queue;
       extends = extends-trans D L F top before.extends step;
       room = c.follow_note.ensures.room ∙ ap room_of c.take_note-note.ensures.spent ∙ ap room_of c.read_notes_ahead.ensures ∙ before.room;
+      places = omega (arith, before.places, c.follow_note.ensures.places);
       left = left_one_less D.notes L.notes F.notes k (spent note) before.left (c.follow_note.ensures.notes ∙ taken);
       done = λ j d i below of. elim (below_or_at j k below) [
         | inl earlier ↦ done-kept N Q L F top c.args.round (get_or D.notes j d).segment i best best step

@@ -15,11 +15,6 @@ use Rattle.earliest_query.proofs.Noting.{IsWeighedAt, bounded_late, clipped_outd
 use Rattle.earliest_query.proofs.Reaching.{reached_all}
 use Rattle.earliest_query.proofs.search.Search.weigh_events.Goals as goal
 
-pub clipped_end-end-requires-clause-sound : goal.clipped_end-end-requires-clause-sound
-clipped_end-end-requires-clause-sound g c =
-    let same : segment_of c.args.desk.now.segments c.args.n ≡ c.in-Some.segment = get_or_from_slice_get c.args.desk.now.segments c.args.n c.in-Some.segment no_segment (sym c.in-Some.ensures) in
-    subst (IsSoundSegment (g.S.Scan.net c.args.self.now.scan.now).table) same (c.requires.queue.step.segments c.args.n no_segment c.requires.segment)
-
 pub loop-before-init : goal.loop-before-init
 loop-before-init g c =
     let same : segment_of c.args.desk.now.segments c.args.n ≡ c.in-Some.segment = get_or_from_slice_get c.args.desk.now.segments c.args.n c.in-Some.segment no_segment (sym c.in-Some.ensures) in
@@ -44,7 +39,7 @@ pub visit-visit-requires-clause-at : goal.visit-visit-requires-clause-at
 visit-visit-requires-clause-at g c =
     let same : segment_of c.args.desk.now.segments c.args.n ≡ c.in-Some.segment = get_or_from_slice_get c.args.desk.now.segments c.args.n c.in-Some.segment no_segment (sym c.in-Some.ensures) in
     let sound = subst (IsSoundSegment (g.S.Scan.net c.args.self.now.scan.now).table) same (c.requires.queue.step.segments c.args.n no_segment c.requires.segment) in
-    omega (arith, sound.within, c.loop-before-test.true, clipped_within (g.S.Scan.net c.args.self.now.scan.now) c.args.desk.now.marks c.in-Some.segment c.clipped_end-end.result c.clipped_end-end.ensures)
+    omega (arith, sound.within, c.loop-before-test.true, clipped_within (g.S.Scan.net c.args.self.now.scan.now) c.args.desk.now.marks c.in-Some.segment c.args.end (c.requires.clipped c.in-Some.segment (sym c.in-Some.ensures)))
 
 pub meet-requires-clause-ready : goal.meet-requires-clause-ready
 meet-requires-clause-ready g c = c.loop-before.invariant.ready c.args.round (omega arith)
@@ -67,14 +62,14 @@ pub meet-requires-clause-at : goal.meet-requires-clause-at
 meet-requires-clause-at g c =
     let same : segment_of c.args.desk.now.segments c.args.n ≡ c.in-Some.segment = get_or_from_slice_get c.args.desk.now.segments c.args.n c.in-Some.segment no_segment (sym c.in-Some.ensures) in
     let sound = subst (IsSoundSegment (g.S.Scan.net c.args.self.now.scan.now).table) same (c.requires.queue.step.segments c.args.n no_segment c.requires.segment) in
-    omega (arith, sound.within, c.loop-before-test.true, clipped_within (g.S.Scan.net c.args.self.now.scan.now) c.args.desk.now.marks c.in-Some.segment c.clipped_end-end.result c.clipped_end-end.ensures)
+    omega (arith, sound.within, c.loop-before-test.true, clipped_within (g.S.Scan.net c.args.self.now.scan.now) c.args.desk.now.marks c.in-Some.segment c.args.end (c.requires.clipped c.in-Some.segment (sym c.in-Some.ensures)))
 
 pub weigh-requires-clause-stop : goal.weigh-requires-clause-stop
 weigh-requires-clause-stop g c =
     let T : TimetableData = (g.S.Scan.net c.args.self.now.scan.now).table in
     let same : segment_of c.args.desk.now.segments c.args.n ≡ c.in-Some.segment = get_or_from_slice_get c.args.desk.now.segments c.args.n c.in-Some.segment no_segment (sym c.in-Some.ensures) in
     let sound = subst (IsSoundSegment T) same (c.requires.queue.step.segments c.args.n no_segment c.requires.segment) in
-    let event = sound_event T c.in-Some.segment.trip (c.loop-before.before + 1) c.soundness.ensures.sound sound.trip (omega (arith, sound.within, c.loop-before-test.true, clipped_within (g.S.Scan.net c.args.self.now.scan.now) c.args.desk.now.marks c.in-Some.segment c.clipped_end-end.result c.clipped_end-end.ensures)) in
+    let event = sound_event T c.in-Some.segment.trip (c.loop-before.before + 1) c.soundness.ensures.sound sound.trip (omega (arith, sound.within, c.loop-before-test.true, clipped_within (g.S.Scan.net c.args.self.now.scan.now) c.args.desk.now.marks c.in-Some.segment c.args.end (c.requires.clipped c.in-Some.segment (sym c.in-Some.ensures)))) in
     omega (arith, c.visit-visit.ensures.stop, event.stop)
 
 pub weigh-requires-clause-arr : goal.weigh-requires-clause-arr
@@ -82,7 +77,7 @@ weigh-requires-clause-arr g c =
     let T : TimetableData = (g.S.Scan.net c.args.self.now.scan.now).table in
     let same : segment_of c.args.desk.now.segments c.args.n ≡ c.in-Some.segment = get_or_from_slice_get c.args.desk.now.segments c.args.n c.in-Some.segment no_segment (sym c.in-Some.ensures) in
     let sound = subst (IsSoundSegment T) same (c.requires.queue.step.segments c.args.n no_segment c.requires.segment) in
-    let event = sound_event T c.in-Some.segment.trip (c.loop-before.before + 1) c.soundness.ensures.sound sound.trip (omega (arith, sound.within, c.loop-before-test.true, clipped_within (g.S.Scan.net c.args.self.now.scan.now) c.args.desk.now.marks c.in-Some.segment c.clipped_end-end.result c.clipped_end-end.ensures)) in
+    let event = sound_event T c.in-Some.segment.trip (c.loop-before.before + 1) c.soundness.ensures.sound sound.trip (omega (arith, sound.within, c.loop-before-test.true, clipped_within (g.S.Scan.net c.args.self.now.scan.now) c.args.desk.now.marks c.in-Some.segment c.args.end (c.requires.clipped c.in-Some.segment (sym c.in-Some.ensures)))) in
     omega (arith, ints, c.visit-visit.ensures.arr, event.waits, event.latest)
 
 pub seen_on-requires : goal.seen_on-requires
@@ -119,7 +114,7 @@ loop-before-preserved g c =
       inside = c.requires.segment;
       is_round = c.requires.round;
       onward = omega arith;
-      within = omega (arith, c.loop-before-test.true, clipped_within (g.S.Scan.net c.args.self.now.scan.now) c.args.desk.now.marks c.in-Some.segment c.clipped_end-end.result c.clipped_end-end.ensures);
+      within = omega (arith, c.loop-before-test.true, clipped_within (g.S.Scan.net c.args.self.now.scan.now) c.args.desk.now.marks c.in-Some.segment c.args.end (c.requires.clipped c.in-Some.segment (sym c.in-Some.ensures)));
       stop = c.visit-visit.result.stop;
       arr = c.visit-visit.result.arr;
       alight = c.visit-visit.result.alight;
@@ -138,7 +133,7 @@ loop-before-preserved g c =
       met = met_on (λ i. g.A.AtEvent.has_met c.loop-before.also N (segment_of D.segments n).trip i c.args.round) (λ i. g.A.AtEvent.has_met c.meet.new.self N (segment_of D.segments n).trip i c.args.round) (segment_of D.segments n).board c.loop-before.before
           before.met (λ i. c.meet.ensures.kept (segment_of D.segments n).trip i c.args.round) (subst (λ (s : Segment). g.A.AtEvent.has_met c.meet.new.self N s.trip at c.args.round) (sym same) c.meet.ensures.met);
       still_met = λ t i r was. c.meet.ensures.kept t i r (before.still_met t i r was);
-      within = omega (arith, c.loop-before-test.true, clipped_within (g.S.Scan.net c.args.self.now.scan.now) c.args.desk.now.marks c.in-Some.segment c.clipped_end-end.result c.clipped_end-end.ensures, ap (λ (s : Segment). s.end) same);
+      within = omega (arith, c.loop-before-test.true, clipped_within (g.S.Scan.net c.args.self.now.scan.now) c.args.desk.now.marks c.in-Some.segment c.args.end (c.requires.clipped c.in-Some.segment (sym c.in-Some.ensures)), ap (λ (s : Segment). s.end) same);
       steps = omega (arith, before.steps, look.step, ap (λ (s : Segment). s.board) same);
     }
 
@@ -159,7 +154,7 @@ returns-then-is_late g c =
       inside = c.requires.segment;
       is_round = c.requires.round;
       onward = omega arith;
-      within = omega (arith, c.loop-before-test.true, clipped_within (g.S.Scan.net c.args.self.now.scan.now) c.args.desk.now.marks c.in-Some.segment c.clipped_end-end.result c.clipped_end-end.ensures);
+      within = omega (arith, c.loop-before-test.true, clipped_within (g.S.Scan.net c.args.self.now.scan.now) c.args.desk.now.marks c.in-Some.segment c.args.end (c.requires.clipped c.in-Some.segment (sym c.in-Some.ensures)));
       stop = c.visit-visit.result.stop;
       arr = c.visit-visit.result.arr;
       alight = c.visit-visit.result.alight;
@@ -184,7 +179,7 @@ returns-then-is_late g c =
       ];
       ready = c.meet.ensures.ready;
       still_met = λ t i r was. c.meet.ensures.kept t i r (before.still_met t i r was);
-      steps = omega (arith, before.steps, c.visit-visit.ensures.step, ap (λ (s : Segment). s.board) same, ap (λ (s : Segment). s.end) same, c.loop-before-test.true, clipped_within (g.S.Scan.net c.args.self.now.scan.now) c.args.desk.now.marks c.in-Some.segment c.clipped_end-end.result c.clipped_end-end.ensures);
+      steps = omega (arith, before.steps, c.visit-visit.ensures.step, ap (λ (s : Segment). s.board) same, ap (λ (s : Segment). s.end) same, c.loop-before-test.true, clipped_within (g.S.Scan.net c.args.self.now.scan.now) c.args.desk.now.marks c.in-Some.segment c.args.end (c.requires.clipped c.in-Some.segment (sym c.in-Some.ensures)));
     }
 
 pub returns-clause-seen : goal.returns-clause-seen
@@ -202,7 +197,7 @@ returns-clause-weighed g c = λ i covers.
         left = inr (seen_noted (g.S.Scan.net c.args.self.now.scan.now).table (segment_of D.segments c.args.n) c.loop-before.seen c.args.n c.loop-before.before i c.loop-before.invariant.seen covers.onward within);
         bounded = c.loop-before.invariant.weighed.bounded i covers.onward within;
       })
-      | inr past ↦ inr (clipped_outdone (g.S.Scan.net c.args.self.now.scan.now) c.args.self.now.query.now D c.args.n c.args.round c.clipped_end-end.result i c.in-Some.segment c.soundness.ensures.divided c.requires.queue c.requires.segment c.requires.round same c.clipped_end-end.ensures
+      | inr past ↦ inr (clipped_outdone (g.S.Scan.net c.args.self.now.scan.now) c.args.self.now.query.now D c.args.n c.args.round c.args.end i c.in-Some.segment c.soundness.ensures.divided c.requires.queue c.requires.segment c.requires.round same (c.requires.clipped c.in-Some.segment (sym c.in-Some.ensures))
           (omega (arith, covers.within, ap (λ (s : Segment). s.end) same)) (omega (arith, past, c.loop-before-test.false)))
     ]
 
@@ -212,7 +207,7 @@ returns-clause-met g c = λ i covers.
     let same : segment_of c.args.desk.now.segments c.args.n ≡ c.in-Some.segment = get_or_from_slice_get c.args.desk.now.segments c.args.n c.in-Some.segment no_segment (sym c.in-Some.ensures) in
     elim (before_or_behind i c.loop-before.before) [
       | inl within ↦ inl (subst (λ r. g.A.AtEvent.has_met c.loop-before.also (g.S.Scan.net c.args.self.now.scan.now) (segment_of D.segments c.args.n).trip i r) (sym c.requires.round) (c.loop-before.invariant.met i covers.onward within))
-      | inr past ↦ inr (inr (clipped_outdone (g.S.Scan.net c.args.self.now.scan.now) c.args.self.now.query.now D c.args.n c.args.round c.clipped_end-end.result i c.in-Some.segment c.soundness.ensures.divided c.requires.queue c.requires.segment c.requires.round same c.clipped_end-end.ensures
+      | inr past ↦ inr (inr (clipped_outdone (g.S.Scan.net c.args.self.now.scan.now) c.args.self.now.query.now D c.args.n c.args.round c.args.end i c.in-Some.segment c.soundness.ensures.divided c.requires.queue c.requires.segment c.requires.round same (c.requires.clipped c.in-Some.segment (sym c.in-Some.ensures))
           (omega (arith, covers.within, ap (λ (s : Segment). s.end) same)) (omega (arith, past, c.loop-before-test.false))))
     ]
 

@@ -1,10 +1,8 @@
-use Rattle.std.proofs.Common.{◌∙◌, ◌/◌, [], sym, ap, subst, arith, get_or}
-use Rattle.line_split.specs.Floors.{AreNoLater, FloorsData}
-use Rattle.line_split.proofs.FloorLemmas.{far_later}
+use Rattle.std.proofs.Common.{◌∙◌, inr, ap, subst}
+use Rattle.line_split.specs.Floors.{FloorsData}
+use Rattle.line_split.specs.Bitmaps.{IsOutBy}
 use Rattle.line_split.proofs.floors.Floors.later_from.Goals as goal
 
-pub returns-then-not-is_below-clause-later : goal.returns-then-not-is_below-clause-later
-returns-then-not-is_below-clause-later c =
-    let same = c.row.ensures ∙ ap (λ (f : FloorsData). get_or f.far (c.args.place / 64 / 64) []) c.self.view_is in
-    far_later c.args.self.now.far c.args.self.now.near c.args.events.now c.args.place c.requires.far (omega (arith, c.if-place-ne0.false)) (omega (arith, c.if-block-eq0.true))
-    (λ h. c.if-not-is_below.ensures (subst (λ floor. AreNoLater floor c.args.events.now) (sym same) h))
+pub returns-then-out-gt0-clause-later : goal.returns-then-out-gt0-clause-later
+returns-then-out-gt0-clause-later c = λ k low below inside.
+    inr (subst (λ bitmaps. IsOutBy bitmaps c.args.picked.now k) (c.as_slice.ensures.value ∙ ap (λ (f : FloorsData). f.bitmaps) c.self.view_is) (c.out_from-out.ensures.out k low below))
