@@ -41,7 +41,7 @@ def router():
 
 
 # The program that asks many questions within one process, and its words for that.
-ASKING = "trials"
+ASKING = "comparisons"
 
 
 def asking():

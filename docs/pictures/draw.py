@@ -351,7 +351,7 @@ BOXES = {
 }
 BELOW = ("definitions and laws, which all of these cite", ["tb_base", "tb_laws"])
 ABOVE = ("the program", ["live_turns", "lane_serve", "router_cli", "router"])
-TESTS = ("tests and measurements", ["made_feeds", "cross_tests", "trials"])
+TESTS = ("tests and measurements", ["cross_tests", "trials", "comparisons"])
 WHAT_FLOWS = ["rows", "timetable", "kept transfers", "network", "hits", "journeys"]
 
 

@@ -1,20 +1,37 @@
-//! A made city, for measuring.
+//! Made feeds: a city, for measuring, and small feeds that look random, for comparing.
 //!
 //! `city` gives the timetable of a square grid of stops, with trips along its rows and its columns
 //! both ways, of any size up to 40 by 40 stops: 14,400 trips with 576,000 events. To the layer
 //! above it promises every part of it: each name, number, time and stop. Times are those of a
 //! service day of the GTFS Schedule Reference, in seconds from noon minus twelve hours.
+//!
+//! `small_feed` makes the files of a feed with loops, marks of boarding and alighting, footpaths,
+//! forbidden ways, stations, ties and times beyond midnight, that look random; the same seed gives
+//! the same files. `twin_feed` makes one with trips by frequency and trips of the day before, and
+//! `written_out_feed` of the same seed one with the same trips written out, a day later. `Seeds`
+//! says which of them a program takes. Nothing is promised of these but that they are made safely.
 #![tactic(auto)]
 
 ghost use Rattle.std.specs.Prelude.{◌≡◌, ◌<◌, ◌≤◌, IfOk};
 ghost use Rattle.feed_maker.specs.City.{city};
 
+mod calls;
+mod draw;
 mod grid;
 mod heading;
 mod lines;
+mod random;
+mod texts;
+mod twins;
+mod words;
 
+pub use draw::Draw;
+pub use random::small_feed;
 use std::alloc::Global;
 use tb_base::{HashKey, Memory, Parts, Timetable};
+pub use texts::{Feed, Files, MADE_FOLDER, files};
+pub use twins::{DAY, twin_feed, written_out_feed};
+pub use words::{Seeds, words_of};
 
 // The parts of the city with so many rows and columns.
 fn parts(alloc: Global, side: u32) -> Result<Parts, Memory>

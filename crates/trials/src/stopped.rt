@@ -9,8 +9,6 @@ pub enum Stopped {
     Wrong,
     /// A file of cases can't be tried.
     Untried,
-    /// A feed has no timetable of its day.
-    NoTimetable,
     Memory,
 }
 
@@ -20,7 +18,6 @@ impl Stopped {
         match self {
             Stopped::Wrong => 1,
             Stopped::Untried => 2,
-            Stopped::NoTimetable => 3,
             Stopped::Memory => 6,
         }
     }

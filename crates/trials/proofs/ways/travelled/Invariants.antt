@@ -1,4 +1,0 @@
-use Rattle.trials.proofs.ways.travelled.Given as goal
-
-abbrev pub ghosts-travelled_on : goal.ghosts-travelled_on
-ghosts-travelled_on a = record { name = a.blank.name; parts = a.blank.parts }
