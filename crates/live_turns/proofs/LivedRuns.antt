@@ -384,16 +384,16 @@ first_published files options mirrored (v ∷ words) w e x one is h =
     }
 
 -- the first news can't be told
-pub failed_first : (files : Option FileList) (options : Options) (mode : LiveMode) (words : List ItemData) (w : ItemData) (e : EditionData) (first : NewsData) (left rest before now : Option (List ℕ)) (cause : LiveFault) →
-    take 1 words ≡ w ∷ [] → first ≡ record { word = w.word; became = became.Outcome (outcome_of 1 e) } →
-    BeginsWithFirst files options mode.mirrored words (e ∷ []) → rest ≡ left → FailsToTellFirst (news_shown mode.json first) before now cause → HasFailed files options mode words left rest before now cause
-failed_first files options mode words w e first left rest before now (fault.Feed f) one is good same h = absurd h
-failed_first files options mode words w e first left rest before now fault.ReadFault one is good same h = absurd h
-failed_first files options mode words w e first left rest before now fault.WriteFault one is good same h =
+pub failed_first : (files : Option FileList) (options : Options) (mode : LiveMode) (words : List ItemData) (es : List EditionData) (day : EditionData) (items : List ItemData) (news : List NewsData) (side : LineSideData)
+    (first : NewsData) (left rest before now : Option (List ℕ)) (cause : LiveFault) → BeginsLive files options mode words es day items news side → news ≡ first ∷ [] → rest ≡ left →
+    FailsToTellFirst (news_shown mode.json first) before now cause → HasFailed files options mode words left rest before now cause
+failed_first files options mode words es day items news side first left rest before now (fault.Feed f) b one same h = absurd h
+failed_first files options mode words es day items news side first left rest before now fault.ReadFault b one same h = absurd h
+failed_first files options mode words es day items news side first left rest before now fault.WriteFault b one same h =
     record {
       lines = [];
       news = first ∷ [];
-      editions = e ∷ [];
+      editions = es;
       text = news_shown mode.json first;
       count = h.0;
       heard = [];
@@ -401,16 +401,16 @@ failed_first files options mode words w e first left rest before now fault.Write
       became = first ∷ [];
       first = none_first left;
       came = λ k. absurd (cc k);
-      begins = good;
+      begins = b.good;
       none = inr refl;
       taken = subst (λ l. StartsWith l (take 1 words)) (sym (append-nil words)) (starts_take words 1);
-      published = published_all files options mode.mirrored (take 1 words) (first ∷ []) (e ∷ []) e (first_published files options mode.mirrored words w e first one is good);
+      published = published_all files options mode.mirrored (take 1 words) (first ∷ []) es day (subst (λ l. HavePublished files options mode.mirrored (take 1 words) l es day) one b.published);
       tells = starts_self (first ∷ []);
       right = (first ∷ [], refl, sym (append-nil (news_shown mode.json first)));
       whole = inl refl;
       written = h.1;
     }
-failed_first files options mode words w e first left rest before now fault.Memory one is good same h = inl (h, same)
+failed_first files options mode words es day items news side first left rest before now fault.Memory b one same h = inl (h, same)
 
 -- what a run begins with, before its first line
 pub begins_live : (files : Option FileList) (options : Options) (mode : LiveMode) (words : List ItemData) (w : ItemData) (e : EditionData) (x : NewsData) (es : List EditionData) (day : EditionData)

@@ -321,12 +321,24 @@ fn run_sides<
     match ended {
         Ok(()) => {
             if all {
-                write_rest(rt, alloc, mode.json, &items, given, told, news, sink)
+                let written = write_rest(rt, alloc, mode.json, &items, given, told, news, sink);
+                drop(items);
+                written
             } else {
+                drop(items);
+                drop(given);
+                drop(told);
+                drop(news);
                 Err(LiveFault::Memory)
             }
         }
-        Err(cause) => Err(told_as(cause)),
+        Err(cause) => {
+            drop(items);
+            drop(given);
+            drop(told);
+            drop(news);
+            Err(told_as(cause))
+        }
     }
 }
 
@@ -431,6 +443,94 @@ fn first_news(alloc: Global, item: &PlanItem, first: &Edition) -> Result<News, M
     })
 }
 
+// The news of the first item, which is published, and its edition as that of the last day.
+fn first_told(alloc: Global, item: &PlanItem, first: &Shared) -> Result<(News, Shared), Memory>
+    ensures news { IfOk result (λ t. t.0 ≡ record {
+      word = item.now.word;
+      became = Became.Outcome (outcome_of 1 first.now);
+    }) }
+    ensures day { IfOk result (λ t. t.1 ≡ first.now) }
+{
+    let news = first_news(alloc, item, first.edition())?;
+    match first.share() {
+        Ok(day) => Ok((news, day)),
+        Err(_) => {
+            drop(news);
+            Err(Memory)
+        }
+    }
+}
+
+// The run behind the first edition: its news are written, and then the sides run.
+fn live_behind<
+    J: Naming + Send + Sync,
+    K: Naming + Send + Sync,
+    L: Naming + Send + Sync,
+    F: Folder + Send,
+    G: Gate,
+    S: Source,
+    O: Sink,
+    R: Threads + Wait + Sync,
+>(
+    rt: &R,
+    alloc: Global,
+    gate: &G,
+    building: &Building,
+    mode: LiveMode,
+    words: &[PlanItem],
+    folder: &mut F,
+    news: &News,
+    publisher: Publisher<J>,
+    day: Shared,
+    items: Taker<PlanItem, K>,
+    tells: Giver<News, L>,
+    side: LineSide<J, K, L>,
+    source: &mut S,
+    sink: &mut O,
+) -> Result<(), LiveFault>
+    requires building { IsGoodBuilding building.now }
+    requires mirrored { building.now.mirrored ≡ mode.mirrored }
+    requires some { 0 < length words.now }
+    requires begins { BeginsLive (F.files folder.old) building.now.options mode words.now
+        publisher day items tells side }
+    requires news { tells ≡ news.now ∷ [] }
+    requires rose { ReadFaultsRose (F.faults folder.old) (F.faults folder.old) tells }
+    requires source { S.faults source.old < 2 ^ 64 - 1 }
+    requires sink { O.faults sink.old < 2 ^ 64 - 1 }
+    ensures files { F.files folder.new ≡ F.files folder.old }
+    ensures whole { OnOk result (HasLived (F.files folder.old) building.now.options mode
+        words.now [] (F.faults folder.old) (F.faults folder.new) (S.left source.old)
+        (O.written sink.old) (O.written sink.new)) }
+    ensures failed { IfErr result (HasFailed (F.files folder.old) building.now.options mode
+        words.now (S.left source.old) (S.left source.new) (O.written sink.old)
+        (O.written sink.new)) }
+    ensures later { result ≡ Err LiveFault.ReadFault → HasLivedUntil LiveFault.ReadFault
+        (F.files folder.old) building.now.options mode words.now [] (S.left source.old)
+        (S.left source.new) (O.written sink.old) (O.written sink.new) }
+    ensures bytes { (bytes : List ℕ) × Consumes (S.left source.old) (S.left source.new) bytes }
+    ensures read { result ≡ Err LiveFault.ReadFault → S.faults source.old < S.faults source.new }
+    ensures source { (result ≡ Err LiveFault.ReadFault)
+        ⊎ (S.faults source.new ≡ S.faults source.old) }
+    ensures write { result ≡ Err LiveFault.WriteFault → O.faults sink.old < O.faults sink.new }
+    ensures sink { (result ≡ Err LiveFault.WriteFault)
+        ⊎ (O.faults sink.new ≡ O.faults sink.old) }
+{
+    match write_news(alloc, mode.json, news, sink) {
+        Ok(()) => run_sides(
+            rt, alloc, gate, building, mode, words, folder, publisher, day, items, tells, side,
+            source, sink,
+        ),
+        Err(fault) => {
+            drop(publisher.finish(rt));
+            drop(day);
+            drop(items);
+            drop(tells);
+            drop(side);
+            Err(fault)
+        }
+    }
+}
+
 // The run, where the first item's edition is built. `opened`, `named` and `told` have the names of
 // the list of editions and of the two hand-overs.
 fn live_from<
@@ -488,37 +588,21 @@ fn live_from<
         ⊎ (O.faults sink.new ≡ O.faults sink.old) }
 {
     let item = &words[0];
-    let news = match first_news(alloc, item, first.edition()) {
-        Ok(news) => news,
-        Err(Memory) => {
-            drop(first);
-            return Err(LiveFault::Memory);
-        }
-    };
-    let Ok(day) = first.share() else {
-        drop(first);
-        drop(news);
-        return Err(LiveFault::Memory);
-    };
-    match begin::<J, K, L, R>(
-        rt, alloc, mode, lanes, opened, named, told, first, item, &news,
-    ) {
-        Ok((publisher, items, tells, side)) => match write_news(alloc, mode.json, &news, sink) {
-            Ok(()) => run_sides(
-                rt, alloc, gate, building, mode, words, folder, publisher, day, items, tells, side,
-                source, sink,
+    match first_told(alloc, item, &first) {
+        Ok((news, day)) => match begin::<J, K, L, R>(
+            rt, alloc, mode, lanes, opened, named, told, first, item, &news,
+        ) {
+            Ok((publisher, items, tells, side)) => live_behind(
+                rt, alloc, gate, building, mode, words, folder, &news, publisher, day, items,
+                tells, side, source, sink,
             ),
-            Err(fault) => {
-                drop(publisher.finish(rt));
+            Err(Memory) => {
                 drop(day);
-                drop(items);
-                drop(tells);
-                drop(side);
-                Err(fault)
+                Err(LiveFault::Memory)
             }
         },
         Err(Memory) => {
-            drop(day);
+            drop(first);
             Err(LiveFault::Memory)
         }
     }

@@ -110,6 +110,15 @@ pub(crate) fn news_shown(alloc: Global, json: bool, news: &News) -> Result<Vec<u
     Ok(text.into_bytes())
 }
 
+// Adds the line of a piece of news that was taken.
+fn tell_one(alloc: Global, json: bool, text: &mut Text, news: News) -> Result<(), Memory>
+    ensures { OnOk result (text.new ≡ text.old ++ news_shown json news) }
+{
+    let told = add_news(alloc, json, text, &news);
+    drop(news);
+    told
+}
+
 /// Adds the news that are there, each in a line. Refused only for want of memory, or for a piece of
 /// news that came out of turn, of which there is none.
 pub(crate) fn tell_news<L: Naming, R: Wait>(
@@ -125,7 +134,7 @@ pub(crate) fn tell_news<L: Naming, R: Wait>(
 {
     for _turn in rt.forever() {
         match news.poll(rt) {
-            Some(Taken::Next(next)) => add_news(alloc, json, text, &next)?,
+            Some(Taken::Next(next)) => tell_one(alloc, json, text, next)?,
             Some(Taken::End) | None => return Ok(()),
             Some(Taken::OutOfTurn) => return Err(Memory),
         }

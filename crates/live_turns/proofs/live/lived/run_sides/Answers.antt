@@ -40,11 +40,11 @@ returns-then-all-clause-whole g c =
     let published = subst (λ m. ArePublished files options m (items_taken words items) tells es) c.requires.mirrored p in
     let start = g.F.Folder.faults c.args.folder.now in
     let stop = g.F.Folder.faults both.new.folder in
-    let now = g.O.Sink.written c.write_rest.new.sink in
+    let now = g.O.Sink.written c.write_rest-written.new.sink in
     let rose = on_all_left es all both.result.0 (ReadFaultsRose start stop tells) c.last_of_all-last.ensures both.ensures.rose c.if-all.true in
-    let told = subst (λ l. OnOk c.write_rest.result (TellsRest mode.json items end.given l end.news mid now)) (c.settle.ensures.told ∙ c.end-told.ensures)
-    (subst (λ l. OnOk c.write_rest.result (TellsRest mode.json items l c.settle.new.told end.news mid now)) c.settle.ensures.given c.write_rest.ensures.written) in
-    on_ok_weaker c.write_rest.result (whole_rest files options mode words c.args.publisher c.args.day c.args.items c.args.tells side c.requires.begins left before mid end.seat
+    let told = subst (λ l. OnOk c.write_rest-written.result (TellsRest mode.json items end.given l end.news mid now)) (c.settle.ensures.told ∙ c.end-told.ensures)
+    (subst (λ l. OnOk c.write_rest-written.result (TellsRest mode.json items l c.settle.new.told end.news mid now)) c.settle.ensures.given c.write_rest-written.ensures.written) in
+    on_ok_weaker c.write_rest-written.result (whole_rest files options mode words c.args.publisher c.args.day c.args.items c.args.tells side c.requires.begins left before mid end.seat
     (c.turns_are_one_run.ensures.whole mode) end.given end.news r now start stop es items tells c.requires.some met.starts published rose) told
 
 pub returns-then-all-clause-failed : goal.returns-then-all-clause-failed
@@ -69,14 +69,14 @@ returns-then-all-clause-failed g c =
     let published = subst (λ m. ArePublished files options m (items_taken words items) tells es) c.requires.mirrored p in
     let q = so_far_left es all both.result.0 files options c.args.building.now.mirrored (items_taken words items) tells c.last_of_all-last.ensures both.ensures.published both.ensures.so_far in
     let so_far = met_so_far files options mode.mirrored words items end.given tells end.news es end.seat met (subst (λ m. ArePublishedSoFar files options m (items_taken words items) tells es) c.requires.mirrored q) in
-    let now = g.O.Sink.written c.write_rest.new.sink in
-    let fails = subst (λ l. IfErr c.write_rest.result (FailsToTellRest mode.json items end.given l end.news mid now)) (c.settle.ensures.told ∙ c.end-told.ensures)
-    (subst (λ l. IfErr c.write_rest.result (FailsToTellRest mode.json items l c.settle.new.told end.news mid now)) c.settle.ensures.given c.write_rest.ensures.failed) in
-    IfErr-weaker c.write_rest.result _ _ (failed_rest files options mode words c.args.publisher c.args.day c.args.items c.args.tells side c.requires.begins left before mid end.seat
+    let now = g.O.Sink.written c.write_rest-written.new.sink in
+    let fails = subst (λ l. IfErr c.write_rest-written.result (FailsToTellRest mode.json items end.given l end.news mid now)) (c.settle.ensures.told ∙ c.end-told.ensures)
+    (subst (λ l. IfErr c.write_rest-written.result (FailsToTellRest mode.json items l c.settle.new.told end.news mid now)) c.settle.ensures.given c.write_rest-written.ensures.failed) in
+    IfErr-weaker c.write_rest-written.result _ _ (failed_rest files options mode words c.args.publisher c.args.day c.args.items c.args.tells side c.requires.begins left before mid end.seat
     (c.turns_are_one_run.ensures.whole mode) end.given end.news r (g.S.Source.left both.new.source) now es items tells c.requires.some met.starts published so_far) fails
 
-pub returns-in-Ok-clause-failed : goal.returns-in-Ok-clause-failed
-returns-in-Ok-clause-failed g c =
+pub returns-else-all-clause-failed : goal.returns-else-all-clause-failed
+returns-else-all-clause-failed g c =
     let both = c.both_sides-published in
     let files = g.F.Folder.files c.args.folder.now in
     let options = c.args.building.now.options in
@@ -98,8 +98,8 @@ returns-in-Ok-clause-failed g c =
     short_run files options mode words c.args.publisher c.args.day c.args.items c.args.tells side c.requires.begins left before mid end.seat
     (c.turns_are_one_run.ensures.whole mode) end.given end.news r (g.S.Source.left both.new.source) mid es c.requires.some met.starts so_far refl
 
-pub returns-clause-failed : goal.returns-clause-failed
-returns-clause-failed g c =
+pub returns-in-Err-clause-failed : goal.returns-in-Err-clause-failed
+returns-in-Err-clause-failed g c =
     let both = c.both_sides-published in
     let files = g.F.Folder.files c.args.folder.now in
     let options = c.args.building.now.options in
