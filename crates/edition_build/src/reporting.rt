@@ -40,11 +40,18 @@ pub fn report<G: Gate, R: Threads + Sync>(
     ensures { IfOk result (λ text. IsReport json table.now list text.items) }
 {
     let lines = split(alloc, table)?;
-    let reduced = reduce_all(rt, alloc, table, &lines, workers, gate)?;
+    let Ok(reduced) = reduce_all(rt, alloc, table, &lines, workers, gate) else {
+        drop(lines);
+        return Err(Memory);
+    };
     let counts = counts_of(&lines, &reduced);
+    drop(lines);
     if list {
-        shown_build_list(alloc, json, table, counts, reduced.rows.as_slice())
+        let text = shown_build_list(alloc, json, table, counts, reduced.rows.as_slice());
+        drop(reduced);
+        text
     } else {
+        drop(reduced);
         shown_build(alloc, json, table, counts)
     }
 }

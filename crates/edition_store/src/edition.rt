@@ -74,8 +74,9 @@ impl Edition {
         let Edition {
             network,
             kept,
-            mirror: _,
+            mirror: before,
         } = self;
+        drop(before);
         Edition {
             network,
             kept,
@@ -101,7 +102,13 @@ impl Edition {
     pub fn into_network(self) -> Network
         ensures { result ≡ network_of self }
     {
-        self.network
+        let Edition {
+            network,
+            kept: _,
+            mirror,
+        } = self;
+        drop(mirror);
+        network
     }
 
     /// The network of its mirror, where it has one.

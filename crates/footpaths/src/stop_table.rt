@@ -182,8 +182,9 @@ impl StopTable {
             (IsStopsRefused (check_stops rows.now)) }
     {
         let known = known_ids(alloc, key, rows)?;
-        let ids = checked_ids(alloc, rows, &known)?;
-        let table = StopTable::with_ids(alloc, rows, ids)?;
+        let checked = checked_ids(alloc, rows, &known);
+        drop(known);
+        let table = StopTable::with_ids(alloc, rows, checked?)?;
         Ok(table)
     }
 
@@ -194,10 +195,28 @@ impl StopTable {
         requires ids { ids ≡ map stop_id rows.now }
         ensures { IfOk result (λ table. table ≡ rows.now) }
     {
-        let platforms = platform_ids(alloc, ids.key(), rows)?;
-        let stations = station_ids(alloc, ids.key(), rows)?;
-        let parents = parents_of(alloc, rows, &stations)?;
-        let rows = copies_of(alloc, rows)?;
+        let Ok(platforms) = platform_ids(alloc, ids.key(), rows) else {
+            drop(ids);
+            return Err(Memory);
+        };
+        let Ok(stations) = station_ids(alloc, ids.key(), rows) else {
+            drop(platforms);
+            drop(ids);
+            return Err(Memory);
+        };
+        let Ok(parents) = parents_of(alloc, rows, &stations) else {
+            drop(stations);
+            drop(platforms);
+            drop(ids);
+            return Err(Memory);
+        };
+        let Ok(rows) = copies_of(alloc, rows) else {
+            drop(parents);
+            drop(stations);
+            drop(platforms);
+            drop(ids);
+            return Err(Memory);
+        };
         Ok(StopTable {
             rows,
             ids,

@@ -68,6 +68,14 @@ pub(crate) fn publish_found<P: Publishes, G: Gate, R: Wait>(
     }
 }
 
+// Notes the outcome of an item.
+fn add_outcome(outcomes: &mut Vec<Outcome>, outcome: Outcome) -> Result<(), Memory>
+    ensures { OnOk result (outcomes.new.items ≡ outcomes.old.items ++ outcome ∷ []) }
+{
+    outcomes.push(outcome)?;
+    Ok(())
+}
+
 // Notes the outcome of item i, and publishes its edition, where it has one.
 fn take_found<P: Publishes, G: Gate, R: Wait>(
     rt: &R,
@@ -88,7 +96,7 @@ fn take_found<P: Publishes, G: Gate, R: Wait>(
     ensures ended { IfErr result (λ e. e ≡ ended.Memory) }
 {
     let Found { outcome, edition } = found;
-    if outcomes.push(outcome).is_err() {
+    if add_outcome(outcomes, outcome).is_err() {
         drop(edition);
         publisher.end(rt);
         return Err(PlanEnd::Memory);

@@ -298,7 +298,9 @@ fn origin_reply(
         step: asked.step,
         rides: asked.rides,
     };
-    answer(alloc, edition.table(), edition.network(), desk, &question)
+    let reply = answer(alloc, edition.table(), edition.network(), desk, &question);
+    drop(question);
+    reply
 }
 
 /// The rows of an origin, by the network of a day. Refused only for want of memory.

@@ -1,5 +1,5 @@
 //! The whole run: a publisher beside the lanes, and the closing part.
-ghost use Rattle.std.specs.Prelude.{◌≡◌, ◌<◌, ◌≤◌, ◌-◌, ◌^◌, ◌∷◌, [], All, Err, IfErr, IfOk, IfSome, IsNone, IsSome, length, slice_index_or, take, vec_len};
+ghost use Rattle.std.specs.Prelude.{◌≡◌, ◌<◌, ◌≤◌, ◌+◌, ◌-◌, ◌^◌, ◌∷◌, [], ◌++◌, All, Err, IfErr, IfOk, IfSome, IsNone, IsSome, OnOk, length, slice_index_or, take, vec_len};
 ghost use Rattle.std.specs.Thread.{IsSync};
 ghost use Rattle.gtfs_rows.specs.declared.fault.FeedFault.{FeedFault};
 ghost use Rattle.footpaths.specs.Limits.{AreWithinADay};
@@ -347,6 +347,14 @@ fn close_seated<J: Naming>(
     reports
 }
 
+// Adds a report behind others.
+fn add_report(reports: &mut Vec<LaneReport>, report: LaneReport) -> Result<(), Memory>
+    ensures { OnOk result (reports.new.items ≡ reports.old.items ++ report ∷ []) }
+{
+    reports.push(report)?;
+    Ok(())
+}
+
 // The reports of all lanes, and their closing reports, in order.
 fn close_all<J: Naming>(
     alloc: Global,
@@ -362,16 +370,41 @@ fn close_all<J: Naming>(
     let mut closings = Vec::new(alloc);
     let mut i = 0usize;
     for seated in seats {
-        let (report, closing) = close_seated(alloc, last, &lanes[i], seated)?;
-        let Ok(()) = reports.push(report) else {
+        let Ok((report, closing)) = close_seated(alloc, last, &lanes[i], seated) else {
+            drop(reports);
+            drop(closings);
             return Err(Memory);
         };
-        let Ok(()) = closings.push(closing) else {
+        let Ok(()) = add_report(&mut reports, report) else {
+            drop(closing);
+            drop(reports);
+            drop(closings);
+            return Err(Memory);
+        };
+        let Ok(()) = add_report(&mut closings, closing) else {
+            drop(reports);
+            drop(closings);
             return Err(Memory);
         };
         i += 1;
     }
     Ok((reports, closings))
+}
+
+// A caller at one more seat.
+fn add_seat<J: Naming>(
+    alloc: Global,
+    seat: Seat<J>,
+    seated: &mut Vec<Seated<J>>,
+) -> Result<(), Memory>
+    ensures { OnOk result (vec_len seated.new ≡ vec_len seated.old + 1) }
+{
+    let caller = Caller::new(alloc, seat);
+    seated.push(Seated {
+        caller,
+        replies: None,
+    })?;
+    Ok(())
 }
 
 // A caller at each seat.
@@ -380,10 +413,8 @@ fn seat_all<J: Naming>(alloc: Global, seats: Vec<Seat<J>>) -> Result<Vec<Seated<
 {
     let mut seated = Vec::new(alloc);
     for seat in seats {
-        let Ok(()) = seated.push(Seated {
-            caller: Caller::new(alloc, seat),
-            replies: None,
-        }) else {
+        let Ok(()) = add_seat(alloc, seat, &mut seated) else {
+            drop(seated);
             return Err(Memory);
         };
     }
@@ -549,6 +580,7 @@ fn serve_from<J: Naming + Send + Sync, F: Folder, G: Gate, R: Threads + Wait + S
 {
     let lanes = script.lanes.as_slice();
     let Ok(day) = first.share() else {
+        drop(opened);
         drop(first);
         return Err(PlanEnd::Memory);
     };
@@ -571,6 +603,7 @@ fn serve_from<J: Naming + Send + Sync, F: Folder, G: Gate, R: Threads + Wait + S
             }
         },
         Err(Memory) => {
+            drop(opened);
             drop(first);
             drop(day);
             Err(PlanEnd::Memory)

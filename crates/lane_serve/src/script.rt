@@ -161,9 +161,11 @@ impl ScriptReader {
         ensures lines { OnOk result (self.new.lines ≡ line) }
     {
         if self.lanes.is_empty() {
+            drop(request);
             return Err(Refused::Fault(ScriptFault::BadLine(line)));
         }
         if self.requests >= MOST_REQUESTS {
+            drop(request);
             return Err(Refused::Fault(ScriptFault::TooManyLines(line)));
         }
         let Some(request) = request else {

@@ -23,6 +23,7 @@ pub fn amended(
     let mut trips = UpdatedTrips::of(alloc, table)?;
     for update in updates {
         if let Err(fault) = trips.apply(update) {
+            drop(trips);
             return Err(Refused::Fault(fault));
         }
     }

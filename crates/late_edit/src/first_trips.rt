@@ -110,7 +110,10 @@ impl FirstTrips {
     {
         let mut first = FirstTrips::new(alloc, key);
         for t in (0..trips.len()).rev() {
-            first.note(alloc, &trips[t], t as u32)?;
+            let Ok(()) = first.note(alloc, &trips[t], t as u32) else {
+                drop(first);
+                return Err(Memory);
+            };
         }
         Ok(first)
     }

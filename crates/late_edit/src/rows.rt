@@ -116,6 +116,38 @@ impl Rows {
         Ok(())
     }
 
+    // Adds what each trip has, where nothing was added yet.
+    fn add_trips(
+        &mut self,
+        alloc: Global,
+        old: &Edition,
+        table: &Timetable,
+        lines: &Lines,
+        amendment: &Amendment,
+        calls: &FlatCalls,
+        labels: &mut Labels,
+    ) -> Result<(), Memory>
+        requires none { self.old ≡ record { rows = []; touched = []; kept = 0; redone = 0 } }
+        requires lines { lines.now.table ≡ table.now }
+        requires updated { IsUpdated old.now.table table.now }
+        requires before { amendment.now.before ≡ edition_lines old.now }
+        requires after { amendment.now.after ≡ lines.now }
+        requires calls { calls.now ≡ table.now }
+        requires labels { labels.old.table ≡ table.now }
+        ensures { OnOk result (AreKeptRows (edition_lines old.now) lines.now
+            (length table.now.trips) self.new) }
+    {
+        table.soundness();
+        lines.soundness();
+        for t in 0..table.trip_count() {
+            let trip = TripNo(t);
+            let touched = amendment.is_touched(alloc, trip)?;
+            let (row, kept) = trip_row(alloc, old, table, lines, calls, labels, trip, touched)?;
+            self.add(row, touched, kept)?;
+        }
+        Ok(())
+    }
+
     /// The kept transfers of the touched trips of a timetable with its lines, which has other events
     /// than that of an edition. That only touched trips are reduced again is so in the code and in no
     /// clause. Refused only for want of memory.
@@ -130,28 +162,28 @@ impl Rows {
         ensures { IfOk result
             (AreKeptRows (edition_lines old.now) lines.now (length table.now.trips)) }
     {
-        table.soundness();
-        lines.soundness();
         let before = LinedTimetable::new(old.table(), old.lines());
         let amendment = Amendment::between(alloc, before, LinedTimetable::new(table, lines))?;
-        let calls = FlatCalls::of(alloc, table)?;
-        let mut labels = Labels::new(alloc, table)?;
+        let Ok(calls) = FlatCalls::of(alloc, table) else {
+            drop(amendment);
+            return Err(Memory);
+        };
+        let Ok(mut labels) = Labels::new(alloc, table) else {
+            drop(calls);
+            drop(amendment);
+            return Err(Memory);
+        };
         let mut rows = Rows::new(alloc);
-        for t in 0..table.trip_count() {
-            let trip = TripNo(t);
-            let touched = amendment.is_touched(alloc, trip)?;
-            let (row, kept) = trip_row(
-                alloc,
-                old,
-                table,
-                lines,
-                &calls,
-                &mut labels,
-                trip,
-                touched,
-            )?;
-            rows.add(row, touched, kept)?;
+        let added = rows.add_trips(alloc, old, table, lines, &amendment, &calls, &mut labels);
+        drop(labels);
+        drop(calls);
+        drop(amendment);
+        match added {
+            Ok(()) => Ok(rows),
+            Err(Memory) => {
+                drop(rows);
+                Err(Memory)
+            }
         }
-        Ok(rows)
     }
 }

@@ -78,6 +78,8 @@ impl UpdatedTrips {
     pub(crate) fn into_trips(self) -> Vec<Trip>
         ensures { result.items ≡ self }
     {
-        self.trips
+        let UpdatedTrips { trips, first } = self;
+        drop(first);
+        trips
     }
 }

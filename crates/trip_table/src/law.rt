@@ -24,24 +24,45 @@ pub(crate) fn name_of(alloc: Global, stops: &[Stop], stop: StopNo) -> Result<Nam
     Name::new(alloc, stops[stop.index()].name.bytes())
 }
 
+// The names of three stops.
+fn names_of(
+    alloc: Global,
+    stops: &[Stop],
+    from: StopNo,
+    over: StopNo,
+    to: StopNo,
+) -> Result<(Name, Name, Name), Memory>
+    requires from { from < length stops.now }
+    requires over { over < length stops.now }
+    requires to { to < length stops.now }
+    ensures { (rows : List StopData) →
+        stops.now ≡ map (λ s. record { name = StopData.id s }) (platforms rows) →
+        IfOk result (λ names. (names.0 ≡ platform_id rows from)
+        × (names.1 ≡ platform_id rows over) × (names.2 ≡ platform_id rows to)) }
+{
+    let from = name_of(alloc, stops, from)?;
+    let over = name_of(alloc, stops, over)?;
+    let to = name_of(alloc, stops, to)?;
+    Ok((from, over, to))
+}
+
 // What is wrong with the feed where its footpaths break the law.
 fn breach_fault(alloc: Global, rows: &[StopRow], breach: LawFault) -> Result<FeedFault, Memory>
     requires { IsAmong (length (platforms rows.now)) breach }
     ensures { IfOk result (λ fault. fault ≡ breach_fault rows.now breach) }
 {
     let stops = stops_of(alloc, rows)?;
-    let stops = stops.as_slice();
     match breach {
         LawFault::Absent(from, over, to) => {
-            let from = name_of(alloc, stops, from)?;
-            let over = name_of(alloc, stops, over)?;
-            let to = name_of(alloc, stops, to)?;
+            let names = names_of(alloc, stops.as_slice(), from, over, to);
+            drop(stops);
+            let (from, over, to) = names?;
             Ok(FeedFault::OpenFootpaths(from, over, to))
         }
         LawFault::Long(from, over, to) => {
-            let from = name_of(alloc, stops, from)?;
-            let over = name_of(alloc, stops, over)?;
-            let to = name_of(alloc, stops, to)?;
+            let names = names_of(alloc, stops.as_slice(), from, over, to);
+            drop(stops);
+            let (from, over, to) = names?;
             Ok(FeedFault::LongFootpath(from, over, to))
         }
     }

@@ -129,7 +129,8 @@ impl RowReader for LeftFrequencies<'_> {
     fn read(&self, alloc: Global, cursor: &RowCursor) -> Result<Option<FrequencyRow>, RowsFault> {
         match named(alloc, self.trips, cursor) {
             Ok(row) => Ok(row),
-            Err(RowsFault::Feed(_)) => {
+            Err(RowsFault::Feed(fault)) => {
+                drop(fault);
                 let id = cursor.cell(frequencies::TRIP_ID);
                 Ok(no_starts(alloc, self.trips, cursor.row(), id)?)
             }

@@ -79,10 +79,16 @@ impl RowReader for GoodTimes<'_> {
         match self.reader.read(alloc, cursor) {
             Ok(None) => Ok(None),
             Ok(Some(row)) => match name_fault(self.reader.stops, self.reader.trips, &row) {
-                Some(_) => Ok(None),
+                Some(fault) => {
+                    drop(fault);
+                    Ok(None)
+                }
                 None => Ok(Some(row)),
             },
-            Err(RowsFault::Feed(_)) => Ok(None),
+            Err(RowsFault::Feed(fault)) => {
+                drop(fault);
+                Ok(None)
+            }
             Err(RowsFault::Memory) => Err(RowsFault::Memory),
         }
     }

@@ -31,7 +31,10 @@ impl<R: RowReader> RowReader for GoodRows<'_, R> {
     fn read(&self, alloc: Global, cursor: &RowCursor) -> Result<Option<R::Row>, RowsFault> {
         match self.reader.read(alloc, cursor) {
             Ok(row) => Ok(row),
-            Err(RowsFault::Feed(_)) => Ok(None),
+            Err(RowsFault::Feed(fault)) => {
+                drop(fault);
+                Ok(None)
+            }
             Err(RowsFault::Memory) => Err(RowsFault::Memory),
         }
     }

@@ -16,10 +16,10 @@ returns-clause-reply c =
     let first : to_z w32 (of_z w32 a.first) ≡ a.first = to_z-of_z w32 a.first (search rules) in
     let last : to_z w32 (of_z w32 a.last) ≡ a.last = to_z-of_z w32 a.last (search rules) in
     let origin : from ≡ c.args.origin.now = c.in_ok-from.ensures ∙ c.bytes.ensures in
-    IfOk-weaker c.answer.result _ _
+    IfOk-weaker c.answer-reply.result _ _
     (λ r h. subst (λ T. IsOriginReply T a c.args.origin.now r) c.table.ensures
     (subst (λ name. IsOriginReply c.table.result.now a name r) origin
     (from_origin N a from r
     (subst (λ z. IsReply N (question.Times from a.first z a.step a.rides) r) last
     (subst (λ z. IsReply N (question.Times from z (to_z w32 (of_z w32 a.last)) a.step a.rides) r) first h)))))
-    c.answer.ensures.reply
+    c.answer-reply.ensures.reply

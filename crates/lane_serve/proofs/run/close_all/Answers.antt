@@ -37,13 +37,13 @@ loop-seated-preserved g c =
     let whole = ap (λ k. past ++ k) (sym e) ∙ inv.1 in
     let at = run_at c.args.lanes.now c.args.seats.items past rest c.in-Some.seated l c.requires.run whole in
     let lt : c.loop-seated.i < length c.args.lanes.now = let a = at.0 in let b = inv.0 in omega arith in
-    let report = c.in_ok-report.report in
-    let closing = c.in_ok-report.closing in
-    let served = subst (λ k. IsServedLane c.args.last.now k report closing) c.index-lanes-i.is c.in_ok-report.ensures in
+    let report = c.in-Ok.report in
+    let closing = c.in-Ok.closing in
+    let served = subst (λ k. IsServedLane c.args.last.now k report closing) c.index-lanes-i.is c.in-Ok.ensures in
     let more = served_more c.args.last.now c.args.lanes.now c.loop-seated.i l c.loop-seated.reports.items c.loop-seated.closings.items report closing inv.2 lt served in (
       let n = length-append past (c.in-Some.seated ∷ []) in let i = inv.0 in omega arith,
       append_assoc past (c.in-Some.seated ∷ []) rest ∙ whole,
-      rw (c.in-Ok.ensures.items, c.in-Ok-push.ensures.items) more,
+      rw (c.in-Ok-add_report.ensures, c.in-Ok-add_report-2.ensures) more,
       tt,
       tt,
     )
