@@ -131,7 +131,22 @@ def parents_in_a_chain(folder, n):
     """Each stop names the next one as its parent, and the last one that isn't there: what is left
     lacks one more stop, again and again.
     """
-    rows = "".join(f"P{i},P{i + 1}\n" for i in range(n))
+    parents(folder, (i + 1 for i in range(n)))
+
+
+def parents_in_a_chain_back(folder, n):
+    """The same, but each names the one before it."""
+    parents(folder, range(-1, n - 1))
+
+
+def parents_in_a_tree(folder, n):
+    """Each stop names one of the ten before it, so that many lack their parents at a time."""
+    parents(folder, (i - 1 - i * i % 16 for i in range(n)))
+
+
+def parents(folder, numbers):
+    """Each stop names the one with a number as its parent."""
+    rows = "".join(f"P{i},P{number}\n" for i, number in enumerate(numbers))
     feed(folder, stops=f"stop_id,parent_station\nA,\nB,\n{rows}")
 
 
@@ -380,7 +395,9 @@ OTHERS = {
     one_trip: (500_000, "direct"),
     stations_behind_their_platforms: (12_000, "direct"),
     platforms_of_one_station: (400_000, "station"),
-    parents_in_a_chain: (2_000, "check"),
+    parents_in_a_chain: (20_000, "check"),
+    parents_in_a_chain_back: (20_000, "lenient"),
+    parents_in_a_tree: (20_000, "check"),
     faults_of_one_trip: (50_000, "lenient"),
     trips_with_a_fault: (100_000, "lenient"),
     services: (50_000, "direct"),

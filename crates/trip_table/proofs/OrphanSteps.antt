@@ -1,5 +1,5 @@
 -- Rows of stops.txt of which those that lack their parent are left out, once more.
-use Rattle.std.proofs.Common.{◌≡◌, ◌≢◌, ◌∙◌, refl, sym, ap, ℕ, zero, suc, ◌+◌, ◌-◌, ◌<◌, List, [], ◌∷◌, ◌++◌, length, map, arith, append-nil}
+use Rattle.std.proofs.Common.{◌≡◌, ◌≢◌, ◌∙◌, refl, sym, ap, ℕ, suc, ◌+◌, ◌-◌, ◌<◌, List, [], ◌∷◌, ◌++◌, length, map, arith, append-nil}
 use Rattle.std.specs.Prelude.{Ok, filter, not}
 use Rattle.gtfs_rows.specs.StopsFile.{StopData}
 use Rattle.gtfs_rows.specs.declared.fault.FeedFault.{FeedFault}
@@ -40,7 +40,3 @@ orphans whole begin told now faults count turn rows left h e some pushed kept be
     let later = leave_orphans (count - (turn + 1)) (filter (λ s. not (lacks_parent rows s)) rows) in
     before ∙ ap (after told) (once_more count turn rows h ∙ some_found (filter (lacks_parent rows) rows) rows later (λ n. filled faults some (e ∙ n))) ∙ after_twice told (map orphan_fault (filter (lacks_parent rows) rows)) later
     ∙ ap (λ l. after l later) (ap (λ l. told ++ l) (sym e) ∙ sym pushed) ∙ ap (λ rows. after now (leave_orphans (count - (turn + 1)) rows)) (sym kept)
-
--- as often as there are rows
-pub last_turn : (whole : Sieved (List StopData)) (begin told : List FeedFault) (count turn : ℕ) (rows : List StopData) → turn ≡ count → after begin whole ≡ after told (leave_orphans (count - turn) rows) → after begin whole ≡ ended told (Ok rows)
-last_turn whole begin told count turn rows e before = let none : count - turn ≡ 0 = omega (arith, e) in before ∙ ap (λ n. after told (leave_orphans n rows)) none ∙ ap (λ told. ended told (Ok rows)) (append-nil told)

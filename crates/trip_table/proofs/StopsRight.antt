@@ -1,20 +1,19 @@
 -- Nothing is wrong with the rows of stops.txt that are left.
-use Rattle.std.proofs.Common.{◌≡◌, ◌∙◌, refl, sym, ap, subst, ℕ, zero, suc, ◌+◌, ◌≤◌, List, [], ◌∷◌, ◌++◌, length, Bool, true, false, cond, Option, Some, None, arith, append-nil}
-use Rattle.std.specs.Prelude.{Result, Ok, Err, All, filter, not, bytes_eq}
+use Rattle.std.proofs.Common.{◌≡◌, ◌∙◌, refl, ap, subst, ℕ, zero, suc, ◌+◌, ◌≤◌, List, [], ◌∷◌, ◌++◌, length, Bool, true, false, cond, Option, arith, append-nil}
+use Rattle.std.specs.Prelude.{Result, Ok, All, filter, not}
 use Rattle.std.specs.List.{list_any}
 use Rattle.std.proofs.lemmas.List.Elements.{All-cons, All-nil, All-head, All-tail, filter-append}
-use Rattle.gtfs_rows.specs.Faults.{fault_if, unless_wrong, wrong_after, check_rows}
+use Rattle.gtfs_rows.specs.Faults.{fault_if, unless_wrong, wrong_after}
 use Rattle.gtfs_rows.specs.StopsFile.{StopData}
 use Rattle.gtfs_rows.specs.declared.fault.FeedFault.{FeedFault}
 use Rattle.footpaths.specs.Stops.{check_stops, has_stop_id, lacks_parent, stop_id, wrong_stop}
 use Rattle.footpaths.proofs.StopPlaces.{none_kept}
-use Rattle.trip_table.specs.LeftFeed.{duplicate_stop, leave_found, leave_orphans, orphan_fault, sift}
+use Rattle.trip_table.specs.LeftFeed.{duplicate_stop, leave_found, leave_orphans, sift}
 use Rattle.trip_table.specs.References.{wrong_twice}
-use Rattle.trip_table.specs.Sieves.{Sieved, after, ended, silent}
 use Rattle.trip_table.proofs.SiftedRight.{sifted_right}
 
 -- along rows after earlier ones, each has an id of its own
-IsApart : List StopData → List StopData → Type 0
+unfoldable pub IsApart : List StopData → List StopData → Type 0
 IsApart earlier [] = Unit {0}
 IsApart earlier (r ∷ rest) = (list_any (has_stop_id r.id) earlier ≡ false) × IsApart (earlier ++ r ∷ []) rest
 
@@ -22,7 +21,7 @@ one_id : (b : Bool) (f : FeedFault) (rest : List (Option FeedFault)) (all : List
 one_id true f rest all e = absurd (cc)
 one_id false f rest all e = (refl, e)
 
-apart_by : (earlier rows all : List StopData) → unless_wrong (wrong_after (wrong_twice stop_id duplicate_stop) earlier rows) all ≡ Ok all → IsApart earlier rows
+pub apart_by : (earlier rows all : List StopData) → unless_wrong (wrong_after (wrong_twice stop_id duplicate_stop) earlier rows) all ≡ Ok all → IsApart earlier rows
 unfolding IsApart
 apart_by earlier [] all e = tt
 apart_by earlier (r ∷ rest) all e =

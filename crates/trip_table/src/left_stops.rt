@@ -1,20 +1,24 @@
 //! What is left of stops.txt where bad rows are left out.
-ghost use Rattle.std.specs.Prelude.{◌≡◌, ◌≢◌, ◌≤◌, [], All, IfOk, IfSome, List, Ok, bytes_eq, filter, length, map, option_map, ℕ};
+ghost use Rattle.std.specs.Prelude.{◌≡◌, ◌≢◌, ◌≤◌, ◌<◌, ◌++◌, [], All, IfOk, IfSome, List, Ok, OnOk, bytes_eq, filter, length, map, option_map, slice_index_or, ℕ};
 ghost use Rattle.std.specs.List.{list_any};
-ghost use Rattle.footpaths.specs.Stops.{check_stops, has_stop_id, lacks_parent};
+ghost use Rattle.footpaths.specs.Stops.{check_stops, has_stop_id, lacks_parent, stop_id};
+ghost use Rattle.gtfs_rows.specs.Faults.{check_rows};
 ghost use Rattle.gtfs_rows.specs.Refused.{IsRefused, Yields};
 ghost use Rattle.gtfs_rows.specs.StopsFile.{StopData};
-ghost use Rattle.trip_table.specs.LeftFeed.{leave_orphans, left_stops, orphan_fault};
+ghost use Rattle.trip_table.specs.LeftFeed.{duplicate_stop, leave_orphans, left_stops, orphan_fault};
+ghost use Rattle.trip_table.specs.References.{wrong_twice};
+ghost use Rattle.trip_table.specs.Turns.{is_there, turn_of};
 ghost use Rattle.trip_table.specs.Sieves.{Sieves, after, ended};
 
-use crate::distinct::without_twins;
+use crate::distinct::{distinct_ids, without_twins};
 use crate::feed::spot;
-use crate::sieve::{sieve_file, tell_all};
+use crate::sieve::sieve_file;
+use crate::turns::turns_of;
 use footpaths::{StopTable, StopsFault};
 use gtfs_rows::columns::stops;
 use gtfs_rows::{FeedFault, FeedFile, RowsFault, StopReader, StopRow};
 use std::alloc::Global;
-use tb_base::{HashKey, Memory, NameIndex};
+use tb_base::{Groups, HashKey, Memory, NameIndex};
 
 /// The ids of rows.
 pub fn known_ids(alloc: Global, key: HashKey, rows: &[StopRow]) -> Result<NameIndex, Memory>
@@ -45,24 +49,90 @@ fn orphan_fault(row: &StopRow) -> FeedFault
     FeedFault::UnknownStop(spot(FeedFile::Stops, row.row, stops::PARENT_STATION))
 }
 
-// What is wrong with the rows that lack their parent.
-fn orphan_faults(
-    alloc: Global,
-    rows: &[StopRow],
-    known: &NameIndex,
-) -> Result<Vec<FeedFault>, Memory>
+// Whether a row lacks its parent.
+fn lacks_any(rows: &[StopRow], known: &NameIndex) -> bool
     requires { (id : List ℕ) →
         list_any (bytes_eq id) known.now ≡ list_any (has_stop_id id) rows.now }
-    ensures { IfOk result
-        (λ faults. faults.items ≡ map orphan_fault (filter (lacks_parent rows.now) rows.now)) }
+    ensures { result ≡ list_any (lacks_parent rows.now) rows.now }
 {
-    let mut faults: Vec<FeedFault> = Vec::new(alloc);
     for row in rows {
         if lacks_parent(row, known) {
-            faults.push(orphan_fault(row))?;
+            return true;
         }
     }
-    Ok(faults)
+    false
+}
+
+// Tells that the rows at some places lack their parents.
+fn tell_orphans(rows: &[StopRow], places: &[u32], told: &mut Vec<FeedFault>) -> Result<(), Memory>
+    requires { All (λ place. place < length rows.now) places.now }
+    ensures { (other : StopData) →
+        OnOk result (told.new.items
+        ≡ told.old.items
+        ++ map (λ place. orphan_fault (slice_index_or rows.now place other)) places.now) }
+{
+    for place in places {
+        told.push(orphan_fault(&rows[*place as usize]))?;
+    }
+    Ok(())
+}
+
+// Tells which rows lack their parents, turn by turn, and answers the first turn in which none does.
+fn tell_turns(
+    alloc: Global,
+    rows: &[StopRow],
+    turns: &[u32],
+    told: &mut Vec<FeedFault>,
+) -> Result<u32, Memory>
+    requires apart { check_rows (λ _. wrong_twice stop_id duplicate_stop) rows.now ≡ Ok rows.now }
+    requires few { length rows.now ≤ 100000 }
+    requires turns { turns.now ≡ map (turn_of rows.now) rows.now }
+    ensures { IfOk result (λ turn.
+        after told.old.items (leave_orphans (length rows.now) rows.now)
+        ≡ ended told.new.items (Ok (filter (is_there rows.now turn) rows.now))) }
+{
+    let groups = Groups::by_key(alloc, turns, rows.len() + 1)?;
+    for turn in 0..rows.len() {
+        let places = groups.of(turn);
+        if places.is_empty() {
+            return Ok(turn as u32);
+        }
+        tell_orphans(rows, places, told)?;
+    }
+    Ok(rows.len() as u32)
+}
+
+// The rows that are there in a turn.
+fn rows_there(
+    alloc: Global,
+    rows: Vec<StopRow>,
+    turns: &[u32],
+    turn: u32,
+) -> Result<Vec<StopRow>, Memory>
+    requires { turns.now ≡ map (turn_of rows.items) rows.items }
+    ensures { IfOk result (λ kept. kept.items ≡ filter (is_there rows.items turn) rows.items) }
+{
+    let mut kept: Vec<StopRow> = Vec::new(alloc);
+    let mut place = 0;
+    for row in rows {
+        if turn <= turns[place] {
+            kept.push(row)?;
+        }
+        place += 1;
+    }
+    Ok(kept)
+}
+
+// The ids of rows of which none has that of another.
+fn ids_of(alloc: Global, key: HashKey, rows: &[StopRow]) -> Result<NameIndex, Memory>
+    requires { check_rows (λ _. wrong_twice stop_id duplicate_stop) rows.now ≡ Ok rows.now }
+    ensures { IfOk result (λ ids. ids ≡ map stop_id rows.now) }
+{
+    match distinct_ids(alloc, key, rows) {
+        Ok(ids) => Ok(ids),
+        Err(RowsFault::Feed(_)) => unreachable!(),
+        Err(RowsFault::Memory) => Err(Memory),
+    }
 }
 
 // Rows without those that lack their parent, which are told, until none does.
@@ -72,23 +142,21 @@ fn without_orphans(
     rows: Vec<StopRow>,
     told: &mut Vec<FeedFault>,
 ) -> Result<Vec<StopRow>, Memory>
+    requires apart { check_rows (λ _. wrong_twice stop_id duplicate_stop) rows.items
+        ≡ Ok rows.items }
+    requires few { length rows.items ≤ 100000 }
     ensures kept { IfOk result (λ kept.
         after told.old.items (leave_orphans (length rows.items) rows.items)
         ≡ ended told.new.items (Ok kept.items)) }
     ensures few { IfOk result (λ kept. length kept.items ≤ length rows.items) }
 {
-    let mut rows = rows;
-    let count = rows.len();
-    for _turn in 0..count {
-        let known = known_ids(alloc, key, rows.as_slice())?;
-        let faults = orphan_faults(alloc, rows.as_slice(), &known)?;
-        if faults.is_empty() {
-            return Ok(rows);
-        }
-        tell_all(told, faults)?;
-        rows.retain(|row| !lacks_parent(row, &known));
+    let known = ids_of(alloc, key, rows.as_slice())?;
+    if !lacks_any(rows.as_slice(), &known) {
+        return Ok(rows);
     }
-    Ok(rows)
+    let turns = turns_of(alloc, &known, rows.as_slice())?;
+    let turn = tell_turns(alloc, rows.as_slice(), turns.as_slice(), told)?;
+    rows_there(alloc, rows, turns.as_slice(), turn)
 }
 
 // The table of rows, or the first thing that is wrong with them.

@@ -44,6 +44,7 @@ mod sieve;
 mod stops;
 mod times;
 mod trips;
+mod turns;
 
 pub use asked_day::{check_feed, read_asked_day};
 pub use day::read_day;
