@@ -5,6 +5,7 @@ pub mod EventLemmas
 pub mod PatternLemmas
 pub mod Placing
 pub mod TripOrders
+pub mod TimedTrips
 pub mod CallLemmas
 pub mod DepartureLemmas
 pub mod RunLemmas

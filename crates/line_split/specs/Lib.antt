@@ -4,6 +4,7 @@ pub mod LinesData
 pub mod LinesOf
 pub mod Layout
 pub mod Places
+pub mod Orders
 pub mod Calls
 pub mod Floors
 pub mod Bitmaps

@@ -3,6 +3,7 @@ pub mod Descents
 pub mod Ended
 pub mod Ends
 pub mod Flattening
+pub mod KeptTrips
 pub mod PackedRows
 pub mod Packing
 pub mod Paths

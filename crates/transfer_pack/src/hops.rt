@@ -1,4 +1,5 @@
 ghost use Rattle.std.specs.Prelude.{◌≡◌, ◌+◌, ◌-◌, ◌<◌, ◌≤◌, ◌++◌, ◌∷◌, [], Some, IfOk, IsTrue, ◌↔◌, OnOk, drop, length, map, slice_get, take};
+ghost use Rattle.std.specs.Bool.{OnFalse, OnTrue};
 ghost use Rattle.transfer_pack.specs.Words.{IsShort, Takes, hop_in, hops_held, lent};
 
 use super::ahead::ReadAhead;
@@ -161,6 +162,23 @@ impl Held {
         Ok(())
     }
 
+    // Appends hops that are lent in words, if it holds words too; tells whether it does.
+    fn append_words(&mut self, more: &Hops<'_>) -> Result<bool, Memory>
+        ensures appended { IfOk result (λ done. OnTrue done
+            (hops_held self.new ≡ hops_held self.old ++ lent more.now)) }
+        ensures same { IfOk result
+            (λ done. OnFalse done (hops_held self.new ≡ hops_held self.old)) }
+    {
+        let Lent::Short(others) = more.hops else {
+            return Ok(false);
+        };
+        let Held::Short(words) = self else {
+            return Ok(false);
+        };
+        words.extend_from_slice(others)?;
+        Ok(true)
+    }
+
     // Appends a hop that the words are wide enough for.
     fn push(&mut self, hop: &Hop) -> Result<(), Memory>
         requires { Takes self.old hop.now }
@@ -225,14 +243,24 @@ impl HopList {
         self.hops.push(&hop)
     }
 
-    // Appends hops that are lent.
-    pub(crate) fn append(&mut self, alloc: Global, more: &Hops<'_>) -> Result<(), Memory>
+    // Appends hops that are lent, one by one.
+    fn append_each(&mut self, alloc: Global, more: &Hops<'_>) -> Result<(), Memory>
         ensures { OnOk result (self.new ≡ self.old ++ lent more.now) }
     {
         for place in 0..more.count() {
             self.push(alloc, more.at(place))?;
         }
         Ok(())
+    }
+
+    // Appends hops that are lent.
+    pub(crate) fn append(&mut self, alloc: Global, more: &Hops<'_>) -> Result<(), Memory>
+        ensures { OnOk result (self.new ≡ self.old ++ lent more.now) }
+    {
+        if self.hops.append_words(more)? {
+            return Ok(());
+        }
+        self.append_each(alloc, more)
     }
 
     // Reads a hop ahead, where there is one at this place.

@@ -4,7 +4,7 @@ use Rattle.std.proofs.lemmas.List.{append_assoc, take_more}
 use Rattle.std.proofs.lemmas.Option.{get_or_from_slice_get, slice_get_within}
 use Rattle.tb_base.specs.declared.transfer.Hop.{Hop}
 use Rattle.transfer_pack.specs.Words.{lent}
-use Rattle.transfer_pack.proofs.hops.HopList.append.Goals as goal
+use Rattle.transfer_pack.proofs.hops.HopList.append_each.Goals as goal
 
 -- hops, and one more of those that are lent
 next_added : (start hops next more : List Hop) (k : ℕ) (h : Hop) → slice_get more k ≡ Some h → hops ≡ start ++ take k more → next ≡ hops ++ h ∷ [] → next ≡ start ++ take (k + 1) more
