@@ -69,7 +69,7 @@ lane a
 {LATER}(2 edition 2
 {LATER})?"""
 FAULTY = os.path.join(os.path.relpath(TOP, FEEDS), "examples", "faulty")
-TOLD = r"8 BadCode stops\.txt .+\n11 .+\n11 .+\nfaults 3\n"
+TOLD = r"8 BadCode stops\.txt .+\n11 .+\n11 .+\nfaults 3\nwarning .+\nwarning .+\nwarnings 2\n"
 LEFT = "router: left out 1 row of stops.txt, trips for 2 rows of stop_times.txt (see check)\n"
 
 

@@ -50,9 +50,10 @@ def cases(program, folder):
     yield "a late trip that isn't there", 8, "", fault, run(["late", feed, DAY, late, *ASK[1:]])
     fault = "router: journey refused: 1 BadLine line 1"
     yield "a claim without a value", 9, "", fault, run(["verify", feed, *ASK], given=b"more\n")
-    told = "1 MissingFile stops.txt\nfaults 1\n"
+    told = "1 MissingFile stops.txt\nfaults 1\nwarnings 0\n"
     yield "a feed with a fault, checked", 10, told, "", run(["check", nowhere[1], DAY])
-    yield "a feed without a fault, checked", 0, "faults 0\n", "", run(["check", feed, DAY])
+    none = "faults 0\nwarning UnservedStop stops.txt row 6\nwarnings 1\n"
+    yield "a feed without a fault, checked", 0, none, "", run(["check", feed, DAY])
     left = "router: left out 1 row of stops.txt, trips for 2 rows of stop_times.txt (see check)"
     lenient = run(["--lenient", "ask", os.path.join(TOP, "examples", "faulty"), *ASK])
     yield "an answer without bad rows", 0, BEST[: BEST.index("arrive 08:30")], left, lenient

@@ -2,6 +2,7 @@
 import os
 
 from said import answers, checks, claims, feeds, left, lived, matrix, replies, served, texts
+from said import warned
 from said import words as command_lines
 from said.journeys import Options, Timetable
 from said.words import time_of
@@ -109,7 +110,12 @@ class Judge:
             return "the check has another form"
         of_law = [fault for fault in found[-1:] if fault.startswith(self.law())]
         wanted = checks.text_of(self.told + (of_law if self.may_break_law else []))
-        return None if ended.out == wanted else f"the check isn't {wanted}"
+        faults, warnings = checks.parted(ended.out)
+        if faults != wanted:
+            return f"the check isn't {wanted}"
+        where, (folder, date, *_) = self.folder, self.rest
+        known = warned.warnings_of(where, folder, date, self.options, is_small)
+        return None if warned.is_right(warnings, known) else f"the warnings aren't {known}"
 
     def wrong_answer(self, out):
         if not answers.is_answer(self.command, out):
@@ -277,7 +283,7 @@ class Judge:
         return feeds.bytes_of(os.path.join(self.folder, path))
 
     def is_small(self):
-        return self.feed.events <= FEW_EVENTS and len(self.feed.stops) <= FEW_STOPS
+        return is_small(self.feed)
 
     def allowed_of_texts(self):
         if self.command == "late":
@@ -335,6 +341,10 @@ def numbers_or_text(verdict):
     """The value that a verdict tells, or itself."""
     values = replies.numbers_of(answers.OWN_VALUE.findall(verdict))
     return values[0] if values else verdict.rstrip("\n")
+
+
+def is_small(feed):
+    return feed.events <= FEW_EVENTS and len(feed.stops) <= FEW_STOPS
 
 
 def is_place(feed, name):

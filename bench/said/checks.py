@@ -1,8 +1,10 @@
-"""What `check` writes of faults, and the line of what is left out for them, by docs/FORMATS.md."""
+"""What `check` writes of faults, and the line of what is left out for them, by docs/FORMATS.md.
+Behind the faults stands what it writes of warnings.
+"""
 import collections
 import re
 
-from said import feeds
+from said import feeds, warned
 from said.left import BORNE
 
 # How many faults of a number are told one by one.
@@ -36,10 +38,19 @@ def text_of(faults):
     return "".join(f"{line}\n" for line in (*lines, f"faults {len(faults)}"))
 
 
+def parted(text):
+    """What a text says of faults, and of warnings."""
+    found = re.search(r"^faults \d+\n", text, re.MULTILINE)
+    return (text[: found.end()], text[found.end() :]) if found else (text, "")
+
+
 def told_in(text):
     """The faults that a text tells one by one, each as it is shown; or None if no such text is
     written.
     """
+    text, warnings = parted(text)
+    if not warned.has_form(warnings):
+        return None
     *lines, last = text.split("\n")[:-1] or [""]
     more = {}
     while lines and not feeds.is_fault(lines[-1]):

@@ -23,11 +23,14 @@ class Look:
 
     def __init__(self, folder):
         self.folder, self.told = folder, []
+        # what is left, before starts beyond the day are looked at: the feed, and the rows of what
+        # is warned of
+        self.kept, self.stop_rows, self.services_of_trips, self.headways = None, {}, [], []
 
     def tell(self, *fault):
         self.told.append(Fault(*fault))
 
-    def kept(self, name, fault_of):
+    def good(self, name, fault_of):
         """The rows of a file for which a function gives no column with a fault, or None if the file
         isn't there.
         """
@@ -45,7 +48,7 @@ class Look:
 
     def right(self, name):
         """The rows of a file of which no field is wrong, or None if the file isn't there."""
-        return self.kept(name, lambda fields: feeds.field_fault(name, fields))
+        return self.good(name, lambda fields: feeds.field_fault(name, fields))
 
     def distinct(self, rows, name, column):
         """The rows that don't have the id of an earlier one."""
@@ -67,6 +70,7 @@ class Look:
                 self.tell(11, name, row, 3)
             rows = [it for it in rows if it[1][2] in known]
             if not orphans:
+                self.stop_rows = {fields[0]: row for row, fields in rows}
                 return {stop: (kind, parent) for _, (stop, kind, parent) in rows}
 
     def services(self):
@@ -93,7 +97,7 @@ class Look:
                 bad.add(fields[0])
             return column, fault
 
-        rows = feeds.needed(self.kept(name, fault_of), name)
+        rows = feeds.needed(self.good(name, fault_of), name)
         found = self.without_twins({trip: {} for trip in trips if trip not in bad}, rows)
         found = self.with_good_times(feeds.in_order(found))
         return {trip: found.get(trip, []) for trip in trips}
@@ -143,15 +147,20 @@ class Look:
                 rows.append((0, [fields[0], "0:00:00", "0:00:00", "1", ""]))
             return column, fault
 
-        return [*(self.kept(name, fault_of) or []), *rows]
+        good = self.good(name, fault_of) or []
+        self.headways = [(row, fields[3]) for row, fields in good]
+        return [*good, *rows]
 
     def feed(self):
         stops, services, trips = self.stops(), self.services(), self.trips()
+        self.services_of_trips = [(row, fields[0]) for row, fields in trips]
         ids = dict.fromkeys(fields[1] for _, fields in trips)
         calls = self.calls(stops, ids)
         transfers = self.transfers(stops)
         frequencies = self.frequencies(ids)
-        return feeds.feed_of(stops, *services, trips, calls, transfers, frequencies)
+        parts = stops, *services, trips, calls, transfers
+        self.kept = feeds.feed_of(*parts, [])
+        return feeds.feed_of(*parts, frequencies)
 
 
 def whole(top, folder):

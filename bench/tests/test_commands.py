@@ -63,7 +63,7 @@ class RefusedMemory(unittest.TestCase):
     def test_what_may_come(self):
         ended = collections.namedtuple("Ended", "status out err")
         check, lenient = refused_memory.COMMANDS[-2:]
-        told = ended(10, "8 BadCode stops.txt x\n11 x\n11 x\nfaults 3\n", "")
+        told = ended(10, "8 BadCode stops.txt x\n11 x\n11 x\nfaults 3\nwarning x\nwarning x\nwarnings 2\n", "")
         answer = ended(0, lenient.answer, lenient.line)
         none = ended(6, "", "router: out of memory\n")
         silent = answer._replace(err="")

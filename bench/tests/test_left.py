@@ -9,13 +9,14 @@ from fuzzing.agreeing import disagreement, words_beside
 from fuzzing.cases import Case, lay_out
 from fuzzing.judging import Ended, Judge
 from harness import DAY, FEEDS, example
-from said import checks, feeds, left, words
+from said import checks, feeds, left, warned, words
 
 CASES = [os.path.join(FEEDS, "..", "cases", f"left_{name}.txt") for name in ("out", "kinds")]
 # What makes a run that the fuzzer doesn't try, or an answer that it doesn't know whole.
 UNTRIED = ("any", "room", "folder", "moves")
 UNKNOWN = "11 UnknownStop stop_times.txt row 3 column stop_id"
 LAW = "18 OpenFootpaths A B C"
+NONE = "warnings 0\n"
 
 
 class Question:
@@ -144,9 +145,9 @@ class Texts(unittest.TestCase):
     def test_a_check(self):
         faults = [UNKNOWN, "1 MissingFile trips.txt"]
         self.assertEqual(f"{UNKNOWN}\n1 MissingFile trips.txt\nfaults 2\n", checks.text_of(faults))
-        self.assertEqual(faults, checks.told_in(checks.text_of(faults)))
+        self.assertEqual(faults, checks.told_in(checks.text_of(faults) + NONE))
         self.assertEqual("faults 0\n", checks.text_of([]))
-        self.assertEqual([], checks.told_in("faults 0\n"))
+        self.assertEqual([], checks.told_in(f"faults 0\n{NONE}"))
 
     def test_more_than_are_told(self):
         rows = range(2, 10_005)
@@ -154,7 +155,7 @@ class Texts(unittest.TestCase):
         text = checks.text_of([*times, *[UNKNOWN] * 10_002, LAW])
         sixes, elevens = "and 3 more of number 6\n", "and 2 more of number 11\n"
         self.assertEqual(f"{LAW}\n{sixes}{elevens}faults 20006\n", text[text.index(LAW) :])
-        self.assertTrue([*times[:-3], *[UNKNOWN] * 10_000, LAW] == checks.told_in(text))
+        self.assertTrue([*times[:-3], *[UNKNOWN] * 10_000, LAW] == checks.told_in(text + NONE))
         for one, other in (
             ("and 3 more", "and 2 more"),
             (elevens, ""),
@@ -162,7 +163,8 @@ class Texts(unittest.TestCase):
             (sixes + elevens, elevens + sixes),
             (f"{UNKNOWN}\n{LAW}", f"{UNKNOWN}\n{UNKNOWN}\n{LAW}"),
         ):
-            self.assertTrue(checks.told_in(text.replace(one, other)) is None, (one, other))
+            changed = text.replace(one, other) + NONE
+            self.assertTrue(checks.told_in(changed) is None, (one, other))
 
     def test_no_check(self):
         for text in (
@@ -176,7 +178,31 @@ class Texts(unittest.TestCase):
             "11 UnknownStop stop_times.txt row 3 column trip\nfaults 1\n",
             f"{UNKNOWN}\nand 1 more of number 11\nfaults 2\n",
         ):
-            self.assertIsNone(checks.told_in(text), text)
+            self.assertIsNone(checks.told_in(text + NONE), text)
+
+    def test_warnings(self):
+        stops = [f"UnservedStop stops.txt row {row}" for row in range(2, 10_005)]
+        text = warned.text_of(["NoTrips", *stops, "LongHeadway frequencies.txt row 2"])
+        more = "and 3 more of UnservedStop\n"
+        self.assertIn(f"row 10001\n{more}warning LongHeadway", text)
+        self.assertTrue(text.startswith("warning NoTrips\nwarning UnservedStop stops.txt row 2\n"))
+        self.assertTrue(text.endswith("row 2\nwarnings 10005\n"))
+        self.assertTrue(warned.has_form(text))
+        for wrong in (
+            text.replace(more, ""),
+            text.replace("row 3\n", "row 3\nwarning UnservedStop stops.txt row 3\n"),
+            "warnings 1\n",
+            "warnings 0",
+            "warning UnservedStop trips.txt row 2\nwarnings 1\n",
+            "warning NoTrips row 2\nwarnings 1\n",
+            "warning No\nwarnings 1\n",
+            "and 1 more of NoTrips\nwarnings 1\n",
+        ):
+            self.assertFalse(warned.has_form(wrong), wrong[:60])
+        closing = "warning Closing added 1 lowered 0\nwarnings 1\n"
+        self.assertTrue(warned.is_right(closing, [None]))
+        self.assertTrue(warned.is_right("warnings 0\n", [None]))
+        self.assertFalse(warned.is_right(closing, []))
 
     def test_what_is_left_out(self):
         self.assertEqual("", checks.left_out([]))
@@ -216,15 +242,15 @@ class Agreeing(unittest.TestCase):
         out = "no journey\n"
         line = "router: left out trips for 1 row of stop_times.txt (see check)\n"
         strict = 3, "", f"router: feed refused: {UNKNOWN}\n"
-        check = 10, checks.text_of([UNKNOWN]), ""
-        ended = 10, checks.text_of([UNKNOWN, LAW]), ""
+        check = 10, checks.text_of([UNKNOWN]) + NONE, ""
+        ended = 10, checks.text_of([UNKNOWN, LAW]) + NONE, ""
         refused = 3, "", f"router: feed refused: {LAW}\n"
-        whole = 0, checks.text_of([]), ""
+        whole = 0, checks.text_of([]) + NONE, ""
         for right in (
             ((0, out, ""), whole, (0, out, "")),
             ((0, out, line), check, strict),
             (refused, ended, strict),
-            (refused, (10, checks.text_of([LAW]), ""), refused),
+            (refused, (10, checks.text_of([LAW]) + NONE, ""), refused),
             ((9, "", "router: journey refused: 4 TooLong\n"), check, strict),
             ((4, "", "router: read fault\n"),) * 3,
         ):

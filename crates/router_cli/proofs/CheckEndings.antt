@@ -10,9 +10,10 @@ use Rattle.trip_table.specs.Answers.{feed_of}
 use Rattle.trip_table.specs.AskedDay.{AreFaultsOf, with_last}
 use Rattle.trip_table.specs.Feed.{Feed}
 use Rattle.trip_table.specs.LeftFeed.{IsLenientOf}
+use Rattle.trip_table.specs.declared.warning.Warning.{Warning}
 use Rattle.command_line.specs.Checks.{CheckRequestData}
 use Rattle.router_cli.proofs.Written.{IsWritten, Text}
-use Rattle.router_cli.specs.Checks.{ChecksTo, IsCheckEnding, IsCheckOutcome, IsWholeCheck, check_shown, whole_status}
+use Rattle.router_cli.specs.Checks.{ChecksTo, IsCheckEnding, IsCheckOutcome, IsWholeCheck, WarnsOf, check_shown, whole_status}
 use Rattle.router_cli.specs.Outcome.{WritesText}
 use Rattle.router_cli.specs.declared.status.Status.{Status}
 use Rattle.router_cli.specs.declared.status.Status.TheVariants as status
@@ -58,19 +59,19 @@ abbrev pub IsEnded : Status → List FeedFault → Status → Type 0
 IsEnded s faults ends = (s ≡ status.Done × (ends ≡ whole_status faults)) ⊎ ((s ≡ status.Done → ⊥) × (ends ≡ s))
 
 -- what the status says where a text was there to write
-with_check : (files : Option FileList) (r : CheckRequestData) (faults : List FeedFault) (bytes : List ℕ) (s : Status) (before now : Option (List ℕ)) →
-    ChecksTo files r faults → bytes ≡ check_shown r.json faults → WritesText bytes s before now → (s ≡ status.Done → ⊥) → IsCheckOutcome files r s before now
-with_check files r faults bytes status.Done before now are same added none = absurd (none refl)
-with_check files r faults bytes status.WriteFault before now are same (n, few, added) none =
-    record { faults = faults; are = are; count = n; few = subst (λ b. n ≤ length b) same few; text = subst (λ b. Appends before now (take n b)) same added }
-with_check files r faults bytes status.Usage before now are same h none = absurd h
-with_check files r faults bytes (status.FeedRefused f) before now are same h none = absurd h
-with_check files r faults bytes status.ReadFault before now are same h none = absurd h
-with_check files r faults bytes status.Memory before now are same h none = absurd h
-with_check files r faults bytes (status.ScriptRefused f) before now are same h none = absurd h
-with_check files r faults bytes (status.LateRefused f) before now are same h none = absurd h
-with_check files r faults bytes (status.JourneyRefused f) before now are same h none = absurd h
-with_check files r faults bytes status.FaultsFound before now are same h none = absurd h
+with_check : (files : Option FileList) (r : CheckRequestData) (faults : List FeedFault) (warnings : List Warning) (bytes : List ℕ) (s : Status) (before now : Option (List ℕ)) →
+    ChecksTo files r faults → WarnsOf files r warnings → bytes ≡ check_shown r.json faults warnings → WritesText bytes s before now → (s ≡ status.Done → ⊥) → IsCheckOutcome files r s before now
+with_check files r faults warnings bytes status.Done before now are warned same added none = absurd (none refl)
+with_check files r faults warnings bytes status.WriteFault before now are warned same (n, few, added) none =
+    record { faults = faults; are = are; warnings = warnings; warned = warned; count = n; few = subst (λ b. n ≤ length b) same few; text = subst (λ b. Appends before now (take n b)) same added }
+with_check files r faults warnings bytes status.Usage before now are warned same h none = absurd h
+with_check files r faults warnings bytes (status.FeedRefused f) before now are warned same h none = absurd h
+with_check files r faults warnings bytes status.ReadFault before now are warned same h none = absurd h
+with_check files r faults warnings bytes status.Memory before now are warned same h none = absurd h
+with_check files r faults warnings bytes (status.ScriptRefused f) before now are warned same h none = absurd h
+with_check files r faults warnings bytes (status.LateRefused f) before now are warned same h none = absurd h
+with_check files r faults warnings bytes (status.JourneyRefused f) before now are warned same h none = absurd h
+with_check files r faults warnings bytes status.FaultsFound before now are warned same h none = absurd h
 
 -- a text that was written whole was there
 text_there : (text : Text) (s : Status) (shown : List ℕ) (before now : Option (List ℕ)) → IfOk text (λ v. v.items ≡ shown) → IfErr text (λ why. why ≡ status.Memory) →
@@ -80,14 +81,14 @@ text_there (Err why) s shown before now same refused written is =
     absurd (let e : status.Memory ≡ status.Done = sym refused ∙ sym written ∙ is in cc)
 
 -- what the status says of a check, by the text that was to be written
-pub check_outcome : (files : Option FileList) (r : CheckRequestData) (faults : List FeedFault) (text : Text) (s ends : Status) (before now : Option (List ℕ)) →
-    ChecksTo files r faults → IfOk text (λ v. v.items ≡ check_shown r.json faults) → IfErr text (λ why. why ≡ status.Memory) → IsWritten text s before now →
+pub check_outcome : (files : Option FileList) (r : CheckRequestData) (faults : List FeedFault) (warnings : List Warning) (text : Text) (s ends : Status) (before now : Option (List ℕ)) →
+    ChecksTo files r faults → WarnsOf files r warnings → IfOk text (λ v. v.items ≡ check_shown r.json faults warnings) → IfErr text (λ why. why ≡ status.Memory) → IsWritten text s before now →
     IsEnded s faults ends → IsCheckOutcome files r ends before now
-check_outcome files r faults text s ends before now are same refused written (inl (done, is)) =
+check_outcome files r faults warnings text s ends before now are warned same refused written (inl (done, is)) =
     subst (λ x. IsCheckOutcome files r x before now) (sym is)
     (whole_ends files r faults before now
-    (record { faults = faults; are = are; ends = refl; text = text_there text s (check_shown r.json faults) before now same refused written done }))
-check_outcome files r faults (Ok v) s ends before now are same refused written (inr (none, is)) =
-    subst (λ x. IsCheckOutcome files r x before now) (sym is) (with_check files r faults v.items s before now are same written none)
-check_outcome files r faults (Err why) s ends before now are same refused written (inr (none, is)) =
+    (record { faults = faults; are = are; warnings = warnings; warned = warned; ends = refl; text = text_there text s (check_shown r.json faults warnings) before now same refused written done }))
+check_outcome files r faults warnings (Ok v) s ends before now are warned same refused written (inr (none, is)) =
+    subst (λ x. IsCheckOutcome files r x before now) (sym is) (with_check files r faults warnings v.items s before now are warned same written none)
+check_outcome files r faults warnings (Err why) s ends before now are warned same refused written (inr (none, is)) =
     subst (λ x. IsCheckOutcome files r x before now) (sym (is ∙ written ∙ refused)) tt

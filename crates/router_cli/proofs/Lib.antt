@@ -10,3 +10,4 @@ pub mod CheckEndings
 pub mod Completed
 pub mod Written
 pub mod Corners
+pub mod WarnedTexts

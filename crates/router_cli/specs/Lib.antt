@@ -1,6 +1,7 @@
 pub mod Answers
 pub mod Cities
 pub mod Outcome
+pub mod Warnings
 pub mod Checks
 pub mod Serving
 pub mod Living

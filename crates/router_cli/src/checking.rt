@@ -1,9 +1,11 @@
 //! What the program writes of a check of a feed.
-ghost use Rattle.std.specs.Prelude.{◌≡◌, ◌⊎◌, ◌<◌, ◌-◌, ◌^◌, IfErr, IfOk};
+ghost use Rattle.std.specs.Prelude.{◌≡◌, ◌⊎◌, ◌<◌, ◌-◌, ◌^◌, IfErr, IfOk, length};
 ghost use Rattle.gtfs_rows.specs.Told.{none_told, tell_all};
+ghost use Rattle.answer_json.specs.Checks.{shown_check};
 ghost use Rattle.router_cli.specs.Checks.{IsCheckOutcome, check_shown, whole_status};
 
 use crate::status::Status;
+use crate::warned::warnings_shown;
 use crate::writing::write;
 use answer_json::shown_check;
 use command_line::CheckRequest;
@@ -11,7 +13,7 @@ use gtfs_rows::{FeedFault, ToldFaults};
 use std::alloc::Global;
 use tb_base::Memory;
 use tb_io::{Folder, Sink};
-use trip_table::{DayFault, check_feed};
+use trip_table::{DayFault, Warning, check_feed, feed_warnings};
 
 // Faults, told one after another.
 fn told_of(alloc: Global, faults: Vec<FeedFault>) -> Result<ToldFaults, Memory>
@@ -25,15 +27,34 @@ fn told_of(alloc: Global, faults: Vec<FeedFault>) -> Result<ToldFaults, Memory>
 }
 
 // What is written of all faults of a feed.
-fn check_text(alloc: Global, json: bool, faults: Vec<FeedFault>) -> Result<Vec<u8>, Status>
-    ensures text { IfOk result (λ text. text.items ≡ check_shown json faults.items) }
-    ensures refused { IfErr result (λ status. status ≡ Status.Memory) }
+fn faults_text(alloc: Global, json: bool, faults: Vec<FeedFault>) -> Result<Vec<u8>, Memory>
+    ensures { IfOk result (λ text.
+        text.items ≡ shown_check json (tell_all none_told faults.items) (length faults.items)) }
 {
     let count = faults.len() as u64;
     let told = told_of(alloc, faults)?;
     let text = shown_check(alloc, json, &told, count);
     drop(told);
-    Ok(text?)
+    text
+}
+
+// What is written of all faults of a feed, and of what is read, but likely not meant.
+fn check_text(
+    alloc: Global,
+    json: bool,
+    faults: Vec<FeedFault>,
+    warnings: &[Warning],
+) -> Result<Vec<u8>, Status>
+    ensures text { IfOk result (λ text.
+        text.items ≡ check_shown json faults.items warnings.now) }
+    ensures refused { IfErr result (λ status. status ≡ Status.Memory) }
+{
+    let mut text = faults_text(alloc, json, faults)?;
+    let more = warnings_shown(alloc, json, warnings)?;
+    match text.extend_from_slice(more.as_slice()) {
+        Ok(()) => Ok(text),
+        Err(_) => Err(Status::Memory),
+    }
 }
 
 // How a check ends that is written whole.
@@ -60,7 +81,8 @@ fn ended(written: Status, whole: Status) -> Status
     }
 }
 
-/// Writes all faults of a feed on a day. It has no handle that waits, so it returns.
+/// Writes all faults of a feed on a day, and what is read of it, but likely not meant. It has no
+/// handle that waits, so it returns.
 pub(crate) fn check_status<F: Folder, K: Sink>(
     alloc: Global,
     request: &CheckRequest,
@@ -80,6 +102,13 @@ pub(crate) fn check_status<F: Folder, K: Sink>(
     ensures out_kept { (result ≡ Status.WriteFault) ⊎ (K.faults out.new ≡ K.faults out.old) }
     ensures files { F.files folder.new ≡ F.files folder.old }
 {
+    let found = feed_warnings(alloc, folder, request.dir, &request.day, &request.options);
+    let warnings = match found {
+        Ok(warnings) => warnings,
+        Err(DayFault::ReadFault) => return Status::ReadFault,
+        Err(DayFault::Memory) => return Status::Memory,
+        Err(DayFault::Feed(_)) => unreachable!(),
+    };
     let faults = match check_feed(alloc, folder, request.dir, &request.day, &request.options) {
         Ok(faults) => faults,
         Err(DayFault::ReadFault) => return Status::ReadFault,
@@ -87,6 +116,6 @@ pub(crate) fn check_status<F: Folder, K: Sink>(
         Err(DayFault::Feed(_)) => unreachable!(),
     };
     let whole = whole_status(faults.as_slice());
-    let text = check_text(alloc, request.json, faults);
+    let text = check_text(alloc, request.json, faults, warnings.as_slice());
     ended(write(out, text), whole)
 }

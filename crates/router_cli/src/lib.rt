@@ -22,6 +22,7 @@ mod serving;
 mod status;
 mod verdicts;
 mod verifying;
+mod warned;
 mod writing;
 
 pub use command_line::asks_json;

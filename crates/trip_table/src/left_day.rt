@@ -3,7 +3,7 @@ ghost use Rattle.std.specs.Prelude.{◌≡◌, ◌≤◌, ◌<◌, ◌-◌, ◌^
 ghost use Rattle.gtfs_rows.specs.Refused.{Yields};
 ghost use Rattle.footpaths.specs.Limits.{AreWithinADay};
 ghost use Rattle.trip_table.specs.Answers.{Gives, GivesRows, IsRefused, Leaves, feed_of};
-ghost use Rattle.trip_table.specs.LeftFeed.{IsLeft, IsLeftOf, IsLenientOf, IsLeftOfTexts, IsTimetableLeft, left_after_rows, left_rows, sized_all, text_at};
+ghost use Rattle.trip_table.specs.LeftFeed.{IsLeft, IsLeftOf, IsLenientOf, IsLeftOfTexts, IsTimetableLeft, feed_files, left_after_rows, left_rows, sized_all, text_at};
 ghost use Rattle.trip_table.specs.References.{Rows};
 ghost use Rattle.trip_table.specs.Sieves.{Sieves};
 
@@ -70,8 +70,8 @@ fn text_at(texts: &[Option<Vec<u8>>], place: usize) -> Option<&[u8]>
     }
 }
 
-// The rows of a feed up to the times of its trips.
-fn left_rows(
+/// The rows of a feed up to the times of its trips.
+pub fn left_rows(
     alloc: Global,
     key: HashKey,
     texts: &[Option<Vec<u8>>],
@@ -137,6 +137,44 @@ fn timetable_left(
     }
 }
 
+/// The rows of the files after stop_times.txt.
+#[derive(Drop)]
+pub struct LaterRows {
+    pub transfers: Vec<TransferRow>,
+    pub frequencies: FrequencyTable,
+}
+
+/// The rows of transfers.txt and frequencies.txt, behind those up to the times of trips.
+pub fn left_files(
+    alloc: Global,
+    rows: &FeedRows,
+    texts: &[Option<Vec<u8>>],
+    told: &mut Vec<FeedFault>,
+) -> Result<LaterRows, RowsFault>
+    requires texts { All (λ text. IfSome text (λ v. length v.items ≤ 1_073_741_824)) texts.now }
+    ensures left { Sieves
+        (left_after_rows (map (option_map (λ v. v.items)) texts.now) rows.now) told.old.items
+        told.new.items result
+        (λ found. record {
+          rows = rows.now;
+          transfers = found.transfers.items;
+          frequencies = found.frequencies.rows;
+        }) }
+    ensures trips { IfOk result (λ found. found.frequencies.trips ≡ length rows.now.trips) }
+{
+    let transfers = match left_transfers(alloc, rows.stops(), text_at(texts, 5), told) {
+        Ok(transfers) => transfers,
+        Err(fault) => return Err(fault),
+    };
+    match left_frequencies(alloc, rows.trips(), text_at(texts, 6), told) {
+        Ok(frequencies) => Ok(LaterRows {
+            transfers,
+            frequencies,
+        }),
+        Err(fault) => Err(fault),
+    }
+}
+
 // The timetable by the rows up to the times of trips, and the files after them.
 fn left_after_rows(
     alloc: Global,
@@ -154,22 +192,15 @@ fn left_after_rows(
         told.new.items)
         result }
 {
-    let transfers = match left_transfers(alloc, rows.stops(), text_at(texts, 5), told) {
-        Ok(transfers) => transfers,
-        Err(fault) => return Err(fault),
-    };
-    let frequencies = match left_frequencies(alloc, rows.trips(), text_at(texts, 6), told) {
-        Ok(frequencies) => frequencies,
-        Err(fault) => return Err(fault),
-    };
-    timetable_left(
-        alloc,
-        rows,
-        transfers.as_slice(),
-        &frequencies,
-        day,
-        options,
-    )
+    match left_files(alloc, rows, texts, told) {
+        Ok(later) => {
+            let transfers = later.transfers.as_slice();
+            let table = timetable_left(alloc, rows, transfers, &later.frequencies, day, options);
+            drop(later);
+            table
+        }
+        Err(fault) => Err(fault),
+    }
 }
 
 // The timetable of a day by what is left of the files' bytes.
@@ -198,6 +229,33 @@ fn left_timetable(
     }
 }
 
+/// The bytes of the files of a feed, in the order of reference, each where it is there.
+pub fn take_feed<F: Folder>(
+    alloc: Global,
+    folder: &mut F,
+    dir: &str,
+) -> Result<Vec<Option<Vec<u8>>>, DayFault>
+    requires { F.faults folder.old < 2 ^ 64 - 1 }
+    ensures told { IsSome (F.files folder.old) →
+        Yields IsRefused result (λ texts. map (option_map (λ v. v.items)) texts.items)
+        (sized_all (feed_of (F.files folder.old) dir.now) feed_files) }
+    ensures within { IfOk result
+        (λ texts. All (λ text. IfSome text (λ v. length v.items ≤ 1_073_741_824)) texts.items) }
+    ensures leaves { Leaves (F.files folder.old) (F.files folder.new) (F.faults folder.old)
+        (F.faults folder.new) result }
+{
+    let files = [
+        FeedFile::Stops,
+        FeedFile::Calendar,
+        FeedFile::CalendarDates,
+        FeedFile::Trips,
+        FeedFile::StopTimes,
+        FeedFile::Transfers,
+        FeedFile::Frequencies,
+    ];
+    take_all(alloc, folder, dir, &files)
+}
+
 // The timetable of a day by what is left of the files of a feed in a directory of a folder, where bad
 // rows are left out; or the fault that ends it. The faults of what is left out are told after those
 // that were told before.
@@ -219,16 +277,7 @@ fn read_left_day<F: Folder>(
     ensures leaves { Leaves (F.files folder.old) (F.files folder.new) (F.faults folder.old)
         (F.faults folder.new) result }
 {
-    let files = [
-        FeedFile::Stops,
-        FeedFile::Calendar,
-        FeedFile::CalendarDates,
-        FeedFile::Trips,
-        FeedFile::StopTimes,
-        FeedFile::Transfers,
-        FeedFile::Frequencies,
-    ];
-    let texts = match take_all(alloc, folder, dir, &files) {
+    let texts = match take_feed(alloc, folder, dir) {
         Ok(texts) => texts,
         Err(fault) => return Err(fault),
     };

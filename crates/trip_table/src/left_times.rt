@@ -165,10 +165,11 @@ fn marks_of(alloc: Global, trips: usize, found: &[TripFault]) -> Result<Vec<bool
     Ok(marks)
 }
 
-fn unmarked(alloc: Global, trips: usize) -> Result<Vec<bool>, Memory>
-    ensures { IfOk result (λ marks. marks.items ≡ replicate trips false) }
+/// So many marks that aren't set.
+pub fn unmarked(alloc: Global, count: usize) -> Result<Vec<bool>, Memory>
+    ensures { IfOk result (λ marks. marks.items ≡ replicate count false) }
 {
-    let marks = vec![in alloc; false; trips]?;
+    let marks = vec![in alloc; false; count]?;
     Ok(marks)
 }
 

@@ -14,7 +14,8 @@
 //!
 //! [`read_lenient_day`] leaves bad rows out, and what names them in turn, tells the fault of each, and
 //! gives the timetable of what is left: `IsLenientOf` in specs/LeftFeed.antt. [`read_asked_day`] is
-//! one or the other, as the options ask; [`check_feed`] gives all that is wrong.
+//! one or the other, as the options ask; [`check_feed`] gives all that is wrong, [`feed_warnings`] what
+//! is right, but likely not meant: `AreWarningsOf` in specs/Warnings.antt.
 #![tactic(auto)]
 
 mod asked_day;
@@ -45,6 +46,8 @@ mod stops;
 mod times;
 mod trips;
 mod turns;
+mod warning;
+mod warnings;
 
 pub use asked_day::{check_feed, read_asked_day};
 pub use day::read_day;
@@ -52,3 +55,5 @@ pub use day_fault::DayFault;
 pub use footpaths::Options;
 pub use left_day::read_lenient_day;
 pub use service_day::{Day, day_of};
+pub use warning::Warning;
+pub use warnings::feed_warnings;

@@ -68,8 +68,8 @@ fn is_lenient(came: &Ending, first: &Ending) -> bool {
 
 // The last fault that a check tells, if it tells one.
 fn last_told(check: &Ending) -> Option<&str> {
-    let (told, count) = check.answer().strip_suffix('\n')?.rsplit_once('\n')?;
-    if check.code != 10 || !count.starts_with("faults ") {
+    let (told, _) = check.answer().rsplit_once("\nfaults ")?;
+    if check.code != 10 {
         return None;
     }
     match told.rsplit_once('\n') {
@@ -84,7 +84,7 @@ fn is_checked(check: &Ending, lenient: &Ending, first: &Ending) -> bool {
         return false;
     }
     if first.is_answer() {
-        return check.is_answer() && check.answer() == "faults 0\n";
+        return check.is_answer() && check.answer().starts_with("faults 0\n");
     }
     match (last_told(check), refused_for(lenient)) {
         (Some(last), Some(fault)) => last == fault,
