@@ -83,8 +83,8 @@ fn twice_as_many(alloc: Global, far: &[usize], steps: &[usize]) -> Result<Vec<us
     Ok(more)
 }
 
-// How many steps it takes from each place to the last one: at least as many as they are, or as the
-// number of that place.
+// How many steps it takes from each place to the last one, or any number from the last place's own
+// on where they are no fewer. Each round looks twice as far.
 fn steps_to(alloc: Global, bases: &[usize], last: usize) -> Result<Vec<usize>, Memory>
     requires within { All (λ place. place < length bases.now) bases.now }
     requires last { last < length bases.now }
@@ -121,7 +121,7 @@ fn turn_at(steps: &[usize], base: usize, limit: usize) -> u32
 }
 
 /// The turn, from 0, in which each row lacks its parent, where those that do are left out in turn;
-/// the number of rows where it never does. Each step of the search doubles how far it looks.
+/// the number of rows where it never does.
 pub fn turns_of(alloc: Global, known: &NameIndex, rows: &[StopRow]) -> Result<Vec<u32>, Memory>
     requires known { known.now ≡ map stop_id rows.now }
     requires few { length rows.now ≤ 100000 }
