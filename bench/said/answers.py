@@ -27,7 +27,7 @@ ITEM = rf"edition \d+ .+ (?:{COUNTS}|touched \d+ kept \d+\n)|refused .+\n"
 REACHED = rf"(?:.+(?: -|(?: {TIME}/\d+)+)\n)*"
 TRAVEL = rf"(?:.+ \d+/\d+(?: -| {TIME}){{7}}\n)*"
 DEPARTURES = rf"(?:{NO_JOURNEY}|(?:leave {TIME} rides \d+\n(?:{LEG})*)+)"
-ANSWER = rf"{CHOICES}|{OFFERS}|{DEPARTURES}|unknown stop .*\n|{REACHED}|{TRAVEL}"
+ANSWER = rf"{CHOICES}|{OFFERS}|{DEPARTURES}|unknown stop (?s:.*)\n|{REACHED}|{TRAVEL}"
 REPLY = rf"\d+ edition \d+\n(?:deferred \d+\n|{ANSWER})"
 LANES = rf"(?:lane .*\n(?:{REPLY})*)*"
 ROW = "from,to,reached,departures,least,p5,p25,p50,p75,p95,greatest"
@@ -63,9 +63,9 @@ def is_answer(command, text):
     """Whether a text is one that the command may write. Names are without line feeds."""
     form = FORMS[command]
     if command in PLACES:
-        form = rf"{form}|unknown stop .*\n"
+        form = rf"{form}|unknown stop (?s:.*)\n"
         if command == "late":
-            form = rf"{form}|edition 2 redone \d+ kept \d+\nunknown stop .*\n"
+            form = rf"{form}|edition 2 redone \d+ kept \d+\nunknown stop (?s:.*)\n"
     return bool(re.fullmatch(form, text)) and (command not in ("ask", "late") or are_best(text))
 
 
