@@ -111,13 +111,27 @@ class WorkedOut(unittest.TestCase):
         found = [it for it in questions() if it.status == 10]
         self.assertTrue(found)
         for it in found:
-            lines = it.out.splitlines(keepends=True)
+            faults, warnings = checks.parted(it.out)
+            lines = faults.splitlines(keepends=True)
             count = len(lines) - 1
             fewer = [*lines[1:-1], f"faults {count - 1}\n"]
             more = [*lines[:-1], f"{UNKNOWN}9\n", f"faults {count + 1}\n"]
             for other in (fewer, more, lines[:-1], [*lines[:-1], f"faults {count + 1}\n"]):
                 with self.subTest(it.title, other=other):
-                    self.assertIsNotNone(it.judged(out="".join(other)))
+                    self.assertIsNotNone(it.judged(out="".join([*other, warnings])))
+
+    def test_other_warnings(self):
+        found = [it for it in questions() if "check" in it.words and it.out]
+        for it in found:
+            faults, warnings = checks.parted(it.out)
+            lines = warnings.splitlines(keepends=True)
+            count = len(lines) - 1
+            more = [*lines[:-1], "warning NoTrips\n", f"warnings {count + 1}\n"]
+            others = [more, lines[:-1], [*lines[:-1], f"warnings {count + 1}\n"]]
+            others += [[*lines[1:-1], f"warnings {count - 1}\n"]] if count else []
+            for other in others:
+                with self.subTest(it.title, other=other):
+                    self.assertIsNotNone(it.judged(out="".join([faults, *other])))
 
 
 class Feeds(unittest.TestCase):
