@@ -2,8 +2,9 @@
 """Tries the mutants of crates that `rt ci` leaves out.
 
 They stand in crates/NAME/mutants, in the form of those in crates/NAME/must-fail, which `rt ci`
-tries: for them it would prove these crates, the dearest ones, once more. This has `rt must-fail` try
-them in a copy of the crate, over the libraries as they are built here, and ends with its status.
+tries: for them it would prove these crates, the dearest ones, once more. This has `rt must-fail`
+try them in a checkout of hard links, over the libraries as they are built here, and ends with its
+status.
 """
 import argparse
 import os
@@ -13,7 +14,8 @@ import sys
 import tempfile
 
 TOP = os.path.dirname(os.path.dirname(os.path.realpath(__file__)))
-PARTS = ("src", "specs", "proofs")
+# What the toolchain reads of a crate, and what it reads of a library that is built.
+PARTS, BUILT = ("src", "specs", "proofs"), os.path.join("out", "rlib")
 LEFT_OUT, TRIED = "mutants", "must-fail"
 
 
@@ -23,32 +25,37 @@ def crates_with_mutants():
     return [name for name in crates if os.path.isdir(f"{TOP}/crates/{name}/{LEFT_OUT}")]
 
 
-def copy_with_mutants(name, room):
-    """Makes a checkout in a room: a copy of one crate, with its mutants where they are tried, and
-    links to all others."""
-    shutil.copy(f"{TOP}/crates.txt", room)
-    shutil.copy(f"{TOP}/HANDLES", room)
-    os.mkdir(f"{room}/crates")
-    for other in os.listdir(f"{TOP}/crates"):
-        if other != name:
-            os.symlink(f"{TOP}/crates/{other}", f"{room}/crates/{other}")
-    for part in PARTS:
-        if os.path.isdir(f"{TOP}/crates/{name}/{part}"):
-            shutil.copytree(f"{TOP}/crates/{name}/{part}", f"{room}/crates/{name}/{part}")
-    shutil.copytree(f"{TOP}/crates/{name}/{LEFT_OUT}", f"{room}/crates/{name}/{TRIED}")
+def link(name, part, room, to):
+    """Makes hard links of a part of a crate, if it has that, in a room: no copy, and no link that
+    leads out of the room.
+    """
+    found = f"{TOP}/crates/{name}/{part}"
+    if os.path.isdir(found):
+        shutil.copytree(found, f"{room}/crates/{name}/{to}", copy_function=os.link)
+
+
+def fill(room, name):
+    """Makes a checkout of a room, in which one crate's mutants stand where they are tried."""
+    for file in ("crates.txt", "HANDLES"):
+        shutil.copy(f"{TOP}/{file}", room)
+    for crate in os.listdir(f"{TOP}/crates"):
+        for part in (*PARTS, *((BUILT,) if crate != name else ())):
+            link(crate, part, room, part)
+    link(name, LEFT_OUT, room, TRIED)
 
 
 def try_mutants(name):
     """The status of `rt must-fail` over a crate's mutants: 0 if each is refused."""
-    with tempfile.TemporaryDirectory(prefix="mutants-") as room:
-        copy_with_mutants(name, room)
+    with tempfile.TemporaryDirectory(prefix="mutants-", dir=f"{TOP}/.git") as room:
+        fill(room, name)
         return subprocess.run(["rt", "must-fail", name], cwd=room, check=False).returncode
 
 
 def main(words):
     known = crates_with_mutants()
     parser = argparse.ArgumentParser(description=__doc__.split("\n", 1)[0])
-    parser.add_argument("names", nargs="*", metavar="NAME", help=f"a crate (else {', '.join(known)})")
+    text = f"a crate (else {', '.join(known)})"
+    parser.add_argument("names", nargs="*", metavar="NAME", help=text)
     names = parser.parse_args(words).names or known
     for name in names:
         if name not in known:

@@ -25,11 +25,13 @@ class MutantsTest(unittest.TestCase):
             self.write(f"crates/{crate}/src/lib.rt", f"text of {crate}\n")
         for crate in ("high", "accepted"):
             self.write(f"crates/{crate}/mutants/wrong.edit", "file: src/lib.rt\n")
+        os.mkdir(f"{self.top}/.git")
         self.write("bin/rt", STAND_IN)
         os.chmod(f"{self.top}/bin/rt", stat.S_IRWXU)
         self.notes = f"{self.top}/notes"
         words = {"PATH": f"{self.top}/bin:{os.environ['PATH']}", "NOTES": self.notes}
-        for patch in (mock.patch.dict(os.environ, words), mock.patch.object(mutants, "TOP", self.top)):
+        top = mock.patch.object(mutants, "TOP", self.top)
+        for patch in (mock.patch.dict(os.environ, words), top):
             patch.start()
             self.addCleanup(patch.stop)
 
@@ -43,7 +45,7 @@ class MutantsTest(unittest.TestCase):
         with open(self.notes, encoding="utf-8") as file:
             return file.read().split("\n")
 
-    def test_mutants_are_tried_in_a_copy_beside_all_other_crates(self):
+    def test_mutants_are_tried_beside_all_other_crates(self):
         self.assertEqual(mutants.main(["high"]), 0)
         lines = self.noted()
         self.assertEqual(lines[:2], ["must-fail high", "text of high"])
