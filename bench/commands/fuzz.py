@@ -5,8 +5,9 @@ cases, and small random ones. Runs the program over them, and compares what come
 documents say, which bench/said says once more: the status; one line on standard error with the
 first fault, and then nothing on standard output; the form of an answer, and over small feeds its
 times and rides; each fault that `check` tells, and what `--lenient` leaves out; and processor time
-that grows with the input. An answer with `--lenient` is also held against a check of the feed and
-against what comes without the option. The same seed makes the same cases. A case with which
+that grows with the input. What comes with `--json` has to stand for such a text, byte by byte. An
+answer with `--lenient` is also held against a check of the feed and against what comes without the
+option. The same seed makes the same cases. A case with which
 something is wrong is kept in a folder, with what was run and what came of it. Prints how many runs
 ended with each status and each fault, how many left rows out, the faults that checks told, the
 seconds of the slowest, and how many were wrong.
@@ -24,9 +25,10 @@ import time
 
 from fuzzing.agreeing import disagreement, words_beside
 from fuzzing.cases import Maker, bytes_of, lay_out
-from fuzzing.judging import FAULTS_FOUND, Ended, Judge
+from fuzzing.judging import FAULTS_FOUND, Ended, Judge, as_text
 from harness import Table, commit_of, count, router
 from said.checks import told_in
+from said.jsons import Other
 
 # A run that takes longer by the clock is killed.
 LONGEST = 120
@@ -68,11 +70,16 @@ def tried(program, case):
     with tempfile.TemporaryDirectory() as folder:
         lay_out(case, folder)
         ended = run_case(program, case, folder)
-        wrong = Judge(case, folder).wrong(ended)
-        others = None if wrong else words_beside(case.words)
-        if others:
-            runs = [run_case(program, case._replace(words=words), folder) for words in others]
-            wrong = disagreement(ended, *runs)
+        try:
+            ended = as_text(case, ended)
+            wrong = Judge(case, folder).wrong(ended)
+            others = None if wrong else words_beside(case.words)
+            if others:
+                cases = [case._replace(words=words) for words in others]
+                runs = [as_text(it, run_case(program, it, folder)) for it in cases]
+                wrong = disagreement(ended, *runs)
+        except Other as other:
+            wrong = f"with --json: {other}"
         return ended, wrong
 
 

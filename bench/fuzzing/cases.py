@@ -5,6 +5,7 @@ import random
 
 from fuzzing import changes, made
 from harness import DAY, FEEDS, TOP
+from said import jsons, texts
 from said.words import FLAGS, time_of
 
 EXAMPLES = os.path.join(TOP, "examples")
@@ -84,6 +85,8 @@ class Draw:
         if command == "verify" and self.often(0.6):
             found, given = self.likely_claim()
             words = [*words[: words.index("verify") + 1], *found]
+        if command == "verify" and "--json" in words:
+            given = self.as_json(given)
         if self.often(0.01):
             words, given = ["city", str(self.drawn.randrange(12))], b""
         if self.often(0.1):
@@ -242,6 +245,13 @@ class Draw:
         lines = [f"arrive {rides[-1][4]} rides {len(rides)}"]
         lines += [" ".join(("  ride", *ride)) for ride in rides]
         return words, "\n".join(lines).encode()
+
+    def as_json(self, given):
+        """A claim as JSON, unless a line of it is bad, and often a few changes of that."""
+        if texts.claim_fault(given, texts.worded(given)):
+            return given
+        found = jsons.claim_of(given)
+        return changes.changed(self.drawn, found) if self.often(0.4) else found
 
     def script(self):
         if self.often(0.3):

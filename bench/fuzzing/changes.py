@@ -16,8 +16,11 @@ DATES = (
 ).split()
 MARKS = [*" \t,\"'#@-=;:/\\%*_", '""', "--"]
 ENDS = ["\n", "\r\n", "\r", "\n\n", "\0", "\x1a", "\x7f", "\x85", "\u2028", "\x0b", "\x0c"]
+# Parts of JSON.
+PARTS = [*"{}[]", '":"', '","', "null", "true", "\\u0041", "\\ud800", "\\n", "{}", "[]", "-0", "1E9"]
 LETTERS = ["\ufeff", "é", "日本", "\U0001f68d", "a\u0301", "\u202e", "A", "B", "D", "T1", "S"]
-TEXTS = [*NUMBERS, *TIMES, *DATES, *MARKS, *ENDS, *LETTERS, "", "x" * 1025, "y" * 70_000]
+LONG = ["x" * 1025, "y" * 70_000]
+TEXTS = [*NUMBERS, *TIMES, *DATES, *MARKS, *ENDS, *PARTS, *LETTERS, "", *LONG]
 NO_TEXTS = [b"\xff", b"\xc3", b"\xed\xa0\x80", b"\xf4\x90\x80\x80"]
 TOKENS = [text.encode() for text in TEXTS] + NO_TEXTS
 # No text grows beyond this by changes.

@@ -1,7 +1,7 @@
 """What a run of a case may come to, by the documents, and whether it did."""
 import os
 
-from said import answers, checks, claims, feeds, left, lived, matrix, replies, served, texts
+from said import answers, checks, claims, feeds, jsons, left, lived, matrix, replies, served, texts
 from said import warned
 from said import words as command_lines
 from said.journeys import Options, Timetable
@@ -28,6 +28,20 @@ class Ended:
 
     def said(self):
         return self.status, self.out, self.err
+
+
+def as_text(case, ended):
+    """What a run with `--json` wrote, as the texts for which it stands; jsons.Other if it is none."""
+    if not jsons.asks_json(case.words) or not isinstance(ended.status, int):
+        return ended
+    out, err = ended.out, jsons.error_text(ended.status, ended.err)
+    if command_lines.are_valid(case.words):
+        options, (command, *_) = command_lines.parted([word.decode() for word in case.words])
+        if out and not (command == "matrix" and "--csv" in options):
+            out = jsons.text_of(command, out, case.given)
+        elif not out and ended.status == 0 and command in jsons.NO_JOURNEY:
+            out = "no journey\n"
+    return Ended(ended.status, out, err, ended.seconds)
 
 
 class Judge:
@@ -292,9 +306,11 @@ class Judge:
             return self.allowed_of_matrix()
         if self.command != "verify":
             return [(0, "")]
-        fault = texts.claim_fault(self.case.given)
+        is_json = jsons.asks_json(self.case.words)
+        lines = (jsons.claim_lines if is_json else texts.worded)(self.case.given)
+        fault = texts.claim_fault(self.case.given, lines)
         if self.timetable and fault != "4 TooLong":
-            self.claim = claims.claim_of(self.timetable, self.case.given)
+            self.claim = claims.claim_of(self.timetable, lines)
             return [(9, self.claim) if isinstance(self.claim, str) else (0, "")]
         earlier = [(9, "2 UnknownStop"), (9, "3 NoSuchRide")]
         return [(9, fault), *earlier] if fault else [(0, ""), *earlier]

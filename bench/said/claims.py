@@ -34,11 +34,12 @@ def ride_of(timetable, words):
     return None
 
 
-def claim_of(timetable, text):
-    """The claimed value and the legs; or the first fault, as it is shown, in place of them."""
+def claim_of(timetable, lines):
+    """The claimed value and the legs of lines in words; or the first fault, as it is shown, in place of
+    them.
+    """
     value, legs = None, []
-    for number, line in texts.lines_of(text):
-        words = texts.words_of(line)
+    for number, words in lines:
         if words == []:
             continue
         if words is None or not (texts.is_value if value is None else texts.is_leg)(words):

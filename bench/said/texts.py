@@ -28,6 +28,11 @@ def lines_of(text):
     return enumerate((line[:-1] if line.endswith(b"\r") else line for line in lines), 1)
 
 
+def worded(text):
+    """The words of each line, with its number."""
+    return [(number, words_of(line)) for number, line in lines_of(text)]
+
+
 def words_of(line):
     """The words of a line; none where it is skipped, and None where it is bad."""
     if len(line) > LONGEST_LINE:
@@ -180,13 +185,14 @@ def is_value(words):
     )
 
 
-def claim_fault(text):
-    """The first bad line of a claim, or that it is too long, or None."""
+def claim_fault(text, lines):
+    """The first bad line of a claim, of which these are the lines in words, or that it is too long, or
+    None.
+    """
     if len(text) > MOST_BYTES_OF_CLAIM:
         return "4 TooLong"
     has_value = False
-    for number, line in lines_of(text):
-        words = words_of(line)
+    for number, words in lines:
         if words == []:
             continue
         if words is None or not (is_leg if has_value else is_value)(words):

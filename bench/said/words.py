@@ -8,7 +8,7 @@ VALUES = {
     "--workers": (1, 64),
     "--lanes": (1, 64),
 }
-FLAGS = ("--close", "--lenient", "--plain", "--mirror", "--csv")
+FLAGS = ("--close", "--lenient", "--plain", "--mirror", "--csv", "--json")
 LATEST = 273_599
 MOST_STEP, MOST_LATER = 3_600, 1_439
 DAYS_OF_MONTH = (31, 28, 31, 30, 31, 30, 31, 31, 30, 31, 30, 31)

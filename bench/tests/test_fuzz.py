@@ -92,8 +92,11 @@ class Texts(unittest.TestCase):
         self.assertIsNone(texts.late_fault(b"late T1 1 9 day-before\nskip day-before 2"))
         self.assertEqual("5 BadLine line 1", texts.late_fault(b"late-before T1 0 60 day-before"))
         self.assertEqual("5 BadLine line 2", texts.late_fault(b"\nlate T1 1 x\n"))
-        self.assertIsNone(texts.claim_fault(b"arrive 08:30:00 rides 1\nwalk A B 60\n"))
-        self.assertEqual("1 BadLine line 1", texts.claim_fault(b"walk A B 60\n"))
+        self.assertIsNone(self.claim_fault(b"arrive 08:30:00 rides 1\nwalk A B 60\n"))
+        self.assertEqual("1 BadLine line 1", self.claim_fault(b"walk A B 60\n"))
+
+    def claim_fault(self, text):
+        return texts.claim_fault(text, texts.worded(text))
 
 
 class Feeds(unittest.TestCase):
@@ -166,7 +169,7 @@ class Served(unittest.TestCase):
 class Claims(unittest.TestCase):
     def verdict(self, text, time=8 * 3600):
         timetable = Timetable(feeds.check(FEEDS, "f1"), DAY, Options())
-        claim = claims.claim_of(timetable, text.encode())
+        claim = claims.claim_of(timetable, texts.worded(text.encode()))
         if isinstance(claim, str):
             return claim
         return claims.verdict(timetable, claim, ["A"], ["D"], time)

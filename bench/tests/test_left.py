@@ -10,86 +10,16 @@ from fuzzing.cases import Case, lay_out
 from fuzzing.judging import Ended, Judge
 from harness import DAY, FEEDS, example
 from said import checks, feeds, left, warned, words
+from tests import worked
 
-CASES = [os.path.join(FEEDS, "..", "cases", f"left_{name}.txt") for name in ("out", "kinds")]
-# What makes a run that the fuzzer doesn't try, or an answer that it doesn't know whole.
-UNTRIED = ("any", "room", "folder", "moves")
 UNKNOWN = "11 UnknownStop stop_times.txt row 3 column stop_id"
 LAW = "18 OpenFootpaths A B C"
 NONE = "warnings 0\n"
 
 
-class Question:
-    """A command line over a feed, by its files, and how it has to end."""
-
-    def __init__(self, title, files, line):
-        self.title, self.files, self.words = title, files, line.split(" ")
-        self.is_tried = "--json" not in self.words
-        self.status, self.out, self.err, self.script = 0, "", "", ""
-
-    def take(self, kind, rest):
-        """Takes a line that says more of it."""
-        if kind == "status":
-            self.status = int(rest)
-        elif kind in ("out", "err", "script"):
-            setattr(self, kind, f"{getattr(self, kind)}{rest}\n")
-        elif kind in UNTRIED:
-            self.is_tried = False
-
-    def judged(self, **other):
-        """What is wrong with how it ends, or would end."""
-        ended = {"status": self.status, "out": self.out, "err": self.err, "seconds": 0.01, **other}
-        case = Case([word.encode() for word in self.words], {}, self.script.encode())
-        with tempfile.TemporaryDirectory() as folder:
-            for name, text in self.files.items():
-                path = os.path.join(folder, name)
-                os.makedirs(os.path.dirname(path), exist_ok=True)
-                with open(path, "wb") as file:
-                    file.write(text)
-            return Judge(case, folder).wrong(Ended(**ended))
-
-
-def files_of(feed):
-    found = {}
-    for name in os.listdir(os.path.join(FEEDS, feed)):
-        with open(os.path.join(FEEDS, feed, name), "rb") as file:
-            found[f"{feed}/{name}"] = file.read()
-    return found
-
-
-def bytes_of(kind, rest):
-    """What a line of a case adds to a file."""
-    if kind == "byte":
-        return bytes([int(rest)])
-    if kind == "row":
-        return f"{rest}\n".encode()
-    times, line = rest.split(" ", 1)
-    return "".join(f"{line.replace('#', str(i))}\n" for i in range(int(times))).encode()
-
-
 def questions():
-    """The questions of the cases of what is left out, as far as the fuzzer asks such."""
-    found = []
-    for path in CASES:
-        with open(path, encoding="utf-8") as file:
-            lines = [line.rstrip("\n").partition(" ") for line in file]
-        for kind, _, rest in lines:
-            if kind == "case":
-                title = rest
-            elif kind == "feed":
-                feed, files = rest, files_of(rest)
-            elif kind in ("file", "beside"):
-                name = rest if kind == "beside" else f"{feed}/{rest}"
-                files[name] = b""
-            elif kind in ("row", "rows", "byte"):
-                files[name] += bytes_of(kind, rest)
-            elif kind == "without":
-                del files[f"{feed}/{rest}"]
-            elif kind == "words":
-                found.append(Question(title, files, rest))
-            elif kind not in ("", "#"):
-                found[-1].take(kind, rest)
-    return [it for it in found if it.is_tried]
+    """The questions of the cases of what is left out, but for those with `--json`."""
+    return [it for it in worked.questions("left_out", "left_kinds") if "--json" not in it.words]
 
 
 class WorkedOut(unittest.TestCase):
