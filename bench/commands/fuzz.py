@@ -24,7 +24,7 @@ import tempfile
 import time
 
 from fuzzing.agreeing import disagreement, words_beside
-from fuzzing.cases import Maker, bytes_of, lay_out
+from fuzzing.cases import ByteMaker, Maker, bytes_of, lay_out
 from fuzzing.judging import FAULTS_FOUND, Ended, Judge, as_text
 from harness import Table, commit_of, count, router
 from said.checks import told_in
@@ -39,6 +39,8 @@ def add_arguments(parser):
     parser.add_argument("--seed", default="1", help="any word (else 1)")
     parser.add_argument("--workers", type=count, default=1, help="processes (else 1)")
     parser.add_argument("--case", type=int, metavar="N", help="try and show this case alone")
+    every = "put each byte into each file and word of each command, as long as that takes"
+    parser.add_argument("--every-byte", action="store_true", help=every)
     keep = "the folder for cases with which something is wrong (else fuzz-kept)"
     parser.add_argument("--keep", default="fuzz-kept", metavar="FOLDER", help=keep)
 
@@ -132,11 +134,15 @@ class Counts:
         return self
 
 
+def maker_of(words):
+    return (ByteMaker if words.every_byte else Maker)(words.seed)
+
+
 def run_some(program, words, worker):
-    """Tries every so manyth case, until the time is over."""
-    maker, counts, number = Maker(words.seed), Counts(), worker
+    """Tries every so manyth case, until the time is over or all were tried."""
+    maker, counts, number = maker_of(words), Counts(), worker
     end = time.monotonic() + words.minutes * 60
-    while time.monotonic() < end:
+    while number < maker.count if maker.count else time.monotonic() < end:
         case = maker.case(number)
         ended, wrong = tried(program, case)
         counts.add(case, ended, wrong)
@@ -173,7 +179,7 @@ def run_all(program, words):
 def run(words):
     program = router()
     if words.case is not None:
-        return show(Maker(words.seed), program, words.case)
+        return show(maker_of(words), program, words.case)
     counts = run_all(program, words)
     runs = sum(counts.statuses.values())
     table = Table(commit_of(program), "what came", "runs")

@@ -28,6 +28,29 @@ COMMANDS = (
 )
 TIMES = ("0:00:00", "06:55:00", "08:00:00", "08:05:00", "8:30:00", "24:10:00", "75:59:59")
 DATES = (DAY, DAY, DAY, DAY, DAY, "20260303", "20260307", "20260406", "20270101", "00010101")
+FEED_FILES = (
+    "stops.txt",
+    "calendar.txt",
+    "calendar_dates.txt",
+    "trips.txt",
+    "stop_times.txt",
+    "transfers.txt",
+    "frequencies.txt",
+)
+# Where a byte is put: into a word, standard input, a file of the feed, of updates or of origins.
+PLACES = {
+    **{command: ("word", *FEED_FILES) for command in COMMANDS},
+    "serve": ("word", *FEED_FILES, "given", "late"),
+    "live": ("word", *FEED_FILES, "given", "late"),
+    "late": ("word", *FEED_FILES, "late"),
+    "matrix": ("word", *FEED_FILES, "given", "origins"),
+    "verify": ("word", *FEED_FILES, "given"),
+}
+TARGETS = [(command, place) for command in COMMANDS for place in PLACES[command]]
+CALENDAR = (
+    "service_id,monday,tuesday,wednesday,thursday,friday,saturday,sunday,start_date,end_date\n"
+    f"S,1,1,1,1,1,1,1,{DAY},20260331\n"
+)
 # A folder in place of a file.
 FOLDER = object()
 
@@ -54,14 +77,31 @@ def column(data, name):
 class Maker:
     """Makes the cases of a seed: the same number gives the same case."""
 
+    # How many there are, if they end.
+    count = None
+
     def __init__(self, seed):
         self.seed = seed
         self.feeds = list(map(feed_in, EXAMPLE_FEEDS + CASE_FEEDS))
         self.texts = {it: read(os.path.join(EXAMPLES, it)) for it in ("script", "late", "claim")}
 
     def case(self, number):
-        drawn = random.Random(f"{self.seed}:{number}")
-        return Draw(self, drawn).case()
+        return self.draw(number).case()
+
+    def draw(self, number):
+        return Draw(self, random.Random(f"{self.seed}:{number}"))
+
+
+class ByteMaker(Maker):
+    """Makes cases with nothing changed but a byte that is put somewhere: each of 256, in each word or
+    file of each command.
+    """
+
+    count = 256 * len(TARGETS)
+
+    def case(self, number):
+        target, byte = divmod(number, 256)
+        return self.draw(number).case_with_byte(*TARGETS[target % len(TARGETS)], bytes([byte]))
 
 
 class Draw:
@@ -103,6 +143,40 @@ class Draw:
         if command == "matrix":
             files["origins"] = self.sometimes_changed(self.origins())
         return Case(words, files, given)
+
+    def case_with_byte(self, command, place, byte):
+        """A case with a byte, once or often, at a place of a command."""
+        self.feed["calendar.txt"] = CALENDAR.encode()
+        self.feed["frequencies.txt"] = self.frequencies()
+        words = [*self.options(), command, *self.words_behind(command)]
+        given = self.plain_given(command)
+        begin = words.index(command) + 1
+        if command == "verify":
+            found, given = self.likely_claim()
+            words[begin:] = found
+            given = self.as_json(given, 0) if "--json" in words else given
+        if command == "matrix":
+            words[begin + 2] = "-" if place == "given" else "origins"
+        if place == "late" and command != "late":
+            words[begin:] = [f"f@{DAY}", "late:late"]
+        files = {f"f/{name}": data for name, data in self.feed.items()}
+        files.update((f"g/{name}", data) for name, data in self.feed.items())
+        files.update(late=self.lates(), origins=self.origins())
+        words = [word.encode() for word in words]
+        if place == "word":
+            at = self.drawn.randrange(len(words))
+            words[at] = self.with_byte(words[at], byte).replace(b"\0", b"0")
+        elif place == "given":
+            given = self.with_byte(given, byte)
+        else:
+            path = place if place in files else f"f/{place}"
+            files[path] = self.with_byte(files.get(path, b""), byte)
+        return Case(words, files, given)
+
+    def with_byte(self, data, byte):
+        """Bytes with one, once or often, in place of one or before it."""
+        at, times = changes.place_in(self.drawn, data), self.drawn.choice((1, 1, 1, 1, 2, 1025))
+        return data[:at] + byte * times + data[at + self.often(0.5) :]
 
     def options(self):
         words = []
@@ -215,15 +289,10 @@ class Draw:
         return changes.changed(self.drawn, data) if self.often(0.5) else data
 
     def given(self, command):
-        if command == "serve":
-            return self.sometimes_changed(self.script())
-        if command == "live":
-            return self.sometimes_changed(self.lines())
-        if command == "verify":
-            return self.sometimes_changed(self.claim())
-        if command == "matrix":
-            return self.sometimes_changed(self.origins())
-        return b""
+        return self.sometimes_changed(self.plain_given(command)) if command in GIVEN else b""
+
+    def plain_given(self, command):
+        return GIVEN[command](self) if command in GIVEN else b""
 
     def ride(self, start=None):
         """A ride that there may be, from a stop or from any."""
@@ -246,12 +315,12 @@ class Draw:
         lines += [" ".join(("  ride", *ride)) for ride in rides]
         return words, "\n".join(lines).encode()
 
-    def as_json(self, given):
-        """A claim as JSON, unless a line of it is bad, and often a few changes of that."""
+    def as_json(self, given, chance=0.4):
+        """A claim as JSON, unless a line of it is bad, and by chance changed a few times."""
         if texts.claim_fault(given, texts.worded(given)):
             return given
         found = jsons.claim_of(given)
-        return changes.changed(self.drawn, found) if self.often(0.4) else found
+        return changes.changed(self.drawn, found) if self.often(chance) else found
 
     def script(self):
         if self.often(0.3):
@@ -324,6 +393,15 @@ class Draw:
             else:
                 lines.append(" ".join(("  ride", *self.ride())))
         return "\n".join(lines).encode() + b"\n"
+
+
+# What the commands that read standard input are given.
+GIVEN = {
+    "serve": Draw.script,
+    "live": Draw.lines,
+    "verify": Draw.claim,
+    "matrix": Draw.origins,
+}
 
 
 def lay_out(case, folder):

@@ -3,7 +3,7 @@ import os
 import tempfile
 import unittest
 
-from fuzzing.cases import Case, Maker, lay_out
+from fuzzing.cases import COMMANDS, FEED_FILES, ByteMaker, Case, Maker, lay_out
 from fuzzing.judging import Ended, Judge
 from harness import BEST, DAY, FEEDS, SCRIPT
 from said import answers, claims, feeds, replies, served, texts, words
@@ -36,6 +36,21 @@ class Cases(unittest.TestCase):
         one, other = ([Maker(seed).case(number) for number in range(50)] for seed in ("1", "1"))
         self.assertEqual(one, other)
         self.assertNotEqual(one, [Maker("2").case(number) for number in range(50)])
+
+    def test_each_byte_in_each_file(self):
+        maker, found = ByteMaker("1"), {}
+        for target in range(0, maker.count, 256):
+            case = maker.case(target + 255)
+            lines = [*case.words, case.given, *case.files.values()]
+            self.assertEqual(1, sum(b"\xff" in line for line in lines))
+            command = next(word for word in case.words if word in map(str.encode, COMMANDS))
+            found.setdefault(command.decode(), []).extend(
+                name for name, data in case.files.items() if b"\xff" in data
+            )
+        for command in COMMANDS:
+            self.assertEqual([f"f/{name}" for name in FEED_FILES], found[command][:7], command)
+        others = sorted(name for names in found.values() for name in names[7:])
+        self.assertEqual(["late"] * 3 + ["origins"], sorted(others, key=len))
 
     def test_each_case_can_be_laid_out(self):
         for number in range(200):
