@@ -44,18 +44,29 @@ def scale(text):
 def words_for(command, folder):
     """The words of a command of that name."""
     ask = [DAY, "A", "B", "08:00:00"]
+    times = ["08:00:00", "08:00:00", "60"]
     return {
         "direct": ["direct", folder, *ask],
+        "days": ["--days", "3", "direct", folder, *ask],
+        "ask": ["ask", folder, *ask],
+        "plain": ["--plain", "ask", folder, *ask],
+        "profile": ["profile", folder, *ask, "99:59:59"],
+        "latest": ["latest", folder, *ask[:3], "75:59:59"],
+        "reach": ["reach", folder, DAY, "A", "08:00:00"],
+        "times": ["times", folder, DAY, "A", *times],
         "station": ["--station", "60", "direct", folder, *ask],
         "close": ["--close", "direct", folder, *ask],
         "lenient": ["--lenient", "direct", folder, *ask],
         "check": ["check", folder, DAY],
         "build": ["build", folder, DAY],
+        "build days": ["--days", "3", "build", folder, DAY],
         "late": ["late", folder, DAY, os.path.join(folder, "late"), *ask[1:]],
         "serve": ["serve", f"{folder}@{DAY}"],
         "live": ["live", f"{folder}@{DAY}"],
         "verify": ["verify", folder, *ask],
-        "matrix": ["matrix", folder, DAY, "-", "08:00:00", "08:00:00", "60"],
+        "verify json": ["--json", "verify", folder, *ask],
+        "matrix": ["matrix", folder, DAY, "-", *times],
+        "matrix csv": ["--csv", "matrix", folder, DAY, "-", *times],
     }[command]
 
 

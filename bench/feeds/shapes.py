@@ -1,6 +1,7 @@
 """Feeds of shapes that are made to cost time, with the files that some commands read beside them.
 Each function writes one into a folder, of a size that grows with n.
 """
+import os
 import typing
 
 from feeds import collisions, lines, smallest
@@ -173,6 +174,22 @@ def faults_of_one_trip(folder, n):
     feed(folder, frequencies="trip_id,start_time,end_time,headway_secs\n" + "t0,x,,\n" * n)
 
 
+def faults_of_each_file(folder, n):
+    """Rows with a fault, and what a check warns of: services that aren't there, stops where nothing
+    calls.
+    """
+    feed(
+        folder,
+        stops="stop_id,location_type\nA,\nB,\n" + "C,9\n" * n + stops_of(n),
+        calendar=f"service_id,{DAYS},start_date,end_date\n" + "S,9,1,1,1,1,1,1,x,\n" * n,
+        calendar_dates=smallest.DATES + smallest.RUNS + "S,20260230,1\n" * n,
+        trips="service_id,trip_id\nS,t0\n" + "S,\n" * n + "".join(f"X,x{i}\n" for i in range(n)),
+        stop_times=smallest.TIMES + "t0,8:00:00,,A,1\nt0,8:01:00,,B,2\n" + "y,8:00:00,,A,1\n" * n,
+        transfers=smallest.TRANSFERS + "A,Y,2,60\n" * n,
+        frequencies="trip_id,start_time,end_time,headway_secs\n" + "y,8:00:00,9:00:00,1\n" * n,
+    )
+
+
 def trips_with_a_fault(folder, n):
     """A third of the trips each calls at no stop that is there, repeats a number, runs back."""
     seconds = "9:00:00,,X,1", "9:00:00,,B,0", "7:00:00,,B,1"
@@ -205,6 +222,32 @@ def stops_of(count):
     return "".join(f"P{i}\n" for i in range(count))
 
 
+def chain_of_trips(folder, n):
+    """From A to B leads a chain of trips of two stops each, and no other way."""
+    stops = ["A", *(f"P{i}" for i in range(n - 1)), "B"]
+    rows = (
+        f"t{i},{clock(28_800 + i + call)},,{stops[i + call]},{call}\n"
+        for i in range(n)
+        for call in (0, 1)
+    )
+    rows_of_stops = f"stop_id\nA\nB\n{stops_of(n - 1)}"
+    smallest.make(folder, rows_of_stops, (f"S,t{i}\n" for i in range(n)), rows)
+
+
+def ways_side_by_side(folder, n):
+    """From A to B lead ways of two rides each, every one by a stop of its own, a second later."""
+    trips = (f"S,t{i}\n" for i in range(2 * n))
+    times = (
+        row
+        for i in range(n)
+        for row in (
+            f"t{i},{clock(28_800 + i)},,A,0\nt{i},{clock(28_900 + i)},,P{i},1\n"
+            f"t{n + i},{clock(29_000 + i)},,P{i},0\nt{n + i},{clock(29_100 + i)},,B,1\n"
+        )
+    )
+    smallest.make(folder, f"stop_id\nA\nB\n{stops_of(n)}", trips, times)
+
+
 def lines_at_one_stop(folder, n):
     """As many lines end at a stop as begin there, and one can change from each to each."""
     trips = [f"S,t{i}\n" for i in range(2 * n)]
@@ -221,6 +264,14 @@ def lines_at_one_stop(folder, n):
 
 def stop_ids_that_collide(folder, n):
     feed(folder, stops="stop_id\nA\nB\n" + "".join(f"{name}\n" for name in collisions.names(n)))
+
+
+def station_ids_that_collide(folder, n):
+    """Each with a platform."""
+    names = collisions.names(n)
+    stations = "".join(f"{name},1,\n" for name in names)
+    platforms = "".join(f"P{i},,{name}\n" for i, name in enumerate(names))
+    feed(folder, stops=f"stop_id,location_type,parent_station\nA,,\nB,,\n{stations}{platforms}")
 
 
 def trip_ids_that_collide(folder, n):
@@ -372,6 +423,49 @@ def rides_of_a_claim_on_one_trip(folder, n):
     write(folder, "claim", f"arrive 08:01:00 rides {n}\n" + ride * n)
 
 
+def claim_in_json(folder, members):
+    feed(folder)
+    write(folder, "claim", f'{{"arrive":"08:01:00","rides":1,"legs":[],{members}}}')
+
+
+def legs_of_a_claim(folder, n):
+    """Walks, as JSON."""
+    leg = '{"from":"A","to":"B","seconds":1}'
+    claim_in_json(folder, f'"legs":[{",".join([leg] * n)}]')
+
+
+def members_of_a_claim(folder, n):
+    """Members of a JSON object, each with another name."""
+    claim_in_json(folder, ",".join(f'"x{i}":0' for i in range(n)))
+
+
+def members_of_one_name(folder, n):
+    """Members of a JSON object, all with one name, the last of which counts."""
+    claim_in_json(folder, ",".join(['"arrive":"08:01:00"'] * n))
+
+
+def escapes_of_a_claim(folder, n):
+    """Strings, each with an escape."""
+    text = '"\\u0041"'
+    claim_in_json(folder, f'"x":[{",".join([text] * n)}]')
+
+
+def arrays_of_a_claim(folder, n):
+    """Arrays that stand a hundred deep within each other."""
+    claim_in_json(folder, f'"x":[{",".join([100 * "[" + 100 * "]"] * n)}]')
+
+
+def on_each_day(make):
+    """A shape whose service runs on the day before, too, and on two days after."""
+
+    def made(folder, n):
+        make(folder, n)
+        with open(os.path.join(folder, "calendar_dates.txt"), "a", encoding="ascii") as file:
+            file.writelines(f"S,{int(DAY) + days},1\n" for days in (-1, 1, 2))
+
+    return made
+
+
 READING = (
     one_long_line,
     one_long_field_in_quotes,
@@ -406,7 +500,11 @@ OTHERS = {
     chain_of_footpaths: (350, "close"),
     footpaths_between_all: (250_000, "direct"),
     lines_at_one_stop: (1_000, "build"),
+    chain_of_trips: (10_000, "plain"),
+    ways_side_by_side: (10_000, "profile"),
+    faults_of_each_file: (12_000, "check"),
     stop_ids_that_collide: (10_000, "direct"),
+    station_ids_that_collide: (10_000, "direct"),
     trip_ids_that_collide: (10_000, "direct"),
     late_trips_whose_ids_collide: (10_000, "late"),
     service_ids_that_collide: (10_000, "direct"),
@@ -431,14 +529,48 @@ OTHERS = {
     remarks_between_origins: (4_000_000, "matrix"),
     rides_of_a_claim: (6_000, "verify"),
     rides_of_a_claim_on_one_trip: (6_000, "verify"),
+    legs_of_a_claim: (7_500, "verify json"),
+    members_of_a_claim: (20_000, "verify json"),
+    members_of_one_name: (12_000, "verify json"),
+    escapes_of_a_claim: (25_000, "verify json"),
+    arrays_of_a_claim: (1_200, "verify json"),
+}
+# Commands besides that of a shape which meet what is dear in it, each with what its name ends in.
+BESIDE = {
+    "equal_ids": {"to_tell": "check"},
+    "equal_transfers": {"to_tell": "check"},
+    "footpaths_between_all": {"to_close": "close"},
+    "faults_of_each_file": {"to_leave_out": "lenient"},
+    "origins_of_long_names": {"as_a_table": "matrix csv"},
+    "chain_of_trips": {
+        "by_transfers": "ask",
+        "backwards": "latest",
+        "to_all": "reach",
+        "in_times": "times",
+        "in_a_profile": "profile",
+    },
+    **{
+        f"{ids}_that_collide": {"to_tell": "check", "to_leave_out": "lenient"}
+        for ids in ("stop_ids", "trip_ids", "service_ids", "calendar_ids", "transfers")
+    },
 }
 SHAPES = {
     **{make.__name__: Shape(make, 250_000) for make in READING},
     **{make.__name__: Shape(make, 20_000, "build") for make in lines.SHAPES},
     **{make.__name__: Shape(make, *how) for make, how in OTHERS.items()},
-    "footpaths_between_all_to_close": Shape(footpaths_between_all, 250_000, "close"),
-    "equal_ids_to_tell": Shape(equal_ids, 250_000, "check"),
-    "equal_transfers_to_tell": Shape(equal_transfers, 250_000, "check"),
+    **{
+        f"{make.__name__}_on_each_day": Shape(on_each_day(make), size, command)
+        for make, size, command in (
+            (one_trip, 500_000, "days"),
+            (lines.in_order, 20_000, "build days"),
+            (lines.overtaking_between, 20_000, "build days"),
+        )
+    },
 }
+SHAPES.update(
+    (f"{name}_{end}", SHAPES[name]._replace(command=command))
+    for name, others in BESIDE.items()
+    for end, command in others.items()
+)
 # A name for several shapes.
 GROUPS = {"trips_that_overtake": [make.__name__ for make in lines.OVERTAKING]}
