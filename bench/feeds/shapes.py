@@ -561,7 +561,7 @@ SHAPES = {
     **{
         f"{make.__name__}_on_each_day": Shape(on_each_day(make), size, command)
         for make, size, command in (
-            (one_trip, 500_000, "days"),
+            (one_trip, 250_000, "days"),
             (lines.in_order, 20_000, "build days"),
             (lines.overtaking_between, 20_000, "build days"),
         )
