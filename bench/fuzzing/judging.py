@@ -9,7 +9,7 @@ from said.words import time_of
 
 # A run takes at most so many seconds of processor time: at once, for each byte, for each event of
 # the day and each request.
-AT_ONCE, BY_BYTE, BY_EVENT = 1.0, 2e-5, 2e-4
+AT_ONCE, BY_BYTE, BY_EVENT = 0.5, 2e-6, 2e-5
 # Over feeds with at most so many events and stops the answer is found again, the plain way.
 FEW_EVENTS, FEW_STOPS = 600, 20
 # Faults of footpaths, which are looked at last, where they aren't found again.
