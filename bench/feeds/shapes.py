@@ -248,6 +248,39 @@ def ways_side_by_side(folder, n):
     smallest.make(folder, f"stop_id\nA\nB\n{stops_of(n)}", trips, times)
 
 
+def values_of_more_rides(folder, n):
+    """From each stop of a chain of trips leads one to B, which arrives the earlier the later one
+    changes to it.
+    """
+    trips = (f"S,t{i}\n" for i in range(2 * n))
+    times = (
+        row
+        for i in range(n)
+        for row in (
+            f"t{i},{clock(28_800 + i)},,{f'P{i}' if i else 'A'},0\n"
+            f"t{i},{clock(28_801 + i)},,P{i + 1},1\n"
+            f"t{n + i},{clock(28_801 + i)},,P{i + 1},0\nt{n + i},{clock(300_000 - i)},,B,1\n"
+        )
+    )
+    smallest.make(folder, f"stop_id\nA\nB\n{stops_of(n + 1)}", trips, times)
+
+
+def stations_of_many_platforms(folder, n):
+    """A and B are stations, and a trip leads from each platform of the one to one of the other."""
+    platforms = "".join(f"{name}{i},,{name}\n" for name in "AB" for i in range(n))
+    stops = f"stop_id,location_type,parent_station\nA,1,\nB,1,\n{platforms}"
+    times = (
+        f"t{i},{8 + call}:00:00,,{'AB'[call]}{i},{call}\n" for i in range(n) for call in (0, 1)
+    )
+    smallest.make(folder, stops, (f"S,t{i}\n" for i in range(n)), times)
+
+
+def claim_of_nothing(folder, n):
+    """Between two such stations."""
+    stations_of_many_platforms(folder, n)
+    write(folder, "claim", "arrive 08:00:00 rides 0\n")
+
+
 def lines_at_one_stop(folder, n):
     """As many lines end at a stop as begin there, and one can change from each to each."""
     trips = [f"S,t{i}\n" for i in range(2 * n)]
@@ -502,6 +535,9 @@ OTHERS = {
     lines_at_one_stop: (1_000, "build"),
     chain_of_trips: (10_000, "plain"),
     ways_side_by_side: (10_000, "profile"),
+    values_of_more_rides: (250, "ask"),
+    stations_of_many_platforms: (2_500, "direct"),
+    claim_of_nothing: (10_000, "verify"),
     faults_of_each_file: (12_000, "check"),
     stop_ids_that_collide: (10_000, "direct"),
     station_ids_that_collide: (10_000, "direct"),
@@ -544,6 +580,14 @@ BESIDE = {
     "origins_of_long_names": {"as_a_table": "matrix csv"},
     "chain_of_trips": {
         "by_transfers": "ask",
+        "backwards": "latest",
+        "to_all": "reach",
+        "in_times": "times",
+        "in_a_profile": "profile",
+    },
+    "stations_of_many_platforms": {
+        "by_transfers": "ask",
+        "round_by_round": "plain",
         "backwards": "latest",
         "to_all": "reach",
         "in_times": "times",
