@@ -93,8 +93,8 @@ class Maker:
 
 
 class ByteMaker(Maker):
-    """Makes cases with nothing changed but a byte that is put somewhere: each of 256, in each word or
-    file of each command.
+    """Makes cases with nothing changed but a byte that is put somewhere: each of 256, in each file of
+    each command, and in its words.
     """
 
     count = 256 * len(TARGETS)

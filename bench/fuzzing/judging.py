@@ -31,7 +31,7 @@ class Ended:
 
 
 def as_text(case, ended):
-    """What a run with `--json` wrote, as the texts for which it stands; jsons.Other if it is none."""
+    """What a run with `--json` wrote, as the texts for which it stands; or jsons.Other."""
     if not jsons.asks_json(case.words) or not isinstance(ended.status, int):
         return ended
     out, err = ended.out, jsons.error_text(ended.status, ended.err)

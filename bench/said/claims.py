@@ -35,8 +35,8 @@ def ride_of(timetable, words):
 
 
 def claim_of(timetable, lines):
-    """The claimed value and the legs of lines in words; or the first fault, as it is shown, in place of
-    them.
+    """The claimed value and the legs of lines in words; or the first fault, as it is shown, in place
+    of them.
     """
     value, legs = None, []
     for number, words in lines:

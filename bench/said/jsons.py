@@ -1,6 +1,7 @@
 """What the program writes and reads with `--json`, by docs/FORMATS.md and docs/schema, as the texts
 for which it stands.
 """
+import itertools
 import json
 
 from said import served, texts
@@ -13,8 +14,10 @@ DEEPEST = 128
 # What stands behind a trip's name, by its `day`, and behind an end of a kept transfer.
 MARKS = {day: f" {word}" for word, day in texts.DAYS.items()}
 ENDS = {-1: "/before", 1: "/after", 2: "/+2"}
-# What an answer without a value is in a text.
+# Where a text says that there is no value.
 NO_JOURNEY = ("ask", "profile", "latest", "late", "city")
+# What is told of an item that became an edition: a day, or a file of updates.
+ITEMS = ("day", "edition", "trips", "lines", "kept"), ("day", "edition", "touched", "kept")
 
 
 class Other(Exception):
@@ -96,8 +99,8 @@ def leg_words(leg):
 
 
 def claim_lines(data):
-    """The words of the lines for which a claim stands, each with its number, and None for those of a
-    bad one; of bytes that are no JSON, those of line 0.
+    """The words of the lines for which a claim stands, each with its number, and None for those of
+    a bad one; of bytes that are no JSON, those of line 0.
     """
     try:
         claim = read(data)
@@ -317,7 +320,7 @@ def item_text(found):
         return f"refused {word} {fault_text(rest[0])}\n"
     if names == ("day", "message"):
         return f"refused {word} {rest[0]}\n"
-    if names not in (("day", "edition", "trips", "lines", "kept"), ("day", "edition", "touched", "kept")):
+    if names not in ITEMS:
         raise Other(f"{found} is no item")
     counts = [f"{name} {number}" for name, number in zip(names[2:], rest[1:])]
     return f"edition {rest[0]} {word} {' '.join(counts)}\n"
@@ -336,37 +339,28 @@ def reply_text(command, found):
 
 def served_text(lines, lanes):
     """What `serve` tells of the lanes of a script."""
-    lines = iter(lines)
-    text, deferred, closing = [], [], False
-
-    def reply(name, number, words):
-        found = next(lines, {})
-        if found.get("lane") != name or tuple(found)[:3] != ("lane", "request", "edition"):
-            raise Other(f"{found} is no reply in lane {name}")
-        if found["request"] != number:
-            raise Other(f"{found} isn't request {number}")
-        text.append(reply_text(words[0], found))
-        return "deferred" in found
-
-    found = next(lines, {})
-    while item_text(found):
-        text.append(item_text(found))
-        found = next(lines, {})
-    lines = iter([found, *lines]) if found else lines
+    items = list(itertools.takewhile(lambda found: "day" in found, lines))
+    text, again = list(map(item_text, items)), []
+    rest = iter(lines[len(items) :])
     for name, requests in lanes:
-        text.append(f"lane {name}\n")
-        numbered = list(enumerate(requests, 1))
-        late = [number for number, (_, words) in numbered if reply(name, number, words)]
-        deferred.append(sorted({*late, *([1] if requests else [])}))
-    closing = taken(next(lines, {}), "closing")[0]
-    text.append(f"closing edition {closing}\n")
-    for (name, requests), again in zip(lanes, deferred):
-        text.append(f"lane {name}\n")
-        for number in again:
-            reply(name, number, requests[number - 1][1])
-    if next(lines, None) is not None:
+        found = [(number, words, next(rest, {})) for number, (_, words) in enumerate(requests, 1)]
+        text += [f"lane {name}\n", *(lane_text(name, *it) for it in found)]
+        again.append([it[:2] for it in found if it[0] == 1 or "deferred" in it[2]])
+    text.append("closing edition {}\n".format(*taken(next(rest, {}), "closing")))
+    for (name, _), requests in zip(lanes, again):
+        text += [f"lane {name}\n", *(lane_text(name, *it, next(rest, {})) for it in requests)]
+    if next(rest, None) is not None:
         raise Other("more than the lanes")
     return "".join(text)
+
+
+def lane_text(name, number, words, found):
+    """The reply to a request of a lane, by its number and its words."""
+    if tuple(found)[:3] != ("lane", "request", "edition"):
+        raise Other(f"{found} is no reply")
+    if (found["lane"], found["request"]) != (name, number):
+        raise Other(f"{found} isn't request {number} of {name}")
+    return reply_text(words[0], found)
 
 
 def lived_text(lines, asked):

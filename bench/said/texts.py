@@ -186,8 +186,7 @@ def is_value(words):
 
 
 def claim_fault(text, lines):
-    """The first bad line of a claim, of which these are the lines in words, or that it is too long, or
-    None.
+    """The first bad line of a claim, whose lines in words these are, or that it is too long, or None.
     """
     if len(text) > MOST_BYTES_OF_CLAIM:
         return "4 TooLong"

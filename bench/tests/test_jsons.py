@@ -7,10 +7,16 @@ from said import jsons, texts
 from tests import worked
 
 NAMES = ("json", "left_out", "left_kinds", "matrix", "live", "times")
-CLAIM = b"arrive 08:30:00 rides 2\n\nwalk A \"B \"\"1\"\"\" 60\nride T B 08:12:00 D 08:30:00 day-after\n"
+CLAIM = b"""arrive 08:30:00 rides 2
+
+walk A "B ""1""\" 60
+ride T B 08:12:00 D 08:30:00 day-after
+"""
 JSON = (
-    '{"arrive": "08:30:00", "rides": 2, "legs": [{"from": "A", "to": "B \\"1\\"", "seconds": 60}, '
-    '{"trip": "T", "from": "B", "departure": "08:12:00", "to": "D", "arrival": "08:30:00", "day": 1}]}'
+    '{"arrive": "08:30:00", "rides": 2, "legs": ['
+    '{"from": "A", "to": "B \\"1\\"", "seconds": 60}, '
+    '{"trip": "T", "from": "B", "departure": "08:12:00", "to": "D", "arrival": "08:30:00", '
+    '"day": 1}]}'
 )
 
 
@@ -93,8 +99,8 @@ class Claims(unittest.TestCase):
         ):
             self.assertEqual([(0, None)], jsons.claim_lines(text.encode()), text[:60])
         self.assertEqual([(0, None)], jsons.claim_lines(b'"\xff"'))
-        claim = f"{deep}{'[' * 127}{']' * 127}}}"
-        self.assertEqual([(1, ["arrive", "08:00:00", "rides", "1"])], jsons.claim_lines(claim.encode()))
+        found = jsons.claim_lines(f"{deep}{'[' * 127}{']' * 127}}}".encode())
+        self.assertEqual([(1, ["arrive", "08:00:00", "rides", "1"])], found)
 
     def test_lines_that_are_bad(self):
         for text in ("{}", "[]", "1", '{"arrive":1,"rides":1,"legs":[]}', '{"rides":"1"}'):
