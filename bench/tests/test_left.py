@@ -19,7 +19,7 @@ NONE = "warnings 0\n"
 
 def questions():
     """The questions of the cases of what is left out, but for those with `--json`."""
-    return [it for it in worked.questions("left_out", "left_kinds") if "--json" not in it.words]
+    return [it for it in worked.questions("left_out", "left_kinds", "left_alone") if "--json" not in it.words]
 
 
 class WorkedOut(unittest.TestCase):
