@@ -18,9 +18,8 @@ from said.texts import day_of
 SCHEMAS = os.path.join(TOP, "docs", "schema")
 REFUSAL = "refusal"
 CLAIM = "claim"
-# The status of a check that tells faults, and how a line begins that says what is left out.
+# The status of a check that tells faults.
 FAULTS_FOUND = 10
-LEFT_OUT = '{"message":"left out"'
 # What stands in a line of a claim, by its first word.
 LEGS = {
     "walk": ("from", "to", "seconds"),
@@ -158,8 +157,6 @@ def more(folder):
     yield ["live", f"{feed}-none@{day}"], lines
     yield ["city", "4"], ""
     yield ["ask", f"{feed}-none", day, *ends, late], ""
-    yield ["check", f"{feed}-none", day], ""
-    yield ["check", feed, day], ""
     yield ["serve", f"{feed}@{day}"], "\n".join(FILES["stops.txt"])
     yield ["verify", feed, day, *ends, late], claim
     yield ["verify", feed, day, *ends, "00:10:01"], claim
@@ -200,14 +197,6 @@ def answer(program, words, given):
     return ended.returncode, ended.stdout.decode(), ended.stderr.decode()
 
 
-def says_enough(status, err):
-    """Whether standard error has a line where the status wants one, and else at most one that says
-    what is left out beside an answer."""
-    if err.startswith(LEFT_OUT):
-        return status == 0
-    return bool(err) == (status not in (0, FAULTS_FOUND))
-
-
 def claims_of(words, out):
     """Each journey that ask or profile wrote, and the words by which verify holds it to be one."""
     place = words.index(name_of(words))
@@ -226,7 +215,7 @@ def run(words):
         for asks, given in [*asked(), *more(folder)]:
             status, out, err = answer(program, asks, given)
             found = [*faults(schemas[name_of(asks)], out), *faults(schemas[REFUSAL], err)]
-            says = status not in (0, 10) or "--lenient" in asks
+            says = status not in (0, FAULTS_FOUND) or "--lenient" in asks
             if says != bool(err):
                 found.append(f"status {status}, and on standard error {err!r}")
             for holds, claim in claims_of(asks, out):
