@@ -1,11 +1,12 @@
--- The first trip of each name.
-use Rattle.std.proofs.Common.{◌≡◌, ◌∙◌, sym, ap, subst, refl, ℕ, suc, ◌+◌, ◌<◌, ◌≤◌, List, [], ◌∷◌, length, get_or, set, map, drop, Bool, true, false, cond, ◌&&◌, Option, Some, None, inl, inr, arith}
-use Rattle.std.specs.Prelude.{position, nat_lt, bytes_eq, option_map}
-use Rattle.std.specs.List.{position_or_len}
-use Rattle.std.proofs.lemmas.Bool.{cases_Bool}
+-- The first trip of each of some names.
+use Rattle.std.proofs.Common.{◌≡◌, ◌∙◌, sym, ap, subst, refl, ℕ, suc, ◌+◌, ◌<◌, ◌≤◌, List, [], ◌∷◌, length, get_or, set, map, take, drop, Bool, true, false, cond, ◌&&◌, ◌||◌, Option, Some, None, inl, inr, arith}
+use Rattle.std.specs.Prelude.{All, IfSome, position, nat_lt, bytes_eq, option_map}
+use Rattle.std.specs.List.{list_any, position_or_len}
+use Rattle.std.proofs.lemmas.Bool.{cases_Bool, false≢true, or_left, or_right}
 use Rattle.std.proofs.lemmas.Bool.Decides.{nat_tests}
 use Rattle.std.proofs.Math.Seq.{drop-length}
-use Rattle.std.proofs.lemmas.List.{drop_more, length-set}
+use Rattle.std.proofs.lemmas.List.{drop_more, length-set, take_more}
+use Rattle.std.proofs.lemmas.List.Elements.{All-push}
 use Rattle.std.proofs.lemmas.List.Folds.{position_or_len-set}
 use Rattle.std.proofs.lemmas.Slice.Eq.{bytes_eq-Decides}
 use Rattle.std.specs.Map.{lookup}
@@ -13,8 +14,10 @@ use Rattle.indexmap.specs.IndexMap.{insert_entry}
 use Rattle.tb_base.specs.declared.days.ServiceDay.{ServiceDay}
 use Rattle.tb_base.specs.ServiceDays.{same_day}
 use Rattle.tb_base.specs.TimetableData.{TripData}
-use Rattle.late_edit.specs.Amended.{is_named}
-use Rattle.late_edit.specs.Finding.{FindsFirst, FirstData, trip_found}
+use Rattle.late_edit.specs.Amended.{is_named, trip_named}
+use Rattle.late_edit.specs.Finding.{FindsFirst, FirstData, HaveNames, trip_found}
+use Rattle.late_edit.specs.Updates.{day_of, trip_of}
+use Rattle.late_edit.specs.declared.update.Update.{Update}
 
 -- what is noted of a name is found by it, and each other name has what it had
 module _ {V : Type 0} (items : V → List ℕ) (name : List ℕ) (k : V) (t : ℕ) where
@@ -69,12 +72,19 @@ module _ {X : Type 0} (p : X → Bool) where
         | inr f ↦ rw (f, next_lt (position_or_len p xs) (length xs)) (later (nat_lt (position_or_len p xs) (length xs)) (position_or_len p xs))
       ]
 
--- what finds the first trip of each name among those from one on
-abbrev pub FindsFrom : FirstData → List TripData → ℕ → Type 0
-FindsFrom F trips t = (day : ServiceDay) (name : List ℕ) → trip_found F day name ≡ option_map (λ k. t + k) (position (is_named day name) (drop t trips))
+-- ---- the first trip of each name among those from one on
 
-pub finds_none : (F : FirstData) (trips : List TripData) (t : ℕ) → t ≡ length trips → ((day : ServiceDay) (name : List ℕ) → trip_found F day name ≡ None) → FindsFrom F trips t
-finds_none F trips t end none = λ day name.
+-- one of these names
+abbrev pub IsAmong : List (List ℕ) → List ℕ → Type 0
+IsAmong names name = list_any (bytes_eq name) names ≡ true
+
+-- what finds the first trip of each of these names
+abbrev pub FindsFrom : FirstData → List (List ℕ) → List TripData → ℕ → Type 0
+FindsFrom F names trips t =
+    (day : ServiceDay) (name : List ℕ) → IsAmong names name → trip_found F day name ≡ option_map (λ k. t + k) (position (is_named day name) (drop t trips))
+
+pub finds_none : (F : FirstData) (names : List (List ℕ)) (trips : List TripData) (t : ℕ) → t ≡ length trips → ((day : ServiceDay) (name : List ℕ) → trip_found F day name ≡ None) → FindsFrom F names trips t
+finds_none F names trips t end none = λ day name among.
     none day name ∙ sym (ap (λ ts. option_map (λ k. t + k) (position (is_named day name) ts)) (ap (λ n. drop n trips) end ∙ drop-length trips))
 
 shifted : (b : Bool) (o : Option ℕ) (t : ℕ) → cond b (Some t) (option_map (λ k. t + 1 + k) o) ≡ option_map (λ k. t + k) (cond b (Some 0) (option_map (λ k. 1 + k) o))
@@ -82,12 +92,12 @@ shifted true o t = let e : t ≡ t + 0 = omega arith in ap (λ (k : ℕ). Some k
 shifted false None t = refl
 shifted false (Some k) t = let e : t + 1 + k ≡ t + (1 + k) = omega arith in ap (λ (j : ℕ). Some j) e
 
-pub finds_more : (old new : FirstData) (trips : List TripData) (t : ℕ) (x : TripData) → t < length trips → x ≡ get_or trips t x → FindsFrom old trips (t + 1)
-    → ((day : ServiceDay) (name : List ℕ) → trip_found new day name ≡ cond (is_named day name x) (Some t) (trip_found old day name)) → FindsFrom new trips t
-finds_more old new trips t x inside at so_far after = λ day name.
+pub finds_more : (names : List (List ℕ)) (old new : FirstData) (trips : List TripData) (t : ℕ) (x : TripData) → t < length trips → x ≡ get_or trips t x → FindsFrom old names trips (t + 1)
+    → ((day : ServiceDay) (name : List ℕ) → IsAmong names name → trip_found new day name ≡ cond (is_named day name x) (Some t) (trip_found old day name)) → FindsFrom new names trips t
+finds_more names old new trips t x inside at so_far after = λ day name among.
     let p : TripData → Bool = is_named day name in
     let rest : drop t trips ≡ x ∷ drop (t + 1) trips = drop_more trips t x inside ∙ ap (λ (y : TripData). y ∷ drop (t + 1) trips) (sym at) in
-    after day name ∙ (ap (λ o. cond (p x) (Some t) o) (so_far day name)
+    after day name among ∙ (ap (λ o. cond (p x) (Some t) o) (so_far day name among)
     ∙ (shifted (p x) (position p (drop (t + 1) trips)) t
     ∙ sym (ap (λ ts. option_map (λ k. t + k) (position p ts)) rest ∙ ap (λ o. option_map (λ k. t + k) o) (position_first p x (drop (t + 1) trips)))))
 
@@ -95,17 +105,63 @@ from_zero : (o : Option ℕ) → option_map (λ k. 0 + k) o ≡ o
 from_zero None = refl
 from_zero (Some k) = let e : 0 + k ≡ k = omega arith in ap (λ (j : ℕ). Some j) e
 
-pub finds_first : (F : FirstData) (trips : List TripData) (t : ℕ) → t ≡ 0 → FindsFrom F trips t → FindsFirst F trips
-finds_first F trips t start h = λ day name.
-    let k : FindsFrom F trips 0 = subst (FindsFrom F trips) start h in
-    k day name ∙ from_zero (position (is_named day name) trips)
+pub finds_first : (F : FirstData) (names : List (List ℕ)) (trips : List TripData) (t : ℕ) → t ≡ 0 → FindsFrom F names trips t → FindsFirst F names trips
+finds_first F names trips t start h = λ day name among.
+    let k : FindsFrom F names trips 0 = subst (FindsFrom F names trips) start h in
+    k day name among ∙ from_zero (position (is_named day name) trips)
 
--- a trip in whose place one of its name and day stands is found as before
-pub finds_set : (F : FirstData) (trips : List TripData) (t : ℕ) (x d : TripData) → x.name ≡ (get_or trips t d).name → x.day ≡ (get_or trips t d).day → FindsFirst F trips
-    → FindsFirst F (set trips t x)
-finds_set F trips t x d named began h = λ day name.
-    let p : TripData → Bool = is_named day name in
-    let same : p x ≡ p (get_or trips t d) = λ i. same_day day (began i) && bytes_eq name (named i) in
+-- a trip of another name is none of those that are looked for
+pub passed_over : (names : List (List ℕ)) (x : TripData) (t : ℕ) (o : Option ℕ) (day : ServiceDay) (name : List ℕ) → list_any (bytes_eq x.name) names ≡ false → IsAmong names name → o ≡ cond (is_named day name x) (Some t) o
+passed_over names x t o day name other among = by_name (bytes_eq name x.name) refl
+  where
+    none : (a : Bool) → o ≡ cond (a && false) (Some t) o
+    none true = refl
+    none false = refl
+
+    by_name : (b : Bool) → b ≡ bytes_eq name x.name → o ≡ cond (same_day day x.day && bytes_eq name x.name) (Some t) o
+    by_name true e = absurd (false≢true (sym other ∙ (ap (λ (n : List ℕ). list_any (bytes_eq n) names) (sym ((bytes_eq-Decides name x.name).0 (sym e))) ∙ among)))
+    by_name false e = none (same_day day x.day) ∙ ap (λ b. cond (same_day day x.day && b) (Some t) o) e
+
+-- ---- the names of updates
+
+-- with the name of one more
+pub names_more : (updates : List Update) (k : ℕ) (u : Update) (old new : List (List ℕ)) → k < length updates → u ≡ get_or updates k u → ((name : List ℕ) → list_any (bytes_eq name) new ≡ (list_any (bytes_eq name) old || bytes_eq name (trip_of u)))
+    → HaveNames (take k updates) old → HaveNames (take (k + 1) updates) new
+names_more updates k u old new inside at members so_far =
+    subst (λ us. HaveNames us new) (sym (take_more updates k u inside))
+    (All-push (λ v. IsAmong new (trip_of v)) (take k updates) (get_or updates k u)
+    (λ i d below. members (trip_of (get_or (take k updates) i d)) ∙ or_left (list_any (bytes_eq (trip_of (get_or (take k updates) i d))) old) (bytes_eq (trip_of (get_or (take k updates) i d)) (trip_of u)) (so_far i d below))
+    (subst (λ v. IsAmong new (trip_of v)) at
+    (members (trip_of u) ∙ or_right (list_any (bytes_eq (trip_of u)) old) (bytes_eq (trip_of u) (trip_of u)) ((bytes_eq-Decides (trip_of u) (trip_of u)).1 refl))))
+
+-- the trip that one of them names
+pub found_named : (F : FirstData) (names : List (List ℕ)) (trips : List TripData) (updates : List Update) (k : ℕ) (u : Update) → FindsFirst F names trips → HaveNames updates names → k < length updates → u ≡ get_or updates k u
+    → trip_found F (day_of u) (trip_of u) ≡ trip_named trips u
+found_named F names trips updates k u finds have inside at =
+    finds (day_of u) (trip_of u) (subst (λ v. IsAmong names (trip_of v)) (sym at) (have k u inside))
+
+-- in whose place one of its name and day stands, all updates name the same trips as before
+pub named_set : (trips : List TripData) (t : ℕ) (x d : TripData) → x.name ≡ (get_or trips t d).name → x.day ≡ (get_or trips t d).day → (u : Update) → trip_named (set trips t x) u ≡ trip_named trips u
+named_set trips t x d named began u =
+    let p : TripData → Bool = is_named (day_of u) (trip_of u) in
+    let same : p x ≡ p (get_or trips t d) = λ i. same_day (day_of u) (began i) && bytes_eq (trip_of u) (named i) in
     let place = position_or_len-set p trips t x d same in
     let long : length (set trips t x) ≡ length trips = length-set trips t x in
-    h day name ∙ sym (λ i. cond (nat_lt (place i) (long i)) (Some (place i)) None)
+    λ i. cond (nat_lt (place i) (long i)) (Some (place i)) None
+
+-- ---- the trips that updates name
+
+-- one of them has a mark, where it is one of so many trips
+abbrev pub IsMarked : ℕ → List Bool → Option ℕ → Type 0
+IsMarked count marks o = IfSome o (λ t. t < count → get_or marks t false ≡ true)
+
+-- with one more
+pub marks_more : (named : List (Option ℕ)) (k count : ℕ) (o : Option ℕ) (old new : List Bool) → k < length named → o ≡ get_or named k o → ((t : ℕ) → get_or old t false ≡ true → get_or new t false ≡ true) → IsMarked count new o
+    → All (IsMarked count old) (take k named) → All (IsMarked count new) (take (k + 1) named)
+marks_more named k count o old new inside at kept marked so_far =
+    subst (All (IsMarked count new)) (sym (take_more named k o inside))
+    (All-push (IsMarked count new) (take k named) (get_or named k o) (λ i d below. stays (get_or (take k named) i d) (so_far i d below)) (subst (IsMarked count new) at marked))
+  where
+    stays : (p : Option ℕ) → IsMarked count old p → IsMarked count new p
+    stays None h = tt
+    stays (Some t) h = λ below. kept t (h below)

@@ -1,5 +1,6 @@
 pub mod AmendedTrips
 pub mod DoubtSteps
+pub mod FarLines
 pub mod Finds
 pub mod InTurn
 pub mod KeptRows

@@ -3,7 +3,7 @@
 use Rattle.std.proofs.Common.{◌≡◌, ◌∙◌, sym, ap, subst, refl, ℕ, Bool, true, false, List, length, map, get_or, ◌&&◌, ◌==◌, ℤ, arith}
 use Rattle.std.specs.Ordering.{int_eq}
 use Rattle.std.proofs.Math.ListN.{get_or-map}
-use Rattle.std.proofs.lemmas.Bool.{and_parts, eqb-true, eq-eqb, not-false}
+use Rattle.std.proofs.lemmas.Bool.{and_parts, eqb-true, eq-eqb, not-false, not_from_true}
 use Rattle.std.proofs.lemmas.Bool.Decides.{Decides-int_eq}
 use Rattle.std.proofs.lemmas.List.{length-map}
 use lib.Pointwise.{pointwise, pointwise_decides}
@@ -64,6 +64,11 @@ event_decides e f = (told e f, λ is. subst (λ (x : Event). same_event e x ≡ 
 pub same_trip : (T U : TimetableData) → (t : ℕ) → has_other_events T U t ≡ false → events_of T t ≡ events_of U t
 same_trip T U t same =
     (pointwise_decides event_decides (events_of T t) (events_of U t)).0 (not-false (pointwise same_event (events_of T t) (events_of U t)) same)
+
+-- and the other way round
+pub same_events : (T U : TimetableData) → (t : ℕ) → events_of T t ≡ events_of U t → has_other_events T U t ≡ false
+same_events T U t same =
+    not_from_true (pointwise same_event (events_of T t) (events_of U t)) ((pointwise_decides event_decides (events_of T t) (events_of U t)).1 same)
 
 -- ---- the same transfers
 

@@ -1,12 +1,14 @@
 -- Where it isn't plain that the lines that are boarded at a stop are the same in two timetables.
 use Rattle.std.specs.Prelude.{◌≡◌, ℕ, ◌<◌, ◌≤◌, List, [], All, IfSome, length, take, filter_map, ℤ, false, Bool, IsSome, Option, None, Some, slice_index_or}
+use Rattle.std.specs.List.{list_any}
+use Rattle.tb_base.specs.declared.table.Event.{Event}
 use Rattle.tb_base.specs.declared.transfer.Transfer.{Transfer}
 use Rattle.tb_base.specs.TimetableData.{TimetableData}
 use Rattle.tb_base.specs.Walking.{change}
 use Rattle.line_split.specs.declared.boardings.Boarding.{Boarding}
 use Rattle.line_split.specs.Layout.{IsBoarding, berth_of}
 use Rattle.line_split.specs.LinesData.{LinesData}
-use Rattle.line_split.specs.LinesOf.{berths_at}
+use Rattle.line_split.specs.LinesOf.{berths_at, line_events}
 use Rattle.transfer_make.specs.ByBerth.{row_by}
 use Rattle.late_edit.specs.declared.doubts.Doubt.{Doubt}
 use Rattle.late_edit.specs.Touched.{has_other_events}
@@ -87,3 +89,13 @@ pub record MarksNear (T : TimetableData) (rows : List (List Doubt)) (marks : Lis
 pub record MarksDoubts (rows : List (List Doubt)) (marks : List Bool) : Type 0 where
   pub long : length marks ≡ length rows
   pub plain : (q : ℕ) → slice_index_or marks q false ≡ false → slice_index_or rows q [] ≡ []
+
+-- one of these events is at a marked stop
+abbrev pub calls_near : List Bool → List Event → Bool
+calls_near near events = list_any (λ e. slice_index_or near e.stop false) events
+
+-- each line has a mark where it calls at a marked stop
+pub record MarksLines (L : LinesData) (near marks : List Bool) : Type 0 where
+  pub long : length marks ≡ length L.lines
+  pub told : (l : ℕ) → l < length L.lines → slice_index_or marks l false
+      ≡ calls_near near (line_events L.table (slice_index_or L.lines l []))

@@ -1,11 +1,14 @@
 -- What the code that amends a timetable keeps.
-use Rattle.std.specs.Prelude.{◌≡◌, ℕ, List, All, position, bytes_eq, Option, pos, negsuc, ◌≤ℤ◌}
+use Rattle.std.specs.Prelude.{◌≡◌, ℕ, ◌<◌, Bool, List, All, IfSome, length, position, bytes_eq, Option, pos, negsuc, ◌≤ℤ◌, true, false, slice_index_or}
+use Rattle.std.specs.List.{list_any}
 use Rattle.std.specs.Map.{lookup}
 use Rattle.tb_base.specs.declared.days.ServiceDay.{ServiceDay}
 use Rattle.tb_base.specs.declared.days.ServiceDay.TheVariants as day
 use Rattle.tb_base.specs.declared.table.Event.{Event}
 use Rattle.tb_base.specs.TimetableData.{TripData}
 use Rattle.late_edit.specs.Amended.{is_named}
+use Rattle.late_edit.specs.Updates.{trip_of}
+use Rattle.late_edit.specs.declared.update.Update.{Update}
 
 -- names, each with the number of a trip
 abbrev pub Noted : Type 0
@@ -29,10 +32,14 @@ trip_found F day.Date name = trip_noted F.date name
 trip_found F day.After name = trip_noted F.after name
 trip_found F day.SecondAfter name = trip_noted F.second_after name
 
--- of each day and name the first one of these trips is noted
-abbrev pub FindsFirst : FirstData → List TripData → Type 0
-FindsFirst F trips =
-    (day : ServiceDay) (name : List ℕ) →
+-- the trip that each update names has one of these names
+abbrev pub HaveNames : List Update → List (List ℕ) → Type 0
+HaveNames updates names = All (λ u. list_any (bytes_eq (trip_of u)) names ≡ true) updates
+
+-- of each day and each of these names the first one of these trips is noted
+abbrev pub FindsFirst : FirstData → List (List ℕ) → List TripData → Type 0
+FindsFirst F names trips =
+    (day : ServiceDay) (name : List ℕ) → list_any (bytes_eq name) names ≡ true →
     trip_found F day name ≡ position (is_named day name) trips
 
 -- an event within the limits of times, that is not left before it is reached
@@ -41,7 +48,11 @@ pub record IsTimedEvent (e : Event) : Type 0 where
   pub waits : e.arr ≤ℤ e.dep
   pub latest : e.dep ≤ℤ pos 359999
 
--- trips with such events, each found by its day and name
-pub record AreMoving (F : FirstData) (trips : List TripData) : Type 0 where
-  pub found : FindsFirst F trips
-  pub timed : All (λ t. All IsTimedEvent (TripData.events t)) trips
+-- trips with such events
+abbrev pub AreTimed : List TripData → Type 0
+AreTimed trips = All (λ t. All IsTimedEvent (TripData.events t)) trips
+
+-- of so many trips each that is named has a mark
+pub record MarksNamed (count : ℕ) (named : List (Option ℕ)) (marks : List Bool) : Type 0 where
+  pub long : length marks ≡ count
+  pub marked : All (λ o. IfSome o (λ t. t < count → slice_index_or marks t false ≡ true)) named

@@ -57,3 +57,9 @@ pub record TellsOtherEvents (T U : TimetableData) (others : List Bool) : Type 0 
   pub long : length others ≡ length T.trips
   pub told : (t : ℕ) → t < length T.trips →
       slice_index_or others t false ≡ has_other_events T U t
+
+-- each trip without a mark has the same events in the two timetables
+pub record MarksOthers (T U : TimetableData) (marks : List Bool) : Type 0 where
+  pub long : length marks ≡ length T.trips
+  pub same : (t : ℕ) → t < length T.trips → slice_index_or marks t false ≡ false →
+      has_other_events T U t ≡ false

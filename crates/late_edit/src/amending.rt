@@ -1,17 +1,19 @@
 //! An edition is amended by what is said of its trips.
-ghost use Rattle.std.specs.Prelude.{◌≡◌, ℕ, IfErr, IfOk};
+ghost use Rattle.std.specs.Prelude.{◌≡◌, ℕ, IfErr, IfOk, length, map};
 ghost use Rattle.tb_base.specs.Refusals.{Yields};
 ghost use Rattle.tb_base.specs.Transfers.{kept_hops};
 ghost use Rattle.transfer_pack.specs.Packed.{packed};
 ghost use Rattle.edition_store.specs.Editions.{EditionData, kept_count};
-ghost use Rattle.late_edit.specs.Amended.{amended};
+ghost use Rattle.late_edit.specs.Amended.{amended, trip_named};
 ghost use Rattle.late_edit.specs.Amending.{edition_lines};
+ghost use Rattle.late_edit.specs.Finding.{MarksNamed};
 ghost use Rattle.late_edit.specs.Updates.{IsOfUpdateAlone};
 ghost use Rattle.late_edit.specs.Updated.{IsUpdated};
-ghost use Rattle.late_edit.specs.Touched.{touched_count};
+ghost use Rattle.late_edit.specs.Touched.{MarksOthers, touched_count};
 
-use crate::amended_table::amended;
+use crate::amended_table::amended_by;
 use crate::late::LateFault;
+use crate::named_trips::{named_marks, named_trips};
 use crate::rows::Rows;
 use crate::update::Update;
 use edition_store::Edition;
@@ -34,10 +36,18 @@ struct Kept {
     redone: u32,
 }
 
-// The kept transfers of a timetable with its lines, which has other events than that of an edition.
-fn kept_of(alloc: Global, old: &Edition, table: &Timetable, lines: &Lines) -> Result<Kept, Memory>
+// The kept transfers of a timetable with its lines, in which marked trips may have other events than
+// in that of an edition.
+fn kept_of(
+    alloc: Global,
+    old: &Edition,
+    table: &Timetable,
+    lines: &Lines,
+    others: &[bool],
+) -> Result<Kept, Memory>
     requires lines { lines.now.table ≡ table.now }
     requires updated { IsUpdated old.now.table table.now }
+    requires others { MarksOthers old.now.table table.now others.now }
     ensures table { IfOk result (λ k. k.set.table ≡ table.now) }
     ensures hops { IfOk result (λ k. (t i : ℕ) →
         packed k.set t i ≡ kept_hops table.now lines.now.lines t i) }
@@ -47,7 +57,7 @@ fn kept_of(alloc: Global, old: &Edition, table: &Timetable, lines: &Lines) -> Re
     crate::laws::untouched_kept();
     table.soundness();
     lines.soundness();
-    let rows = Rows::of(alloc, old, table, lines)?;
+    let rows = Rows::of(alloc, old, table, lines, others)?;
     let set = Set::rebuild(
         alloc,
         table,
@@ -62,21 +72,23 @@ fn kept_of(alloc: Global, old: &Edition, table: &Timetable, lines: &Lines) -> Re
     })
 }
 
-// The edition of a timetable with its lines, which has other events than that of an edition, and how
-// many trips are touched.
+// The edition of a timetable with its lines, in which marked trips may have other events than in
+// that of an edition, and how many trips are touched.
 fn amended_over(
     alloc: Global,
     old: &Edition,
     table: Timetable,
     lines: Lines,
+    others: &[bool],
 ) -> Result<Amended, Memory>
     requires lines { lines.table ≡ table }
     requires updated { IsUpdated old.now.table table }
+    requires others { MarksOthers old.now.table table others.now }
     ensures table { IfOk result (λ a. EditionData.table a.edition ≡ table) }
     ensures redone { IfOk result
         (λ a. a.redone ≡ touched_count (edition_lines old.now) (edition_lines a.edition)) }
 {
-    match kept_of(alloc, old, &table, &lines) {
+    match kept_of(alloc, old, &table, &lines, others) {
         Ok(Kept { set, kept, redone }) => {
             let edition = Edition::with_set(alloc, table, lines, set, kept)?;
             Ok(Amended { edition, redone })
@@ -85,6 +97,32 @@ fn amended_over(
             drop(table);
             drop(lines);
             Err(Memory)
+        }
+    }
+}
+
+// The same by updates that name these trips, which are marked.
+fn amend_named(
+    alloc: Global,
+    old: &Edition,
+    updates: &[Update],
+    named: &[Option<u32>],
+    marks: &[bool],
+) -> Result<Amended, Refused<LateFault>>
+    requires named { named.now ≡ map (trip_named old.now.table.trips) updates.now }
+    requires marks { MarksNamed (length old.now.table.trips) named.now marks.now }
+    ensures table { Yields result (λ a. EditionData.table a.edition)
+        (amended old.now.table updates.now) }
+    ensures own { IfErr result IsOfUpdateAlone }
+    ensures redone { IfOk result
+        (λ a. a.redone ≡ touched_count (edition_lines old.now) (edition_lines a.edition)) }
+{
+    let table = amended_by(alloc, old.table(), updates, named)?;
+    match split(alloc, &table) {
+        Ok(lines) => Ok(amended_over(alloc, old, table, lines, marks)?),
+        Err(Memory) => {
+            drop(table);
+            Err(Refused::Memory)
         }
     }
 }
@@ -103,12 +141,11 @@ pub fn amend(
     ensures redone { IfOk result
         (λ a. a.redone ≡ touched_count (edition_lines old.now) (edition_lines a.edition)) }
 {
-    let table = amended(alloc, old.table(), updates)?;
-    match split(alloc, &table) {
-        Ok(lines) => Ok(amended_over(alloc, old, table, lines)?),
-        Err(Memory) => {
-            drop(table);
-            Err(Refused::Memory)
-        }
-    }
+    let table = old.table();
+    let named = named_trips(alloc, table, updates)?;
+    let marks = named_marks(alloc, table.trip_count(), named.as_slice())?;
+    let amended = amend_named(alloc, old, updates, named.as_slice(), marks.as_slice());
+    drop(marks);
+    drop(named);
+    amended
 }

@@ -4,12 +4,12 @@ ghost use Rattle.std.specs.Bool.{OnTrue};
 ghost use Rattle.late_edit.specs.Updated.{IsUpdated};
 ghost use Rattle.tb_base.specs.Soundness.{IsSoundEvent, IsSoundPath};
 ghost use Rattle.tb_base.specs.TimetableData.{events_of};
-ghost use Rattle.late_edit.specs.Touched.{has_other_events, is_touched, is_touched_at};
+ghost use Rattle.late_edit.specs.Touched.{MarksOthers, has_other_events, is_touched, is_touched_at};
 
 use crate::compared::Compared;
 use crate::doubts::{Doubt, all_doubts};
 use crate::lined_timetable::{Changing, LinedTimetable};
-use crate::near::{is_marked, near_stops};
+use crate::near::{is_marked, near_lines, near_stops};
 use crate::settled::are_settled;
 use std::alloc::Global;
 use std::marker::Model;
@@ -21,12 +21,13 @@ pub struct Amendment<'a> {
     compared: Compared<'a>,
     doubts: Vec<Vec<Doubt>>,
     near: Vec<bool>,
+    near_lines: Vec<bool>,
 }
 
 impl<'a> Model for Amendment<'a> {
     ghost use Rattle.std.specs.Prelude.{map};
     ghost use Rattle.late_edit.specs.Updated.{AmendmentData};
-    ghost use Rattle.late_edit.specs.Doubts.{AreAllDoubts, MarksNear};
+    ghost use Rattle.late_edit.specs.Doubts.{AreAllDoubts, MarksLines, MarksNear};
 
     ghost Value = { AmendmentData };
 
@@ -34,31 +35,36 @@ impl<'a> Model for Amendment<'a> {
 
     ghost invariant = { λ r. AreAllDoubts r.compared.before r.compared.after
         (map (λ row. row.items) r.doubts.items)
-        × MarksNear r.compared.before.table (map (λ row. row.items) r.doubts.items) r.near.items };
+        × MarksNear r.compared.before.table (map (λ row. row.items) r.doubts.items) r.near.items
+        × MarksLines r.compared.before r.near.items r.near_lines.items };
 }
 
 impl<'a> Amendment<'a> {
     ghost use Rattle.tb_base.specs.Walking.{change};
     ghost use Rattle.late_edit.specs.Doubts.{AreSettled, rows_to};
 
-    /// Of two timetables with their lines that differ in times and marks alone. Refused only for want
-    /// of memory.
+    /// Of two timetables with their lines that differ in times and marks alone, of which all trips
+    /// that have no mark among `others` have the same events. Refused only for want of memory.
     pub fn between(
         alloc: Global,
         before: LinedTimetable<'a>,
         after: LinedTimetable<'a>,
+        others: &[bool],
     ) -> Result<Amendment<'a>, Memory>
-        requires { IsUpdated before.table after.table }
+        requires updated { IsUpdated before.table after.table }
+        requires others { MarksOthers before.table after.table others.now }
         ensures before { IfOk result (λ amendment. amendment.before ≡ before.entry) }
         ensures after { IfOk result (λ amendment. amendment.after ≡ after.entry) }
     {
-        let compared = Compared::new(alloc, before, after)?;
+        let compared = Compared::new(alloc, before, after, others)?;
         let doubts = all_doubts(alloc, &compared)?;
         let near = near_stops(alloc, compared.before().table(), doubts.as_slice())?;
+        let near_lines = near_lines(alloc, compared.before(), near.as_slice())?;
         Ok(Amendment {
             compared,
             doubts,
             near,
+            near_lines,
         })
     }
 
@@ -154,6 +160,20 @@ impl<'a> Amendment<'a> {
         self.compared.is_touched_at(old, new, trip, at)
     }
 
+    // Whether a trip with the same events calls at no stop from which a change leads to one with
+    // doubts, so that nothing touches it. Its line is looked up alone.
+    fn is_far(&self, trip: TripNo) -> bool
+        requires trip { trip < length self.now.before.table.trips }
+        requires same { has_other_events self.now.before.table self.now.after.table trip ≡ false }
+        ensures { OnTrue result (is_touched self.now.before self.now.after trip ≡ false) }
+    {
+        self.compared.soundness();
+        let before = self.compared.before();
+        before.soundness();
+        let (line, _) = before.place(trip);
+        !self.near_lines[line.index()]
+    }
+
     /// Whether a trip is touched: it has other events, or another list of candidates, or a trip in
     /// that list has other events. Refused only for want of memory.
     pub fn is_touched(&self, alloc: Global, trip: TripNo) -> Result<bool, Memory>
@@ -163,6 +183,9 @@ impl<'a> Amendment<'a> {
     {
         if self.compared.has_other_events(trip) {
             return Ok(true);
+        }
+        if self.is_far(trip) {
+            return Ok(false);
         }
         let mut old = Vec::new(alloc);
         let mut new = Vec::new(alloc);

@@ -3,7 +3,7 @@ ghost use Rattle.std.specs.Prelude.{◌≡◌, ◌<◌, IfOk, false, length};
 ghost use Rattle.std.specs.List.{list_any};
 ghost use lib.Pointwise.{pointwise};
 ghost use Rattle.tb_base.specs.TimetableData.{events_of};
-ghost use Rattle.late_edit.specs.Touched.{has_other_events, is_touched_at, same_transfer};
+ghost use Rattle.late_edit.specs.Touched.{MarksOthers, has_other_events, is_touched_at, same_transfer};
 ghost use Rattle.late_edit.specs.Updated.{IsUpdated};
 
 use crate::events::other_events;
@@ -33,17 +33,19 @@ impl<'a> Model for Compared<'a> {
 }
 
 impl<'a> Compared<'a> {
-    /// Two timetables with their lines that differ in times and marks alone. Refused only for want of
-    /// memory.
+    /// Two timetables with their lines that differ in times and marks alone, of which all trips that
+    /// have no mark among `others` have the same events. Refused only for want of memory.
     pub(crate) fn new(
         alloc: Global,
         before: LinedTimetable<'a>,
         after: LinedTimetable<'a>,
+        others: &[bool],
     ) -> Result<Compared<'a>, Memory>
-        requires { IsUpdated before.table after.table }
+        requires updated { IsUpdated before.table after.table }
+        requires others { MarksOthers before.table after.table others.now }
         ensures { IfOk result (λ c. c ≡ record { before = before.entry; after = after.entry }) }
     {
-        let other_events = other_events(alloc, before.table(), after.table())?;
+        let other_events = other_events(alloc, before.table(), after.table(), others)?;
         Ok(Compared {
             before,
             after,

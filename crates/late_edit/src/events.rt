@@ -1,8 +1,8 @@
 //! Which trips have other events.
-ghost use Rattle.std.specs.Prelude.{◌≡◌, IfOk, not};
+ghost use Rattle.std.specs.Prelude.{◌≡◌, ◌<◌, IfOk, length, not};
 ghost use lib.Pointwise.{pointwise};
 ghost use Rattle.tb_base.specs.TimetableData.{events_of};
-ghost use Rattle.late_edit.specs.Touched.{TellsOtherEvents, same_event};
+ghost use Rattle.late_edit.specs.Touched.{MarksOthers, TellsOtherEvents, has_other_events, same_event};
 
 use std::alloc::Global;
 use tb_base::{Event, Memory, Timetable, TripNo};
@@ -44,19 +44,34 @@ fn events_differ(old: &[Event], new: &[Event]) -> bool
     false
 }
 
-/// For each trip of the first timetable, whether it has other events in the second.
+// Whether a trip of the first timetable has other events in the second, where those without a mark
+// have the same.
+fn has_other_events(old: &Timetable, new: &Timetable, marks: &[bool], trip: TripNo) -> bool
+    requires marks { MarksOthers old.now new.now marks.now }
+    requires trip { trip < length old.now.trips }
+    ensures { result ≡ has_other_events old.now new.now trip }
+{
+    if !marks[trip.index()] {
+        return false;
+    }
+    events_differ(events_of(old, trip), events_of(new, trip))
+}
+
+/// For each trip of the first timetable, whether it has other events in the second. Those without a
+/// mark have the same, and aren't looked at.
 pub(crate) fn other_events(
     alloc: Global,
     old: &Timetable,
     new: &Timetable,
+    marks: &[bool],
 ) -> Result<Vec<bool>, Memory>
+    requires { MarksOthers old.now new.now marks.now }
     ensures { IfOk result (λ others. TellsOtherEvents old.now new.now others.items) }
 {
     let mut others = Vec::new(alloc);
     others.reserve(old.trip_count() as usize)?;
     for number in 0..old.trip_count() {
-        let trip = TripNo(number);
-        others.push(events_differ(events_of(old, trip), events_of(new, trip)))?;
+        others.push(has_other_events(old, new, marks, TripNo(number)))?;
     }
     Ok(others)
 }

@@ -1,5 +1,7 @@
-//! The first trip of each name.
-ghost use Rattle.std.specs.Prelude.{◌≡◌, ◌≤◌, ℕ, List, IfOk, None, OnOk, Some, bytes_eq, if◌then◌else◌, length};
+//! The first trip of each of some names.
+ghost use Rattle.std.specs.Prelude.{◌≡◌, ℕ, List, IfOk, None, OnOk, Some, bytes_eq, if◌then◌else◌, true};
+ghost use Rattle.std.specs.List.{list_any};
+ghost use Rattle.tb_base.specs.TimetableData.{TripData};
 ghost use Rattle.tb_base.specs.declared.days.ServiceDay.{ServiceDay};
 ghost use Rattle.late_edit.specs.Amended.{is_named};
 ghost use Rattle.late_edit.specs.Finding.{FindsFirst, trip_found, trip_noted};
@@ -7,7 +9,7 @@ ghost use Rattle.late_edit.specs.Finding.{FindsFirst, trip_found, trip_noted};
 use indexmap::IndexMap;
 use std::alloc::Global;
 use std::marker::Model;
-use tb_base::{HashKey, Memory, ServiceDay, Trip};
+use tb_base::{HashKey, Memory, NameIndex, ServiceDay, Timetable, Trip, TripNo};
 
 // For each name the number of a trip, where one is noted.
 #[derive(Drop)]
@@ -51,7 +53,14 @@ impl NamedTrips {
     }
 }
 
-/// For each service day and each name the first trip that has both.
+// Whether a trip has one of these names.
+fn has_name(names: &NameIndex, trip: &Trip) -> bool
+    ensures { result ≡ list_any (bytes_eq (TripData.name trip.now)) names.now }
+{
+    names.contains(trip.name.bytes())
+}
+
+/// For each service day and each of some names the first trip that has both.
 #[derive(Drop)]
 pub(crate) struct FirstTrips {
     before: NamedTrips,
@@ -102,15 +111,41 @@ impl FirstTrips {
         }
     }
 
-    /// The first of these trips of each name. The last one is noted first, so that an earlier one
-    /// takes the place of a later one. Names are hashed by the key.
-    pub(crate) fn of(alloc: Global, key: HashKey, trips: &[Trip]) -> Result<FirstTrips, Memory>
-        requires { length trips.now ≤ 500000 }
-        ensures { IfOk result (λ first. FindsFirst first trips.now) }
+    // The same, where the trip has one of these names.
+    fn note_named(
+        &mut self,
+        alloc: Global,
+        names: &NameIndex,
+        trip: &Trip,
+        number: u32,
+    ) -> Result<(), Memory>
+        ensures { OnOk result ((day : ServiceDay) (name : List ℕ) →
+            list_any (bytes_eq name) names.now ≡ true →
+            trip_found self.new day name
+            ≡ if is_named day name trip.now then Some number
+            else trip_found self.old day name) }
     {
-        let mut first = FirstTrips::new(alloc, key);
-        for t in (0..trips.len()).rev() {
-            let Ok(()) = first.note(alloc, &trips[t], t as u32) else {
+        if !has_name(names, trip) {
+            return Ok(());
+        }
+        self.note(alloc, trip, number)
+    }
+
+    /// The first trip of a timetable of each of these names. The last one is noted first, so that an
+    /// earlier one takes the place of a later one. Takes memory by the names, and none for a trip
+    /// that has another name.
+    pub(crate) fn of(
+        alloc: Global,
+        table: &Timetable,
+        names: &NameIndex,
+    ) -> Result<FirstTrips, Memory>
+        ensures { IfOk result (λ first. FindsFirst first names.now table.now.trips) }
+    {
+        let mut first = FirstTrips::new(alloc, table.key());
+        let count = table.trip_count();
+        for t in (0..count).rev() {
+            let trip = table.trip(TripNo(t));
+            let Ok(()) = first.note_named(alloc, names, trip, t) else {
                 drop(first);
                 return Err(Memory);
             };

@@ -31,6 +31,7 @@ mod late;
 pub mod laws;
 mod lined_timetable;
 mod moves;
+mod named_trips;
 mod near;
 mod reader;
 mod rows;

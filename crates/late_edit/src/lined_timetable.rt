@@ -1,10 +1,10 @@
 //! A timetable with its lines.
 ghost use Rattle.std.specs.Prelude.{◌≡◌, ◌<◌, ◌==◌, ◌&&◌, [], All, OnOk, length, nat_le, slice_index_or};
 ghost use Rattle.line_split.specs.Layout.{AreBoardings, IsBoarding, berth_of};
-ghost use Rattle.line_split.specs.LinesOf.{berths_at};
+ghost use Rattle.line_split.specs.LinesOf.{StandsAt, berths_at, line_events};
 ghost use Rattle.transfer_make.specs.ByBerth.{hop_at, row_by};
-ghost use Rattle.tb_base.specs.Lines.{AreLines};
-ghost use Rattle.tb_base.specs.Soundness.{IsSoundEvent};
+ghost use Rattle.tb_base.specs.Lines.{AreDividedInto, AreLines};
+ghost use Rattle.tb_base.specs.Soundness.{IsSound, IsSoundEvent};
 ghost use Rattle.tb_base.specs.TimetableData.{events_of};
 ghost use Rattle.late_edit.specs.Touched.{candidates_at};
 
@@ -48,10 +48,13 @@ impl<'a> LinedTimetable<'a> {
         LinedTimetable { table, lines }
     }
 
-    // Its lines are those of its timetable. Does nothing.
+    // Its timetable is sound, and its lines are those of its timetable. Does nothing.
     pub(crate) fn soundness(&self)
-        ensures { AreLines self.now.table self.now.lines }
+        ensures sound { IsSound self.now.table }
+        ensures lines { AreLines self.now.table self.now.lines }
+        ensures divided { AreDividedInto self.now.table self.now.lines }
     {
+        self.table.soundness();
         self.lines.soundness();
     }
 
@@ -114,6 +117,38 @@ impl<'a> LinedTimetable<'a> {
     {
         let lines = self.lines;
         lines.trips(line)
+    }
+
+    // How many lines there are.
+    pub(crate) fn line_count(&self) -> u32
+        ensures { result ≡ length self.now.lines }
+    {
+        let lines = self.lines;
+        lines.count()
+    }
+
+    // The line of a trip, and the trip's place in it.
+    pub(crate) fn place(&self, trip: TripNo) -> (LineNo, u32)
+        requires { trip < length self.now.table.trips }
+        ensures { StandsAt self.now.lines trip result }
+    {
+        let lines = self.lines;
+        lines.of(trip)
+    }
+
+    // The events of a line's first trip, at whose stops all its trips call.
+    pub(crate) fn line_events(&self, line: LineNo) -> &'a [Event]
+        requires { line < length self.now.lines }
+        ensures events { result.now
+            ≡ line_events self.now.table (slice_index_or self.now.lines line []) }
+        ensures sound { All (IsSoundEvent (length self.now.table.stops)) result.now }
+    {
+        let lines = self.lines;
+        let first = lines.first(line);
+        if first.index() >= self.table.trip_count() as usize {
+            return &[];
+        }
+        self.events(first)
     }
 
     // The trips of a trip's line, in order, and none where there is no such trip.

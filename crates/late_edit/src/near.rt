@@ -1,12 +1,14 @@
-//! The stops from which a change leads to a stop with doubts.
+//! The stops from which a change leads to a stop with doubts, and the lines that call at one.
 ghost use Rattle.std.specs.Prelude.{◌≡◌, ◌<◌, ◌||◌, ℕ, [], All, IfOk, false, length, map, slice_index_or};
 ghost use Rattle.std.specs.List.{list_any};
 ghost use Rattle.tb_base.specs.Soundness.{IsSoundPath};
-ghost use Rattle.late_edit.specs.Doubts.{MarksDoubts, MarksNear};
+ghost use Rattle.line_split.specs.LinesOf.{line_events};
+ghost use Rattle.late_edit.specs.Doubts.{MarksDoubts, MarksLines, MarksNear, calls_near};
 
 use crate::doubts::Doubt;
+use crate::lined_timetable::LinedTimetable;
 use std::alloc::Global;
-use tb_base::{Memory, Path, StopNo, Timetable};
+use tb_base::{Event, LineNo, Memory, Path, StopNo, Timetable};
 
 // For each stop whether it has doubts.
 fn doubtful_stops(alloc: Global, doubts: &[Vec<Doubt>]) -> Result<Vec<bool>, Memory>
@@ -64,4 +66,39 @@ pub(crate) fn is_marked(marks: &[bool], stop: StopNo) -> bool
     ensures { result ≡ slice_index_or marks.now stop false }
 {
     marks[stop.index()]
+}
+
+// Whether one of these events is at a marked stop.
+fn calls_near(marks: &[bool], events: &[Event]) -> bool
+    requires { All (λ e. e.stop < length marks.now) events.now }
+    ensures { result ≡ calls_near marks.now events.now }
+{
+    events.iter().any(|event| marks[event.stop.index()])
+}
+
+// Whether a line calls at a marked stop.
+fn is_line_near(lined: &LinedTimetable<'_>, marks: &[bool], line: LineNo) -> bool
+    requires marks { length marks.now ≡ length lined.now.table.stops }
+    requires line { line < length lined.now.lines }
+    ensures { result ≡ calls_near marks.now
+        (line_events lined.now.table (slice_index_or lined.now.lines line [])) }
+{
+    calls_near(marks, lined.line_events(line))
+}
+
+/// For each line a mark, which it has where it calls at a marked stop.
+pub(crate) fn near_lines(
+    alloc: Global,
+    lined: &LinedTimetable<'_>,
+    marks: &[bool],
+) -> Result<Vec<bool>, Memory>
+    requires { length marks.now ≡ length lined.now.table.stops }
+    ensures { IfOk result (λ near. MarksLines lined.now marks.now near.items) }
+{
+    let mut near = Vec::new(alloc);
+    near.reserve(lined.line_count() as usize)?;
+    for number in 0..lined.line_count() {
+        near.push(is_line_near(lined, marks, LineNo(number)))?;
+    }
+    Ok(near)
 }

@@ -3,7 +3,7 @@ ghost use Rattle.std.specs.Prelude.{◌≡◌, ◌+◌, ◌<◌, ◌++◌, ◌�
 ghost use Rattle.tb_base.specs.Transfers.{kept_hops, transfers_of};
 ghost use Rattle.late_edit.specs.Amending.{AreKeptRows, edition_lines, touched_row};
 ghost use Rattle.late_edit.specs.Updated.{IsUpdated};
-ghost use Rattle.late_edit.specs.Touched.{is_touched};
+ghost use Rattle.late_edit.specs.Touched.{MarksOthers, is_touched};
 
 use crate::amendment::Amendment;
 use crate::lined_timetable::LinedTimetable;
@@ -148,22 +148,25 @@ impl Rows {
         Ok(())
     }
 
-    /// The kept transfers of the touched trips of a timetable with its lines, which has other events
-    /// than that of an edition. That only touched trips are reduced again is so in the code and in no
-    /// clause. Refused only for want of memory.
+    /// The kept transfers of the touched trips of a timetable with its lines, in which marked trips
+    /// may have other events than in that of an edition. That only touched trips are reduced again is
+    /// so in the code and in no clause. Refused only for want of memory.
     pub(crate) fn of(
         alloc: Global,
         old: &Edition,
         table: &Timetable,
         lines: &Lines,
+        others: &[bool],
     ) -> Result<Rows, Memory>
         requires lines { lines.now.table ≡ table.now }
         requires updated { IsUpdated old.now.table table.now }
+        requires others { MarksOthers old.now.table table.now others.now }
         ensures { IfOk result
             (AreKeptRows (edition_lines old.now) lines.now (length table.now.trips)) }
     {
         let before = LinedTimetable::new(old.table(), old.lines());
-        let amendment = Amendment::between(alloc, before, LinedTimetable::new(table, lines))?;
+        let after = LinedTimetable::new(table, lines);
+        let amendment = Amendment::between(alloc, before, after, others)?;
         let Ok(calls) = FlatCalls::of(alloc, table) else {
             drop(amendment);
             return Err(Memory);

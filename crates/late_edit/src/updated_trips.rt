@@ -1,11 +1,11 @@
 //! The trips of a timetable, while updates change their events.
 ghost use Rattle.std.specs.Prelude.{◌≡◌, All, Err, IfErr, IfOk, MatchResult, Ok, OnErr};
-ghost use Rattle.late_edit.specs.Amended.{events_after, trips_after};
+ghost use Rattle.late_edit.specs.Amended.{events_after, trip_named, trips_after};
 ghost use Rattle.late_edit.specs.Finding.{IsTimedEvent};
 ghost use Rattle.late_edit.specs.Updates.{IsOfUpdate};
+ghost use Rattle.late_edit.specs.declared.update.Update.{Update};
 
 use crate::closing::{close_all, close_skipped};
-use crate::first_trips::FirstTrips;
 use crate::late::LateFault;
 use crate::moves::move_events;
 use crate::update::Update;
@@ -13,23 +13,22 @@ use std::alloc::Global;
 use std::marker::Model;
 use tb_base::{Event, Memory, Timetable, Trip};
 
-/// The trips of a timetable, each found by its name and day, while updates change their events.
+/// The trips of a timetable, while updates change their events.
 #[derive(Drop)]
 pub(crate) struct UpdatedTrips {
     trips: Vec<Trip>,
-    first: FirstTrips,
 }
 
 impl Model for UpdatedTrips {
     ghost use Rattle.std.specs.Prelude.{List};
     ghost use Rattle.tb_base.specs.TimetableData.{TripData};
-    ghost use Rattle.late_edit.specs.Finding.{AreMoving};
+    ghost use Rattle.late_edit.specs.Finding.{AreTimed};
 
     ghost Value = { List TripData };
 
     ghost view = { λ m. m.trips.items };
 
-    ghost invariant = { λ m. AreMoving m.first m.trips.items };
+    ghost invariant = { λ m. AreTimed m.trips.items };
 }
 
 // Changes the events of a trip as an update says, or tells its first fault.
@@ -57,17 +56,19 @@ impl UpdatedTrips {
     {
         table.soundness();
         let trips = table.copy_trips(alloc)?;
-        let first = FirstTrips::of(alloc, table.key(), trips.as_slice())?;
-        Ok(UpdatedTrips { trips, first })
+        Ok(UpdatedTrips { trips })
     }
 
-    /// Changes the trip that an update names, or tells its first fault.
-    pub(crate) fn apply(&mut self, update: &Update) -> Result<(), LateFault>
+    /// Changes the trip that an update names, which is told, or tells its first fault. All updates
+    /// name the same trips as before.
+    pub(crate) fn apply(&mut self, update: &Update, named: Option<u32>) -> Result<(), LateFault>
+        requires { named ≡ trip_named self.old update.now }
         ensures updated { MatchResult result (λ _. trips_after update.now self.old ≡ Ok self.new)
             (λ f. trips_after update.now self.old ≡ Err f) }
         ensures own { IfErr result IsOfUpdate }
+        ensures named { (u : Update) → trip_named self.new u ≡ trip_named self.old u }
     {
-        let Some(trip) = self.first.find(update.day(), update.trip().bytes()) else {
+        let Some(trip) = named else {
             return Err(LateFault::UnknownTrip(update.line()));
         };
         let updated = &mut self.trips[trip as usize];
@@ -78,8 +79,7 @@ impl UpdatedTrips {
     pub(crate) fn into_trips(self) -> Vec<Trip>
         ensures { result.items ≡ self }
     {
-        let UpdatedTrips { trips, first } = self;
-        drop(first);
+        let UpdatedTrips { trips } = self;
         trips
     }
 }
