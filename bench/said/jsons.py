@@ -295,10 +295,10 @@ def answer_text(command, lines):
         return build_text(lines[0]) + answer_text("ask", lines[1:])
     if command == "build":
         return build_text(lines[0]) + "".join(map(transfer_text, lines[1:]))
-    if len(lines) == 1 and isinstance(lines[0], dict) and "unknown_stop" in lines[0]:
-        return unknown_text(lines[0])
     if command == "matrix":
         return "".join(map(origin_text, lines))
+    if len(lines) == 1 and isinstance(lines[0], dict) and "unknown_stop" in lines[0]:
+        return unknown_text(lines[0])
     return values_text(command, lines)
 
 

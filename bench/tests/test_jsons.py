@@ -59,6 +59,10 @@ class Texts(unittest.TestCase):
             self.assertEqual(right, jsons.asks_json([word.encode() for word in line.split()]), line)
         self.assertFalse(jsons.asks_json([b"--json", b"\xff"]))
 
+    def test_an_origin_that_is_no_place(self):
+        found = jsons.text_of("matrix", '{"from":"X","unknown_stop":"X"}\n', b"X")
+        self.assertEqual("from X\nunknown stop X\n\n", found)
+
     def test_other_forms(self):
         for line in (
             '{"arrive":"08:00:00","arrive_seconds":28801,"rides":0,"legs":[]}',
