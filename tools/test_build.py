@@ -199,6 +199,51 @@ class Builds(Checkout):
         self.assertLess(os.stat(sources.built_program(self.top)).st_mtime, edited)
 
 
+class Launcher(Checkout):
+    """The launcher over a stand-in for the proved program, which prints what malloc is told."""
+
+    MODES = "/sys/kernel/mm/transparent_hugepage/enabled"
+
+    def setUp(self):
+        super().setUp()
+        self.modes = os.path.join(self.top, "modes")
+        with open(os.path.join(build.TOP, "router"), encoding="utf-8") as file:
+            text = file.read()
+        self.assertEqual(1, text.count(self.MODES))
+        os.chmod(write(self.top, "router", text.replace(self.MODES, self.modes)), 0o755)
+        program = '#!/bin/sh\necho "${GLIBC_TUNABLES-unset}" "$@"\n'
+        os.chmod(write(self.top, "crates/router/out/router", program), 0o755)
+
+    def told(self, mode, tunables=None):
+        """What the program prints where the system has this mode of large pages."""
+        if mode:
+            write(self.top, "modes", mode + "\n")
+        env = {key: it for key, it in os.environ.items() if key != "GLIBC_TUNABLES"}
+        if tunables is not None:
+            env["GLIBC_TUNABLES"] = tunables
+        words = [os.path.join(self.top, "router"), "city", "2"]
+        ended = subprocess.run(words, env=env, capture_output=True, text=True)
+        self.assertEqual((0, ""), (ended.returncode, ended.stderr))
+        self.assertTrue(ended.stdout.endswith(" city 2\n"), ended.stdout)
+        return ended.stdout.removesuffix(" city 2\n")
+
+    def test_large_pages(self):
+        for mode in ("always [madvise] never", "[always] madvise never"):
+            self.assertEqual("glibc.malloc.hugetlb=1", self.told(mode))
+            self.assertEqual("glibc.malloc.hugetlb=1", self.told(mode, ""))
+
+    def test_the_system_gives_none(self):
+        self.assertEqual("unset", self.told(None))
+        self.assertEqual("unset", self.told("always madvise [never]"))
+
+    def test_tunables_of_the_user(self):
+        mode, kept = "always [madvise] never", "glibc.malloc.check=0"
+        self.assertEqual(f"{kept}:glibc.malloc.hugetlb=1", self.told(mode, kept))
+        for own in ("glibc.malloc.hugetlb=0", f"{kept}:glibc.malloc.hugetlb=2"):
+            self.assertEqual(own, self.told(mode, own))
+        self.assertEqual(kept, self.told("always madvise [never]", kept))
+
+
 class Stops(Checkout):
     """Builds by a process of their own, which is at `mid` and `side` for long."""
 
