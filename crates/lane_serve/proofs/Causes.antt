@@ -1,4 +1,5 @@
--- A run has one outcome for each item of its plan. A plan whose first item is refused has no answer but its fault, where nothing fails outside.
+-- A run has one outcome for each item of its plan. A plan whose first item is refused has no answer
+-- but its fault, where nothing fails outside.
 use Rattle.std.proofs.Common.{◌≡◌, inl, inr, ℕ, Bool, length, List, [], ◌∷◌, Option, None, Result, Ok, Err, arith, refl, subst}
 use Rattle.std.specs.Prelude.{IfErr, IfOk, IsSome}
 use Rattle.tb_base.specs.TimetableData.{TimetableData}

@@ -17,8 +17,8 @@ pub record ReportData : Type 0 where
 abbrev pub IsReplyOf : List EditionData → ℕ → Line → Reply → Type 0
 IsReplyOf es n request reply = IsAnsweredBy es n request.since request.question reply
 
--- a reply's text is that of the right reply of the edition of a list that the reply names: as lines,
--- or where that is wanted, as a member of a JSON object
+-- a reply's text is that of the right reply of the edition of a list that the reply names: as
+-- lines, or where that is wanted, as a member of a JSON object
 pub record IsAnswered (es : List EditionData) (request : Line) (r : ReplyText) : Type 0 where
   pub by : EditionData
   pub edition : IsEditionOf es r.edition by

@@ -86,8 +86,8 @@ script_from s [] = at_end s
 script_from s (text ∷ rest) = and_then (after_line s text) (λ next. script_from next rest)
 
 -- The lanes that a script of at most 33,554,432 bytes says, or its first fault; whether the replies
--- are wanted as JSON is said beside it. Lines are counted from 1; where every line is good and there
--- is no lane, line 0 is bad.
+-- are wanted as JSON is said beside it. Lines are counted from 1; where every line is good and
+-- there is no lane, line 0 is bad.
 abbrev pub script_of : Bool → List ℕ → Result (List LaneData) ScriptFault
 script_of json bytes =
     if nat_lt 33554432 (length bytes) then Err fault.TooLong

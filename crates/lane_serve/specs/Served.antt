@@ -44,8 +44,8 @@ AreServed es (l ∷ ls) (r ∷ rs) [] = ⊥
 AreServed es (l ∷ ls) (r ∷ rs) (c ∷ cs) = IsServedLane es l r c × AreServed es ls rs cs
 
 -- One outcome for each item of the plan, the first of which is a lawful day; and over the editions
--- of the lawful items, in order, which have their mirrors where a request needs one, each lane's run
--- and its closing replies.
+-- of the lawful items, in order, which have their mirrors where a request needs one, each lane's
+-- run and its closing replies.
 pub record IsServed (files : Option FileList) (options : Options) (plan : List ItemData)
     (script : List LaneData) (s : ServedData) : Type 0 where
   pub editions : List EditionData

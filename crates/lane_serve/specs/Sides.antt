@@ -14,8 +14,8 @@ pub record PublisherSideData : Type 0 where
   pub outcomes : List Outcome
   pub day : EditionData
 
--- these items were taken, the first of which was published, and what became of each is told; this is
--- the edition of the last day among them
+-- these items were taken, the first of which was published, and what became of each is told; this
+-- is the edition of the last day among them
 pub record HasTakenSoFar (files : Option FileList) (building : Building) (items : List ItemData)
     (outcomes : List Outcome) (es : List EditionData) (day : EditionData) : Type 0 where
   pub outcomes_are :

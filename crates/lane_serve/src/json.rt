@@ -77,8 +77,9 @@ fn served_json(alloc: Global, plan: &[PlanItem], served: &Served) -> Result<Vec<
 
 /// What a run gives, as `served_text` shows it, or as lines of JSON: for each item of the plan
 /// `{"day":WORD,"edition":N,"trips":N,"lines":N,"kept":N}`, or for a file that amends a day
-/// `{"day":WORD,"edition":N,"touched":N,"kept":N}`, or `{"day":WORD,"fault":FAULT}`; for each request of each lane `{"lane":NAME,"request":K,"edition":N,MEMBER}`, the member being that of the
-/// reply; `{"closing":N}`; and for each lane the same of its closing replies.
+/// `{"day":WORD,"edition":N,"touched":N,"kept":N}`, or `{"day":WORD,"fault":FAULT}`; for each
+/// request of each lane `{"lane":NAME,"request":K,"edition":N,MEMBER}`, the member being that of
+/// the reply; `{"closing":N}`; and for each lane the same of its closing replies.
 pub fn served_shown(
     alloc: Global,
     json: bool,

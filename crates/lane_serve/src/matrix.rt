@@ -222,8 +222,8 @@ fn write_all<K: Sink, R: Threads + Sync>(
 /// Writes, for each origin in order, its rows by the network of a day, in a form: for each stop the
 /// figures of the travel times to it, or that no stop and no station has the origin's name. So many
 /// lanes answer at once, where threads can be started, and no more origins' rows are held than
-/// there are lanes. `WriteFault` comes only where the sink's count of faults rose; then a first part
-/// was written, and with `Memory` the rows of some first origins, or nothing.
+/// there are lanes. `WriteFault` comes only where the sink's count of faults rose; then a first
+/// part was written, and with `Memory` the rows of some first origins, or nothing.
 pub fn write_matrix<K: Sink, R: Threads + Sync>(
     rt: &R,
     alloc: Global,

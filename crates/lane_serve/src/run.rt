@@ -670,11 +670,11 @@ fn serve_plan<F: Folder, G: Gate, R: Threads + Wait + Sync>(
 /// Publishes the plan's items, each as it is read and built, while the lanes of a script are
 /// answered, each by a caller of its own, in threads where these can be started; in the end each
 /// lane's first request and each that was deferred is answered once more by the last edition. The
-/// plan begins with a day. `workers` workers reduce the transfers of an item: 1 to 64. `Feed` comes only where the first
-/// item's feed is refused; where it is and the folder doesn't fail, nothing else comes but
-/// `Memory`. `ReadFault` comes only where the folder's count of faults rose. It may wait. That
-/// lanes and publisher are at work at once, and that the gate is told of pieces, publications and
-/// requests, and may hold them, is tested and in no clause.
+/// plan begins with a day. `workers` workers reduce the transfers of an item: 1 to 64. `Feed` comes
+/// only where the first item's feed is refused; where it is and the folder doesn't fail, nothing
+/// else comes but `Memory`. `ReadFault` comes only where the folder's count of faults rose. It may
+/// wait. That lanes and publisher are at work at once, and that the gate is told of pieces,
+/// publications and requests, and may hold them, is tested and in no clause.
 pub fn serve<F: Folder + Send, G: Gate, R: Threads + Wait + Sync>(
     rt: &R,
     alloc: Global,

@@ -36,7 +36,8 @@ fewer (negsuc m) (negsuc n) h k = absurd (omega (arith, ints, h))
 abbrev pub LeavesByLine : NetData → WindowData → Path → ℕ → ℤ → Type 0
 LeavesByLine N W path berth n = IsWithin W n × IsLineDeparture N path.to berth (n +ℤ pos path.secs)
 
--- the leaving times with a departure before some time have joined, and the next departure from it on is known
+-- the leaving times with a departure before some time have joined, and the next departure from it
+-- on is known
 pub record AreGathered (N : NetData) (W : WindowData) (path : Path) (berth : ℕ) (old times : List ℤ) (next : Option ℤ) : Type 0 where
   pub since : ℤ
   pub from : (W.first +ℤ pos path.secs) ≤ℤ since

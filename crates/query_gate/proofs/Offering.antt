@@ -29,7 +29,8 @@ pub hit_shown : (T : TimetableData) (Q : QueryData) (segments : List Segment) (h
     IsShown T Q.from Q.to hops (record { slot = record { leave = Q.leave; arrive = h.value.arrive; rides = h.value.rides }; legs = legs })
 hit_shown T Q segments h legs hops s follows = record { spelt = record { by = s.by; has = s.has; spelt = s.spelt }; follows = follows }
 
--- legs of a journey that leaves no earlier than a slot of the profile and has its value spell one with the slot
+-- legs of a journey that leaves no earlier than a slot of the profile and has its value spell one
+-- with the slot
 spell_slot : (T : TimetableData) (W : WindowData) (slot : Slot) (legs : List Leg) → IsProfileSlot T W slot → SpellValue T (record { from = W.from; to = W.to; leave = slot.leave }) legs (record { arrive = slot.arrive; rides = slot.rides }) → SpellSlot T W legs slot
 spell_slot T W slot legs is spelt = by_rides spelt.by.origin spelt.by.rides spelt.by.target spelt.has.journey spelt.has.leaves spelt.has.value spelt.spelt
   where

@@ -21,8 +21,8 @@ use Rattle.query_gate.proofs.Offering.{all_spell}
 use Rattle.query_gate.proofs.Rest.{AreFrom, none_after, one_time_more, query_at, whole_profile}
 use Rattle.tb_base.proofs.NumberFacts.{≤ℤ-refl, <ℤ-weaker}
 
--- The window has been walked from its end back to the time of the query: these times are left, these are the values of all
--- who leave then or later, and these are the offers.
+-- The window has been walked from its end back to the time of the query: these times are left,
+-- these are the values of all who leave then or later, and these are the offers.
 pub record IsWalked (T : TimetableData) (W : WindowData) (hops : ℕ → ℕ → List Hop) (Q : QueryData) (times : List ℤ) (later : List Value) (offers : List OfferData) : Type 0 where
   pub query : Q ≡ query_at W Q.leave
   pub within : Q.leave ≤ℤ (W.last +ℤ pos 1)

@@ -112,9 +112,9 @@ impl<J: Naming> Caller<J> {
 
     /// Pins the published list once, and answers a question of its last edition: `Deferred` exactly
     /// where edition `since` is a later one, `NoMirror` where it is asked for latest departures and
-    /// has no mirror, else as `answer` does. The list extends that of each earlier answer. Waits for
-    /// nobody. Refused only for want of memory: then the caller's seat may have pinned a later list,
-    /// and nothing is said of its desk.
+    /// has no mirror, else as `answer` does. The list extends that of each earlier answer. Waits
+    /// for nobody. Refused only for want of memory: then the caller's seat may have pinned a later
+    /// list, and nothing is said of its desk.
     pub fn answer(
         &mut self,
         alloc: Global,

@@ -73,8 +73,8 @@ fn lane_of(alloc: Global, words: &[Name]) -> Result<Option<Said>, Memory>
     }
 }
 
-/// What the words of a line say, or none where they have no form of a script's line. Refused only for
-/// want of memory.
+/// What the words of a line say, or none where they have no form of a script's line. Refused only
+/// for want of memory.
 pub fn said_of(alloc: Global, json: bool, words: &[Name]) -> Result<Option<Said>, Memory>
     ensures said { IfOk result (λ said. said ≡ said_of json words.now) }
     ensures times { IfOk result SaysTimes }

@@ -106,9 +106,9 @@ abbrev pub HasMatrixDay : Option FileList → MatrixRequestData → Type 0
 HasMatrixDay files r = (T : TimetableData) × GivesDay files r.dir r.date r.options (Ok T)
 
 -- What a status says of the bytes that a sink held before and holds now. Done: the rows of all
--- origins were written. WriteFault: a first part of them. Memory: nothing, or the rows of some first
--- origins. Any other one: nothing, since the feed is refused; since the day has a timetable, and no
--- origins are named, for this first fault; or since a read failed.
+-- origins were written. WriteFault: a first part of them. Memory: nothing, or the rows of some
+-- first origins. Any other one: nothing, since the feed is refused; since the day has a timetable,
+-- and no origins are named, for this first fault; or since a read failed.
 abbrev pub IsMatrixOutcome : Option FileList → Option (List ℕ) → MatrixRequestData → Status →
     Option (List ℕ) → Option (List ℕ) → Type 0
 IsMatrixOutcome files told r status.Done before now =
@@ -125,8 +125,8 @@ IsMatrixOutcome files told r (status.ScriptRefused f) before now =
 IsMatrixOutcome files told r status.ReadFault before now = now ≡ before
 IsMatrixOutcome files told r s before now = ⊥
 
--- What is left of a source, and its count of faults, before and now, once origins are read, or a read
--- failed: nothing is taken of it where a file names them.
+-- What is left of a source, and its count of faults, before and now, once origins are read, or a
+-- read failed: nothing is taken of it where a file names them.
 abbrev pub LeavesNaming : OriginsNamed → Type 0 → Option (List ℕ) → Option (List ℕ) → ℕ → ℕ
     → Type 0
 LeavesNaming by.Source Failed before now faults risen =

@@ -13,8 +13,8 @@ use tb_base::{Gate, Timetable};
 use tb_io::Folder;
 use trip_table::{Day, DayFault, Options, read_asked_day};
 
-/// The timetable of a day, from the files of a folder, as the options ask for it, and the faults for
-/// which rows are left out.
+/// The timetable of a day, from the files of a folder, as the options ask for it, and the faults
+/// for which rows are left out.
 pub(crate) fn table_of<F: Folder>(
     alloc: Global,
     folder: &mut F,

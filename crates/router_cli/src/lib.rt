@@ -3,9 +3,9 @@
 //! [`route`] answers about one service day of a GTFS feed, or about one that late trips amend,
 //! judges a claimed journey over a day, or answers a script, or what comes for as long as it comes,
 //! while several days are published, from the words of the command line, the bytes of the folder
-//! and of the script, claim or lines to the bytes written. Its contract is the program's promise. The program hands in the machine's files,
-//! standard input and standard output, and tests hand in objects in memory. The files follow the
-//! GTFS Schedule Reference.
+//! and of the script, claim or lines to the bytes written. Its contract is the program's promise.
+//! The program hands in the machine's files, standard input and standard output, and tests hand in
+//! objects in memory. The files follow the GTFS Schedule Reference.
 #![tactic(auto)]
 
 mod answers;

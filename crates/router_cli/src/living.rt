@@ -66,8 +66,8 @@ fn lived<R: Threads + Wait + Sync, F: Folder + Send, S: Source, K: Sink, G: Gate
     }
 }
 
-/// Answers the lines of a source as they come, until it ends, while the items of a request and those
-/// that lines name are published. Writes as it goes, and waits for lines.
+/// Answers the lines of a source as they come, until it ends, while the items of a request and
+/// those that lines name are published. Writes as it goes, and waits for lines.
 pub(crate) fn live_status<R: Threads + Wait + Sync, F: Folder + Send, S: Source, K: Sink, G: Gate>(
     rt: &R,
     alloc: Global,

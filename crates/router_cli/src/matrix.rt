@@ -19,7 +19,8 @@ use tb_io::{Folder, Sink, Source, Taken, take_file, take_source};
 // No origins have more bytes.
 const MOST_BYTES: u64 = 33_554_432;
 
-// The bytes that name origins: those of the source, or those of a file of the folder, if it is there.
+// The bytes that name origins: those of the source, or those of a file of the folder, if it is
+// there.
 fn naming_bytes<F: Folder, S: Source>(
     alloc: Global,
     origins: &OriginsNamed,
@@ -204,10 +205,10 @@ fn rows_over<R: Threads + Sync, F: Folder, S: Source, K: Sink, G: Gate>(
     }
 }
 
-/// Writes travel times from the origins that are named, by the source or by a file of the folder, to
-/// every stop, over one day of a feed: the rows of a run of origins after those of the one before.
-/// The origins are read once the timetable of the day is there. It has no handle that waits, so it
-/// returns.
+/// Writes travel times from the origins that are named, by the source or by a file of the folder,
+/// to every stop, over one day of a feed: the rows of a run of origins after those of the one
+/// before. The origins are read once the timetable of the day is there. It has no handle that
+/// waits, so it returns.
 pub(crate) fn matrix_status<R: Threads + Sync, F: Folder, S: Source, K: Sink, G: Gate>(
     rt: &R,
     alloc: Global,

@@ -84,33 +84,34 @@ fn request_text<R: Threads + Wait + Sync, F: Folder + Send, S: Source, G: Gate>(
 /// `Usage` comes only where the words have no meaning, and there nothing comes but it and `Memory`.
 /// With any status but `Done`, `FaultsFound` and `WriteFault` nothing is written, since the whole
 /// text is gathered before its first byte is written; with `WriteFault` a first part of it. Only
-/// `live` and `matrix` write as they go: `live` as the lines of the script come, `matrix` as rows are
-/// found, so that with `Memory` those of some first origins may be written. It is JSON where the
-/// words ask for that. `FaultsFound` comes for a check alone: it was written whole, and tells faults.
-/// Whatever the folder is, what is written is the answer over sound timetables; where it tells its
-/// contents, over those of the days. A script is read by a run of several days alone; its first fault
-/// comes before what the feeds give. A claim is read from the same source, and so are origins that no
-/// file names, and nothing of them where the feed is refused. The faults of both, and those of late
-/// trips, come only where the day has a timetable. Where a read fails, it is of the folder or of the
-/// source, and never of both. `Memory` may come at any time, and no fault in another status tells of
-/// it. Where contents are told and no count of faults rises, the end is the first fault, or `Done`
-/// where there is none; or `Memory`; a check ends with `Done` exactly where there is no fault.
+/// `live` and `matrix` write as they go: `live` as the lines of the script come, `matrix` as rows
+/// are found, so that with `Memory` those of some first origins may be written. It is JSON where
+/// the words ask for that. `FaultsFound` comes for a check alone: it was written whole, and tells
+/// faults. Whatever the folder is, what is written is the answer over sound timetables; where it
+/// tells its contents, over those of the days. A script is read by a run of several days alone; its
+/// first fault comes before what the feeds give. A claim is read from the same source, and so are
+/// origins that no file names, and nothing of them where the feed is refused. The faults of both,
+/// and those of late trips, come only where the day has a timetable. Where a read fails, it is of
+/// the folder or of the source, and never of both. `Memory` may come at any time, and no fault in
+/// another status tells of it. Where contents are told and no count of faults rises, the end is the
+/// first fault, or `Done` where there is none; or `Memory`; a check ends with `Done` exactly where
+/// there is no fault.
 ///
 /// With `Done` the faults for which rows of the request's day are left out are in `left_out`. There
 /// are none but with `--lenient`; of the days of a run, which are read likewise, none are told.
 ///
-/// For `live`, where the script tells its bytes, what is written with `Done` is for each of its lines
-/// in order the text of the right reply by the edition of which it is, and these never go back; the
-/// list of editions is that of the lawful days in order, those of the words first, then those that
-/// lines name; and of each day it is told what became of it, that it can't be read only where the
-/// folder's count of faults rose. With `FeedRefused`, which tells of the first day, nothing is
-/// written, and nothing read of the script. With `ReadFault` neither, where the folder failed before
-/// the first day was published; else what is written is that of the lines before the fault. With
-/// `Memory` neither, or what is written is that of some first lines; with `WriteFault` a first part
-/// of such. The editions of a run that ends so are those of the lawful ones among some first days, of
-/// the words and of the lines that it read, in that order, and it told what became of first ones of
-/// these. A day behind the first one that can't be read, or for which there is no memory, ends
-/// nothing: so the folder's count of faults may rise there with any status.
+/// For `live`, where the script tells its bytes, what is written with `Done` is for each of its
+/// lines in order the text of the right reply by the edition of which it is, and these never go
+/// back; the list of editions is that of the lawful days in order, those of the words first, then
+/// those that lines name; and of each day it is told what became of it, that it can't be read only
+/// where the folder's count of faults rose. With `FeedRefused`, which tells of the first day,
+/// nothing is written, and nothing read of the script. With `ReadFault` neither, where the folder
+/// failed before the first day was published; else what is written is that of the lines before the
+/// fault. With `Memory` neither, or what is written is that of some first lines; with `WriteFault`
+/// a first part of such. The editions of a run that ends so are those of the lawful ones among some
+/// first days, of the words and of the lines that it read, in that order, and it told what became
+/// of first ones of these. A day behind the first one that can't be read, or for which there is no
+/// memory, ends nothing: so the folder's count of faults may rise there with any status.
 ///
 /// That the gate is told of the pieces that workers reduce, and of the publications and requests of
 /// a run, is tested and in no clause. Its own work ends; it joins the workers that it starts. A

@@ -163,10 +163,10 @@ pub fn end_shown(
     }
 }
 
-/// Writes to standard error, as JSON or as a text, how the program ended, and with an answer what was
-/// left out for these faults of the feed; and gives the number to end with. Where there is no memory
-/// for the line, or standard error fails, nothing is said. The number is in the clause; what is
-/// written is in none.
+/// Writes to standard error, as JSON or as a text, how the program ended, and with an answer what
+/// was left out for these faults of the feed; and gives the number to end with. Where there is no
+/// memory for the line, or standard error fails, nothing is said. The number is in the clause; what
+/// is written is in none.
 pub fn end(
     rt: &(impl Eprint + AllocGlobal),
     json: bool,
