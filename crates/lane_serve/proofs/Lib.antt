@@ -6,5 +6,4 @@ mod Reports
 mod Sent
 mod Causes
 mod OriginLines
-mod OriginReplies
 mod Matrices

@@ -8,11 +8,9 @@ use Rattle.answer_json.specs.Frames.{string_json}
 use Rattle.answer_json.specs.declared.frame.Frame.TheVariants as frame
 use Rattle.answer_text.specs.Journeys.{stop_name}
 use Rattle.reach_all.specs.TimesText.{figure_times, figures_at}
-use Rattle.reach_all.specs.TravelTimes.{AreFiguresOver}
 use Rattle.reach_all.specs.declared.figures.Figures.{Figures}
 use Rattle.query_gate.specs.Json.{reply_json}
-use Rattle.query_gate.specs.Questions.{departures_at, stops_named}
-use Rattle.query_gate.specs.Texts.{reply_text}
+use Rattle.query_gate.specs.Replies.{IsReplyToTimes, reply_text}
 use Rattle.query_gate.specs.declared.reply.Reply.{Reply}
 use Rattle.query_gate.specs.declared.reply.Reply.TheVariants as reply
 use Rattle.lane_serve.specs.declared.rows.RowForm.{RowForm}
@@ -22,13 +20,7 @@ use Rattle.lane_serve.specs.declared.rows.TimesAsked.{TimesAsked}
 -- What is right to reply to an origin: for each stop the figures of the travel times to it, or that
 -- no stop and no station has its name.
 abbrev pub IsOriginReply : TimetableData → TimesAsked → List ℕ → Reply → Type 0
-IsOriginReply T a origin (reply.Times travel) =
-    (stops : List ℕ) × (stops_named T origin ≡ Some stops)
-    × AreFiguresOver T stops a.rides (departures_at a.first a.last a.step) travel.departures
-    travel.figures.items
-IsOriginReply T a origin (reply.UnknownStop name) =
-    (stops_named T origin ≡ None) × (name ≡ origin)
-IsOriginReply T a origin r = ⊥
+IsOriginReply T a origin = IsReplyToTimes T origin a.first a.last a.step a.rides
 
 -- `from ORIGIN`, the lines of the reply, and an empty line
 abbrev pub lines_rows : TimetableData → List ℕ → Reply → List ℕ
@@ -40,7 +32,8 @@ json_rows T origin r =
     codes "{\"from\":" ++ string_json origin ++ codes "," ++ reply_json frame.Array T r
     ++ codes "}\n"
 
--- a comma, a double quote, a carriage return and a line feed, for which a field is quoted (RFC 4180)
+-- a comma, a double quote, a carriage return and a line feed, for which a field is quoted (RFC
+-- 4180)
 abbrev pub wants_quotes : ℕ → Bool
 wants_quotes b = (b == 44) || (b == 34) || (b == 13) || (b == 10)
 

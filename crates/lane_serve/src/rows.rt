@@ -236,13 +236,7 @@ fn csv_rows(
             let figures = travel.figures.as_slice();
             add_rows(&mut text, table, origin, travel.departures, figures)?;
         }
-        Reply::Values(_)
-        | Reply::Slots(_)
-        | Reply::Departures(_)
-        | Reply::Reached(_)
-        | Reply::UnknownStop(_)
-        | Reply::Deferred(_)
-        | Reply::NoMirror => add_lone_row(&mut text, origin)?,
+        _ => add_lone_row(&mut text, origin)?,
     }
     Ok(text.into_bytes())
 }

@@ -12,7 +12,7 @@ use Rattle.answer_json.specs.Reached.{reach_json}
 use Rattle.answer_json.specs.Travel.{travel_json}
 use Rattle.answer_json.specs.declared.frame.Frame.{Frame}
 use Rattle.answer_json.specs.declared.frame.Frame.TheVariants as frame
-use Rattle.query_gate.specs.Texts.{reply_text}
+use Rattle.query_gate.specs.Replies.{reply_text}
 use Rattle.query_gate.specs.declared.reply.Reply.{Reply}
 use Rattle.query_gate.specs.declared.reply.Reply.TheVariants as reply
 

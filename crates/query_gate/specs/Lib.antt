@@ -3,7 +3,6 @@ pub mod Replies
 pub mod Callers
 pub mod Leaving
 pub mod Slots
-pub mod Texts
 pub mod Json
 pub mod Said
 pub mod Dealing

@@ -3,15 +3,12 @@ use Rattle.std.specs.Prelude.{◌≡◌, ℕ, List, ℤ, Bool, false, true, Opti
 use Rattle.std.specs.Option.{option_map}
 use Rattle.tb_base.specs.BestValues.{QueryData}
 use Rattle.tb_base.specs.Places.{place_named, stops_of}
-use Rattle.tb_base.specs.Profiles.{WindowData}
 use Rattle.tb_base.specs.TimetableData.{TimetableData}
 use Rattle.tb_base.specs.declared.query.Place.{Place}
 use Rattle.answer_text.specs.Questions.{needs_mirror}
 use Rattle.answer_text.specs.declared.question.Question.{Question}
 use Rattle.answer_text.specs.declared.question.Question.TheVariants as question
-use Rattle.edition_store.specs.Departures.{ArrivalData}
 use Rattle.edition_store.specs.Mirror.{IsMirror}
-use Rattle.reach_all.specs.declared.departures.Departures.{Departures}
 
 -- from which edition on, from which place to which, and how early one can leave
 pub record AskData : Type 0 where
@@ -67,18 +64,6 @@ ends_between T from to = ends_from T from to (place_named T from)
 abbrev pub query_at : Ends → ℤ → QueryData
 query_at ends leave = record { from = ends.from; to = ends.to; leave = leave }
 
--- the window between two such places
-abbrev pub window_at : Ends → ℤ → ℤ → WindowData
-window_at ends first last = record { from = ends.from; to = ends.to; first = first; last = last }
-
--- the arrival between two such places
-abbrev pub arrival_by : Ends → ℤ → ArrivalData
-arrival_by ends arrive = record { from = ends.from; to = ends.to; by = arrive }
-
 -- the stops of the place with a name
 abbrev pub stops_named : TimetableData → List ℕ → Option (List ℕ)
 stops_named T name = option_map (stops_of T) (place_named T name)
-
--- the departures of a question for travel times
-abbrev pub departures_at : ℤ → ℤ → ℕ → Departures
-departures_at first last step = record { first = first; last = last; step = step }

@@ -1,5 +1,6 @@
--- Which replies are right.
-use Rattle.std.specs.Prelude.{◌≡◌, ⊤, ℕ, ◌<◌, List, length, None, Some, Ok, Err, All, map}
+-- Which replies are right, and their texts.
+use Rattle.std.specs.Prelude.{◌≡◌, ⊤, ℕ, ◌<◌, List, ◌++◌, ℤ, codes, length, Option, None, Some, Ok, Err, All, map}
+use Rattle.std.specs.Fmt.{decimal}
 use Rattle.tb_base.specs.BestValues.{AreBestValues, ChoiceData, QueryData}
 use Rattle.tb_base.specs.JourneyRules.{HasNumbers, SpellSlot}
 use Rattle.tb_base.specs.Network.{NetData}
@@ -10,13 +11,19 @@ use Rattle.plain_rounds.specs.Shown.{SpellShortest}
 use Rattle.segment_queue.specs.Queue.{DeskData}
 use Rattle.segment_queue.specs.Traced.{IsAnswered, LegsFollow}
 use Rattle.segment_queue.specs.declared.desk.Hit.{Hit}
+use Rattle.edition_store.specs.Departures.{ArrivalData}
 use Rattle.edition_store.specs.Editions.{NetworkData}
+use Rattle.answer_text.specs.Journeys.{choices_text, offers_text, unknown_text}
 use Rattle.answer_text.specs.declared.question.Question.{Question}
 use Rattle.answer_text.specs.declared.question.Question.TheVariants as question
 use Rattle.arrive_by.specs.Latest.{AreLatestDepartures, DepartureData}
+use Rattle.arrive_by.specs.Text.{departures_text}
 use Rattle.reach_all.specs.Reach.{IsReach}
+use Rattle.reach_all.specs.Text.{reach_text}
+use Rattle.reach_all.specs.TimesText.{times_text}
 use Rattle.reach_all.specs.TravelTimes.{AreFiguresOver}
-use Rattle.query_gate.specs.Questions.{Ends, arrival_by, departures_at, ends_between, query_at, stops_named, window_at}
+use Rattle.reach_all.specs.declared.departures.Departures.{Departures}
+use Rattle.query_gate.specs.Questions.{Ends, ends_between, query_at, stops_named}
 use Rattle.query_gate.specs.declared.between.Between.{Between}
 use Rattle.query_gate.specs.declared.between.Between.TheVariants as between
 use Rattle.query_gate.specs.declared.reply.Reply.{Reply}
@@ -52,32 +59,68 @@ pub record AreBestOffers (N : NetData) (W : WindowData) (offers : List OfferData
 abbrev pub AtEnds : TimetableData → List ℕ → List ℕ → (Ends → Type 0) → Type 0
 AtEnds T from to P = (ends : Ends) × (ends_between T from to ≡ Ok ends) × P ends
 
--- the first name of a question that no stop and no station has
-abbrev pub NamesNoPlace : TimetableData → Question → List ℕ → Type 0
-NamesNoPlace T (question.Ask from to leave) name = ends_between T from to ≡ Err name
-NamesNoPlace T (question.Profile from to first last) name = ends_between T from to ≡ Err name
-NamesNoPlace T (question.Latest from to arrive) name = ends_between T from to ≡ Err name
-NamesNoPlace T (question.Reach from leave) name = (stops_named T from ≡ None) × (name ≡ from)
-NamesNoPlace T (question.Times from first last step rides) name =
+-- the window between two such places
+abbrev pub window_at : Ends → ℤ → ℤ → WindowData
+window_at ends first last = record { from = ends.from; to = ends.to; first = first; last = last }
+
+-- the arrival between two such places
+abbrev pub arrival_by : Ends → ℤ → ArrivalData
+arrival_by ends arrive = record { from = ends.from; to = ends.to; by = arrive }
+
+-- the departures of a question for travel times
+abbrev pub departures_at : ℤ → ℤ → ℕ → Departures
+departures_at first last step = record { first = first; last = last; step = step }
+
+-- The right reply to each kind of question, which may be the first name that no stop and no station
+-- has: for the best values,
+abbrev pub IsReplyToAsk : NetData → List ℕ → List ℕ → ℤ → Reply → Type 0
+IsReplyToAsk N from to leave (reply.Values choices) =
+    AtEnds N.table from to (λ ends. AreBestChoices N (query_at ends leave) choices.items)
+IsReplyToAsk N from to leave (reply.UnknownStop name) = ends_between N.table from to ≡ Err name
+IsReplyToAsk N from to leave r = ⊥
+
+-- for a profile,
+abbrev pub IsReplyToProfile : NetData → List ℕ → List ℕ → ℤ → ℤ → Reply → Type 0
+IsReplyToProfile N from to first last (reply.Slots offers) =
+    AtEnds N.table from to (λ ends. AreBestOffers N (window_at ends first last) offers.items)
+IsReplyToProfile N from to first last (reply.UnknownStop name) =
+    ends_between N.table from to ≡ Err name
+IsReplyToProfile N from to first last r = ⊥
+
+-- for the latest departures,
+abbrev pub IsReplyToLatest : TimetableData → List ℕ → List ℕ → ℤ → Reply → Type 0
+IsReplyToLatest T from to arrive (reply.Departures ds) =
+    AtEnds T from to (λ ends. AreLatestDepartures T (arrival_by ends arrive) ds.items)
+IsReplyToLatest T from to arrive (reply.UnknownStop name) = ends_between T from to ≡ Err name
+IsReplyToLatest T from to arrive r = ⊥
+
+-- for the best values to every stop,
+abbrev pub IsReplyToReach : TimetableData → List ℕ → ℤ → Reply → Type 0
+IsReplyToReach T from leave (reply.Reached lists) =
+    (stops : List ℕ) × (stops_named T from ≡ Some stops)
+    × IsReach T stops leave (map (λ list. list.items) lists.items)
+IsReplyToReach T from leave (reply.UnknownStop name) =
     (stops_named T from ≡ None) × (name ≡ from)
+IsReplyToReach T from leave r = ⊥
+
+-- and for travel times to every stop
+abbrev pub IsReplyToTimes : TimetableData → List ℕ → ℤ → ℤ → ℕ → Option ℕ → Reply → Type 0
+IsReplyToTimes T from first last step rides (reply.Times travel) =
+    (stops : List ℕ) × (stops_named T from ≡ Some stops)
+    × AreFiguresOver T stops rides (departures_at first last step) travel.departures
+    travel.figures.items
+IsReplyToTimes T from first last step rides (reply.UnknownStop name) =
+    (stops_named T from ≡ None) × (name ≡ from)
+IsReplyToTimes T from first last step rides r = ⊥
 
 -- the right reply to a question over a network
 abbrev pub IsReply : NetData → Question → Reply → Type 0
-IsReply N q (reply.UnknownStop name) = NamesNoPlace N.table q name
-IsReply N (question.Ask from to leave) (reply.Values choices) =
-    AtEnds N.table from to (λ ends. AreBestChoices N (query_at ends leave) choices.items)
-IsReply N (question.Profile from to first last) (reply.Slots offers) =
-    AtEnds N.table from to (λ ends. AreBestOffers N (window_at ends first last) offers.items)
-IsReply N (question.Latest from to arrive) (reply.Departures ds) =
-    AtEnds N.table from to (λ ends. AreLatestDepartures N.table (arrival_by ends arrive) ds.items)
-IsReply N (question.Reach from leave) (reply.Reached lists) =
-    (stops : List ℕ) × (stops_named N.table from ≡ Some stops)
-    × IsReach N.table stops leave (map (λ list. list.items) lists.items)
-IsReply N (question.Times from first last step rides) (reply.Times travel) =
-    (stops : List ℕ) × (stops_named N.table from ≡ Some stops)
-    × AreFiguresOver N.table stops rides (departures_at first last step) travel.departures
-    travel.figures.items
-IsReply N q r = ⊥
+IsReply N (question.Ask from to leave) r = IsReplyToAsk N from to leave r
+IsReply N (question.Profile from to first last) r = IsReplyToProfile N from to first last r
+IsReply N (question.Latest from to arrive) r = IsReplyToLatest N.table from to arrive r
+IsReply N (question.Reach from leave) r = IsReplyToReach N.table from leave r
+IsReply N (question.Times from first last step rides) r =
+    IsReplyToTimes N.table from first last step rides r
 
 -- What a reply leaves in the desk: with values the answer to the query, whose hits have these
 -- values; of other replies nothing is said.
@@ -103,3 +146,18 @@ HaveNumbers T reply.NoMirror = ⊤
 -- a timetable with the lines and the hops of a network
 abbrev pub over : TimetableData → NetworkData → NetData
 over T N = record { table = T; lines = N.lines; hops = packed N.set }
+
+-- `deferred N`
+abbrev pub deferred_text : ℕ → List ℕ
+deferred_text number = codes "deferred " ++ decimal number ++ codes "\n"
+
+-- the lines of a reply over a timetable
+abbrev pub reply_text : TimetableData → Reply → List ℕ
+reply_text T (reply.Values choices) = choices_text T choices.items
+reply_text T (reply.Slots offers) = offers_text T offers.items
+reply_text T (reply.Departures ds) = departures_text T ds.items
+reply_text T (reply.Reached lists) = reach_text T (map (λ list. list.items) lists.items)
+reply_text T (reply.Times travel) = times_text T travel.departures travel.figures.items
+reply_text T (reply.UnknownStop name) = unknown_text name
+reply_text T (reply.Deferred number) = deferred_text number
+reply_text T reply.NoMirror = codes "no mirror\n"

@@ -1,7 +1,6 @@
 //! What is answered, and its text.
 ghost use Rattle.std.specs.Prelude.{◌≡◌, IfOk, codes};
-ghost use Rattle.query_gate.specs.Replies.{HaveNumbers};
-ghost use Rattle.query_gate.specs.Texts.{deferred_text, reply_text};
+ghost use Rattle.query_gate.specs.Replies.{HaveNumbers, deferred_text, reply_text};
 
 use answer_text::{choices_text, offers_text, unknown_text};
 use arrive_by::{Departure, departures_text};

@@ -1,5 +1,5 @@
 -- Answers from their parts.
-use Rattle.std.proofs.Common.{◌≡◌, ℕ, Bool, Ok, Err, ℤ, false, true, List, [], ◌∷◌, refl, subst, sym, filter_map}
+use Rattle.std.proofs.Common.{◌≡◌, ◌∙◌, ℕ, Bool, Ok, Err, ℤ, false, true, List, [], ◌∷◌, refl, subst, sym, filter_map, arith}
 use Rattle.std.specs.Prelude.{All, Contains, MatchResult}
 use Rattle.std.proofs.lemmas.List.Elements.{All-weaker}
 use Rattle.tb_base.specs.TimetableData.{TimetableData}
@@ -15,11 +15,12 @@ use Rattle.answer_json.specs.declared.frame.Frame.TheVariants as frame
 use Rattle.answer_text.specs.Questions.{needs_mirror}
 use Rattle.answer_text.specs.declared.question.Question.{Question}
 use Rattle.answer_text.specs.declared.question.Question.TheVariants as question
-use Rattle.edition_store.specs.Editions.{IsNetwork, NetworkData, net_of}
+use Rattle.edition_store.specs.Editions.{EditionData, IsNetwork, NetworkData, net_of, network_of}
 use Rattle.edition_store.specs.Mirror.{IsMirror}
 use Rattle.query_gate.specs.Questions.{Ends, IsOrMirrors, Serves, ends_between}
-use Rattle.query_gate.specs.Replies.{AreBestChoices, AreBestOffers, IsReply, over}
+use Rattle.query_gate.specs.Replies.{AreBestChoices, AreBestOffers, IsReply, IsReplyToAsk, IsReplyToProfile, over}
 use Rattle.query_gate.specs.Json.{shown_reply}
+use Rattle.query_gate.specs.Callers.{Answers}
 use Rattle.query_gate.specs.declared.reply.Reply.{Reply}
 use Rattle.query_gate.specs.declared.reply.Reply.TheVariants as reply
 use Rattle.command_line.specs.Inquiries.{InquiryData}
@@ -62,55 +63,33 @@ kept_offers : (N : NetworkData) → IsNetwork N → (W : WindowData) (offers : L
 kept_offers N sound W offers best =
     record { slots = best.slots; journeys = best.journeys; hops = kept_changes N sound OfferData.legs offers best.hops }
 
--- a right reply over a network is one over the kept transfers of its timetable
-by_kept : (N : NetworkData) → IsNetwork N → (q : Question) (r : Reply) → IsReply (net_of N) q r → IsReply (kept_network N.table N.lines) q r
-by_kept N sound q (reply.UnknownStop name) h = h
-by_kept N sound (question.Ask from to leave) (reply.Values choices) (ends, is, best) = (ends, is, kept_choices N sound _ choices.items best)
-by_kept N sound (question.Ask from to leave) (reply.Slots offers) h = h
-by_kept N sound (question.Ask from to leave) (reply.Departures ds) h = h
-by_kept N sound (question.Ask from to leave) (reply.Reached lists) h = h
-by_kept N sound (question.Ask from to leave) (reply.Times travel) h = h
-by_kept N sound (question.Ask from to leave) (reply.Deferred number) h = h
-by_kept N sound (question.Ask from to leave) reply.NoMirror h = h
-by_kept N sound (question.Profile from to first last) (reply.Values choices) h = h
-by_kept N sound (question.Profile from to first last) (reply.Slots offers) (ends, is, best) = (ends, is, kept_offers N sound _ offers.items best)
-by_kept N sound (question.Profile from to first last) (reply.Departures ds) h = h
-by_kept N sound (question.Profile from to first last) (reply.Reached lists) h = h
-by_kept N sound (question.Profile from to first last) (reply.Times travel) h = h
-by_kept N sound (question.Profile from to first last) (reply.Deferred number) h = h
-by_kept N sound (question.Profile from to first last) reply.NoMirror h = h
-by_kept N sound (question.Latest from to arrive) (reply.Values choices) h = h
-by_kept N sound (question.Latest from to arrive) (reply.Slots offers) h = h
-by_kept N sound (question.Latest from to arrive) (reply.Departures ds) h = h
-by_kept N sound (question.Latest from to arrive) (reply.Reached lists) h = h
-by_kept N sound (question.Latest from to arrive) (reply.Times travel) h = h
-by_kept N sound (question.Latest from to arrive) (reply.Deferred number) h = h
-by_kept N sound (question.Latest from to arrive) reply.NoMirror h = h
-by_kept N sound (question.Reach from leave) (reply.Values choices) h = h
-by_kept N sound (question.Reach from leave) (reply.Slots offers) h = h
-by_kept N sound (question.Reach from leave) (reply.Departures ds) h = h
-by_kept N sound (question.Reach from leave) (reply.Reached lists) h = h
-by_kept N sound (question.Reach from leave) (reply.Times travel) h = h
-by_kept N sound (question.Reach from leave) (reply.Deferred number) h = h
-by_kept N sound (question.Reach from leave) reply.NoMirror h = h
-by_kept N sound (question.Times from first last step rides) (reply.Values choices) h = h
-by_kept N sound (question.Times from first last step rides) (reply.Slots offers) h = h
-by_kept N sound (question.Times from first last step rides) (reply.Departures ds) h = h
-by_kept N sound (question.Times from first last step rides) (reply.Reached lists) h = h
-by_kept N sound (question.Times from first last step rides) (reply.Times travel) h = h
-by_kept N sound (question.Times from first last step rides) (reply.Deferred number) h = h
-by_kept N sound (question.Times from first last step rides) reply.NoMirror h = h
+-- so a right reply over a network is one over the kept transfers of its timetable
+ask_by_kept : (N : NetworkData) → IsNetwork N → (from to : List ℕ) (leave : ℤ) (r : Reply) → IsReplyToAsk (net_of N) from to leave r → IsReplyToAsk (kept_network N.table N.lines) from to leave r
+ask_by_kept N sound from to leave (reply.Values choices) (ends, is, best) = (ends, is, kept_choices N sound _ choices.items best)
+ask_by_kept N sound from to leave (reply.Slots offers) h = h
+ask_by_kept N sound from to leave (reply.Departures ds) h = h
+ask_by_kept N sound from to leave (reply.Reached lists) h = h
+ask_by_kept N sound from to leave (reply.Times travel) h = h
+ask_by_kept N sound from to leave (reply.UnknownStop name) h = h
+ask_by_kept N sound from to leave (reply.Deferred number) h = h
+ask_by_kept N sound from to leave reply.NoMirror h = h
 
--- one to a question that needs the mirror says nothing of lines and hops
-by_mirror : (T : TimetableData) (N : NetworkData) (from to : List ℕ) (arrive : ℤ) (r : Reply) → IsReply (over T N) (question.Latest from to arrive) r → IsReply (kept_network T []) (question.Latest from to arrive) r
-by_mirror T N from to arrive (reply.UnknownStop name) h = h
-by_mirror T N from to arrive (reply.Values choices) h = h
-by_mirror T N from to arrive (reply.Slots offers) h = h
-by_mirror T N from to arrive (reply.Departures ds) h = h
-by_mirror T N from to arrive (reply.Reached lists) h = h
-by_mirror T N from to arrive (reply.Times travel) h = h
-by_mirror T N from to arrive (reply.Deferred number) h = h
-by_mirror T N from to arrive reply.NoMirror h = h
+profile_by_kept : (N : NetworkData) → IsNetwork N → (from to : List ℕ) (first last : ℤ) (r : Reply) → IsReplyToProfile (net_of N) from to first last r → IsReplyToProfile (kept_network N.table N.lines) from to first last r
+profile_by_kept N sound from to first last (reply.Values choices) h = h
+profile_by_kept N sound from to first last (reply.Slots offers) (ends, is, best) = (ends, is, kept_offers N sound _ offers.items best)
+profile_by_kept N sound from to first last (reply.Departures ds) h = h
+profile_by_kept N sound from to first last (reply.Reached lists) h = h
+profile_by_kept N sound from to first last (reply.Times travel) h = h
+profile_by_kept N sound from to first last (reply.UnknownStop name) h = h
+profile_by_kept N sound from to first last (reply.Deferred number) h = h
+profile_by_kept N sound from to first last reply.NoMirror h = h
+
+by_kept : (N : NetworkData) → IsNetwork N → (q : Question) (r : Reply) → IsReply (net_of N) q r → IsReply (kept_network N.table N.lines) q r
+by_kept N sound (question.Ask from to leave) r h = ask_by_kept N sound from to leave r h
+by_kept N sound (question.Profile from to first last) r h = profile_by_kept N sound from to first last r h
+by_kept N sound (question.Latest from to arrive) r h = h
+by_kept N sound (question.Reach from leave) r h = h
+by_kept N sound (question.Times from first last step rides) r h = h
 
 -- the right reply to a question by the network of the timetable itself
 by_itself : (T : TimetableData) (N : NetworkData) → IsNetwork N → (q : Question) (r : Reply) → N.table ≡ T → IsReply (over T N) q r → IsKeptReply T q r
@@ -118,12 +97,12 @@ by_itself T N sound q r same h =
     subst (λ (U : TimetableData). IsKeptReply U q r) same
     (record { lines = N.lines; are_lines = λ own. sound.lines; right = by_kept N sound q r (subst (λ U. IsReply (over U N) q r) (sym same) h) })
 
--- and by one that serves it
+-- and by one that serves it: one to a question that needs the mirror says nothing of lines and hops
 pub kept_reply : (T : TimetableData) (N : NetworkData) → IsNetwork N → (q : Question) (r : Reply) → Serves T N.table q → IsReply (over T N) q r → IsKeptReply T q r
 kept_reply T N sound (question.Ask from to leave) r same h = by_itself T N sound (question.Ask from to leave) r same h
 kept_reply T N sound (question.Profile from to first last) r same h = by_itself T N sound (question.Profile from to first last) r same h
 kept_reply T N sound (question.Latest from to arrive) r mirror h =
-    record { lines = []; are_lines = λ own. absurd (let no : true ≡ false = own in cc); right = by_mirror T N from to arrive r h }
+    record { lines = []; are_lines = λ own. absurd (let no : true ≡ false = own in cc); right = h }
 kept_reply T N sound (question.Reach from leave) r same h = by_itself T N sound (question.Reach from leave) r same h
 kept_reply T N sound (question.Times from first last step rides) r same h = by_itself T N sound (question.Times from first last step rides) r same h
 
@@ -154,6 +133,17 @@ either_reply T true (question.Profile from to first last) r h = h
 either_reply T true (question.Latest from to arrive) r h = h
 either_reply T true (question.Reach from leave) r h = h
 either_reply T true (question.Times from first last step rides) r h = h
+
+-- what an edition answers to a question that needs no mirror is right over its own network
+pub by_answer : (n : ℕ) (e : EditionData) (q : Question) (r : Reply) → needs_mirror q ≡ false → Answers n e 0 q r → IsReply (net_of (network_of e)) q r
+by_answer n e q (reply.Values choices) own h = h.1
+by_answer n e q (reply.Slots offers) own h = h.1
+by_answer n e q (reply.Departures ds) own h = h.1
+by_answer n e q (reply.Reached lists) own h = h.1
+by_answer n e q (reply.Times travel) own h = h.1
+by_answer n e q (reply.UnknownStop name) own h = h.1
+by_answer n e q (reply.Deferred number) own h = absurd (let late = h.0 in omega (arith, late))
+by_answer n e q reply.NoMirror own h = absurd (let no : true ≡ false = sym h.1.0 ∙ own in cc)
 
 -- the text of a right reply by a network that serves a timetable
 pub reply_shown : (json : Bool) (T : TimetableData) (N : NetworkData) → IsNetwork N → (q : Question) (r : Reply) → Serves T N.table q → IsReply (over T N) q r → (bytes : List ℕ) → bytes ≡ shown_reply json frame.Lines T r →

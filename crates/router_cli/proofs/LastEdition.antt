@@ -1,5 +1,5 @@
 -- What a caller that keeps a whole list is answered: by its last edition.
-use Rattle.std.proofs.Common.{◌≡◌, ◌∙◌, ◌-◌, ℕ, List, Some, false, true, subst, sym, length, arith}
+use Rattle.std.proofs.Common.{◌≡◌, ◌∙◌, ◌-◌, List, Some, false, true, subst, sym, length}
 use Rattle.std.specs.Prelude.{slice_get}
 use Rattle.history.specs.Lists.{Shown}
 use Rattle.edition_store.specs.Editions.{EditionData, net_of, network_of}
@@ -8,8 +8,8 @@ use Rattle.answer_text.specs.declared.question.Question.{Question}
 use Rattle.query_gate.specs.Callers.{Answers, IsAnsweredBy}
 use Rattle.query_gate.specs.Replies.{IsReply}
 use Rattle.query_gate.specs.declared.reply.Reply.{Reply}
-use Rattle.query_gate.specs.declared.reply.Reply.TheVariants.{Values, Slots, Departures, Reached, Times, UnknownStop, Deferred, NoMirror}
 use Rattle.lane_serve.proofs.Answering.{same_edition}
+use Rattle.router_cli.proofs.AnswerLemmas.{by_answer}
 
 -- it pins the whole list
 pub pinned_whole : (old new p : Shown EditionData) → old.closed ≡ true → (old.closed ≡ true → new ≡ old) → new ≡ p → p ≡ old
@@ -19,16 +19,6 @@ pinned_whole old new p whole stays pinned = sym pinned ∙ stays whole
 pub last_looked_at : (old p : Shown EditionData) (e x : EditionData) → p ≡ old → slice_get old.list (length old.list - 1) ≡ Some e → slice_get p.list (length p.list - 1) ≡ Some x → x ≡ e
 last_looked_at old p e x same is looked =
     same_edition old.list (length old.list - 1) e x is (subst (λ (s : Shown EditionData). slice_get s.list (length s.list - 1) ≡ Some x) same looked)
-
-by_answer : (n : ℕ) (e : EditionData) (q : Question) (r : Reply) → needs_mirror q ≡ false → Answers n e 0 q r → IsReply (net_of (network_of e)) q r
-by_answer n e q (Values choices) own h = h.1
-by_answer n e q (Slots offers) own h = h.1
-by_answer n e q (Departures ds) own h = h.1
-by_answer n e q (Reached lists) own h = h.1
-by_answer n e q (Times travel) own h = h.1
-by_answer n e q (UnknownStop name) own h = h.1
-by_answer n e q (Deferred number) own h = absurd (let late = h.0 in omega (arith, late))
-by_answer n e q NoMirror own h = absurd (let no : true ≡ false = sym h.1.0 ∙ own in cc)
 
 -- the reply is its reply
 pub answered_last : (es : List EditionData) (e : EditionData) (q : Question) (r : Reply) → needs_mirror q ≡ false → slice_get es (length es - 1) ≡ Some e →

@@ -5,7 +5,6 @@ use Rattle.tb_base.specs.Network.{NetData}
 use Rattle.answer_text.specs.declared.question.Question.TheVariants as question
 use Rattle.query_gate.specs.Replies.{IsReply, over}
 use Rattle.lane_serve.specs.Rows.{IsOriginReply}
-use Rattle.lane_serve.proofs.OriginReplies.{from_origin}
 use Rattle.lane_serve.proofs.rows.origin_reply.Goals as goal
 
 pub returns-clause-reply : goal.returns-clause-reply
@@ -19,7 +18,6 @@ returns-clause-reply c =
     IfOk-weaker c.answer-reply.result _ _
     (λ r h. subst (λ T. IsOriginReply T a c.args.origin.now r) c.table.ensures
     (subst (λ name. IsOriginReply c.table.result.now a name r) origin
-    (from_origin N a from r
     (subst (λ z. IsReply N (question.Times from a.first z a.step a.rides) r) last
-    (subst (λ z. IsReply N (question.Times from z (to_z w32 (of_z w32 a.last)) a.step a.rides) r) first h)))))
+    (subst (λ z. IsReply N (question.Times from z (to_z w32 (of_z w32 a.last)) a.step a.rides) r) first h))))
     c.answer-reply.ensures.reply

@@ -1,7 +1,8 @@
 use Rattle.std.proofs.Common.{refl, subst, w32}
 use Rattle.std.proofs.lemmas.Int.{to_z-of_z}
 use Rattle.arrive_by.specs.Latest.{AreLatestDepartures}
-use Rattle.query_gate.specs.Questions.{Ends, arrival_by}
+use Rattle.query_gate.specs.Questions.{Ends}
+use Rattle.query_gate.specs.Replies.{arrival_by}
 use Rattle.query_gate.proofs.NamedEnds.{known_ends}
 use Rattle.query_gate.proofs.answering.departures_between.Goals as goal
 

@@ -3,8 +3,8 @@ use Rattle.std.specs.Prelude.{All}
 use Rattle.std.proofs.lemmas.Int.{to_z-of_z}
 use Rattle.tb_base.specs.TimetableData.{TimetableData}
 use Rattle.edition_store.specs.Editions.{net_of}
-use Rattle.query_gate.specs.Questions.{Ends, window_at}
-use Rattle.query_gate.specs.Replies.{AreBestOffers, AreWithin}
+use Rattle.query_gate.specs.Questions.{Ends}
+use Rattle.query_gate.specs.Replies.{AreBestOffers, AreWithin, window_at}
 use Rattle.query_gate.proofs.NamedEnds.{known_ends}
 use Rattle.query_gate.proofs.Numbers.{numbers_of_offers}
 use Rattle.query_gate.proofs.answering.slots_between.Goals as goal
