@@ -1,6 +1,5 @@
--- Which row bears a fault, and what is left of rows where it is left out.
-use Rattle.std.specs.Prelude.{◌≡◌, ◌≤◌, ℕ, ◌+◌, ◌==◌, not, List, [], ◌∷◌, filter, Bool, true, Option, Some, None, option_map, Result, Ok, Err, ⊤, if◌then◌else◌}
-use Rattle.gtfs_rows.specs.FileNames.{is_file}
+-- Which row bears a fault.
+use Rattle.std.specs.Prelude.{◌≡◌, ℕ, Bool, true, Option, Some, None, option_map, Result, Ok, Err, ⊤}
 use Rattle.gtfs_rows.specs.declared.fault.FeedFile.{FeedFile}
 use Rattle.gtfs_rows.specs.declared.fault.FeedFault.{FeedFault}
 use Rattle.gtfs_rows.specs.declared.fault.FeedFault.TheVariants as fault
@@ -48,23 +47,3 @@ IsUnborne lenient (Err f) = lenient ≡ true → bearer f ≡ None
 abbrev pub IsOfRow : FeedFile → ℕ → RowsFault → Type 0
 IsOfRow file row (why.Feed f) = IsBorneBy file row f
 IsOfRow file row why.Memory = ⊤
-
--- items whose numbers rise, the first of them at least so much
-abbrev pub Rise : {A : Type 0} → (A → ℕ) → ℕ → List A → Type 0
-Rise number n [] = ⊤
-Rise number n (x ∷ rest) = (n ≤ number x) × Rise number (number x + 1) rest
-
--- items without those of a number
-abbrev pub without_number : {A : Type 0} → (A → ℕ) → List A → ℕ → List A
-without_number number items n = filter (λ x. not (number x == n)) items
-
--- what is left of the rows of a file without the one at a spot; nothing else is, where there is none
--- or it is in another file
-abbrev pub leave_at : {A : Type 0} → FeedFile → (A → ℕ) → List A → Option Spot → Option (List A)
-leave_at file number rows None = None
-leave_at file number rows (Some spot) =
-    if is_file spot.file file then Some (without_number number rows spot.row) else None
-
--- what is left of the rows of a file, by their numbers, where the row that bears a fault is left out
-abbrev pub leave_row : {A : Type 0} → FeedFile → (A → ℕ) → List A → FeedFault → Option (List A)
-leave_row file number rows f = leave_at file number rows (bearer f)
