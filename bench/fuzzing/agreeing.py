@@ -32,7 +32,7 @@ def disagreement(lenient, check, strict):
     if strict.status != 3:
         return f"a check tells faults, and without --lenient the status is {strict.status}"
     last = told[-1]
-    if not checks.is_borne(last) or last.startswith("23 "):
+    if not checks.is_borne(last):
         right = lenient.status == 3 and lenient.err == f"{FEED_REFUSED}{last}\n"
         return None if right else f"a check ends with {last}, and --lenient with {lenient.err}"
     if lenient.status == 3:

@@ -33,9 +33,9 @@ fn end_from(ride: &[Event], start: u32) -> Sec
     ride[ride.len() - 1].dep + to_start(ride, start)
 }
 
-// Whether some start of a row moves a time beyond the limits: the first one the first arrival, or
-// the last one the last departure.
-fn moves_beyond(ride: &[Event], frequency: &TripFrequency) -> bool
+/// Whether some start of a row moves a time of its trip beyond the limits of a day: the first one
+/// the first arrival, or the last one the last departure.
+pub fn moves_beyond(ride: &[Event], frequency: &TripFrequency) -> bool
     requires ride { IsRideOrNone ride.now }
     requires good { IsGoodFrequency frequency.now }
     ensures { result ≡ moves_beyond ride.now frequency.now }

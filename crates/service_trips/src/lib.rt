@@ -32,6 +32,7 @@ mod times;
 mod timetable;
 mod trips;
 
+pub use beyond::moves_beyond;
 pub use broken::{TripFault, broken_trips};
 pub use frequency::{FrequencyTable, TripFrequency};
 pub use rides::rides_of;

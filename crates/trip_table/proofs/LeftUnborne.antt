@@ -2,7 +2,9 @@
 use Rattle.std.proofs.Common.{◌≡◌, ◌∙◌, refl, sym, ap, subst, ℕ, List, [], ◌∷◌, ◌++◌, length, map, Bool, true, false, Option, Some, None, arith}
 use Rattle.std.specs.Prelude.{Result, Ok, Err, All, filter, not, nat_le, nat_lt, unwrap_or, if◌then◌else◌}
 use Rattle.std.proofs.lemmas.Bool.Decides.{nat_tests}
+use Rattle.std.proofs.lemmas.List.{length-map}
 use Rattle.std.proofs.lemmas.List.Elements.{All-filter, All-head, All-nil, All-tail}
+use Rattle.tb_base.specs.declared.table.Event.{Event}
 use Rattle.gtfs_rows.specs.CalendarFile.{calendar_row}
 use Rattle.gtfs_rows.specs.DatesFile.{date_row}
 use Rattle.gtfs_rows.specs.Faults.{check_rows, unless_wrong}
@@ -20,14 +22,16 @@ use Rattle.gtfs_rows.specs.declared.fault.FeedFault.TheVariants as fault
 use Rattle.footpaths.specs.Links.{check_transfers, wrong_transfer}
 use Rattle.footpaths.specs.Stops.{check_stops, stop_id}
 use Rattle.service_trips.specs.Broken.{broken_trips}
+use Rattle.service_trips.specs.Rides.{rides_on}
 use Rattle.service_trips.specs.TimeFaults.{wrong_trips}
+use Rattle.trip_table.specs.Day.{rides_of}
 use Rattle.gtfs_rows.specs.declared.columns.frequencies.TheConstants as frequencies
 use Rattle.service_trips.specs.declared.broken.TripFault.{TripFault}
 use Rattle.service_trips.specs.declared.frequency.TripFrequency.{TripFrequency}
 use Rattle.service_trips.specs.declared.stop_time.StopTime.{StopTime}
 use Rattle.trip_table.specs.Feed.{or_missing, rows_in}
-use Rattle.trip_table.specs.LeftFeed.{apart_times, bad, bad_time, duplicate_stop, fault_of, good, good_time, is_among, leave_orphans, leave_trips, left_after_rows, left_data, left_frequencies, left_frequency, left_rows, left_services, left_stops, left_times, left_transfers, left_trips, name_row, named_frequency, no_starts, or_no_starts, or_nothing, sieve_file, sift, sift_found, tell_found, text_at, timed_rows, times_in, twins, without_trips}
-use Rattle.trip_table.specs.References.{check_named, check_services, duplicate_service, duplicate_trip, numbered_frequency, service_id, trip_id, trip_number, unknown_trip, wrong_names, wrong_time, wrong_trip, wrong_twice}
+use Rattle.trip_table.specs.LeftFeed.{apart_times, bad, bad_time, duplicate_stop, fault_of, good, good_time, is_among, leave_orphans, leave_starts, leave_trips, left_after_rows, left_data, left_frequencies, left_frequency, left_rows, left_services, left_start, left_starts, left_stops, left_times, left_transfers, left_trips, name_row, named_frequencies, named_frequency, no_starts, or_no_starts, or_nothing, sieve_file, sift, sift_found, tell_found, text_at, timed_rows, times_in, twins, without_trips}
+use Rattle.trip_table.specs.References.{Rows, check_named, check_services, duplicate_service, duplicate_trip, numbered_frequency, service_id, trip_id, trip_number, unknown_trip, wrong_names, wrong_time, wrong_trip, wrong_twice}
 use Rattle.trip_table.specs.Sieves.{Sieved, after, and_look, ended, look_on, silent}
 use Rattle.trip_table.proofs.LeftRowFacts.{names_there}
 use Rattle.trip_table.proofs.RowFacts.{rows_all}
@@ -212,14 +216,42 @@ found_known trips (Some bytes) found e = by_rows (typed_rows file.Frequencies (l
         subst (λ (o : Option (List FrequencyData)). All (λ f. unknown_trip trips (numbered_frequency trips f) ≡ None) (unwrap_or o [])) same
         (rows_all (λ f. unknown_trip trips (numbered_frequency trips f) ≡ None) file.Frequencies (left_frequency trips) (λ raw x h. left_named trips raw x h) bytes rows is)
 
-pub frequencies_unborne : (trips : List trip.TripData) (text : Option (List ℕ)) → Unborne (left_frequencies trips text)
-frequencies_unborne trips text =
+named_unborne : (trips : List trip.TripData) (text : Option (List ℕ)) → Unborne (named_frequencies trips text)
+named_unborne trips text =
     tells (rows_in file.Frequencies (bad (named_frequency trips)) text) _ (λ f e. rows_unborne file.Frequencies (λ raw. fault_of (named_frequency trips raw)) text f e)
     (λ f e.
     either (rows_in file.Frequencies (left_frequency trips) text) _ f (λ g q. rows_unborne file.Frequencies (λ raw. or_no_starts (no_starts trips raw.row (cell raw frequencies.TRIP_ID)) (named_frequency trips raw)) text g q)
     (λ found is g q.
     let rows = map (numbered_frequency trips) (unwrap_or found []) in
     given (check_named trips rows) rows (all_known trips (unwrap_or found []) rows (found_known trips text found is)) g q) e)
+
+same_value : {A : Type 0} (x y : A) → (let r : Result A FeedFault = Ok x in r) ≡ Ok y → x ≡ y
+same_value x y e = cc
+
+-- nothing is wrong with the times of trips by the rows that are left
+pub rows_right : (texts : List (Option (List ℕ))) (rows : Rows) → (left_rows texts).end ≡ Ok rows → (x : List (List Event)) → unless_wrong (wrong_trips rows.times 0 (length rows.trips)) x ≡ Ok x
+rows_right texts rows e x =
+    let a = look_gives (left_stops (text_at texts 0)) _ rows e in
+    let b = look_gives (left_services (text_at texts 1) (text_at texts 2)) _ rows a.2 in
+    let c = look_gives (left_trips (text_at texts 3)) _ rows b.2 in
+    let d = look_gives (left_times a.0 c.0 (text_at texts 4)) _ rows c.2 in
+    let same : record { stops = a.0; services = b.0; trips = c.0; times = d.0 } ≡ rows = same_value (record { stops = a.0; services = b.0; trips = c.0; times = d.0 }) rows d.2 in
+    subst (λ (rows : Rows). unless_wrong (wrong_trips rows.times 0 (length rows.trips)) x ≡ Ok x) same (left_rides_right a.0 c.0 (text_at texts 4) d.0 x d.1)
+
+-- so each trip has its events
+pub rides_right : (rows : Rows) → ((x : List (List Event)) → unless_wrong (wrong_trips rows.times 0 (length rows.trips)) x ≡ Ok x) → (rides : List (List Event)) × (rides_of rows ≡ Ok rides)
+rides_right rows right =
+    let runs = map (λ t. true) rows.trips in
+    let rides = rides_on rows.times runs (length runs) in
+    (rides, ap (λ n. unless_wrong (wrong_trips rows.times 0 n) rides) (length-map rows.trips (λ t. true)) ∙ right rides)
+
+starts_unborne : (rows : Rows) → (rides : List (List Event)) × (rides_of rows ≡ Ok rides) → (named : List TripFrequency) → Unborne (left_starts rows named)
+starts_unborne rows rides [] = given (Ok []) [] refl
+starts_unborne rows rides (f ∷ others) =
+    looks (silent (rides_of rows)) (leave_starts (f ∷ others)) (given (rides_of rows) rides.0 rides.1) (λ found is. given (Ok (map (left_start found) (f ∷ others))) (map (left_start found) (f ∷ others)) refl)
+
+pub frequencies_unborne : (rows : Rows) → (rides : List (List Event)) × (rides_of rows ≡ Ok rides) → (text : Option (List ℕ)) → Unborne (left_frequencies rows text)
+frequencies_unborne rows rides text = looks (named_frequencies rows.trips text) (left_starts rows) (named_unborne rows.trips text) (λ named is. starts_unborne rows rides named)
 
 rows_unborne_of : (texts : List (Option (List ℕ))) → Unborne (left_rows texts)
 rows_unborne_of texts =
@@ -239,5 +271,5 @@ data_unborne texts =
     (λ rows a.
     looks (left_transfers rows.stops (text_at texts 5)) _ (transfers_unborne rows.stops (text_at texts 5))
     (λ transfers b.
-    looks (left_frequencies rows.trips (text_at texts 6)) _ (frequencies_unborne rows.trips (text_at texts 6))
+    looks (left_frequencies rows (text_at texts 6)) _ (frequencies_unborne rows (rides_right rows (λ x. rows_right texts rows a x)) (text_at texts 6))
     (λ frequencies c. given (Ok (record { rows = rows; transfers = transfers; frequencies = frequencies })) _ refl)))

@@ -1,7 +1,8 @@
 -- What is left of a feed, file by file in the order of reference, where bad rows are left out.
-use Rattle.std.specs.Prelude.{◌≡◌, ◌⊎◌, ℕ, ◌==◌, not, List, [], ◌∷◌, ◌++◌, zero, suc, length, map, filter, slice_index_or, nat_lt, Bool, true, false, Option, Some, None, option_map, unwrap_or, is_some, Result, Ok, Err, if◌then◌else◌}
+use Rattle.std.specs.Prelude.{◌≡◌, ◌⊎◌, ℕ, ◌==◌, not, List, [], ◌∷◌, ◌++◌, zero, suc, length, map, filter, slice_index_or, nat_lt, flat_map, Bool, true, false, Option, Some, None, option_map, option_to_list, unwrap_or, is_some, Result, Ok, Err, if◌then◌else◌}
 use Rattle.std.specs.List.{list_any}
 use Rattle.tb_base.specs.TimetableData.{TimetableData}
+use Rattle.tb_base.specs.declared.table.Event.{Event}
 use Rattle.gtfs_rows.specs.Steps.{and_then, prepend}
 use Rattle.gtfs_rows.specs.Faults.{spot, unless_wrong, check_rows}
 use Rattle.gtfs_rows.specs.LeftOut.{bearer, IsUnborne}
@@ -16,7 +17,6 @@ use Rattle.gtfs_rows.specs.declared.fault.FeedFile.{FeedFile}
 use Rattle.gtfs_rows.specs.declared.fault.FeedFile.TheVariants as file
 use Rattle.gtfs_rows.specs.declared.fault.FeedFault.{FeedFault}
 use Rattle.gtfs_rows.specs.declared.fault.FeedFault.TheVariants as fault
-use Rattle.gtfs_rows.specs.declared.fault.Spot.{Spot}
 use Rattle.gtfs_rows.specs.declared.columns.frequencies.TheConstants as frequencies
 use Rattle.gtfs_rows.specs.declared.columns.stop_times.TheConstants as stop_times
 use Rattle.gtfs_rows.specs.declared.columns.stops.TheConstants as columns
@@ -28,9 +28,10 @@ use Rattle.service_trips.specs.declared.frequency.TripFrequency.{TripFrequency}
 use Rattle.service_trips.specs.declared.stop_time.StopTime.{StopTime}
 use Rattle.service_trips.specs.Broken.{broken_trips}
 use Rattle.service_trips.specs.Faults.{first_wrong}
+use Rattle.service_trips.specs.Limits.{wrong_frequency}
 use Rattle.trip_table.specs.Feed.{Feed, sized, rows_in, or_missing}
 use Rattle.trip_table.specs.References.{Rows, ServiceData, service_id, duplicate_service, duplicate_trip, trip_id, wrong_twice, wrong_trip, trip_number, numbered_row, wrong_names, wrong_time, repeats, check_services, numbered_frequency, check_named, unknown_trip}
-use Rattle.trip_table.specs.Day.{DayParts, IsTimetableOf, IsTimetableOfParts, Then, given_footpaths, parts_on}
+use Rattle.trip_table.specs.Day.{DayParts, IsTimetableOf, IsTimetableOfParts, Then, given_footpaths, parts_on, rides_of}
 use Rattle.trip_table.specs.Sieves.{Sieved, ended, silent, after, and_look}
 
 -- what a row gives: nothing where it is bad
@@ -262,11 +263,43 @@ left_frequency trips raw =
     (named_frequency trips raw))
 
 -- frequencies.txt: bad rows, and rows that name a trip that isn't there
-abbrev pub left_frequencies : List trip.TripData → Option (List ℕ) → Sieved (List TripFrequency)
-left_frequencies trips text =
+abbrev pub named_frequencies : List trip.TripData → Option (List ℕ) → Sieved (List TripFrequency)
+named_frequencies trips text =
     tell_found (rows_in file.Frequencies (bad (named_frequency trips)) text)
     (and_then (rows_in file.Frequencies (left_frequency trips) text) (λ rows.
     check_named trips (map (numbered_frequency trips) (unwrap_or rows []))))
+
+-- what is wrong with the starts of a row, by the events of each trip
+abbrev pub wrong_start : List (List Event) → TripFrequency → Option FeedFault
+wrong_start rides = wrong_frequency (record { rows = []; rides = rides; frequencies = [] })
+
+abbrev pub start_faults : List (List Event) → TripFrequency → List FeedFault
+start_faults rides f = option_to_list (wrong_start rides f)
+
+-- a row with whose starts something is wrong gives none
+abbrev pub start_unless : Option FeedFault → TripFrequency → TripFrequency
+start_unless None f = f
+start_unless (Some wrong) f =
+    record { row = f.row; trip_row = f.trip_row; start = 0; end = 0; headway = 1 }
+
+abbrev pub left_start : List (List Event) → TripFrequency → TripFrequency
+left_start rides f = start_unless (wrong_start rides f) f
+
+abbrev pub leave_starts : List TripFrequency → List (List Event) → Sieved (List TripFrequency)
+leave_starts rows rides =
+    ended (flat_map (start_faults rides) rows) (Ok (map (left_start rides) rows))
+
+-- rows of frequencies.txt with a start that moves a time of its trip beyond a day, where there are
+-- rows
+abbrev pub left_starts : Rows → List TripFrequency → Sieved (List TripFrequency)
+left_starts rows [] = silent (Ok [])
+left_starts rows (f ∷ others) =
+    and_look (silent (rides_of rows)) (leave_starts (f ∷ others))
+
+-- frequencies.txt: bad rows, rows that name a trip that isn't there, and rows that move a time of
+-- their trip beyond a day
+abbrev pub left_frequencies : Rows → Option (List ℕ) → Sieved (List TripFrequency)
+left_frequencies rows text = and_look (named_frequencies rows.trips text) (left_starts rows)
 
 -- what is left of the files of a feed
 pub record LeftData : Type 0 where
@@ -277,7 +310,7 @@ pub record LeftData : Type 0 where
 abbrev pub left_after_rows : List (Option (List ℕ)) → Rows → Sieved LeftData
 left_after_rows texts rows =
     and_look (left_transfers rows.stops (text_at texts 5)) (λ transfers.
-    and_look (left_frequencies rows.trips (text_at texts 6)) (λ frequencies.
+    and_look (left_frequencies rows (text_at texts 6)) (λ frequencies.
     silent (Ok (record { rows = rows; transfers = transfers; frequencies = frequencies }))))
 
 abbrev pub left_data : List (Option (List ℕ)) → Sieved LeftData
@@ -321,7 +354,3 @@ IsLenientOf feed day options faults result =
     (IsTimetableOf feed day options result × IsUnborne true result × (faults ≡ []))
     ⊎ ((f : FeedFault) × IsTimetableOf feed day options (Err f) × (is_some (bearer f) ≡ true)
     × IsLeftOf feed day options [] faults result)
-
--- no row bears a fault, or it is that of a start that moves a time of its trip beyond a day
-abbrev pub EndsLenient : FeedFault → Type 0
-EndsLenient f = (bearer f ≡ None) ⊎ ((spot : Spot) × (f ≡ fault.BeyondDay spot))

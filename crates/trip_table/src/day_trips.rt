@@ -97,8 +97,8 @@ fn all_rows(alloc: Global, rows: &FeedRows, answer: bool) -> Result<Vec<bool>, M
     Ok(answers)
 }
 
-// The events of each row of trips.txt, or the first thing that is wrong with their times.
-fn all_rides(alloc: Global, rows: &FeedRows) -> Result<Vec<Vec<Event>>, RowsFault>
+/// The events of each row of trips.txt, or the first thing that is wrong with their times.
+pub fn all_rides(alloc: Global, rows: &FeedRows) -> Result<Vec<Vec<Event>>, RowsFault>
     ensures rides { Yields IsRefused result (λ rides. map (λ ride. ride.items) rides.items)
         (rides_of rows.now) }
     ensures long { IfOk result (λ rides. length rides.items ≡ length rows.now.trips) }

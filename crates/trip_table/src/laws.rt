@@ -1,9 +1,10 @@
 //! Laws of the timetable of a day. Each function does nothing: its contract is the law.
-ghost use Rattle.std.specs.Prelude.{◌≡◌, ℕ, [], Contains, Err, List, Ok, Result};
+ghost use Rattle.std.specs.Prelude.{◌≡◌, ℕ, [], Contains, Err, List, None, Ok, Result};
 ghost use Rattle.tb_base.specs.BestValues.{AreBestValues, IsAttained, IsNoWorse, QueryData};
 ghost use Rattle.tb_base.specs.Soundness.{IsSound};
 ghost use Rattle.tb_base.specs.declared.query.Value.{Value};
 ghost use Rattle.tb_base.specs.TimetableData.{TimetableData};
+ghost use Rattle.gtfs_rows.specs.LeftOut.{bearer};
 ghost use Rattle.gtfs_rows.specs.declared.fault.FeedFault.{FeedFault};
 ghost use Rattle.footpaths.specs.Limits.{AreWithinADay};
 ghost use Rattle.footpaths.specs.declared.paths.Options.{Options};
@@ -12,7 +13,7 @@ ghost use Rattle.trip_table.specs.Farther.{IsNoNearer};
 ghost use Rattle.trip_table.specs.Feed.{Feed};
 ghost use Rattle.trip_table.specs.Day.{IsTimetableOf};
 ghost use Rattle.trip_table.specs.AskedDay.{AreFaultsOf, IsAskedDay};
-ghost use Rattle.trip_table.specs.LeftFeed.{EndsLenient, IsLenientOf};
+ghost use Rattle.trip_table.specs.LeftFeed.{IsLenientOf};
 
 /// A feed, a day and options have at most one timetable or first fault, never both: what `read_day`
 /// gives is determined.
@@ -46,11 +47,10 @@ pub fn farther_no_worse()
         IsAttained T Q v → (w : Value) × Contains vs w × IsNoWorse w v }
 {}
 
-/// What is left where bad rows are left out has no fault that a row bears, but that of a start that
-/// moves a time of its trip beyond a day.
+/// What is left where bad rows are left out has no fault that a row bears.
 pub fn no_row_ends_lenient()
     ensures { (feed : Feed) (day : ℕ) (options : Options) (faults : List FeedFault) (f : FeedFault) →
-        IsLenientOf feed day options faults (Err f) → EndsLenient f }
+        IsLenientOf feed day options faults (Err f) → bearer f ≡ None }
 {}
 
 /// A feed, a day and options have at most one timetable, or fault that ends it, as the options ask:

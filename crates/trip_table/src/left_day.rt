@@ -166,7 +166,7 @@ pub fn left_files(
         Ok(transfers) => transfers,
         Err(fault) => return Err(fault),
     };
-    match left_frequencies(alloc, rows.trips(), text_at(texts, 6), told) {
+    match left_frequencies(alloc, rows, text_at(texts, 6), told) {
         Ok(frequencies) => Ok(LaterRows {
             transfers,
             frequencies,

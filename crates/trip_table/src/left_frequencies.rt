@@ -4,12 +4,14 @@ ghost use Rattle.gtfs_rows.specs.Refused.{IsRefused, Yields};
 ghost use Rattle.gtfs_rows.specs.Steps.{and_then};
 ghost use Rattle.gtfs_rows.specs.declared.fault.FeedFile.TheVariants as file;
 ghost use Rattle.trip_table.specs.Feed.{rows_in};
-ghost use Rattle.trip_table.specs.LeftFeed.{bad, left_frequencies, left_frequency, name_row, named_frequency, no_starts};
+ghost use Rattle.trip_table.specs.LeftFeed.{bad, left_frequencies, left_frequency, name_row, named_frequencies, named_frequency, no_starts};
 ghost use Rattle.trip_table.specs.References.{check_named, numbered_frequency};
 ghost use Rattle.trip_table.specs.Sieves.{Sieves};
 
 use crate::feed::spot;
 use crate::frequencies::table_of;
+use crate::left_starts::left_starts;
+use crate::rows::FeedRows;
 use crate::sieve::tell_all;
 use crate::trips::TripRowTable;
 use gtfs_rows::columns::frequencies;
@@ -183,9 +185,9 @@ fn bad_frequencies(
     }
 }
 
-/// The rows of frequencies.txt by the numbers of their trips; none where the file isn't there. The
-/// faults of bad ones are told, and these give no start.
-pub fn left_frequencies(
+// The rows of frequencies.txt by the numbers of their trips; none where the file isn't there. The
+// faults of bad ones are told, and these give no start.
+fn named_frequencies(
     alloc: Global,
     trips: &TripRowTable,
     text: Option<&[u8]>,
@@ -193,7 +195,7 @@ pub fn left_frequencies(
 ) -> Result<FrequencyTable, RowsFault>
     requires { IfSome text (λ bytes. length bytes.now ≤ 1_073_741_824) }
     ensures left { Sieves
-        (left_frequencies trips.now (option_map (λ bytes. bytes.now) text.entry)) told.old.items
+        (named_frequencies trips.now (option_map (λ bytes. bytes.now) text.entry)) told.old.items
         told.new.items result (λ table. table.rows) }
     ensures trips { IfOk result (λ table. table.trips ≡ length trips.now) }
 {
@@ -203,4 +205,25 @@ pub fn left_frequencies(
         Err(fault) => return Err(fault),
     }
     left_table(alloc, trips, text)
+}
+
+/// The rows of frequencies.txt by the numbers of their trips; none where the file isn't there. The
+/// faults of bad ones, and of those that move a time of their trip beyond a day, are told, and these
+/// give no start.
+pub fn left_frequencies(
+    alloc: Global,
+    rows: &FeedRows,
+    text: Option<&[u8]>,
+    told: &mut Vec<FeedFault>,
+) -> Result<FrequencyTable, RowsFault>
+    requires { IfSome text (λ bytes. length bytes.now ≤ 1_073_741_824) }
+    ensures left { Sieves
+        (left_frequencies rows.now (option_map (λ bytes. bytes.now) text.entry)) told.old.items
+        told.new.items result (λ table. table.rows) }
+    ensures trips { IfOk result (λ table. table.trips ≡ length rows.now.trips) }
+{
+    match named_frequencies(alloc, rows.trips(), text, told) {
+        Ok(named) => left_starts(alloc, rows, named, told),
+        Err(fault) => Err(fault),
+    }
 }

@@ -33,6 +33,7 @@ pub mod laws;
 mod left_day;
 mod left_frequencies;
 mod left_services;
+mod left_starts;
 mod left_stops;
 mod left_times;
 mod left_transfers;

@@ -2,9 +2,9 @@
 //!
 //! Where the question has an answer without `--lenient`, or is refused for a fault that no row bears,
 //! the same comes with it. Else there is an answer over what is left, and standard error says so; or a
-//! fault that ends what is left: one that no row bears, or that of a start beyond the day. Both ways to
-//! the best values show the same ones. A check tells no fault exactly where there is an answer without
-//! `--lenient`, and last of all the fault that ends what is left, where one does.
+//! fault that ends what is left, which no row bears. Both ways to the best values show the same ones. A
+//! check tells no fault exactly where there is an answer without `--lenient`, and last of all the fault
+//! that ends what is left, where one does.
 use super::asking::{AskedCommand, PlatformQuestion, command_ending};
 use super::breaks::Broken;
 use super::trial::Wrong;
@@ -49,17 +49,11 @@ fn is_borne(fault: &str) -> bool {
     }
 }
 
-// Whether a fault ends what is left of a feed: no row bears it, or it is that of a start beyond the
-// day.
-fn ends_lenient(fault: &str) -> bool {
-    !is_borne(fault) || fault.starts_with("23 ")
-}
-
 // Whether what comes with `--lenient` fits what came without it.
 fn is_lenient(came: &Ending, first: &Ending) -> bool {
     match refused_for(first) {
         Some(fault) if is_borne(fault) => match refused_for(came) {
-            Some(last) => ends_lenient(last),
+            Some(last) => !is_borne(last),
             None => is_left_out(came),
         },
         _ => came.is_as(first),
@@ -88,7 +82,7 @@ fn is_checked(check: &Ending, lenient: &Ending, first: &Ending) -> bool {
     }
     match (last_told(check), refused_for(lenient)) {
         (Some(last), Some(fault)) => last == fault,
-        (Some(last), None) => !ends_lenient(last),
+        (Some(last), None) => is_borne(last),
         (None, _) => false,
     }
 }
