@@ -222,47 +222,52 @@ def stops_of(count):
     return "".join(f"P{i}\n" for i in range(count))
 
 
+def trips_of_one_ride(folder, stops, rides):
+    """A, B and so many other stops, and a trip for each ride: its number, when and where it begins,
+    when and where it ends.
+    """
+    rides = list(rides)
+    times = (
+        f"t{trip},{clock(departure)},,{start},0\nt{trip},{clock(arrival)},,{end},1\n"
+        for trip, departure, start, arrival, end in rides
+    )
+    trips = (f"S,t{i}\n" for i in range(len(rides)))
+    smallest.make(folder, f"stop_id\nA\nB\n{stops_of(stops)}", trips, times)
+
+
 def chain_of_trips(folder, n):
     """From A to B leads a chain of trips of two stops each, and no other way."""
     stops = ["A", *(f"P{i}" for i in range(n - 1)), "B"]
-    rows = (
-        f"t{i},{clock(28_800 + i + call)},,{stops[i + call]},{call}\n"
-        for i in range(n)
-        for call in (0, 1)
-    )
-    rows_of_stops = f"stop_id\nA\nB\n{stops_of(n - 1)}"
-    smallest.make(folder, rows_of_stops, (f"S,t{i}\n" for i in range(n)), rows)
+    rides = ((i, 28_800 + i, stops[i], 28_801 + i, stops[i + 1]) for i in range(n))
+    trips_of_one_ride(folder, n - 1, rides)
 
 
 def ways_side_by_side(folder, n):
     """From A to B lead ways of two rides each, every one by a stop of its own, a second later."""
-    trips = (f"S,t{i}\n" for i in range(2 * n))
-    times = (
-        row
+    rides = (
+        ride
         for i in range(n)
-        for row in (
-            f"t{i},{clock(28_800 + i)},,A,0\nt{i},{clock(28_900 + i)},,P{i},1\n"
-            f"t{n + i},{clock(29_000 + i)},,P{i},0\nt{n + i},{clock(29_100 + i)},,B,1\n"
+        for ride in (
+            (i, 28_800 + i, "A", 28_900 + i, f"P{i}"),
+            (n + i, 29_000 + i, f"P{i}", 29_100 + i, "B"),
         )
     )
-    smallest.make(folder, f"stop_id\nA\nB\n{stops_of(n)}", trips, times)
+    trips_of_one_ride(folder, n, rides)
 
 
 def values_of_more_rides(folder, n):
     """From each stop of a chain of trips leads one to B, which arrives the earlier the later one
     changes to it.
     """
-    trips = (f"S,t{i}\n" for i in range(2 * n))
-    times = (
-        row
+    rides = (
+        ride
         for i in range(n)
-        for row in (
-            f"t{i},{clock(28_800 + i)},,{f'P{i}' if i else 'A'},0\n"
-            f"t{i},{clock(28_801 + i)},,P{i + 1},1\n"
-            f"t{n + i},{clock(28_801 + i)},,P{i + 1},0\nt{n + i},{clock(300_000 - i)},,B,1\n"
+        for ride in (
+            (i, 28_800 + i, f"P{i}" if i else "A", 28_801 + i, f"P{i + 1}"),
+            (n + i, 28_801 + i, f"P{i + 1}", 300_000 - i, "B"),
         )
     )
-    smallest.make(folder, f"stop_id\nA\nB\n{stops_of(n + 1)}", trips, times)
+    trips_of_one_ride(folder, n + 1, rides)
 
 
 def stations_of_many_platforms(folder, n):
@@ -283,16 +288,15 @@ def claim_of_nothing(folder, n):
 
 def lines_at_one_stop(folder, n):
     """As many lines end at a stop as begin there, and one can change from each to each."""
-    trips = [f"S,t{i}\n" for i in range(2 * n)]
-    times = (
-        row
+    rides = (
+        ride
         for i in range(n)
-        for row in (
-            f"t{i},6:00:00,,P{i},0\nt{i},7:00:00,,A,1\n"
-            f"t{n + i},8:00:00,,A,0\nt{n + i},9:00:00,,P{i},1\n"
+        for ride in (
+            (i, 6 * 3_600, f"P{i}", 7 * 3_600, "A"),
+            (n + i, 8 * 3_600, "A", 9 * 3_600, f"P{i}"),
         )
     )
-    smallest.make(folder, f"stop_id\nA\nB\n{stops_of(n)}", trips, times)
+    trips_of_one_ride(folder, n, rides)
 
 
 def stop_ids_that_collide(folder, n):
