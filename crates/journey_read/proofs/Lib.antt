@@ -2,6 +2,7 @@ pub mod Passes
 pub mod Faults
 pub mod Hours
 pub mod RideSteps
+pub mod TripNames
 pub mod LineSteps
 pub mod Reading
 pub mod Values

@@ -3,13 +3,12 @@ use Rattle.std.proofs.Common.{◌≡◌, ◌∙◌, refl, ap, sym, ℕ, zero, su
 use Rattle.std.specs.Prelude.{slice_get, if◌then◌else◌}
 use Rattle.std.specs.Option.{option_map, option_or}
 use Rattle.std.proofs.Math.Seq.{drop-cons}
-use Rattle.std.proofs.lemmas.Option.{get_or_from_slice_get}
 use Rattle.tb_base.specs.declared.days.ServiceDay.{ServiceDay}
 use Rattle.tb_base.specs.declared.query.Leg.{Leg}
 use Rattle.tb_base.specs.declared.table.Event.{Event}
 use Rattle.tb_base.specs.TimetableData.{TripData}
 use Rattle.journey_read.specs.declared.rides.Ends.{Ends}
-use Rattle.journey_read.specs.Rides.{arrives, departs, end_among, ends_among, ride_among, ride_on}
+use Rattle.journey_read.specs.Rides.{arrives, departs, end_among, ends_among, ride_among, ride_in, ride_on}
 
 drop_past : {A : Type 0} (xs : List A) (n : ℕ) → length xs ≤ n → drop n xs ≡ []
 drop_past [] zero past = refl
@@ -81,21 +80,23 @@ module _ (ends : Ends) (events : List Event) where
   none_found None at past h = rw (drop_past events at past) at h
   none_found (Some b) at past h = rw (drop_past events at past) at h
 
-module _ (name : List ℕ) (day : ServiceDay) (ends : Ends) (trips : List TripData) where
+module _ (name : List ℕ) (day : ServiceDay) (ends : Ends) (trips : List TripData) (numbers : List ℕ) where
   abbrev pub IsLookedForFrom : ℕ → Type 0
-  IsLookedForFrom t = ride_among name day ends t (drop t trips) ≡ ride_among name day ends 0 trips
+  IsLookedForFrom i = ride_in name day ends trips (drop i numbers) ≡ ride_among name day ends 0 trips
 
-  next_trip : (t : ℕ) (trip : TripData) → t < length trips → slice_get trips t ≡ Some trip → IsLookedForFrom t → option_or (ride_on name day ends t trip) (ride_among name day ends (t + 1) (drop (t + 1) trips)) ≡ ride_among name day ends 0 trips
-  next_trip t trip inside is h =
-      let at : get_or trips t trip ≡ trip = get_or_from_slice_get trips t trip trip is in
-      let rest : drop t trips ≡ trip ∷ drop (t + 1) trips = rw add-one (drop-cons trips t trip inside ∙ ap (λ y. y ∷ drop (suc t) trips) at) in
-      ap (ride_among name day ends t) (sym rest) ∙ h
+  next_trip : (i d : ℕ) (trip : TripData) → i < length numbers → slice_get trips (get_or numbers i d) ≡ Some trip → IsLookedForFrom i
+      → option_or (ride_on name day ends (get_or numbers i d) trip) (ride_in name day ends trips (drop (i + 1) numbers)) ≡ ride_among name day ends 0 trips
+  next_trip i d trip inside at h =
+      let rest : drop i numbers ≡ get_or numbers i d ∷ drop (i + 1) numbers = rw add-one (drop-cons numbers i d inside) in
+      let one : option_or (ride_on name day ends (get_or numbers i d) trip) (ride_in name day ends trips (drop (i + 1) numbers)) ≡ ride_in name day ends trips (get_or numbers i d ∷ drop (i + 1) numbers) = rw at refl in
+      one ∙ ap (ride_in name day ends trips) (sym rest) ∙ h
 
-  pub trip_has_none : (t : ℕ) (trip : TripData) → t < length trips → slice_get trips t ≡ Some trip → IsLookedForFrom t → ride_on name day ends t trip ≡ None → IsLookedForFrom (t + 1)
-  trip_has_none t trip inside is h none = let o = next_trip t trip inside is h in rw none at o
+  pub trip_has_none : (i d : ℕ) (trip : TripData) → i < length numbers → slice_get trips (get_or numbers i d) ≡ Some trip → IsLookedForFrom i → ride_on name day ends (get_or numbers i d) trip ≡ None → IsLookedForFrom (i + 1)
+  trip_has_none i d trip inside at h none = let o = next_trip i d trip inside at h in rw none at o
 
-  pub trip_has_one : (t : ℕ) (trip : TripData) (leg : Leg) → t < length trips → slice_get trips t ≡ Some trip → IsLookedForFrom t → ride_on name day ends t trip ≡ Some leg → Some leg ≡ ride_among name day ends 0 trips
-  trip_has_one t trip leg inside is h some = let o = next_trip t trip inside is h in rw some at o
+  pub trip_has_one : (i d : ℕ) (trip : TripData) (leg : Leg) → i < length numbers → slice_get trips (get_or numbers i d) ≡ Some trip → IsLookedForFrom i → ride_on name day ends (get_or numbers i d) trip ≡ Some leg
+      → Some leg ≡ ride_among name day ends 0 trips
+  trip_has_one i d trip leg inside at h some = let o = next_trip i d trip inside at h in rw some at o
 
-  pub no_trip : (t : ℕ) → length trips ≤ t → IsLookedForFrom t → None ≡ ride_among name day ends 0 trips
-  no_trip t past h = rw (drop_past trips t past) at h
+  pub no_trip : (i : ℕ) → length numbers ≤ i → IsLookedForFrom i → None ≡ ride_among name day ends 0 trips
+  no_trip i past h = rw (drop_past numbers i past) at h

@@ -1,6 +1,7 @@
 pub mod Known
 pub mod Times
 pub mod Rides
+pub mod TripNames
 pub mod Claims
 pub mod JsonClaims
 pub mod Judging

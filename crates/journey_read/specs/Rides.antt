@@ -1,6 +1,6 @@
 -- Which ride a trip's name, its day, two stops and two times stand for.
-use Rattle.std.specs.Prelude.{ℕ, ◌+◌, ◌==◌, ◌&&◌, Bool, List, [], ◌∷◌, bytes_eq, Option, Some, None, if◌then◌else◌}
-use Rattle.std.specs.Option.{option_map, option_or}
+use Rattle.std.specs.Prelude.{◌≡◌, ℕ, ◌+◌, ◌==◌, ◌&&◌, Bool, List, [], ◌∷◌, bytes_eq, slice_get, Option, Some, None, if◌then◌else◌}
+use Rattle.std.specs.Option.{option_and_then, option_map, option_or}
 use Rattle.std.specs.Ordering.{int_eq}
 use Rattle.tb_base.specs.declared.days.ServiceDay.{ServiceDay}
 use Rattle.tb_base.specs.declared.query.Leg.{Leg}
@@ -44,3 +44,16 @@ abbrev pub ride_among : List ℕ → ServiceDay → Ends → ℕ → List TripDa
 ride_among name day ends t [] = None
 ride_among name day ends t (trip ∷ trips) =
     option_or (ride_on name day ends t trip) (ride_among name day ends (t + 1) trips)
+
+-- the ride on the first of the trips with these numbers that has one
+abbrev pub ride_in : List ℕ → ServiceDay → Ends → List TripData → List ℕ → Option Leg
+ride_in name day ends trips [] = None
+ride_in name day ends trips (t ∷ numbers) =
+    option_or (option_and_then (ride_on name day ends t) (slice_get trips t))
+    (ride_in name day ends trips numbers)
+
+-- on the trips with these numbers are the rides that are on all trips with a name
+abbrev pub HaveRides : List ℕ → List TripData → List ℕ → Type 0
+HaveRides name trips numbers =
+    (day : ServiceDay) (ends : Ends) →
+    ride_in name day ends trips numbers ≡ ride_among name day ends 0 trips

@@ -6,6 +6,7 @@ ghost use Rattle.tb_base.specs.Refusals.{Yields};
 ghost use Rattle.journey_read.specs.JsonClaims.{day_in, day_numbered, json_claim, json_claim_of, json_ends, json_leg, json_legs, json_ride, json_value, json_walk, number_at, text_at};
 
 use crate::claim::{Claimed, JourneyFault};
+use crate::indexed_timetable::IndexedTimetable;
 use crate::legs::{ends_of, ride_named, value_shown, walk_between};
 use crate::reader::MOST_BYTES;
 use crate::rides::Ends;
@@ -77,7 +78,7 @@ fn day_in(leg: &Json<'_>) -> Option<ServiceDay>
 
 // A ride on a trip.
 fn ride_of(
-    table: &Timetable,
+    table: &IndexedTimetable<'_>,
     line: u32,
     trip: &Json<'_>,
     leg: &Json<'_>,
@@ -86,16 +87,16 @@ fn ride_of(
 {
     let name = trip.as_str().ok_or(JourneyFault::BadLine(line))?;
     let day = day_in(leg).ok_or(JourneyFault::BadLine(line))?;
-    let ends = json_ends(table, line, leg)?;
+    let ends = json_ends(table.table(), line, leg)?;
     ride_named(table, line, name.as_bytes(), day, &ends)
 }
 
 // A leg.
-fn json_leg(table: &Timetable, line: u32, leg: &Json<'_>) -> Result<Leg, JourneyFault>
+fn json_leg(table: &IndexedTimetable<'_>, line: u32, leg: &Json<'_>) -> Result<Leg, JourneyFault>
     ensures { result ≡ json_leg table.now line (value_view leg.now) }
 {
     match leg.get("trip") {
-        None => walk_of(table, line, leg),
+        None => walk_of(table.table(), line, leg),
         Some(trip) => ride_of(table, line, trip, leg),
     }
 }
@@ -103,7 +104,7 @@ fn json_leg(table: &Timetable, line: u32, leg: &Json<'_>) -> Result<Leg, Journey
 // The legs of an array.
 fn json_legs(
     alloc: Global,
-    table: &Timetable,
+    table: &IndexedTimetable<'_>,
     items: &[Json<'_>],
 ) -> Result<Vec<Leg>, Refused<JourneyFault>>
     requires { length items.now ≤ 1048576 }
@@ -163,7 +164,8 @@ fn json_claim(
     if items.len() > MOST_BYTES {
         return Err(Refused::Memory);
     }
-    let legs = json_legs(alloc, table, items)?;
+    let indexed = IndexedTimetable::new(alloc, table)?;
+    let legs = json_legs(alloc, &indexed, items)?;
     Ok(Claimed { value, legs })
 }
 

@@ -3,6 +3,7 @@ ghost use Rattle.std.specs.Prelude.{◌≡◌};
 ghost use Rattle.journey_read.specs.Claims.{ends_of, leg_of, ride_named, ride_of, stop_named, stop_of, value_of, value_shown, walk_between, walk_of};
 
 use crate::claim::JourneyFault;
+use crate::indexed_timetable::IndexedTimetable;
 use crate::rides::Ends;
 use crate::times::shown_time_of;
 use gtfs_rows::number_of;
@@ -78,7 +79,7 @@ pub(crate) fn ends_of(
 
 /// The ride that a line claims between these ends, on a trip with this name and service day.
 pub(crate) fn ride_named(
-    table: &Timetable,
+    table: &IndexedTimetable<'_>,
     line: u32,
     trip: &[u8],
     day: ServiceDay,
@@ -91,7 +92,7 @@ pub(crate) fn ride_named(
 }
 
 // TRIP STOP TIME STOP TIME, or the same and a service day.
-fn ride_of(table: &Timetable, line: u32, words: &[Name]) -> Result<Leg, JourneyFault>
+fn ride_of(table: &IndexedTimetable<'_>, line: u32, words: &[Name]) -> Result<Leg, JourneyFault>
     ensures { result ≡ ride_of table.now line words.now }
 {
     let [trip, from, departure, to, arrival, marks @ ..] = words else {
@@ -99,7 +100,7 @@ fn ride_of(table: &Timetable, line: u32, words: &[Name]) -> Result<Leg, JourneyF
     };
     let day = ServiceDay::by_words(marks).ok_or(JourneyFault::BadLine(line))?;
     let ends = ends_of(
-        table,
+        table.table(),
         line,
         from.bytes(),
         departure.bytes(),
@@ -111,14 +112,18 @@ fn ride_of(table: &Timetable, line: u32, words: &[Name]) -> Result<Leg, JourneyF
 
 /// The leg that a line claims: `walk STOP STOP SECONDS`, `ride TRIP STOP TIME STOP TIME`, or the
 /// latter with `day-before`, `day-after` or `day+2` behind it.
-pub(crate) fn leg_of(table: &Timetable, line: u32, words: &[Name]) -> Result<Leg, JourneyFault>
+pub(crate) fn leg_of(
+    table: &IndexedTimetable<'_>,
+    line: u32,
+    words: &[Name],
+) -> Result<Leg, JourneyFault>
     ensures { result ≡ leg_of table.now line words.now }
 {
     match words {
         [] => Err(JourneyFault::BadLine(line)),
         [word, rest @ ..] => {
             if word.bytes() == b"walk".as_slice() {
-                walk_of(table, line, rest)
+                walk_of(table.table(), line, rest)
             } else if word.bytes() == b"ride".as_slice() {
                 ride_of(table, line, rest)
             } else {

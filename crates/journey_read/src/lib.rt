@@ -11,6 +11,7 @@
 #![tactic(auto)]
 
 mod claim;
+mod indexed_timetable;
 mod json_claim;
 pub mod laws;
 mod leg_rules;

@@ -7,6 +7,7 @@ ghost use Rattle.journey_read.specs.Claims.{Reads, ReadsWords, claim_from, claim
 ghost use Rattle.text_lines.specs.Lines.{lines_of};
 
 use crate::claim::{Claimed, JourneyFault};
+use crate::indexed_timetable::IndexedTimetable;
 use crate::legs::{leg_of, value_of};
 use std::alloc::Global;
 use std::marker::Model;
@@ -34,7 +35,7 @@ impl Model for ClaimReader {
 // The claim with the next line, whose words these are: its value, or one leg more.
 fn claim_with_words(
     alloc: Global,
-    table: &Timetable,
+    table: &IndexedTimetable<'_>,
     line: u32,
     claimed: Option<Claimed>,
     words: &[Name],
@@ -69,7 +70,7 @@ impl ClaimReader {
     fn take(
         self,
         alloc: Global,
-        table: &Timetable,
+        table: &IndexedTimetable<'_>,
         text: &[u8],
     ) -> Result<ClaimReader, Refused<JourneyFault>>
         requires { self.lines < 2 ^ 32 - 1 }
@@ -110,7 +111,7 @@ impl ClaimReader {
 // The claim of the lines of a text.
 fn claim_in_lines(
     alloc: Global,
-    table: &Timetable,
+    table: &IndexedTimetable<'_>,
     bytes: &[u8],
 ) -> Result<Claimed, Refused<JourneyFault>>
     requires { length bytes.now ≤ 1048576 }
@@ -151,5 +152,6 @@ pub fn read_journey(
     if bytes.len() > MOST_BYTES {
         return Err(Refused::Fault(JourneyFault::TooLong));
     }
-    claim_in_lines(alloc, table, bytes)
+    let indexed = IndexedTimetable::new(alloc, table)?;
+    claim_in_lines(alloc, &indexed, bytes)
 }

@@ -2,7 +2,8 @@
 ghost use Rattle.std.specs.Prelude.{◌≡◌, ◌<◌, ◌^◌, length};
 ghost use Rattle.journey_read.specs.Rides.{arrives, departs, ends_among, ride_among, ride_on};
 
-use tb_base::{Event, Leg, Sec, ServiceDay, StopNo, Timetable, Trip, TripNo};
+use crate::indexed_timetable::IndexedTimetable;
+use tb_base::{Event, Leg, Sec, ServiceDay, StopNo, Trip, TripNo};
 
 /// Where and when a ride begins and ends.
 #[derive(Clone, Copy)]
@@ -70,12 +71,19 @@ impl Ends {
     }
 
     /// The ride on the lowest-numbered trip that has one, of those with a name and a service day.
-    pub(crate) fn ride(&self, table: &Timetable, name: &[u8], day: ServiceDay) -> Option<Leg>
+    pub(crate) fn ride(
+        &self,
+        table: &IndexedTimetable<'_>,
+        name: &[u8],
+        day: ServiceDay,
+    ) -> Option<Leg>
         ensures { result ≡ ride_among name.now day self.now 0 table.now.trips }
     {
-        table.soundness();
-        for t in 0..table.trip_count() {
-            if let Some(leg) = self.on(TripNo(t), table.trip(TripNo(t)), name, day) {
+        let timetable = table.table();
+        timetable.soundness();
+        for t in table.trips_named(name) {
+            let number = TripNo(*t);
+            if let Some(leg) = self.on(number, timetable.trip(number), name, day) {
                 return Some(leg);
             }
         }
