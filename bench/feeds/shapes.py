@@ -199,7 +199,12 @@ def trips_with_a_fault(folder, n):
 
 def one_row_of_many_starts(folder, n):
     """A trip of a hundred calls that starts every second."""
-    smallest.make(folder, times=(f"t0,{clock(i)},,{'AB'[i % 2]},{i}\n" for i in range(100)))
+    one_row_of_starts(folder, n, (f"t0,{clock(i)},,{'AB'[i % 2]},{i}\n" for i in range(100)))
+
+
+def one_row_of_starts(folder, n, times=None):
+    """A trip that starts every second, so many times."""
+    smallest.make(folder, times=times)
     row = f"t0,0:00:00,{clock(n)},1\n"
     write(folder, "frequencies.txt", f"trip_id,start_time,end_time,headway_secs\n{row}")
 
@@ -460,6 +465,13 @@ def rides_of_a_claim_on_one_trip(folder, n):
     write(folder, "claim", f"arrive 08:01:00 rides {n}\n" + ride * n)
 
 
+def rides_of_a_claim_on_starts_of_one_trip(folder, n):
+    """Rides on the last of as many starts of a trip."""
+    one_row_of_starts(folder, n)
+    ride = f"ride t0 A {clock(n - 1)} B {clock(n + 59)}\n"
+    write(folder, "claim", f"arrive 08:01:00 rides {n}\n" + ride * n)
+
+
 def claim_in_json(folder, members):
     feed(folder)
     write(folder, "claim", f'{{"arrive":"08:01:00","rides":1,"legs":[],{members}}}')
@@ -569,6 +581,7 @@ OTHERS = {
     remarks_between_origins: (4_000_000, "matrix"),
     rides_of_a_claim: (6_000, "verify"),
     rides_of_a_claim_on_one_trip: (6_000, "verify"),
+    rides_of_a_claim_on_starts_of_one_trip: (6_000, "verify"),
     legs_of_a_claim: (7_500, "verify json"),
     members_of_a_claim: (20_000, "verify json"),
     members_of_one_name: (12_000, "verify json"),
