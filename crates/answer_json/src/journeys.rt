@@ -238,8 +238,8 @@ fn add_later_choices(
 /// Adds each choice as `{"arrive":TIME,"arrive_seconds":N,"rides":N,"legs":[..]}`, a walk among
 /// its legs as `{"from":STOP,"to":STOP,"seconds":N}`, a ride as `{"trip":TRIP,"from":STOP,
 /// "departure":TIME,"departure_seconds":N,"to":STOP,"arrival":TIME,"arrival_seconds":N}`, with
-/// `"day":N` behind a trip whose service day is N days after the date, where that is -1, 1 or 2. The
-/// numbers of the legs exist in the timetable.
+/// `"day":N` behind a trip whose service day is N days after the date, where that is -1, 1 or 2.
+/// The numbers of the legs exist in the timetable, and each ride alights behind where it boards.
 pub fn add_choices(
     text: &mut Text,
     frame: Frame,
@@ -296,7 +296,8 @@ fn add_later_offers(
 }
 
 /// Adds each offer as `{"leave":TIME,"leave_seconds":N,"arrive":TIME,"arrive_seconds":N,"rides":N,
-/// "legs":[..]}`, its legs as those of a choice. The numbers of the legs exist in the timetable.
+/// "legs":[..]}`, its legs as those of a choice. The numbers of the legs exist in the timetable,
+/// and each ride alights behind where it boards.
 pub fn add_offers(
     text: &mut Text,
     frame: Frame,
@@ -318,7 +319,8 @@ pub fn add_offers(
 }
 
 /// Adds a departure as `{"leave":TIME,"leave_seconds":N,"rides":N,"legs":[..]}`, its legs as those
-/// of a choice. The numbers of the legs exist in the timetable.
+/// of a choice. The numbers of the legs exist in the timetable, and each ride alights behind where
+/// it boards.
 pub fn add_departure(
     text: &mut Text,
     table: &Timetable,

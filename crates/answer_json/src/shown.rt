@@ -48,7 +48,8 @@ fn choices_lines(alloc: Global, table: &Timetable, choices: &[Choice]) -> Result
     Ok(text.into_bytes())
 }
 
-/// Choices. The numbers of the legs exist in the timetable.
+/// Choices. The numbers of the legs exist in the timetable, and each ride alights behind where it
+/// boards.
 pub fn shown_choices(
     alloc: Global,
     json: bool,

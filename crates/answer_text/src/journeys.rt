@@ -153,8 +153,9 @@ impl Text {
     }
 
     /// Adds one line a leg, in order: `  walk STOP STOP SECONDS`, or
-    /// `  ride TRIP STOP DEPARTURE STOP ARRIVAL`, followed by ` day-before`, ` day-after` or ` day+2`
-    /// where the trip's service day isn't the date. The numbers of the legs exist in the timetable.
+    /// `  ride TRIP STOP DEPARTURE STOP ARRIVAL`, followed by ` day-before`, ` day-after` or
+    /// ` day+2` where the trip's service day isn't the date. The numbers of the legs exist in the
+    /// timetable, and each ride alights behind where it boards.
     pub fn legs(&mut self, table: &Timetable, legs: &[Leg]) -> Result<(), Memory>
         requires { All (HasNumbers table.now) legs.now }
         ensures { OnOk result (self.new ≡ self.old ++ legs_text table.now legs.now) }
@@ -219,7 +220,7 @@ impl Text {
 }
 
 /// Each choice as `arrive TIME rides N` and its legs, or `no journey` where there is none.
-/// The numbers of the legs exist in the timetable.
+/// The numbers of the legs exist in the timetable, and each ride alights behind where it boards.
 pub fn choices_text(alloc: Global, table: &Timetable, choices: &[Choice]) -> Result<Vec<u8>, Memory>
     requires { All (λ c. All (HasNumbers table.now) (ChoiceData.legs c)) choices.now }
     ensures { IfOk result (λ v. v.items ≡ choices_text table.now choices.now) }
@@ -235,7 +236,8 @@ pub fn choices_text(alloc: Global, table: &Timetable, choices: &[Choice]) -> Res
 }
 
 /// Each offer as `leave TIME arrive TIME rides N` and its legs, or `no journey` where there is
-/// none. The numbers of the legs exist in the timetable.
+/// none. The numbers of the legs exist in the timetable, and each ride alights behind where it
+/// boards.
 pub fn offers_text(alloc: Global, table: &Timetable, offers: &[Offer]) -> Result<Vec<u8>, Memory>
     requires { All (λ o. All (HasNumbers table.now) (OfferData.legs o)) offers.now }
     ensures { IfOk result (λ v. v.items ≡ offers_text table.now offers.now) }

@@ -23,7 +23,7 @@ fn add_departure(text: &mut Text, table: &Timetable, departure: &Departure) -> R
 }
 
 /// Each departure as `leave TIME rides N` and its legs, or `no journey` where there is none. The
-/// numbers of the legs exist in the timetable.
+/// numbers of the legs exist in the timetable, and each ride alights behind where it boards.
 pub fn departures_text(
     alloc: Global,
     table: &Timetable,
