@@ -23,8 +23,8 @@ use tb_base::{Hop, Path, StopNo, Value};
 // they are weighed.
 const STRETCH: u32 = 128;
 
-// How many hops are tried at a time.
-const TRIED: usize = 64;
+/// How many hops are tried at a time.
+pub(crate) const TRIED: usize = 64;
 
 // Whether one may alight at an event, and it is reached before the best hit so far arrives.
 fn may_improve(best: &Option<Hit>, visit: &Visit) -> bool
@@ -132,27 +132,20 @@ impl<S: Scan> Search<'_, S> {
         }
     }
 
-    // The best hit so far, or to alight at an event of a segment, where one may, and walk on to the
-    // nearest target where that is earlier. Few events come here.
+    // Makes it the best hit to alight at an event of a segment, where one may, and walk on to the
+    // nearest target, where that is earlier. Few events come here.
     #[inline(never)]
-    fn weigh_near(
-        &self,
-        best: Option<Hit>,
-        visit: &Visit,
-        entry: u32,
-        at: u32,
-        round: u32,
-    ) -> Option<Hit>
+    fn weigh_near(&self, best: &mut Option<Hit>, visit: &Visit, entry: u32, at: u32, round: u32)
         requires stop { visit.now.stop < length (S.net self.now.scan.now).table.stops }
         requires arr { visit.now.arr ≤ℤ pos 359999 }
         requires alight { IsTrue visit.now.alight }
         ensures { IsWeighed (S.net self.now.scan.now).table self.now.query.now visit.now.stop
-            visit.now.arr visit.now.alight entry at round best result }
+            visit.now.arr visit.now.alight entry at round best.old best.new }
     {
-        match nearest(self.scan, visit.stop, targets(self.query)) {
-            Some(path) => earlier(best, alighting(visit, path, entry, at, round)),
-            None => best,
-        }
+        let Some(path) = nearest(self.scan, visit.stop, targets(self.query)) else {
+            return;
+        };
+        *best = earlier(*best, alighting(visit, path, entry, at, round));
     }
 
     // Makes it the best hit to alight at an event of a segment, where that is earlier.
@@ -173,7 +166,7 @@ impl<S: Scan> Search<'_, S> {
         if !may_improve(best, visit) || !self.may_be_near(visit.stop) {
             return;
         }
-        *best = self.weigh_near(*best, visit, entry, at, round);
+        self.weigh_near(best, visit, entry, at, round);
     }
 
     // Looks at the indices that a segment covers one by one, and weighs to alight there. It ends

@@ -12,7 +12,7 @@ ghost use Rattle.earliest_query.specs.Sweeping.{IsSweptQueue, IsSweptRound, Keep
 ghost use Rattle.earliest_query.specs.UnderWay.{Covers, Extends, IsBounded, IsDone, IsImproved};
 
 use super::all_rounds::last_hit;
-use super::riding::{earlier, is_late, seen_on};
+use super::riding::{TRIED, earlier, is_late, seen_on};
 use super::search::Search;
 use segment_queue::{Desk, Hit, LastLeg, Levels, Look, Scan, Seen, Steps};
 use std::alloc::Global;
@@ -152,10 +152,12 @@ impl<S: Scan> Search<'_, S> {
         n: u32,
         round: u32,
         so_far: Option<Hit>,
+        places: &mut [usize],
         steps: &mut Steps<L>,
     ) -> Result<Option<Hit>, Memory>
     where
         S: Look<L>,
+        requires room { 64 ≤ length places.old }
         requires queue { IsSweptQueue (S.net self.now.scan.now) self.now.query.now
             desk.old levels.old }
         requires level { round < length levels.old }
@@ -166,6 +168,7 @@ impl<S: Scan> Search<'_, S> {
         ensures queue { OnOk result
             (IsSweptQueue (S.net self.now.scan.now) self.now.query.now desk.new levels.new) }
         ensures levels { OnOk result (length levels.new ≡ length levels.old) }
+        ensures places { OnOk result (length places.new ≡ length places.old) }
         ensures extends { OnOk result (Extends desk.old desk.new (suc round)) }
         ensures followed { IfOk result (λ best. (i : ℕ) → Covers desk.old n i →
             IsDone (S.net self.now.scan.now) desk.new best n i) }
@@ -178,7 +181,7 @@ impl<S: Scan> Search<'_, S> {
             Fits (S.net self.now.scan.now).table desk.new }
     {
         let (best, seen) = self.weigh_level(desk, n, round, so_far, steps);
-        self.follow_seen(desk, levels, round as usize, n, seen)?;
+        self.follow_seen(desk, levels, round as usize, n, seen, places)?;
         Ok(best)
     }
 
@@ -216,10 +219,11 @@ impl<S: Scan> Search<'_, S> {
         ensures still { Fits (S.net self.now.scan.now).table desk.old →
             Fits (S.net self.now.scan.now).table desk.new }
     {
+        let mut places = [0; TRIED];
         let mut best = so_far;
         for n in from..to {
             desk.read_level_ahead(self.scan, from, n, to);
-            best = self.ride_level(desk, levels, n, round, best, steps)?;
+            best = self.ride_level(desk, levels, n, round, best, &mut places, steps)?;
         }
         Ok(best)
     }

@@ -25,6 +25,7 @@ returns g c =
     record {
       queue = on.queue;
       levels = on.levels;
+      places = on.places;
       extends = on.extends;
       followed = λ i covers. elim (told.weighed i covers).left [
         | inl done ↦ done-kept N Q D F top c.args.round c.args.n i best best on.extends c.requires.segment (inl refl) done

@@ -53,6 +53,7 @@ loop-n-preserved g c =
       bounded = bounded_one_more N Q D E F c.args.from k c.args.round c.loop-n.best best inside before.extends joined ridden.improved before.bounded bounded;
       improved = improved-trans N.table Q E F top c.args.round c.args.so_far c.loop-n.best best joined before.improved ridden.improved;
       still = λ fits. c.ride_level.ensures.still (subst (Fits N.table) (sym same) (before.still fits));
+      places = omega (arith, before.places, ridden.places);
     }
 
 pub returns-clause-followed : goal.returns-clause-followed

@@ -13,4 +13,5 @@ invariant-loop-n g l = record {
   bounded : (n i : ℕ) → l.from ≤ n → n < l.n → Covers l.initial.desk n i → IsBounded (g.S.Scan.net l.self.scan.now).table l.self.query.now l.initial.desk l.best n i;
   improved : IsImproved (g.S.Scan.net l.self.scan.now).table l.self.query.now l.desk l.round l.initial.best l.best;
   still : Fits (g.S.Scan.net l.self.scan.now).table l.initial.desk → Fits (g.S.Scan.net l.self.scan.now).table l.desk;
+  places : 64 ≤ length l.places;
 }
