@@ -159,3 +159,14 @@ in_step-grown N D D' k step marks segments segment_room hit_room note_room = rec
   where
     same : (t : ℕ) → mark_of N.table D'.marks t ≡ mark_of N.table D.marks t
     same t = ap (λ ms. mark_of N.table ms t) marks ∙ ap (λ o. unwrap_or o (last_index N.table t)) (grown-same D.marks k t)
+
+-- two desks with the same of everything are the same
+pub desk_same : (D E : DeskData) → E.marks ≡ D.marks → E.segments ≡ D.segments → E.hits ≡ D.hits → E.notes ≡ D.notes → E.segment_room ≡ D.segment_room → E.hit_room ≡ D.hit_room → E.note_room ≡ D.note_room → E ≡ D
+desk_same D E marks segments hits notes segment_room hit_room note_room =
+    subst (λ x. E ≡ record { marks = x; segments = D.segments; hits = D.hits; notes = D.notes; segment_room = D.segment_room; hit_room = D.hit_room; note_room = D.note_room }) marks
+    (subst (λ x. E ≡ record { marks = E.marks; segments = x; hits = D.hits; notes = D.notes; segment_room = D.segment_room; hit_room = D.hit_room; note_room = D.note_room }) segments
+    (subst (λ x. E ≡ record { marks = E.marks; segments = E.segments; hits = x; notes = D.notes; segment_room = D.segment_room; hit_room = D.hit_room; note_room = D.note_room }) hits
+    (subst (λ x. E ≡ record { marks = E.marks; segments = E.segments; hits = E.hits; notes = x; segment_room = D.segment_room; hit_room = D.hit_room; note_room = D.note_room }) notes
+    (subst (λ x. E ≡ record { marks = E.marks; segments = E.segments; hits = E.hits; notes = E.notes; segment_room = x; hit_room = D.hit_room; note_room = D.note_room }) segment_room
+    (subst (λ x. E ≡ record { marks = E.marks; segments = E.segments; hits = E.hits; notes = E.notes; segment_room = E.segment_room; hit_room = x; note_room = D.note_room }) hit_room
+    (subst (λ x. E ≡ record { marks = E.marks; segments = E.segments; hits = E.hits; notes = E.notes; segment_room = E.segment_room; hit_room = E.hit_room; note_room = x }) note_room refl))))))

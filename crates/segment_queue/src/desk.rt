@@ -1,4 +1,4 @@
-ghost use Rattle.std.specs.Prelude.{◌≡◌, ◌+◌, ◌-◌, ◌<◌, ◌≤◌, ◌++◌, ◌∷◌, [], ℕ, None, IsSomeAnd, IsTrue, ◌↔◌, MatchBool, OnErr, OnOk, All, length, replicate, slice_get, slice_index_or, take, vec_capacity, vec_len};
+ghost use Rattle.std.specs.Prelude.{◌≡◌, ◌+◌, ◌-◌, ◌<◌, ◌≤◌, ◌++◌, ◌∷◌, [], ℕ, None, IsSomeAnd, IsTrue, ◌↔◌, MatchBool, IsOk, OnErr, OnOk, All, length, replicate, slice_get, slice_index_or, take, vec_capacity, vec_len};
 ghost use Rattle.transfer_pack.specs.Words.{lent};
 ghost use Rattle.tb_base.specs.Lines.{AreDividedInto};
 ghost use Rattle.tb_base.specs.Network.{NetData};
@@ -78,15 +78,19 @@ fn push_within<T: Copy>(items: &mut Vec<T>, item: T)
     items.push_reserved(item);
 }
 
-// Room for so many items in all.
+// Room for so many items in all. Where there is room it takes no memory.
 fn make_room_for<T>(items: &mut Vec<T>, count: usize) -> Result<(), Memory>
     ensures items { items.new.items ≡ items.old.items }
     ensures room { OnOk result (count ≤ vec_capacity items.new) }
     ensures grows { vec_capacity items.old ≤ vec_capacity items.new }
+    ensures ready { count ≤ vec_capacity items.old → IsOk result }
+    ensures kept { count ≤ vec_capacity items.old →
+        vec_capacity items.new ≡ vec_capacity items.old }
 {
-    if items.len() < count {
-        items.reserve(count - items.len())?;
+    if count <= items.capacity() {
+        return Ok(());
     }
+    items.reserve(count - items.len())?;
     Ok(())
 }
 
@@ -163,10 +167,12 @@ impl Desk {
         }
     }
 
-    /// Room for the scan: the desk fits it. At a refusal it fits what it fitted. What was in step
-    /// stays so.
+    /// Room for the scan: the desk fits it. Where it fits already this isn't refused, and takes no
+    /// memory. At a refusal it fits what it fitted. What was in step stays so.
     pub fn make_room<S: Scan>(&mut self, scan: &S) -> Result<(), Memory>
         ensures fits { OnOk result (Fits (S.net scan.now).table self.new) }
+        ensures ready { Fits (S.net scan.now).table self.old → IsOk result }
+        ensures kept { Fits (S.net scan.now).table self.old → self.new ≡ self.old }
         ensures still { (T : TimetableData) → Fits T self.old → Fits T self.new }
         ensures step { (N : NetData) → IsInStep N self.old → IsInStep N self.new }
         ensures marks { (more : ℕ) × (self.new.marks ≡ self.old.marks ++ replicate more None) }

@@ -1,4 +1,4 @@
-ghost use Rattle.std.specs.Prelude.{◌≡◌, ◌-◌, ◌<◌, ◌≤◌, ◌++◌, ◌⊎◌, [], All, IsSomeAnd, IsTrue, MatchBool, ◌↔◌, None, Some, OnErr, OnOk, length, replicate, slice_index_or, slice_set, take, unwrap_or};
+ghost use Rattle.std.specs.Prelude.{◌≡◌, ◌-◌, ◌<◌, ◌≤◌, ◌++◌, ◌⊎◌, [], All, IsSomeAnd, IsOk, IsTrue, MatchBool, ◌↔◌, None, Some, OnErr, OnOk, length, replicate, slice_index_or, slice_set, take, unwrap_or};
 ghost use Rattle.transfer_pack.specs.Words.{lent};
 ghost use Rattle.segment_queue.specs.Scans.{HoldOpen};
 ghost use Rattle.segment_queue.specs.Words.{IsAbove, lowered_marks, lowered_words};
@@ -96,10 +96,12 @@ impl Marks {
         self.words.len()
     }
 
-    /// At least so many trips. The further ones have no index.
+    /// At least so many trips. The further ones have no index. Where there are as many already it
+    /// isn't refused.
     pub fn make_room(&mut self, trips: u32) -> Result<(), Memory>
         ensures room { OnOk result
             (self.new ≡ self.old ++ replicate (trips - length self.old) None) }
+        ensures ready { trips ≤ length self.old → IsOk result }
         ensures memory { OnErr result (self.new ≡ self.old) }
     {
         if trips as usize <= self.words.len() {
