@@ -21,7 +21,7 @@ impl From<Memory> for Unread {
     }
 }
 
-/// What is said of footpaths where a feed is read.
+/// What is said of footpaths and of service days where a feed is read.
 #[derive(Clone, Copy)]
 pub struct Reading {
     // Whether a change takes a minute at a stop of which transfers.txt doesn't speak, not no time.
@@ -29,15 +29,17 @@ pub struct Reading {
     // Whether a station makes footpaths, of two minutes.
     joins_stations: bool,
     closes: bool,
+    horizon: Horizon,
 }
 
 impl Reading {
     /// A stop of which transfers.txt doesn't speak takes no time to change at, a station makes no
-    /// footpath, and none is added.
+    /// footpath, and none is added. One service day counts.
     pub const PLAIN: Reading = Reading {
         takes_minute: false,
         joins_stations: false,
         closes: false,
+        horizon: Horizon::OneDay,
     };
 
     /// What is said where a feed is read that looks random: its footpaths are closed.
@@ -46,10 +48,16 @@ impl Reading {
             takes_minute: draw.below(2) == 1,
             joins_stations: draw.one_in(2),
             closes: true,
+            horizon: Horizon::OneDay,
         }
     }
 
-    fn options(self, horizon: Horizon) -> Options
+    /// The same with so many service days.
+    pub fn up_to(self, horizon: Horizon) -> Reading {
+        Reading { horizon, ..self }
+    }
+
+    fn options(self) -> Options
         ensures change { result.change ≤ 86400 }
         ensures station { IfSome result.station (λ secs. secs ≤ 86400) }
     {
@@ -57,7 +65,7 @@ impl Reading {
             change: if self.takes_minute { 60 } else { 0 },
             station: if self.joins_stations { Some(120) } else { None },
             close: self.closes,
-            horizon,
+            horizon: self.horizon,
             lenient: false,
         }
     }
@@ -86,7 +94,7 @@ pub fn timetable_of(alloc: Global, files: Files, reading: Reading) -> Result<Tim
     let Ok(day) = day_of(b"20260302".as_slice()) else {
         unreachable!()
     };
-    timetable_on(alloc, files, &day, &reading.options(Horizon::OneDay))
+    timetable_on(alloc, files, &day, &reading.options())
 }
 
 /// The timetable of a feed's files on the day before, with all trips of both days.
@@ -98,7 +106,12 @@ pub fn timetable_of_two_days(
     let Ok(day) = day_of(b"20260301".as_slice()) else {
         unreachable!()
     };
-    timetable_on(alloc, files, &day, &reading.options(Horizon::TwoDays))
+    timetable_on(
+        alloc,
+        files,
+        &day,
+        &reading.up_to(Horizon::TwoDays).options(),
+    )
 }
 
 /// The timetable of a feed, where nothing is said of footpaths.

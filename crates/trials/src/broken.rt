@@ -1,13 +1,15 @@
 //! Small feeds that look random, of which one file is broken, and what the program says of each.
+//! Each other one has trips by frequency, trips of the day before and a calendar.txt.
 //!
 //! Each feed is broken many times: a byte of a file changed, dropped or doubled, the file cut,
 //! another file's bytes in its place, or its rows turned round. Over each the program is asked for
-//! the best values by both ways, the latest departures, the best values to every stop, and the kept
+//! the best values by both ways and over two service days, a profile, the latest departures, the
+//! best values and the travel times to every stop, travel times from two origins, and the kept
 //! transfers. Each ends with an answer, or with a status that names a fault of the feed and nothing
 //! written; all with the same one; both ways show the same best values, and the order of rows
 //! changes none. Each best value that is written as JSON is a true claim when it is read again. With
-//! `--lenient` there is an answer, or a fault that ends what is left of the feed; and a check tells no
-//! fault exactly where there is an answer without it.
+//! `--lenient` there is an answer, or a fault that no row bears; and a check tells no fault exactly
+//! where there is an answer without it.
 mod asking;
 mod breaks;
 mod lenient;

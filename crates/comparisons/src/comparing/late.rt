@@ -1,8 +1,8 @@
 //! Editions that are amended by late trips, held against editions that are built anew.
 //!
 //! Over each feed that looks random there are some lists of late trips: early and late by seconds,
-//! minutes and a day, several of one trip, some that take another one back, trips of the day
-//! before, and some with a name or an event that isn't there. An amended edition has the trips,
+//! minutes and a day, several of one trip, some that take another one back, trips of other service
+//! days, and some with a name or an event that isn't there. An amended edition has the trips,
 //! lines and kept transfers of the one that is built anew on the amended timetable, and its number
 //! of touched trips is what counting them one by one gives; or both are refused for the same fault.
 //! Some questions asked over both have the same best values, each with a journey that has it. In

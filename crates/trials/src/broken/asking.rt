@@ -20,14 +20,28 @@ const ROOMY: Trouble = Trouble {
 pub enum AskedCommand {
     Ask,
     PlainAsk,
+    TwoDaysAsk,
+    Profile,
     Latest,
     Reach,
+    Times,
+    Matrix,
     Build,
     JsonAsk,
     JsonVerify,
     LenientAsk,
     LenientPlainAsk,
     Check,
+}
+
+impl AskedCommand {
+    // What it reads from standard input.
+    fn script(self) -> &'static str {
+        match self {
+            AskedCommand::Matrix => "P1\nP0\n",
+            _ => "",
+        }
+    }
 }
 
 /// Between which platforms, and when, it is asked.
@@ -65,11 +79,23 @@ impl PlatformQuestion {
             AskedCommand::PlainAsk => format!(in alloc;
                 "--close --plain ask made 20260302 P{from} P{to} {hour}:{minute:02}:00"
             ),
+            AskedCommand::TwoDaysAsk => format!(in alloc;
+                "--close --workers 1 --days 2 ask made 20260302 P{from} P{to} {hour}:{minute:02}:00"
+            ),
+            AskedCommand::Profile => format!(in alloc;
+                "--close --workers 1 profile made 20260302 P{from} P{to} {hour}:{minute:02}:00 30:00:00"
+            ),
             AskedCommand::Latest => format!(in alloc;
                 "--close --workers 1 latest made 20260302 P{from} P{to} {hour}:{minute:02}:00"
             ),
             AskedCommand::Reach => format!(in alloc;
                 "--close --workers 1 reach made 20260302 P{from} {hour}:{minute:02}:00"
+            ),
+            AskedCommand::Times => format!(in alloc;
+                "--close --workers 1 times made 20260302 P{from} {hour}:{minute:02}:00 30:00:00 1200"
+            ),
+            AskedCommand::Matrix => format!(in alloc;
+                "--close --workers 2 matrix made 20260302 - {hour}:{minute:02}:00 30:00:00 3600"
             ),
             AskedCommand::JsonAsk => format!(in alloc;
                 "--json --close --plain ask made 20260302 P{from} P{to} {hour}:{minute:02}:00"
@@ -196,5 +222,5 @@ pub fn command_ending<R: Threads + Wait + Sync>(
     question: PlatformQuestion,
     command: AskedCommand,
 ) -> Result<Ending, Memory> {
-    ending_with(rt, alloc, files, question, command, "")
+    ending_with(rt, alloc, files, question, command, command.script())
 }

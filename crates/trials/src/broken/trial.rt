@@ -6,8 +6,8 @@ use super::breaks::{Break, Broken, broken_files, some_broken};
 use super::lenient::{LenientEnds, lenient_ends};
 use crate::broken::refused::Refused;
 use crate::cases::ending::Ending;
-use feed_maker::{Draw, small_feed};
-use std::alloc::Global;
+use feed_maker::{Draw, Files, MADE_FOLDER, small_feed, twin_feed};
+use std::alloc::{AllocError, Global};
 use std::sync::Wait;
 use std::thread::Threads;
 use tb_base::Memory;
@@ -16,12 +16,20 @@ use tb_base::Memory;
 const BREAKS: u32 = 16;
 
 // What is asked after `Ask`, and held against how that ended.
-const FURTHER: [AskedCommand; 4] = [
+const FURTHER: [AskedCommand; 8] = [
     AskedCommand::PlainAsk,
+    AskedCommand::TwoDaysAsk,
+    AskedCommand::Profile,
     AskedCommand::Latest,
     AskedCommand::Reach,
+    AskedCommand::Times,
+    AskedCommand::Matrix,
     AskedCommand::Build,
 ];
+
+// A calendar.txt that says of the service E what calendar_dates.txt says of it: it runs on both days.
+const CALENDAR: &str =
+    "service_id,monday,tuesday,wednesday,thursday,friday,saturday,sunday,start_date,end_date\nE,1,1,1,1,1,1,1,20260301,20260302\n";
 
 /// What was tried.
 #[derive(Clone, Copy)]
@@ -278,6 +286,25 @@ fn try_files<R: Threads + Wait + Sync>(
     tried
 }
 
+// Adds the calendar.txt.
+fn add_calendar(alloc: Global, files: &mut Files) -> Result<(), AllocError> {
+    let path = format!(in alloc; "{MADE_FOLDER}/calendar.txt")?;
+    let rows = CALENDAR.as_bytes();
+    files.push((path, rows.to_vec(alloc)?))?;
+    Ok(())
+}
+
+// The files of a seed. Those of each other one have trips by frequency, trips of the day before and a
+// calendar.txt.
+fn files_of(alloc: Global, seed: u32, draw: &mut Draw) -> Result<Files, Memory> {
+    if seed % 2 == 1 {
+        return small_feed(alloc, draw);
+    }
+    let mut files = twin_feed(alloc, draw)?;
+    add_calendar(alloc, &mut files)?;
+    Ok(files)
+}
+
 /// Tries the feed of a seed.
 pub fn try_seed<R: Threads + Wait + Sync>(
     rt: &R,
@@ -285,7 +312,7 @@ pub fn try_seed<R: Threads + Wait + Sync>(
     seed: u32,
 ) -> Result<BrokenTally, Refused> {
     let mut draw = Draw::new(seed as u64);
-    let files = small_feed(alloc, &mut draw)?;
+    let files = files_of(alloc, seed, &mut draw)?;
     let tried = try_files(rt, alloc, files.as_slice(), &mut draw);
     drop(files);
     tried

@@ -47,18 +47,20 @@ fn some_name(alloc: Global, draw: &mut Draw, trip: &Trip) -> Result<Name, Memory
     }
 }
 
-// The service day of a trip, or at times another one.
+// The service day of a trip, or at times any.
 fn some_day(draw: &mut Draw, trip: &Trip) -> ServiceDay {
     if !draw.one_in(25) {
-        trip.day
-    } else if trip.day.is(ServiceDay::Date) {
-        ServiceDay::Before
-    } else {
-        ServiceDay::Date
+        return trip.day;
+    }
+    match draw.below(4) {
+        0 => ServiceDay::Before,
+        1 => ServiceDay::Date,
+        2 => ServiceDay::After,
+        _ => ServiceDay::SecondAfter,
     }
 }
 
-// A late of a trip, at times with a name that no trip has, or with another day.
+// A late of a trip, at times with a name that no trip has, or with any day.
 fn some_late(alloc: Global, draw: &mut Draw, trip: &Trip, line: u32) -> Result<Late, Memory> {
     Ok(Late {
         line,
@@ -80,7 +82,7 @@ fn taken_back(alloc: Global, late: &Late, line: u32) -> Result<Late, Memory> {
     })
 }
 
-// A trip that is cancelled, at times with a name that no trip has, or with another day.
+// A trip that is cancelled, at times with a name that no trip has, or with any day.
 fn some_cancel(alloc: Global, draw: &mut Draw, trip: &Trip, line: u32) -> Result<Cancel, Memory> {
     Ok(Cancel {
         line,
@@ -89,7 +91,7 @@ fn some_cancel(alloc: Global, draw: &mut Draw, trip: &Trip, line: u32) -> Result
     })
 }
 
-// A stop that a trip skips, at times with a name that no trip has, or with another day.
+// A stop that a trip skips, at times with a name that no trip has, or with any day.
 fn some_skip(alloc: Global, draw: &mut Draw, trip: &Trip, line: u32) -> Result<Skip, Memory> {
     Ok(Skip {
         line,

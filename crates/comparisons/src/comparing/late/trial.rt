@@ -14,22 +14,31 @@ use late_edit::{Amended, LateFault, Update, amend, amended};
 use segment_queue::Desk;
 use std::alloc::Global;
 use std::thread::Threads;
-use tb_base::Memory;
+use tb_base::{Horizon, Memory};
 
 // How many lists of updates are tried over each feed.
 const LISTS: u32 = 8;
 
-// The day before the one that is read: 1 March 2026.
-const DAY_BEFORE: &[u8] = b"S,20260301,1\n";
+// The day before the one that is read, and the two after it: 1, 3 and 4 March 2026.
+const OTHER_DAYS: &[u8] = b"S,20260301,1\nS,20260303,1\nS,20260304,1\n";
 
-// Lets the trips of a feed run on the day before, too.
-fn add_day_before(files: &mut Files) -> Result<(), Memory> {
+// Lets the trips of a feed run on the other days, too.
+fn add_other_days(files: &mut Files) -> Result<(), Memory> {
     for (path, bytes) in files.iter_mut() {
         if path.as_str().ends_with("calendar_dates.txt") {
-            bytes.extend_from_slice(DAY_BEFORE)?;
+            bytes.extend_from_slice(OTHER_DAYS)?;
         }
     }
     Ok(())
+}
+
+// One to three service days.
+fn some_horizon(draw: &mut Draw) -> Horizon {
+    match draw.below(3) {
+        0 => Horizon::OneDay,
+        1 => Horizon::TwoDays,
+        _ => Horizon::ThreeDays,
+    }
 }
 
 // Why a list of updates that is refused for nothing else ends a comparison.
@@ -218,8 +227,9 @@ fn try_beside<R: Threads + Sync>(
 // The edition of a feed.
 fn edition<R: Threads + Sync>(rt: &R, alloc: Global, draw: &mut Draw) -> Result<Edition, Refused> {
     let mut files = small_feed(alloc, draw)?;
-    add_day_before(&mut files)?;
-    edition_of(rt, alloc, files, Reading::drawn(draw))
+    add_other_days(&mut files)?;
+    let reading = Reading::drawn(draw).up_to(some_horizon(draw));
+    edition_of(rt, alloc, files, reading)
 }
 
 /// Compares over the feed of a seed. In the end its edition is still the one of its timetable.
