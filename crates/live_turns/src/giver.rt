@@ -1,4 +1,4 @@
-ghost use Rattle.std.specs.Prelude.{◌≡◌, ◌⊎◌, ◌∷◌, ◌++◌, [], IfErr, OnOk, true};
+ghost use Rattle.std.specs.Prelude.{◌≡◌, ◌↔◌, ◌⊎◌, ◌∷◌, ◌++◌, [], IfErr, IsTrue, OnOk};
 ghost use Rattle.history.specs.Lists.{StartsWith};
 ghost use Rattle.live_turns.specs.Handed.{IsLast};
 
@@ -99,9 +99,9 @@ impl<T: Drop, J: Naming> Given<T, J> {
         self.history.covers(&taker.known);
     }
 
-    /// Whether all that was given was taken, as the counts say.
+    /// Whether all that was given was taken.
     pub fn were_taken(&mut self, taker: &Taker<T, J>) -> bool
-        ensures all { result ≡ true → taker.now ≡ self.old }
+        ensures all { IsTrue result ↔ (taker.now ≡ self.old) }
         ensures same { self.new ≡ self.old }
     {
         self.history.covers(&taker.known);

@@ -1,4 +1,4 @@
-ghost use Rattle.std.specs.Prelude.{◌≡◌, ◌+◌, ◌∷◌, ◌++◌, [], length, true, IfOk, MatchOption};
+ghost use Rattle.std.specs.Prelude.{◌≡◌, ◌↔◌, ◌+◌, ◌∷◌, ◌++◌, [], length, IfOk, IsTrue, MatchOption};
 ghost use Rattle.live_turns.specs.Takings.{IsTaken};
 
 use crate::giver::Giver;
@@ -41,7 +41,7 @@ pub enum Taken<T> {
 
 // Whether a number comes right behind n.
 fn is_next(n: u64, number: u64) -> bool
-    ensures { result ≡ true → number ≡ n + 1 }
+    ensures { IsTrue result ↔ (number ≡ n + 1) }
 {
     match n.checked_add(1) {
         Some(next) => number == next,

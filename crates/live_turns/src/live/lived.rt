@@ -1,5 +1,5 @@
 //! A process that lives, from its first edition to the end of its lines.
-ghost use Rattle.std.specs.Prelude.{◌≡◌, ◌≢◌, ◌⊎◌, ◌<◌, ◌≤◌, ◌-◌, ◌^◌, ◌∷◌, [], ℕ, List, Err, IfErr, IfOk, IsSome, MatchResult, OnErr, OnOk, Ok, false, true, length, slice_get, take, vec_len};
+ghost use Rattle.std.specs.Prelude.{◌≡◌, ◌≢◌, ◌⊎◌, ◌↔◌, ◌<◌, ◌≤◌, ◌-◌, ◌^◌, ◌∷◌, [], ℕ, List, Err, IfErr, IfOk, IsSome, IsTrue, MatchResult, OnErr, OnOk, Ok, false, true, length, slice_get, take, vec_len};
 ghost use Rattle.std.specs.Io.KnownBytes.{Appends, Consumes};
 ghost use Rattle.footpaths.specs.Limits.{AreWithinADay};
 ghost use Rattle.gtfs_rows.specs.declared.fault.FeedFault.{FeedFault};
@@ -154,7 +154,7 @@ fn last_of_all<J: Naming, R: Wait>(
 
 // Whether all that was given was taken.
 fn all_taken<K: Naming>(given: Given<PlanItem, K>, items: &Taker<PlanItem, K>) -> bool
-    ensures { result ≡ true → items.now ≡ given }
+    ensures { IsTrue result ↔ (items.now ≡ given) }
 {
     let mut given = given;
     let all = given.were_taken(items);
