@@ -468,7 +468,7 @@ def rides_of_a_claim_on_one_trip(folder, n):
 def rides_of_a_claim_on_starts_of_one_trip(folder, n):
     """Rides on the last of as many starts of a trip."""
     one_row_of_starts(folder, n)
-    ride = f"ride t0 A {clock(n - 1)} B {clock(n + 59)}\n"
+    ride = f"ride t0#{clock(n - 1)} A {clock(n - 1)} B {clock(n + 59)}\n"
     write(folder, "claim", f"arrive 08:01:00 rides {n}\n" + ride * n)
 
 
