@@ -23,8 +23,7 @@ class Look:
 
     def __init__(self, folder):
         self.folder, self.told = folder, []
-        # what is left, before starts beyond the day are looked at: the feed, and the rows of what
-        # is warned of
+        # what is left: the feed, and the rows of what is warned of
         self.kept, self.stop_rows, self.services_of_trips, self.headways = None, {}, [], []
 
     def tell(self, *fault):
@@ -136,20 +135,26 @@ class Look:
                     found[tuple(fields[:2])] = fields
         return list(found.values())
 
-    def frequencies(self, trips):
+    def frequencies(self, calls):
         """The rows, those with a fault without a start."""
-        name, rows = "frequencies.txt", []
+        name, good, bad = "frequencies.txt", [], []
 
         def fault_of(fields):
             column, fault = feeds.field_fault(name, fields)
-            column, fault = (column, fault) if fault or fields[0] in trips else (1, 12)
-            if fault and fields[0] in trips:
-                rows.append((0, [fields[0], "0:00:00", "0:00:00", "1", ""]))
+            column, fault = (column, fault) if fault or fields[0] in calls else (1, 12)
+            if fault and fields[0] in calls:
+                bad.append(fields[0])
             return column, fault
 
-        good = self.good(name, fault_of) or []
+        for row, fields in self.good(name, fault_of) or []:
+            try:
+                feeds.starts_of(row, fields, calls[fields[0]])
+                good.append((row, fields))
+            except Fault as fault:
+                self.told.append(fault)
+                bad.append(fields[0])
         self.headways = [(row, fields[3]) for row, fields in good]
-        return [*good, *rows]
+        return [*good, *((0, [trip, "0:00:00", "0:00:00", "1", ""]) for trip in bad)]
 
     def feed(self):
         stops, services, trips = self.stops(), self.services(), self.trips()
@@ -157,10 +162,9 @@ class Look:
         ids = dict.fromkeys(fields[1] for _, fields in trips)
         calls = self.calls(stops, ids)
         transfers = self.transfers(stops)
-        frequencies = self.frequencies(ids)
-        parts = stops, *services, trips, calls, transfers
-        self.kept = feeds.feed_of(*parts, [])
-        return feeds.feed_of(*parts, frequencies)
+        parts = stops, *services, trips, calls, transfers, self.frequencies(calls)
+        self.kept = feeds.feed_of(*parts)
+        return self.kept
 
 
 def whole(top, folder):
