@@ -85,7 +85,11 @@ def load(path):
 
 
 def takes_one(function):
-    return callable(function) and len(inspect.signature(function).parameters) == 1
+    """Whether it is a function of one value; others that it takes have a value of their own."""
+    if not callable(function):
+        return False
+    needed = [it for it in inspect.signature(function).parameters.values() if it.default is it.empty]
+    return len(needed) == 1
 
 
 def main(words):

@@ -354,7 +354,8 @@ class SideBySide(unittest.TestCase):
         known += "rtlib = types.SimpleNamespace(lock=main, files_of=main, Crate=Crate)\n"
         self.assertIsNone(shared_rt.load(write(folder, "rt", known)))
         write(folder, "rtlib.py", "")
-        self.assertIsNotNone(shared_rt.load(write(folder, "rt", known)))
+        for more in ("", "def stamp_once(crate, made=main): pass\nCrate.stamp = stamp_once\n"):
+            self.assertIsNotNone(shared_rt.load(write(folder, "rt", known + more)))
         for other in ("rtlib = None\n", "rtlib.lock = lambda crates, kind: []\n"):
             self.assertIsNone(shared_rt.load(write(folder, "rt", known + other)))
 
