@@ -74,10 +74,10 @@ fn empty<S: Scan>(alloc: Global, scan: &S, desk: &mut Desk)
 /// first, each with the legs of a journey that has it and changes by hops of the set alone. Any
 /// sufficient set of hops gives the same slots. The window is swept from its end: once a second
 /// after it, and at each time within it at which one can leave an origin for a first ride. What a
-/// later time has reached with no more rides isn't entered again. Each look is a step on the
-/// counter, but no clause bounds how many there are.
-/// Refused only for want of memory, as which more segments count than 32 bits can number; then the
-/// desk fits still and its queue is empty.
+/// later time has reached with no more rides isn't entered again. Each look by the scan is a step
+/// on the counter, but no clause bounds how many there are; when a trip departs is read of the
+/// timetable, without a step. Refused only for want of memory, as which more segments count than 32
+/// bits can number; then the desk fits still and its queue is empty.
 pub fn best_offers<L: Ledger, S: Look<L>>(
     alloc: Global,
     scan: &S,
