@@ -23,6 +23,8 @@ class Look:
 
     def __init__(self, folder):
         self.folder, self.told = folder, []
+        # the trips that are left out for their stop times
+        self.gone = set()
         # what is left: the feed, and the rows of what is warned of
         self.kept, self.stop_rows, self.services_of_trips, self.headways = None, {}, [], []
 
@@ -99,6 +101,7 @@ class Look:
         rows = feeds.needed(self.good(name, fault_of), name)
         found = self.without_twins({trip: {} for trip in trips if trip not in bad}, rows)
         found = self.with_good_times(feeds.in_order(found))
+        self.gone = {trip for trip in trips if trip not in found}
         return {trip: found.get(trip, []) for trip in trips}
 
     def without_twins(self, found, rows):
@@ -141,7 +144,8 @@ class Look:
 
         def fault_of(fields):
             column, fault = feeds.field_fault(name, fields)
-            column, fault = (column, fault) if fault or fields[0] in calls else (1, 12)
+            if not fault and (fields[0] not in calls or fields[0] in self.gone):
+                column, fault = 1, 12
             if fault and fields[0] in calls:
                 bad.append(fields[0])
             return column, fault

@@ -15,7 +15,7 @@ use Rattle.service_trips.specs.declared.frequency.TripFrequency.{TripFrequency}
 use Rattle.trip_table.specs.Answers.{Gives, GivesRows, IsRowsFault}
 use Rattle.trip_table.specs.Day.{DayParts, IsTimetableOf, IsTimetableOfParts, Then, given_footpaths, parts_on}
 use Rattle.trip_table.specs.Feed.{Feed}
-use Rattle.trip_table.specs.LeftFeed.{IsLeft, IsLeftOf, IsLenientOf, IsTimetableLeft, LeftData, left_after_rows, left_frequencies, left_rows, left_services, left_stops, left_times, left_transfers, left_trips, text_at}
+use Rattle.trip_table.specs.LeftFeed.{IsLeft, IsLeftOf, IsLenientOf, IsTimetableLeft, LeftData, gone_trips, left_after_rows, left_frequencies, left_rows, left_services, left_stops, left_times, left_transfers, left_trips, text_at}
 use Rattle.trip_table.specs.References.{Rows, ServiceData}
 use Rattle.gtfs_rows.specs.StopsFile.{StopData}
 use Rattle.gtfs_rows.specs.TripsFile as trip
@@ -57,14 +57,14 @@ gives_left day options looked before now left (Err rows.Memory) e h = tt
 
 -- the files after stop_times.txt
 pub frequencies_end : (texts : List (Option (List ℕ))) (rows : Rows) (first second third : List FeedFault) (transfers : List TransferData) (f : RowsFault) → after first (left_transfers rows.stops (text_at texts 5)) ≡ ended second (Ok transfers)
-    → EndsBy (left_frequencies rows (text_at texts 6)) second third f → EndsBy (left_after_rows texts rows) first third f
+    → EndsBy (left_frequencies rows (gone_trips rows.stops rows.trips (text_at texts 4)) (text_at texts 6)) second third f → EndsBy (left_after_rows texts rows) first third f
 frequencies_end texts rows first second third transfers f e h =
-    follows first second third (left_transfers rows.stops (text_at texts 5)) transfers _ f e (stops second third (left_frequencies rows (text_at texts 6)) _ f h)
+    follows first second third (left_transfers rows.stops (text_at texts 5)) transfers _ f e (stops second third (left_frequencies rows (gone_trips rows.stops rows.trips (text_at texts 4)) (text_at texts 6)) _ f h)
 
 pub frequencies_left : (texts : List (Option (List ℕ))) (rows : Rows) (first second third : List FeedFault) (transfers : List TransferData) (frequencies : List TripFrequency) → after first (left_transfers rows.stops (text_at texts 5)) ≡ ended second (Ok transfers)
-    → after second (left_frequencies rows (text_at texts 6)) ≡ ended third (Ok frequencies) → after first (left_after_rows texts rows) ≡ ended third (Ok (record { rows = rows; transfers = transfers; frequencies = frequencies }))
+    → after second (left_frequencies rows (gone_trips rows.stops rows.trips (text_at texts 4)) (text_at texts 6)) ≡ ended third (Ok frequencies) → after first (left_after_rows texts rows) ≡ ended third (Ok (record { rows = rows; transfers = transfers; frequencies = frequencies }))
 frequencies_left texts rows first second third transfers frequencies e h =
-    on first second (left_transfers rows.stops (text_at texts 5)) transfers _ e ∙ on second third (left_frequencies rows (text_at texts 6)) frequencies _ h
+    on first second (left_transfers rows.stops (text_at texts 5)) transfers _ e ∙ on second third (left_frequencies rows (gone_trips rows.stops rows.trips (text_at texts 4)) (text_at texts 6)) frequencies _ h
     ∙ silently third (Ok (record { rows = rows; transfers = transfers; frequencies = frequencies })) (Ok (record { rows = rows; transfers = transfers; frequencies = frequencies })) refl
 
 -- the files up to trips.txt, and up to stop_times.txt

@@ -28,7 +28,7 @@ use Rattle.service_trips.specs.TimetableTrips.{DayRunsData, timetable_trips}
 use Rattle.service_trips.specs.declared.frequency.TripFrequency.{TripFrequency}
 use Rattle.trip_table.specs.Day.{AreClosedOrTested, DayParts, HasFarPair, HasTooMany, IsTimetableOfParts, KeepTheLaw, Then, breach_fault, given_footpaths, parts_on, rides_of, trips_on}
 use Rattle.trip_table.specs.Feed.{Feed, sized}
-use Rattle.trip_table.specs.LeftFeed.{IsLeftOf, IsLenientOf, IsTimetableLeft, LeftData, feed_files, leave_starts, left_after_rows, left_data, left_frequencies, left_rows, left_start, left_starts, left_transfers, named_frequencies, parts_left, sized_all, start_unless, text_at}
+use Rattle.trip_table.specs.LeftFeed.{IsLeftOf, IsLenientOf, IsTimetableLeft, LeftData, feed_files, gone_trips, leave_starts, left_after_rows, left_data, left_frequencies, left_rows, left_start, left_starts, left_transfers, named_frequencies, parts_left, sized_all, start_unless, text_at}
 use Rattle.trip_table.specs.References.{Rows}
 use Rattle.trip_table.specs.Sieves.{Sieved, after, and_look, look_on, silent}
 use Rattle.trip_table.proofs.LeftUnborne.{Unborne, data_unborne, look_gives, looks, rides_right, rows_right, transfers_right}
@@ -106,8 +106,8 @@ starts_fine : (feed : FeedTrips) (rows y : List TripFrequency) → unless_wrong 
 starts_fine feed [] y = refl
 starts_fine feed (r ∷ rest) y = ap (λ (o : Option FeedFault). unless_wrong (o ∷ map (wrong_frequency feed) (map (left_start feed.rides) rest)) y) (start_fine feed r) ∙ starts_fine feed rest y
 
-starts_right : (rows : Rows) (text : Option (List ℕ)) (left : List TripFrequency) → (left_frequencies rows text).end ≡ Ok left → (rides : List (List Event)) → rides_of rows ≡ Ok rides → check_frequencies (record { rows = rows.trips; rides = rides; frequencies = left }) ≡ Ok left
-starts_right rows text left e rides is = let a = look_gives (named_frequencies rows.trips text) (left_starts rows) left e in by_rows a.0 a.2
+starts_right : (rows : Rows) (gone : List Bool) (text : Option (List ℕ)) (left : List TripFrequency) → (left_frequencies rows gone text).end ≡ Ok left → (rides : List (List Event)) → rides_of rows ≡ Ok rides → check_frequencies (record { rows = rows.trips; rides = rides; frequencies = left }) ≡ Ok left
+starts_right rows gone text left e rides is = let a = look_gives (named_frequencies rows.trips gone text) (left_starts rows) left e in by_rows a.0 a.2
   where
     feed : FeedTrips
     feed = record { rows = rows.trips; rides = rides; frequencies = left }
@@ -125,13 +125,14 @@ data_right : (texts : List (Option (List ℕ))) (left : LeftData) → (left_data
 data_right texts left e =
     let a = look_gives (left_rows texts) (left_after_rows texts) left e in
     let b = look_gives (left_transfers a.0.stops (text_at texts 5)) _ left a.2 in
-    let c = look_gives (left_frequencies a.0 (text_at texts 6)) _ left b.2 in
+    let gone = gone_trips a.0.stops a.0.trips (text_at texts 4) in
+    let c = look_gives (left_frequencies a.0 gone (text_at texts 6)) _ left b.2 in
     let same : record { rows = a.0; transfers = b.0; frequencies = c.0 } ≡ left = one_value (record { rows = a.0; transfers = b.0; frequencies = c.0 }) left c.2 in
     subst (λ (left : LeftData). IsRight left) same
     (record {
       transfers = transfers_right a.0.stops (text_at texts 5) b.0 b.1;
       times = λ x. rows_right texts a.0 a.1 x;
-      starts = λ rides is. starts_right a.0 (text_at texts 6) c.0 c.1 rides is;
+      starts = λ rides is. starts_right a.0 gone (text_at texts 6) c.0 c.1 rides is;
     })
 
 parts_end : (day : ℕ) (options : Options) (left : LeftData) → IsRight left → (f : FeedFault) → parts_left day options left ≡ Err f → bearer f ≡ None

@@ -30,7 +30,7 @@ use Rattle.service_trips.specs.declared.broken.TripFault.{TripFault}
 use Rattle.service_trips.specs.declared.frequency.TripFrequency.{TripFrequency}
 use Rattle.service_trips.specs.declared.stop_time.StopTime.{StopTime}
 use Rattle.trip_table.specs.Feed.{or_missing, rows_in}
-use Rattle.trip_table.specs.LeftFeed.{apart_times, bad, bad_time, duplicate_stop, fault_of, good, good_time, is_among, leave_orphans, leave_starts, leave_trips, left_after_rows, left_data, left_frequencies, left_frequency, left_rows, left_services, left_start, left_starts, left_stops, left_times, left_transfers, left_trips, name_row, named_frequencies, named_frequency, no_starts, or_no_starts, or_nothing, sieve_file, sift, sift_found, tell_found, text_at, timed_rows, times_in, twins, without_trips}
+use Rattle.trip_table.specs.LeftFeed.{apart_times, bad, bad_time, duplicate_stop, fault_of, gone_trips, good, good_time, is_among, leave_orphans, leave_starts, leave_trips, left_after_rows, left_data, left_frequencies, left_frequency, left_rows, left_services, left_start, left_starts, left_stops, left_times, left_transfers, left_trips, name_row, named_frequencies, named_frequency, names_gone, no_starts, or_no_starts, or_nothing, sieve_file, sift, sift_found, tell_found, text_at, timed_rows, times_in, twins, without_trips}
 use Rattle.trip_table.specs.References.{Rows, check_named, check_services, duplicate_service, duplicate_trip, numbered_frequency, service_id, trip_id, trip_number, unknown_trip, wrong_names, wrong_time, wrong_trip, wrong_twice}
 use Rattle.trip_table.specs.Sieves.{Sieved, after, and_look, ended, look_on, silent}
 use Rattle.trip_table.proofs.LeftRowFacts.{names_there}
@@ -174,17 +174,18 @@ transfers_right stops text kept e =
     sifted_right (wrong_transfer stops []) (unwrap_or a.0 []) kept a.2
 
 -- rows of frequencies.txt that are left name trips that are there
-named_by : (trips : List trip.TripData) (f x : FrequencyData) (o : Option FeedFault) → unknown_trip trips (numbered_frequency trips f) ≡ o → unless_wrong (o ∷ []) (Some f) ≡ Ok (Some x) → unknown_trip trips (numbered_frequency trips x) ≡ None
-named_by trips f x None is e = let same : f ≡ x = cc in subst (λ f. unknown_trip trips (numbered_frequency trips f) ≡ None) same is
-named_by trips f x (Some g) is e = absurd (cc)
+named_by : (trips : List trip.TripData) (f x : FrequencyData) (o p : Option FeedFault) → unknown_trip trips (numbered_frequency trips f) ≡ o → unless_wrong (o ∷ p ∷ []) (Some f) ≡ Ok (Some x) → unknown_trip trips (numbered_frequency trips x) ≡ None
+named_by trips f x None None is e = let same : f ≡ x = cc in subst (λ f. unknown_trip trips (numbered_frequency trips f) ≡ None) same is
+named_by trips f x None (Some g) is e = absurd (cc)
+named_by trips f x (Some g) p is e = absurd (cc)
 
-row_named : (trips : List trip.TripData) (o : Option FrequencyData) (x : FrequencyData) → name_row trips o ≡ Ok (Some x) → unknown_trip trips (numbered_frequency trips x) ≡ None
-row_named trips None x e = absurd (cc)
-row_named trips (Some f) x e = named_by trips f x (unknown_trip trips (numbered_frequency trips f)) refl e
+row_named : (trips : List trip.TripData) (gone : List Bool) (o : Option FrequencyData) (x : FrequencyData) → name_row trips gone o ≡ Ok (Some x) → unknown_trip trips (numbered_frequency trips x) ≡ None
+row_named trips gone None x e = absurd (cc)
+row_named trips gone (Some f) x e = named_by trips f x (unknown_trip trips (numbered_frequency trips f)) (names_gone gone (numbered_frequency trips f)) refl e
 
-read_named : (trips : List trip.TripData) (m : Result (Option FrequencyData) FeedFault) (x : FrequencyData) → and_then m (name_row trips) ≡ Ok (Some x) → unknown_trip trips (numbered_frequency trips x) ≡ None
-read_named trips (Ok o) x e = row_named trips o x e
-read_named trips (Err f) x e = absurd (cc)
+read_named : (trips : List trip.TripData) (gone : List Bool) (m : Result (Option FrequencyData) FeedFault) (x : FrequencyData) → and_then m (name_row trips gone) ≡ Ok (Some x) → unknown_trip trips (numbered_frequency trips x) ≡ None
+read_named trips gone (Ok o) x e = row_named trips gone o x e
+read_named trips gone (Err f) x e = absurd (cc)
 
 known_if : (trips : List trip.TripData) (row : ℕ) (id : List ℕ) (b : Bool) (x : FrequencyData) → nat_lt (trip_number trips id) (length trips) ≡ b → (let o : Option FrequencyData = if b then Some (record { row = row; trip = id; start = 0; end = 0; headway = 1 }) else None in o) ≡ Some x
     → unknown_trip trips (numbered_frequency trips x) ≡ None
@@ -194,36 +195,36 @@ known_if trips row id true x is e =
     let same : record { row = row; trip = id; start = 0; end = 0; headway = 1 } ≡ x = cc in
     subst (λ (f : FrequencyData). unknown_trip trips (numbered_frequency trips f) ≡ None) same (rw below refl)
 
-left_named : (trips : List trip.TripData) (raw : RawRow) (x : FrequencyData) → left_frequency trips raw ≡ Ok (Some x) → unknown_trip trips (numbered_frequency trips x) ≡ None
-left_named trips raw x e = by_row (named_frequency trips raw) refl (let here : or_no_starts (no_starts trips raw.row (cell raw frequencies.TRIP_ID)) (named_frequency trips raw) ≡ Some x = cc in here)
+left_named : (trips : List trip.TripData) (gone : List Bool) (raw : RawRow) (x : FrequencyData) → left_frequency trips gone raw ≡ Ok (Some x) → unknown_trip trips (numbered_frequency trips x) ≡ None
+left_named trips gone raw x e = by_row (named_frequency trips gone raw) refl (let here : or_no_starts (no_starts trips raw.row (cell raw frequencies.TRIP_ID)) (named_frequency trips gone raw) ≡ Some x = cc in here)
   where
-    by_row : (r : Result (Option FrequencyData) FeedFault) → named_frequency trips raw ≡ r → or_no_starts (no_starts trips raw.row (cell raw frequencies.TRIP_ID)) r ≡ Some x → unknown_trip trips (numbered_frequency trips x) ≡ None
-    by_row (Ok o) is q = read_named trips (frequency_row raw) x (is ∙ ap Ok q)
+    by_row : (r : Result (Option FrequencyData) FeedFault) → named_frequency trips gone raw ≡ r → or_no_starts (no_starts trips raw.row (cell raw frequencies.TRIP_ID)) r ≡ Some x → unknown_trip trips (numbered_frequency trips x) ≡ None
+    by_row (Ok o) is q = read_named trips gone (frequency_row raw) x (is ∙ ap Ok q)
     by_row (Err f) is q = known_if trips raw.row (cell raw frequencies.TRIP_ID) (nat_lt (trip_number trips (cell raw frequencies.TRIP_ID)) (length trips)) x refl q
 
 all_known : (trips : List trip.TripData) (rows : List FrequencyData) (x : List TripFrequency) → All (λ f. unknown_trip trips (numbered_frequency trips f) ≡ None) rows → unless_wrong (map (unknown_trip trips) (map (numbered_frequency trips) rows)) x ≡ Ok x
 all_known trips [] x h = refl
 all_known trips (r ∷ rest) x h = rw (All-head (λ f. unknown_trip trips (numbered_frequency trips f) ≡ None) r rest h) (all_known trips rest x (All-tail (λ f. unknown_trip trips (numbered_frequency trips f) ≡ None) r rest h))
 
-found_known : (trips : List trip.TripData) (text : Option (List ℕ)) (found : Option (List FrequencyData)) → rows_in file.Frequencies (left_frequency trips) text ≡ Ok found → All (λ f. unknown_trip trips (numbered_frequency trips f) ≡ None) (unwrap_or found [])
-found_known trips None found e = let same : None ≡ found = cc in subst (λ (o : Option (List FrequencyData)). All (λ f. unknown_trip trips (numbered_frequency trips f) ≡ None) (unwrap_or o [])) same (All-nil (λ f. unknown_trip trips (numbered_frequency trips f) ≡ None))
-found_known trips (Some bytes) found e = by_rows (typed_rows file.Frequencies (left_frequency trips) bytes) refl e
+found_known : (trips : List trip.TripData) (gone : List Bool) (text : Option (List ℕ)) (found : Option (List FrequencyData)) → rows_in file.Frequencies (left_frequency trips gone) text ≡ Ok found → All (λ f. unknown_trip trips (numbered_frequency trips f) ≡ None) (unwrap_or found [])
+found_known trips gone None found e = let same : None ≡ found = cc in subst (λ (o : Option (List FrequencyData)). All (λ f. unknown_trip trips (numbered_frequency trips f) ≡ None) (unwrap_or o [])) same (All-nil (λ f. unknown_trip trips (numbered_frequency trips f) ≡ None))
+found_known trips gone (Some bytes) found e = by_rows (typed_rows file.Frequencies (left_frequency trips gone) bytes) refl e
   where
-    by_rows : (m : Result (List FrequencyData) FeedFault) → typed_rows file.Frequencies (left_frequency trips) bytes ≡ m → and_then m (λ rows. Ok (Some rows)) ≡ Ok found → All (λ f. unknown_trip trips (numbered_frequency trips f) ≡ None) (unwrap_or found [])
+    by_rows : (m : Result (List FrequencyData) FeedFault) → typed_rows file.Frequencies (left_frequency trips gone) bytes ≡ m → and_then m (λ rows. Ok (Some rows)) ≡ Ok found → All (λ f. unknown_trip trips (numbered_frequency trips f) ≡ None) (unwrap_or found [])
     by_rows (Err f) is q = absurd (cc)
     by_rows (Ok rows) is q =
         let same : Some rows ≡ found = cc in
         subst (λ (o : Option (List FrequencyData)). All (λ f. unknown_trip trips (numbered_frequency trips f) ≡ None) (unwrap_or o [])) same
-        (rows_all (λ f. unknown_trip trips (numbered_frequency trips f) ≡ None) file.Frequencies (left_frequency trips) (λ raw x h. left_named trips raw x h) bytes rows is)
+        (rows_all (λ f. unknown_trip trips (numbered_frequency trips f) ≡ None) file.Frequencies (left_frequency trips gone) (λ raw x h. left_named trips gone raw x h) bytes rows is)
 
-named_unborne : (trips : List trip.TripData) (text : Option (List ℕ)) → Unborne (named_frequencies trips text)
-named_unborne trips text =
-    tells (rows_in file.Frequencies (bad (named_frequency trips)) text) _ (λ f e. rows_unborne file.Frequencies (λ raw. fault_of (named_frequency trips raw)) text f e)
+named_unborne : (trips : List trip.TripData) (gone : List Bool) (text : Option (List ℕ)) → Unborne (named_frequencies trips gone text)
+named_unborne trips gone text =
+    tells (rows_in file.Frequencies (bad (named_frequency trips gone)) text) _ (λ f e. rows_unborne file.Frequencies (λ raw. fault_of (named_frequency trips gone raw)) text f e)
     (λ f e.
-    either (rows_in file.Frequencies (left_frequency trips) text) _ f (λ g q. rows_unborne file.Frequencies (λ raw. or_no_starts (no_starts trips raw.row (cell raw frequencies.TRIP_ID)) (named_frequency trips raw)) text g q)
+    either (rows_in file.Frequencies (left_frequency trips gone) text) _ f (λ g q. rows_unborne file.Frequencies (λ raw. or_no_starts (no_starts trips raw.row (cell raw frequencies.TRIP_ID)) (named_frequency trips gone raw)) text g q)
     (λ found is g q.
     let rows = map (numbered_frequency trips) (unwrap_or found []) in
-    given (check_named trips rows) rows (all_known trips (unwrap_or found []) rows (found_known trips text found is)) g q) e)
+    given (check_named trips rows) rows (all_known trips (unwrap_or found []) rows (found_known trips gone text found is)) g q) e)
 
 same_value : {A : Type 0} (x y : A) → (let r : Result A FeedFault = Ok x in r) ≡ Ok y → x ≡ y
 same_value x y e = cc
@@ -250,8 +251,8 @@ starts_unborne rows rides [] = given (Ok []) [] refl
 starts_unborne rows rides (f ∷ others) =
     looks (silent (rides_of rows)) (leave_starts (f ∷ others)) (given (rides_of rows) rides.0 rides.1) (λ found is. given (Ok (map (left_start found) (f ∷ others))) (map (left_start found) (f ∷ others)) refl)
 
-pub frequencies_unborne : (rows : Rows) → (rides : List (List Event)) × (rides_of rows ≡ Ok rides) → (text : Option (List ℕ)) → Unborne (left_frequencies rows text)
-frequencies_unborne rows rides text = looks (named_frequencies rows.trips text) (left_starts rows) (named_unborne rows.trips text) (λ named is. starts_unborne rows rides named)
+pub frequencies_unborne : (rows : Rows) → (rides : List (List Event)) × (rides_of rows ≡ Ok rides) → (gone : List Bool) (text : Option (List ℕ)) → Unborne (left_frequencies rows gone text)
+frequencies_unborne rows rides gone text = looks (named_frequencies rows.trips gone text) (left_starts rows) (named_unborne rows.trips gone text) (λ named is. starts_unborne rows rides named)
 
 rows_unborne_of : (texts : List (Option (List ℕ))) → Unborne (left_rows texts)
 rows_unborne_of texts =
@@ -271,5 +272,6 @@ data_unborne texts =
     (λ rows a.
     looks (left_transfers rows.stops (text_at texts 5)) _ (transfers_unborne rows.stops (text_at texts 5))
     (λ transfers b.
-    looks (left_frequencies rows (text_at texts 6)) _ (frequencies_unborne rows (rides_right rows (λ x. rows_right texts rows a x)) (text_at texts 6))
+    let gone = gone_trips rows.stops rows.trips (text_at texts 4) in
+    looks (left_frequencies rows gone (text_at texts 6)) _ (frequencies_unborne rows (rides_right rows (λ x. rows_right texts rows a x)) gone (text_at texts 6))
     (λ frequencies c. given (Ok (record { rows = rows; transfers = transfers; frequencies = frequencies })) _ refl)))

@@ -1,5 +1,5 @@
 -- Where nothing is left out of a feed, nothing is wrong with it.
-use Rattle.std.proofs.Common.{◌≡◌, ◌∙◌, refl, sym, ap, subst, inl, inr, ℕ, zero, suc, List, [], ◌∷◌, ◌++◌, length, map, flat_map, Option, Some, None, append-nil, append_assoc}
+use Rattle.std.proofs.Common.{◌≡◌, ◌∙◌, refl, sym, ap, subst, inl, inr, ℕ, zero, suc, Bool, List, [], ◌∷◌, ◌++◌, length, map, flat_map, Option, Some, None, append-nil, append_assoc}
 use Rattle.std.specs.Prelude.{Result, Ok, Err, filter, not, option_map, option_to_list, unwrap_or}
 use Rattle.gtfs_rows.specs.CalendarFile.{CalendarData, calendar_row}
 use Rattle.gtfs_rows.specs.Columns.{row_limit}
@@ -29,7 +29,7 @@ use Rattle.tb_base.specs.declared.table.Event.{Event}
 use Rattle.trip_table.specs.AskedDay.{AreFaultsOf}
 use Rattle.trip_table.specs.Day.{DayParts, IsTimetableOf, IsTimetableOfParts, Then, day_parts, given_footpaths, parts_after_rows, parts_on, rides_of}
 use Rattle.trip_table.specs.Feed.{Feed, file_rows, or_missing, rows_in, sized}
-use Rattle.trip_table.specs.LeftFeed.{IsLeftOf, IsLenientOf, IsTimetableLeft, LeftData, apart_times, bad, bad_time, duplicate_stop, fault_of, feed_files, good, good_time, keep_unless, leave_found, leave_orphans, leave_starts, leave_trips, left_after_rows, left_data, left_frequencies, left_frequency, left_rows, left_services, left_start, left_starts, left_stops, left_times, left_transfers, left_trips, name_row, named_frequencies, named_frequency, no_starts, or_no_starts, or_nothing, parts_left, sieve_file, sift, sift_found, sized_all, start_faults, start_unless, tell_found, text_at, timed_rows, times_in, twins, unless_bad, without_trips, wrong_in, wrong_start}
+use Rattle.trip_table.specs.LeftFeed.{IsLeftOf, IsLenientOf, IsTimetableLeft, LeftData, apart_times, bad, bad_time, duplicate_stop, fault_of, feed_files, gone_trips, good, good_time, keep_unless, leave_found, leave_orphans, leave_starts, leave_trips, left_after_rows, left_data, left_frequencies, left_frequency, left_rows, left_services, left_start, left_starts, left_stops, left_times, left_transfers, left_trips, name_row, named_frequencies, named_frequency, names_gone, no_starts, or_no_starts, or_nothing, parts_left, sieve_file, sift, sift_found, sized_all, start_faults, start_unless, tell_found, text_at, timed_rows, times_in, twins, unless_bad, without_trips, wrong_in, wrong_start}
 use Rattle.trip_table.specs.References.{Rows, ServiceData, check_named, check_services, duplicate_service, duplicate_trip, frequencies_of, numbered_frequency, numbered_row, rows_after_services, rows_after_stops, rows_after_trips, rows_of, service_id, services_of, stops_of, times_of, transfers_of, trip_id, trip_number, trips_of, unknown_trip, wrong_calendar, wrong_names, wrong_time, wrong_trip, wrong_twice}
 use Rattle.trip_table.specs.Sieves.{Sieved, and_look, look_on, silent}
 use Rattle.trip_table.proofs.LeftUnborne.{transfers_right}
@@ -217,37 +217,38 @@ quiet_transfers stops text ys q =
     (step (rows_in file.Transfers transfer_row text) (λ rows. Ok (unwrap_or rows [])) a.0 (Ok (unwrap_or a.0 [])) (quiet_file file.Transfers transfer_row text a.0 a.1) refl)
     (ap (check_transfers stops) (sym right.0) ∙ transfers_right stops text ys q.given)
 
-module _ (trips : List trip.TripData) where
-  start_same : (other : Option FrequencyData) (r : Result (Option FrequencyData) FeedFault) → fault_of (and_then r (name_row trips)) ≡ None → r ≡ Ok (or_no_starts other (and_then r (name_row trips)))
+module _ (trips : List trip.TripData) (gone : List Bool) where
+  start_same : (other : Option FrequencyData) (r : Result (Option FrequencyData) FeedFault) → fault_of (and_then r (name_row trips gone)) ≡ None → r ≡ Ok (or_no_starts other (and_then r (name_row trips gone)))
   start_same other (Err f) e = absurd (cc)
   start_same other (Ok None) e = refl
-  start_same other (Ok (Some f)) e = by_name (unknown_trip trips (numbered_frequency trips f)) e
+  start_same other (Ok (Some f)) e = by_name (unknown_trip trips (numbered_frequency trips f)) (names_gone gone (numbered_frequency trips f)) e
     where
-      named : Option FeedFault → Result (Option FrequencyData) FeedFault
-      named o = unless_wrong (o ∷ []) (Some f)
+      named : Option FeedFault → Option FeedFault → Result (Option FrequencyData) FeedFault
+      named o p = unless_wrong (o ∷ p ∷ []) (Some f)
 
-      by_name : (o : Option FeedFault) → fault_of (named o) ≡ None → (let q : Result (Option FrequencyData) FeedFault = Ok (Some f) in q) ≡ Ok (or_no_starts other (named o))
-      by_name None q = refl
-      by_name (Some g) q = absurd (cc)
+      by_name : (o p : Option FeedFault) → fault_of (named o p) ≡ None → (let q : Result (Option FrequencyData) FeedFault = Ok (Some f) in q) ≡ Ok (or_no_starts other (named o p))
+      by_name None None q = refl
+      by_name None (Some g) q = absurd (cc)
+      by_name (Some g) p q = absurd (cc)
 
-  quiet_named : (text : Option (List ℕ)) (ys : List TripFrequency) → Quiet (named_frequencies trips text) ys
+  quiet_named : (text : Option (List ℕ)) (ys : List TripFrequency) → Quiet (named_frequencies trips gone text) ys
       → and_then (and_then (rows_in file.Frequencies frequency_row text) (λ rows. Ok (unwrap_or rows []))) (λ rows. check_named trips (map (numbered_frequency trips) rows)) ≡ Ok ys
-  quiet_named text ys q = by_told (rows_in file.Frequencies (bad (named_frequency trips)) text) refl q.told q.given
+  quiet_named text ys q = by_told (rows_in file.Frequencies (bad (named_frequency trips gone)) text) refl q.told q.given
     where
       left : Result (List TripFrequency) FeedFault
-      left = and_then (rows_in file.Frequencies (left_frequency trips) text) (λ rows. check_named trips (map (numbered_frequency trips) (unwrap_or rows [])))
+      left = and_then (rows_in file.Frequencies (left_frequency trips gone) text) (λ rows. check_named trips (map (numbered_frequency trips) (unwrap_or rows [])))
 
       flat : (m : Result (Option (List FrequencyData)) FeedFault) → and_then m (λ rows. check_named trips (map (numbered_frequency trips) (unwrap_or rows []))) ≡ Ok ys → and_then (and_then m (λ rows. Ok (unwrap_or rows []))) (λ rows. check_named trips (map (numbered_frequency trips) rows)) ≡ Ok ys
       flat (Ok found) e = e
       flat (Err f) e = absurd (cc)
 
-      by_told : (m : Result (Option (List FeedFault)) FeedFault) → rows_in file.Frequencies (bad (named_frequency trips)) text ≡ m → (tell_found m left).faults ≡ [] → (tell_found m left).end ≡ Ok ys
+      by_told : (m : Result (Option (List FeedFault)) FeedFault) → rows_in file.Frequencies (bad (named_frequency trips gone)) text ≡ m → (tell_found m left).faults ≡ [] → (tell_found m left).end ≡ Ok ys
           → and_then (and_then (rows_in file.Frequencies frequency_row text) (λ rows. Ok (unwrap_or rows []))) (λ rows. check_named trips (map (numbered_frequency trips) rows)) ≡ Ok ys
       by_told (Err f) is none e = absurd (cc)
       by_told (Ok told) is none e =
           flat (rows_in file.Frequencies frequency_row text)
           (ap (λ (m : Result (Option (List FrequencyData)) FeedFault). and_then m (λ rows. check_named trips (map (numbered_frequency trips) (unwrap_or rows []))))
-          (same_rows file.Frequencies (λ raw. fault_of (named_frequency trips raw)) frequency_row (left_frequency trips)
+          (same_rows file.Frequencies (λ raw. fault_of (named_frequency trips gone raw)) frequency_row (left_frequency trips gone)
           (λ raw h. start_same (no_starts trips raw.row (cell raw frequencies.TRIP_ID)) (frequency_row raw) h) text told is none) ∙ e)
 
 -- rows of which none is told of give their starts
@@ -334,14 +335,15 @@ unfolding day_parts
 quiet_parts feed day options texts left t q =
     let a = quiet_look (left_rows texts) (left_after_rows texts) left q in
     let b = quiet_look (left_transfers a.0.stops (text_at texts 5)) _ left a.2 in
-    let c = quiet_look (left_frequencies a.0 (text_at texts 6)) _ left b.2 in
-    let d = quiet_look (named_frequencies a.0.trips (text_at texts 6)) (left_starts a.0) c.0 c.1 in
+    let gone = gone_trips a.0.stops a.0.trips (text_at texts 4) in
+    let c = quiet_look (left_frequencies a.0 gone (text_at texts 6)) _ left b.2 in
+    let d = quiet_look (named_frequencies a.0.trips gone (text_at texts 6)) (left_starts a.0) c.0 c.1 in
     let same : record { rows = a.0; transfers = b.0; frequencies = c.0 } ≡ left = one (record { rows = a.0; transfers = b.0; frequencies = c.0 }) left c.2.given in
     let transfers : transfers_of feed a.0.stops ≡ Ok b.0 =
     ap (λ m. and_then (and_then m (λ rows. Ok (unwrap_or rows []))) (check_transfers a.0.stops)) (file_read feed file.Transfers transfer_row (text_at texts 5) t.transfers) ∙ quiet_transfers a.0.stops (text_at texts 5) b.0 b.1 in
     let frequencies : frequencies_of feed a.0.trips ≡ Ok c.0 =
     ap (λ m. and_then (and_then m (λ rows. Ok (unwrap_or rows []))) (λ rows. check_named a.0.trips (map (numbered_frequency a.0.trips) rows))) (file_read feed file.Frequencies frequency_row (text_at texts 6) t.frequencies)
-    ∙ quiet_named a.0.trips (text_at texts 6) d.0 d.1 ∙ ap Ok (quiet_starts a.0 d.0 c.0 d.2) in
+    ∙ quiet_named a.0.trips gone (text_at texts 6) d.0 d.1 ∙ ap Ok (quiet_starts a.0 d.0 c.0 d.2) in
     let given = given_footpaths a.0.stops options b.0 in
     step (rows_of feed) (parts_after_rows feed day options) a.0 (parts_left day options left) (quiet_rows feed texts a.0 t a.1)
     (step (transfers_of feed a.0.stops) _ b.0 (parts_left day options left) transfers

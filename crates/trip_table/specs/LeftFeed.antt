@@ -1,10 +1,10 @@
 -- What is left of a feed, file by file in the order of reference, where bad rows are left out.
-use Rattle.std.specs.Prelude.{◌≡◌, ◌⊎◌, ℕ, ◌==◌, not, List, [], ◌∷◌, ◌++◌, zero, suc, length, map, filter, slice_index_or, nat_lt, flat_map, Bool, true, false, Option, Some, None, option_map, option_to_list, unwrap_or, is_some, Result, Ok, Err, if◌then◌else◌}
+use Rattle.std.specs.Prelude.{◌≡◌, ◌⊎◌, ℕ, ◌==◌, not, List, [], ◌∷◌, ◌++◌, zero, suc, length, map, filter, set, get_or, replicate, slice_index_or, nat_lt, flat_map, Bool, true, false, Option, Some, None, option_map, option_to_list, unwrap_or, is_some, Result, Ok, Err, if◌then◌else◌}
 use Rattle.std.specs.List.{list_any}
 use Rattle.tb_base.specs.TimetableData.{TimetableData}
 use Rattle.tb_base.specs.declared.table.Event.{Event}
 use Rattle.gtfs_rows.specs.Steps.{and_then, prepend}
-use Rattle.gtfs_rows.specs.Faults.{spot, unless_wrong, check_rows}
+use Rattle.gtfs_rows.specs.Faults.{spot, fault_if, unless_wrong, check_rows}
 use Rattle.gtfs_rows.specs.LeftOut.{bearer, IsUnborne}
 use Rattle.gtfs_rows.specs.RawRows.{RawRow, cell}
 use Rattle.gtfs_rows.specs.StopsFile.{StopData, stop_row}
@@ -178,6 +178,11 @@ twins earlier [] = []
 twins earlier (r ∷ rest) =
     twin_if (list_any (repeats r) earlier) r ++ twins (earlier ++ r ∷ []) rest
 
+-- marks at the trips that bear faults, beside those that are marked
+abbrev pub mark_trips : List TripFault → List Bool → List Bool
+mark_trips [] marks = marks
+mark_trips (t ∷ rest) marks = mark_trips rest (set marks t.trip true)
+
 -- the rows of stop_times.txt, which has to be there
 abbrev pub times_in : {A : Type 0} → (RawRow → Result (Option A) FeedFault) → Option (List ℕ) →
     Sieved (List A)
@@ -204,6 +209,26 @@ timed_rows stops trips apart =
 abbrev pub left_times : List StopData → List trip.TripData → Option (List ℕ) →
     Sieved (List StopTime)
 left_times stops trips text = and_look (apart_times stops trips text) (timed_rows stops trips)
+
+-- what is left in the end, nothing where a fault ends it
+abbrev pub found_or_none : {A : Type 0} → Result (List A) FeedFault → List A
+found_or_none (Ok xs) = xs
+found_or_none (Err f) = []
+
+abbrev pub left_or_none : {A : Type 0} → Sieved (List A) → List A
+left_or_none s = found_or_none s.end
+
+-- marks at the trips of which a row is bad, or repeats a number
+abbrev pub marks_apart : ℕ → List TripFault → List StopTime → List Bool
+marks_apart trips found rows =
+    mark_trips (twins [] (without_trips found rows)) (mark_trips found (replicate trips false))
+
+-- marks at the trips that are left out for their stop times
+abbrev pub gone_trips : List StopData → List trip.TripData → Option (List ℕ) → List Bool
+gone_trips stops trips text =
+    mark_trips (broken_trips (left_or_none (apart_times stops trips text)) (length trips))
+    (marks_apart (length trips) (left_or_none (times_in (bad_time stops trips) text))
+    (left_or_none (times_in (good_time stops trips) text)))
 
 -- the bytes of files, or that one is too large
 abbrev pub sized_all : Feed → List FeedFile → Result (List (Option (List ℕ))) FeedFault
@@ -236,14 +261,24 @@ left_transfers stops text =
     and_look (sieve_file file.Transfers transfer_row text) (λ found.
     sift (wrong_transfer stops []) [] (unwrap_or found []))
 
--- a row of frequencies.txt whose trip has to be there
-abbrev pub name_row : List trip.TripData → Option FrequencyData →
-    Result (Option FrequencyData) FeedFault
-name_row trips None = Ok None
-name_row trips (Some f) = unless_wrong (unknown_trip trips (numbered_frequency trips f) ∷ []) (Some f)
+-- a row of frequencies.txt names a trip that is left out for its stop times
+abbrev pub names_gone : List Bool → TripFrequency → Option FeedFault
+names_gone gone f =
+    fault_if (get_or gone f.trip_row false)
+    (fault.UnknownTrip (spot file.Frequencies f.row frequencies.TRIP_ID))
 
-abbrev pub named_frequency : List trip.TripData → RawRow → Result (Option FrequencyData) FeedFault
-named_frequency trips raw = and_then (frequency_row raw) (name_row trips)
+-- a row of frequencies.txt whose trip has to be there
+abbrev pub name_row : List trip.TripData → List Bool → Option FrequencyData →
+    Result (Option FrequencyData) FeedFault
+name_row trips gone None = Ok None
+name_row trips gone (Some f) =
+    unless_wrong
+    (unknown_trip trips (numbered_frequency trips f) ∷ names_gone gone (numbered_frequency trips f)
+    ∷ []) (Some f)
+
+abbrev pub named_frequency : List trip.TripData → List Bool → RawRow →
+    Result (Option FrequencyData) FeedFault
+named_frequency trips gone raw = and_then (frequency_row raw) (name_row trips gone)
 
 -- a row that gives no start, of a trip that is there
 abbrev pub no_starts : List trip.TripData → ℕ → List ℕ → Option FrequencyData
@@ -257,16 +292,18 @@ abbrev pub or_no_starts : Option FrequencyData → Result (Option FrequencyData)
 or_no_starts other (Ok row) = row
 or_no_starts other (Err f) = other
 
-abbrev pub left_frequency : List trip.TripData → RawRow → Result (Option FrequencyData) FeedFault
-left_frequency trips raw =
+abbrev pub left_frequency : List trip.TripData → List Bool → RawRow →
+    Result (Option FrequencyData) FeedFault
+left_frequency trips gone raw =
     Ok (or_no_starts (no_starts trips raw.row (cell raw frequencies.TRIP_ID))
-    (named_frequency trips raw))
+    (named_frequency trips gone raw))
 
 -- frequencies.txt: bad rows, and rows that name a trip that isn't there
-abbrev pub named_frequencies : List trip.TripData → Option (List ℕ) → Sieved (List TripFrequency)
-named_frequencies trips text =
-    tell_found (rows_in file.Frequencies (bad (named_frequency trips)) text)
-    (and_then (rows_in file.Frequencies (left_frequency trips) text) (λ rows.
+abbrev pub named_frequencies : List trip.TripData → List Bool → Option (List ℕ) →
+    Sieved (List TripFrequency)
+named_frequencies trips gone text =
+    tell_found (rows_in file.Frequencies (bad (named_frequency trips gone)) text)
+    (and_then (rows_in file.Frequencies (left_frequency trips gone) text) (λ rows.
     check_named trips (map (numbered_frequency trips) (unwrap_or rows []))))
 
 -- what is wrong with the starts of a row, by the events of each trip
@@ -298,8 +335,9 @@ left_starts rows (f ∷ others) =
 
 -- frequencies.txt: bad rows, rows that name a trip that isn't there, and rows that move a time of
 -- their trip beyond a day
-abbrev pub left_frequencies : Rows → Option (List ℕ) → Sieved (List TripFrequency)
-left_frequencies rows text = and_look (named_frequencies rows.trips text) (left_starts rows)
+abbrev pub left_frequencies : Rows → List Bool → Option (List ℕ) → Sieved (List TripFrequency)
+left_frequencies rows gone text =
+    and_look (named_frequencies rows.trips gone text) (left_starts rows)
 
 -- what is left of the files of a feed
 pub record LeftData : Type 0 where
@@ -310,7 +348,9 @@ pub record LeftData : Type 0 where
 abbrev pub left_after_rows : List (Option (List ℕ)) → Rows → Sieved LeftData
 left_after_rows texts rows =
     and_look (left_transfers rows.stops (text_at texts 5)) (λ transfers.
-    and_look (left_frequencies rows (text_at texts 6)) (λ frequencies.
+    and_look
+    (left_frequencies rows (gone_trips rows.stops rows.trips (text_at texts 4)) (text_at texts 6))
+    (λ frequencies.
     silent (Ok (record { rows = rows; transfers = transfers; frequencies = frequencies }))))
 
 abbrev pub left_data : List (Option (List ℕ)) → Sieved LeftData

@@ -3,7 +3,7 @@ ghost use Rattle.std.specs.Prelude.{◌≡◌, ◌≤◌, ◌<◌, ◌-◌, ◌^
 ghost use Rattle.gtfs_rows.specs.Refused.{Yields};
 ghost use Rattle.footpaths.specs.Limits.{AreWithinADay};
 ghost use Rattle.trip_table.specs.Answers.{Gives, GivesRows, IsRefused, Leaves, feed_of};
-ghost use Rattle.trip_table.specs.LeftFeed.{IsLeft, IsLeftOf, IsLenientOf, IsLeftOfTexts, IsTimetableLeft, feed_files, left_after_rows, left_rows, sized_all, text_at};
+ghost use Rattle.trip_table.specs.LeftFeed.{IsLeft, IsLeftOf, IsLenientOf, IsLeftOfTexts, IsTimetableLeft, feed_files, gone_trips, left_after_rows, left_rows, sized_all, text_at};
 ghost use Rattle.trip_table.specs.References.{Rows};
 ghost use Rattle.trip_table.specs.Sieves.{Sieves};
 
@@ -70,16 +70,27 @@ fn text_at(texts: &[Option<Vec<u8>>], place: usize) -> Option<&[u8]>
     }
 }
 
+/// The rows of a feed up to the times of its trips, and marks at the trips that are left out for their
+/// stop times.
+#[derive(Drop)]
+pub struct LeftRows {
+    pub rows: FeedRows,
+    pub gone: Vec<bool>,
+}
+
 /// The rows of a feed up to the times of its trips.
 pub fn left_rows(
     alloc: Global,
     key: HashKey,
     texts: &[Option<Vec<u8>>],
     told: &mut Vec<FeedFault>,
-) -> Result<FeedRows, RowsFault>
+) -> Result<LeftRows, RowsFault>
     requires { All (λ text. IfSome text (λ v. length v.items ≤ 1_073_741_824)) texts.now }
-    ensures { Sieves (left_rows (map (option_map (λ v. v.items)) texts.now)) told.old.items
-        told.new.items result (λ x. x) }
+    ensures rows { Sieves (left_rows (map (option_map (λ v. v.items)) texts.now)) told.old.items
+        told.new.items result (λ left. left.rows) }
+    ensures gone { IfOk result (λ left.
+        left.gone.items ≡ gone_trips left.rows.stops left.rows.trips
+        (text_at (map (option_map (λ v. v.items)) texts.now) 4)) }
 {
     let stops = match left_stops(alloc, key, text_at(texts, 0), told) {
         Ok(stops) => stops,
@@ -101,7 +112,11 @@ pub fn left_rows(
         }
     };
     match left_times(alloc, &stops, &trips, text_at(texts, 4), told) {
-        Ok(times) => Ok(FeedRows::of_parts(stops, services, trips, times)),
+        Ok(times) => {
+            let rows = FeedRows::of_parts(stops, services, trips, times.rows);
+            let gone = times.gone;
+            Ok(LeftRows { rows, gone })
+        }
         Err(fault) => {
             drop(stops);
             drop(services);
@@ -148,9 +163,12 @@ pub struct LaterRows {
 pub fn left_files(
     alloc: Global,
     rows: &FeedRows,
+    gone: &[bool],
     texts: &[Option<Vec<u8>>],
     told: &mut Vec<FeedFault>,
 ) -> Result<LaterRows, RowsFault>
+    requires gone { gone.now ≡ gone_trips rows.now.stops rows.now.trips
+        (text_at (map (option_map (λ v. v.items)) texts.now) 4) }
     requires texts { All (λ text. IfSome text (λ v. length v.items ≤ 1_073_741_824)) texts.now }
     ensures left { Sieves
         (left_after_rows (map (option_map (λ v. v.items)) texts.now) rows.now) told.old.items
@@ -166,7 +184,7 @@ pub fn left_files(
         Ok(transfers) => transfers,
         Err(fault) => return Err(fault),
     };
-    match left_frequencies(alloc, rows, text_at(texts, 6), told) {
+    match left_frequencies(alloc, rows, gone, text_at(texts, 6), told) {
         Ok(frequencies) => Ok(LaterRows {
             transfers,
             frequencies,
@@ -179,11 +197,14 @@ pub fn left_files(
 fn left_after_rows(
     alloc: Global,
     rows: &FeedRows,
+    gone: &[bool],
     texts: &[Option<Vec<u8>>],
     day: &Day,
     options: &Options,
     told: &mut Vec<FeedFault>,
 ) -> Result<Timetable, RowsFault>
+    requires gone { gone.now ≡ gone_trips rows.now.stops rows.now.trips
+        (text_at (map (option_map (λ v. v.items)) texts.now) 4) }
     requires texts { All (λ text. IfSome text (λ v. length v.items ≤ 1_073_741_824)) texts.now }
     requires options { AreWithinADay options.now }
     ensures { GivesRows
@@ -192,7 +213,7 @@ fn left_after_rows(
         told.new.items)
         result }
 {
-    match left_files(alloc, rows, texts, told) {
+    match left_files(alloc, rows, gone, texts, told) {
         Ok(later) => {
             let transfers = later.transfers.as_slice();
             let table = timetable_left(alloc, rows, transfers, &later.frequencies, day, options);
@@ -220,9 +241,10 @@ fn left_timetable(
         result }
 {
     match left_rows(alloc, key, texts, told) {
-        Ok(rows) => {
-            let table = left_after_rows(alloc, &rows, texts, day, options, told);
-            drop(rows);
+        Ok(left) => {
+            let gone = left.gone.as_slice();
+            let table = left_after_rows(alloc, &left.rows, gone, texts, day, options, told);
+            drop(left);
             table
         }
         Err(fault) => Err(fault),

@@ -11,6 +11,7 @@ ghost use Rattle.trip_table.specs.Sieves.{Sieves};
 use crate::feed::spot;
 use crate::frequencies::table_of;
 use crate::left_starts::left_starts;
+use crate::left_times::is_marked;
 use crate::rows::FeedRows;
 use crate::sieve::tell_all;
 use crate::trips::TripRowTable;
@@ -24,11 +25,16 @@ use std::alloc::Global;
 use tb_base::Memory;
 
 // A row whose trip has to be there.
-fn name_row(trips: &TripRowTable, row: FrequencyRow) -> Result<FrequencyRow, FeedFault>
-    ensures { MatchResult result (λ f. name_row trips.now (Some row) ≡ Ok (Some f))
-        (λ f. name_row trips.now (Some row) ≡ Err f) }
+fn name_row(
+    trips: &TripRowTable,
+    gone: &[bool],
+    row: FrequencyRow,
+) -> Result<FrequencyRow, FeedFault>
+    ensures { MatchResult result (λ f. name_row trips.now gone.now (Some row) ≡ Ok (Some f))
+        (λ f. name_row trips.now gone.now (Some row) ≡ Err f) }
 {
-    if trips.number(row.trip.bytes()) as usize >= trips.rows().len() {
+    let trip = trips.number(row.trip.bytes());
+    if trip as usize >= trips.rows().len() || is_marked(gone, trip) {
         return Err(FeedFault::UnknownTrip(spot(
             FeedFile::Frequencies,
             row.row,
@@ -42,14 +48,15 @@ fn name_row(trips: &TripRowTable, row: FrequencyRow) -> Result<FrequencyRow, Fee
 fn named(
     alloc: Global,
     trips: &TripRowTable,
+    gone: &[bool],
     cursor: &RowCursor,
 ) -> Result<Option<FrequencyRow>, RowsFault>
     ensures { Yields IsRefused result (λ x. x)
-        (named_frequency trips.now cursor.now.current) }
+        (named_frequency trips.now gone.now cursor.now.current) }
 {
     match FrequencyReader.read(alloc, cursor) {
         Ok(None) => Ok(None),
-        Ok(Some(row)) => match name_row(trips, row) {
+        Ok(Some(row)) => match name_row(trips, gone, row) {
             Ok(found) => Ok(Some(found)),
             Err(fault) => Err(RowsFault::Feed(fault)),
         },
@@ -83,6 +90,7 @@ fn no_starts(
 #[derive(Drop)]
 struct BadFrequencies<'a> {
     trips: &'a TripRowTable,
+    gone: &'a [bool],
 }
 
 impl RowReader for BadFrequencies<'_> {
@@ -93,14 +101,14 @@ impl RowReader for BadFrequencies<'_> {
 
     ghost file = { file.Frequencies };
 
-    ghost reading = { λ r. bad (named_frequency r.trips.now) };
+    ghost reading = { λ r. bad (named_frequency r.trips.now r.gone.now) };
 
     fn file(&self) -> FeedFile {
         FeedFile::Frequencies
     }
 
     fn read(&self, alloc: Global, cursor: &RowCursor) -> Result<Option<FeedFault>, RowsFault> {
-        match named(alloc, self.trips, cursor) {
+        match named(alloc, self.trips, self.gone, cursor) {
             Ok(_) => Ok(None),
             Err(RowsFault::Feed(fault)) => Ok(Some(fault)),
             Err(RowsFault::Memory) => Err(RowsFault::Memory),
@@ -112,6 +120,7 @@ impl RowReader for BadFrequencies<'_> {
 #[derive(Drop)]
 struct LeftFrequencies<'a> {
     trips: &'a TripRowTable,
+    gone: &'a [bool],
 }
 
 impl RowReader for LeftFrequencies<'_> {
@@ -122,14 +131,14 @@ impl RowReader for LeftFrequencies<'_> {
 
     ghost file = { file.Frequencies };
 
-    ghost reading = { λ r. left_frequency r.trips.now };
+    ghost reading = { λ r. left_frequency r.trips.now r.gone.now };
 
     fn file(&self) -> FeedFile {
         FeedFile::Frequencies
     }
 
     fn read(&self, alloc: Global, cursor: &RowCursor) -> Result<Option<FrequencyRow>, RowsFault> {
-        match named(alloc, self.trips, cursor) {
+        match named(alloc, self.trips, self.gone, cursor) {
             Ok(row) => Ok(row),
             Err(RowsFault::Feed(fault)) => {
                 drop(fault);
@@ -145,18 +154,19 @@ impl RowReader for LeftFrequencies<'_> {
 fn left_table(
     alloc: Global,
     trips: &TripRowTable,
+    gone: &[bool],
     text: Option<&[u8]>,
 ) -> Result<FrequencyTable, RowsFault>
     requires { IfSome text (λ bytes. length bytes.now ≤ 1_073_741_824) }
     ensures rows { Yields IsRefused result (λ table. table.rows)
         (and_then
-        (rows_in file.Frequencies (left_frequency trips.now)
+        (rows_in file.Frequencies (left_frequency trips.now gone.now)
         (option_map (λ bytes. bytes.now) text.entry))
         (λ rows. check_named trips.now (map (numbered_frequency trips.now) (unwrap_or rows [])))) }
     ensures trips { IfOk result (λ table. table.trips ≡ length trips.now) }
 {
     let rows = match text {
-        Some(bytes) => match typed_rows(alloc, &LeftFrequencies { trips }, bytes) {
+        Some(bytes) => match typed_rows(alloc, &LeftFrequencies { trips, gone }, bytes) {
             Ok(rows) => rows,
             Err(fault) => return Err(fault),
         },
@@ -169,17 +179,18 @@ fn left_table(
 fn bad_frequencies(
     alloc: Global,
     trips: &TripRowTable,
+    gone: &[bool],
     text: Option<&[u8]>,
 ) -> Result<Option<Vec<FeedFault>>, RowsFault>
     requires { IfSome text (λ bytes. length bytes.now ≤ 1_073_741_824) }
     ensures { Yields IsRefused result (option_map (λ v. v.items))
-        (rows_in file.Frequencies (bad (named_frequency trips.now))
+        (rows_in file.Frequencies (bad (named_frequency trips.now gone.now))
         (option_map (λ bytes. bytes.now) text.entry)) }
 {
     let Some(bytes) = text else {
         return Ok(None);
     };
-    match typed_rows(alloc, &BadFrequencies { trips }, bytes) {
+    match typed_rows(alloc, &BadFrequencies { trips, gone }, bytes) {
         Ok(faults) => Ok(Some(faults)),
         Err(fault) => Err(fault),
     }
@@ -190,21 +201,22 @@ fn bad_frequencies(
 fn named_frequencies(
     alloc: Global,
     trips: &TripRowTable,
+    gone: &[bool],
     text: Option<&[u8]>,
     told: &mut Vec<FeedFault>,
 ) -> Result<FrequencyTable, RowsFault>
     requires { IfSome text (λ bytes. length bytes.now ≤ 1_073_741_824) }
     ensures left { Sieves
-        (named_frequencies trips.now (option_map (λ bytes. bytes.now) text.entry)) told.old.items
+        (named_frequencies trips.now gone.now (option_map (λ bytes. bytes.now) text.entry)) told.old.items
         told.new.items result (λ table. table.rows) }
     ensures trips { IfOk result (λ table. table.trips ≡ length trips.now) }
 {
-    match bad_frequencies(alloc, trips, text) {
+    match bad_frequencies(alloc, trips, gone, text) {
         Ok(Some(faults)) => tell_all(told, faults)?,
         Ok(None) => {}
         Err(fault) => return Err(fault),
     }
-    left_table(alloc, trips, text)
+    left_table(alloc, trips, gone, text)
 }
 
 /// The rows of frequencies.txt by the numbers of their trips; none where the file isn't there. The
@@ -213,16 +225,17 @@ fn named_frequencies(
 pub fn left_frequencies(
     alloc: Global,
     rows: &FeedRows,
+    gone: &[bool],
     text: Option<&[u8]>,
     told: &mut Vec<FeedFault>,
 ) -> Result<FrequencyTable, RowsFault>
     requires { IfSome text (λ bytes. length bytes.now ≤ 1_073_741_824) }
     ensures left { Sieves
-        (left_frequencies rows.now (option_map (λ bytes. bytes.now) text.entry)) told.old.items
+        (left_frequencies rows.now gone.now (option_map (λ bytes. bytes.now) text.entry)) told.old.items
         told.new.items result (λ table. table.rows) }
     ensures trips { IfOk result (λ table. table.trips ≡ length rows.now.trips) }
 {
-    match named_frequencies(alloc, rows.trips(), text, told) {
+    match named_frequencies(alloc, rows.trips(), gone, text, told) {
         Ok(named) => left_starts(alloc, rows, named, told),
         Err(fault) => Err(fault),
     }

@@ -6,12 +6,13 @@ ghost use Rattle.gtfs_rows.specs.RawRows.{typed_rows};
 ghost use Rattle.gtfs_rows.specs.Steps.{and_then};
 ghost use Rattle.gtfs_rows.specs.Refused.{IsRefused, Yields};
 ghost use Rattle.gtfs_rows.specs.declared.fault.FeedFile.TheVariants as file;
+ghost use Rattle.service_trips.specs.Broken.{broken_trips};
 ghost use Rattle.service_trips.specs.declared.broken.TripFault.{TripFault};
 ghost use Rattle.service_trips.specs.declared.stop_time.StopTime.{StopTime};
 ghost use Rattle.service_trips.specs.Times.{HasFileTimes};
 ghost use Rattle.trip_table.specs.Feed.{or_missing, rows_in};
 ghost use Rattle.trip_table.specs.GoodTimes.{AreGoodTimes};
-ghost use Rattle.trip_table.specs.LeftFeed.{apart_times, bad_time, good_time, leave_trips, left_times, timed_rows, times_in, twins, without_trips};
+ghost use Rattle.trip_table.specs.LeftFeed.{apart_times, bad_time, gone_trips, good_time, leave_trips, left_or_none, left_times, mark_trips, marks_apart, timed_rows, times_in, twins, without_trips};
 ghost use Rattle.trip_table.specs.Sieves.{Sieves, after, ended};
 
 use crate::feed::spot;
@@ -165,6 +166,18 @@ fn marks_of(alloc: Global, trips: usize, found: &[TripFault]) -> Result<Vec<bool
     Ok(marks)
 }
 
+// Marks trips that bear faults.
+fn mark_trips(marks: &mut Vec<bool>, found: &[TripFault])
+    ensures { marks.new.items ≡ mark_trips found.now marks.old.items }
+{
+    for broken in found {
+        let trip = broken.trip as usize;
+        if trip < marks.len() {
+            marks[trip] = true;
+        }
+    }
+}
+
 /// So many marks that aren't set.
 pub fn unmarked(alloc: Global, count: usize) -> Result<Vec<bool>, Memory>
     ensures { IfOk result (λ marks. marks.items ≡ replicate count false) }
@@ -173,11 +186,11 @@ pub fn unmarked(alloc: Global, count: usize) -> Result<Vec<bool>, Memory>
     Ok(marks)
 }
 
-// Whether the trip of a stop time is marked.
-fn is_marked(marks: &[bool], row: &StopTime) -> bool
-    ensures { result ≡ get_or marks.now row.now.trip_row false }
+/// Whether a trip is marked.
+pub fn is_marked(marks: &[bool], trip: u32) -> bool
+    ensures { result ≡ get_or marks.now trip false }
 {
-    match marks.get(row.trip_row as usize) {
+    match marks.get(trip as usize) {
         Some(mark) => *mark,
         None => false,
     }
@@ -195,7 +208,7 @@ fn without_trips(
 {
     let marks = marks_of(alloc, trips, found)?;
     let mut rows = rows;
-    rows.retain(|row| !is_marked(&marks, row));
+    rows.retain(|row| !is_marked(&marks, row.trip_row));
     Ok(rows)
 }
 
@@ -210,23 +223,35 @@ fn tell_trips(told: &mut Vec<FeedFault>, found: Vec<TripFault>) -> Result<(), Me
     Ok(())
 }
 
+/// Rows of stop_times.txt, and marks at the trips that are left out.
+#[derive(Drop)]
+pub struct LeftTimes {
+    pub rows: Vec<StopTime>,
+    pub gone: Vec<bool>,
+}
+
 // Leaves out trips for the faults that they bear, which are told.
 fn leave_trips(
     alloc: Global,
     trips: usize,
-    rows: Vec<StopTime>,
+    times: LeftTimes,
     found: Vec<TripFault>,
     told: &mut Vec<FeedFault>,
-) -> Result<Vec<StopTime>, Memory>
-    requires { All (λ r. StopTime.trip_row r < trips) rows.items }
+) -> Result<LeftTimes, Memory>
+    requires { All (λ r. StopTime.trip_row r < trips) times.rows.items }
     ensures told { IfOk result (λ left.
-        after told.old.items (leave_trips found.items rows.items)
-        ≡ ended told.new.items (Ok left.items)) }
-    ensures left { IfOk result (λ left. left.items ≡ without_trips found.items rows.items) }
+        after told.old.items (leave_trips found.items times.rows.items)
+        ≡ ended told.new.items (Ok left.rows.items)) }
+    ensures left { IfOk result
+        (λ left. left.rows.items ≡ without_trips found.items times.rows.items) }
+    ensures gone { IfOk result
+        (λ left. left.gone.items ≡ mark_trips found.items times.gone.items) }
 {
-    let left = without_trips(alloc, trips, rows, found.as_slice())?;
+    let mut gone = times.gone;
+    mark_trips(&mut gone, found.as_slice());
+    let rows = without_trips(alloc, trips, times.rows, found.as_slice())?;
     tell_trips(told, found)?;
-    Ok(left)
+    Ok(LeftTimes { rows, gone })
 }
 
 // The rows whose trip has an earlier row with their `stop_sequence`.
@@ -255,13 +280,19 @@ fn apart_times(
     trips: &TripRowTable,
     text: Option<&[u8]>,
     told: &mut Vec<FeedFault>,
-) -> Result<Vec<StopTime>, RowsFault>
+) -> Result<LeftTimes, RowsFault>
     requires { IfSome text (λ bytes. length bytes.now ≤ 1_073_741_824) }
     ensures apart { Sieves
         (apart_times stops.now trips.now (option_map (λ bytes. bytes.now) text.entry)) told.old.items
-        told.new.items result (λ v. v.items) }
-    ensures times { IfOk result (λ v. All HasFileTimes v.items) }
-    ensures few { IfOk result (λ v. length v.items ≤ 20000000) }
+        told.new.items result (λ left. left.rows.items) }
+    ensures gone { IfOk result (λ left.
+        left.gone.items ≡ marks_apart (length trips.now)
+        (left_or_none
+        (times_in (bad_time stops.now trips.now) (option_map (λ bytes. bytes.now) text.entry)))
+        (left_or_none
+        (times_in (good_time stops.now trips.now) (option_map (λ bytes. bytes.now) text.entry)))) }
+    ensures times { IfOk result (λ left. All HasFileTimes left.rows.items) }
+    ensures few { IfOk result (λ left. length left.rows.items ≤ 20000000) }
 {
     let found = match bad_times(alloc, stops, trips, text) {
         Ok(found) => found,
@@ -272,8 +303,9 @@ fn apart_times(
         Err(fault) => return Err(fault),
     };
     let count = trips.rows().len();
-    let named = leave_trips(alloc, count, rows, found, told)?;
-    let doubled = twins(alloc, named.as_slice())?;
+    let gone = unmarked(alloc, count)?;
+    let named = leave_trips(alloc, count, LeftTimes { rows, gone }, found, told)?;
+    let doubled = twins(alloc, named.rows.as_slice())?;
     let apart = leave_trips(alloc, count, named, doubled, told)?;
     Ok(apart)
 }
@@ -284,40 +316,46 @@ fn timed_rows(
     alloc: Global,
     stops: &StopTable,
     trips: &TripRowTable,
-    apart: Vec<StopTime>,
+    apart: LeftTimes,
     told: &mut Vec<FeedFault>,
-) -> Result<Vec<StopTime>, RowsFault>
-    requires times { All HasFileTimes apart.items }
-    requires few { length apart.items ≤ 20000000 }
-    ensures left { Sieves (timed_rows stops.now trips.now apart.items) told.old.items
-        told.new.items result (λ v. v.items) }
-    ensures good { IfOk result (λ v. AreGoodTimes stops.now trips.now v.items) }
+) -> Result<LeftTimes, RowsFault>
+    requires times { All HasFileTimes apart.rows.items }
+    requires few { length apart.rows.items ≤ 20000000 }
+    ensures left { Sieves (timed_rows stops.now trips.now apart.rows.items) told.old.items
+        told.new.items result (λ left. left.rows.items) }
+    ensures gone { IfOk result (λ left.
+        left.gone.items
+        ≡ mark_trips (broken_trips apart.rows.items (length trips.now)) apart.gone.items) }
+    ensures good { IfOk result (λ left. AreGoodTimes stops.now trips.now left.rows.items) }
 {
-    match check_times(alloc, stops, trips, apart.as_slice()) {
+    match check_times(alloc, stops, trips, apart.rows.as_slice()) {
         Ok(()) => {}
         Err(fault) => return Err(fault),
     }
     let count = trips.rows().len();
-    let broken = broken_trips(alloc, apart.as_slice(), count)?;
+    let broken = broken_trips(alloc, apart.rows.as_slice(), count)?;
     let left = leave_trips(alloc, count, apart, broken, told)?;
     Ok(left)
 }
 
 /// The rows of stop_times.txt by the numbers of their trips and platforms, without all rows of a
-/// trip of which one is bad, or repeats a number, or with whose times something is wrong. The faults
-/// of trips are told, and those of rows that name no trip.
+/// trip of which one is bad, or repeats a number, or with whose times something is wrong, which is
+/// marked. The faults of trips are told, and those of rows that name no trip.
 pub fn left_times(
     alloc: Global,
     stops: &StopTable,
     trips: &TripRowTable,
     text: Option<&[u8]>,
     told: &mut Vec<FeedFault>,
-) -> Result<Vec<StopTime>, RowsFault>
+) -> Result<LeftTimes, RowsFault>
     requires { IfSome text (λ bytes. length bytes.now ≤ 1_073_741_824) }
     ensures left { Sieves
         (left_times stops.now trips.now (option_map (λ bytes. bytes.now) text.entry)) told.old.items
-        told.new.items result (λ v. v.items) }
-    ensures good { IfOk result (λ v. AreGoodTimes stops.now trips.now v.items) }
+        told.new.items result (λ left. left.rows.items) }
+    ensures gone { IfOk result (λ left.
+        left.gone.items
+        ≡ gone_trips stops.now trips.now (option_map (λ bytes. bytes.now) text.entry)) }
+    ensures good { IfOk result (λ left. AreGoodTimes stops.now trips.now left.rows.items) }
 {
     match apart_times(alloc, stops, trips, text, told) {
         Ok(apart) => timed_rows(alloc, stops, trips, apart, told),

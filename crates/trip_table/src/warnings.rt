@@ -8,7 +8,7 @@ ghost use Rattle.footpaths.specs.Stops.{platforms};
 ghost use Rattle.service_trips.specs.declared.stop_time.StopTime.{StopTime};
 ghost use Rattle.tb_base.specs.Soundness.{IsSoundFootpaths};
 ghost use Rattle.trip_table.specs.Answers.{Leaves, feed_of};
-ghost use Rattle.trip_table.specs.LeftFeed.{left_after_rows, left_data};
+ghost use Rattle.trip_table.specs.LeftFeed.{gone_trips, left_after_rows, left_data, text_at};
 ghost use Rattle.trip_table.specs.Sieves.{Sieved};
 ghost use Rattle.trip_table.specs.Warnings.{AreWarningsIf, AreWarningsLeft, AreWarningsOf, IsClosingWarning, IsGivenWarning, counts_warning, given_left, has_trips, headway_warning, is_named, is_served, service_warning, stop_warnings, warn_if};
 
@@ -240,6 +240,7 @@ fn warn_of_left(
 fn warn_of_rows(
     alloc: Global,
     rows: &FeedRows,
+    gone: &[bool],
     texts: &[Option<Vec<u8>>],
     day: &Day,
     options: &Options,
@@ -249,11 +250,13 @@ fn warn_of_rows(
     requires texts { All (λ text. IfSome text (λ v. length v.items ≤ 1_073_741_824)) texts.now }
     requires options { AreWithinADay options.now }
     requires none { warnings.old.items ≡ [] }
+    requires gone { gone.now ≡ gone_trips rows.now.stops rows.now.trips
+        (text_at (map (option_map (λ v. v.items)) texts.now) 4) }
     ensures { OnOk result (AreWarningsIf day.now options.now
         (Sieved.end (left_after_rows (map (option_map (λ v. v.items)) texts.now) rows.now))
         warnings.new.items) }
 {
-    match left_files(alloc, rows, texts, told) {
+    match left_files(alloc, rows, gone, texts, told) {
         Ok(later) => {
             let transfers = later.transfers.as_slice();
             let frequencies = later.frequencies.rows();
@@ -283,9 +286,11 @@ fn warn_of_texts(
 {
     let mut told = Vec::new(alloc);
     match left_rows(alloc, key, texts, &mut told) {
-        Ok(rows) => {
-            let done = warn_of_rows(alloc, &rows, texts, day, options, &mut told, warnings);
-            drop(rows);
+        Ok(left) => {
+            let rows = &left.rows;
+            let gone = left.gone.as_slice();
+            let done = warn_of_rows(alloc, rows, gone, texts, day, options, &mut told, warnings);
+            drop(left);
             done
         }
         Err(RowsFault::Feed(_)) => Ok(()),
