@@ -1,6 +1,6 @@
 -- A bad row of frequencies.txt gives no start.
-use Rattle.std.proofs.Common.{◌≡◌, ◌∙◌, refl, sym, ap, ℕ, Bool, List, Option}
-use Rattle.std.specs.Prelude.{Result, Ok, Err}
+use Rattle.std.proofs.Common.{◌≡◌, ◌∙◌, sym, ap, ℕ, Bool, List, Option}
+use Rattle.std.specs.Prelude.{Ok, Err}
 use Rattle.gtfs_rows.specs.FrequenciesFile.{FrequencyData}
 use Rattle.gtfs_rows.specs.RawRows.{RawRow, cell}
 use Rattle.gtfs_rows.specs.TripsFile.{TripData}

@@ -1,5 +1,5 @@
 -- The timetable by what is left, step by step.
-use Rattle.std.proofs.Common.{◌≡◌, ◌∙◌, refl, sym, ap, subst, inr, ℕ, List, [], ◌++◌, Option, true}
+use Rattle.std.proofs.Common.{◌≡◌, ◌∙◌, refl, sym, ap, subst, inr, ℕ, List, [], Option, true}
 use Rattle.std.specs.Prelude.{Result, Ok, Err, is_some}
 use Rattle.tb_base.specs.TimetableData.{TimetableData}
 use Rattle.gtfs_rows.specs.LeftOut.{bearer}
@@ -13,7 +13,7 @@ use Rattle.footpaths.specs.Links.{check_transfers}
 use Rattle.footpaths.specs.declared.paths.Options.{Options}
 use Rattle.service_trips.specs.declared.frequency.TripFrequency.{TripFrequency}
 use Rattle.trip_table.specs.Answers.{Gives, GivesRows, IsRowsFault}
-use Rattle.trip_table.specs.Day.{DayParts, IsTimetableOf, IsTimetableOfParts, Then, given_footpaths, parts_on}
+use Rattle.trip_table.specs.Day.{IsTimetableOf, IsTimetableOfParts, Then, given_footpaths, parts_on}
 use Rattle.trip_table.specs.Feed.{Feed}
 use Rattle.trip_table.specs.LeftFeed.{IsLeft, IsLeftOf, IsLenientOf, IsTimetableLeft, LeftData, gone_trips, left_after_rows, left_frequencies, left_rows, left_services, left_stops, left_times, left_transfers, left_trips, text_at}
 use Rattle.trip_table.specs.References.{Rows, ServiceData}

@@ -1,12 +1,11 @@
 -- Which faults end what is read for one who is lenient.
 use Rattle.std.proofs.Common.{◌≡◌, ◌∙◌, ◌⊎◌, refl, sym, ap, subst, inl, inr, ℕ, List, [], ◌∷◌, length, map, Bool, true, false, Option, Some, None}
-use Rattle.std.specs.Prelude.{All, Result, Ok, Err, is_some, nat_le, nat_lt, if◌then◌else◌}
+use Rattle.std.specs.Prelude.{All, Result, Ok, Err, nat_le, nat_lt, if◌then◌else◌}
 use Rattle.std.proofs.lemmas.List.Elements.{All-cons, All-head, All-nil, All-tail}
-use Rattle.tb_base.specs.TimetableData.{TimetableData, FootpathData, TripData, path_total}
-use Rattle.tb_base.specs.declared.days.Horizon.{Horizon}
+use Rattle.tb_base.specs.TimetableData.{FootpathData, TripData, path_total}
 use Rattle.tb_base.specs.declared.table.Event.{Event}
 use Rattle.gtfs_rows.specs.Faults.{fault_if, unless_wrong}
-use Rattle.gtfs_rows.specs.LeftOut.{bearer, IsUnborne}
+use Rattle.gtfs_rows.specs.LeftOut.{bearer}
 use Rattle.gtfs_rows.specs.Steps.{and_then, prepend}
 use Rattle.gtfs_rows.specs.StopsFile.{StopData}
 use Rattle.gtfs_rows.specs.declared.fault.FeedFile.{FeedFile}
@@ -26,11 +25,11 @@ use Rattle.service_trips.specs.Sizes.{check_size, event_count}
 use Rattle.service_trips.specs.TimeFaults.{wrong_trips}
 use Rattle.service_trips.specs.TimetableTrips.{DayRunsData, timetable_trips}
 use Rattle.service_trips.specs.declared.frequency.TripFrequency.{TripFrequency}
-use Rattle.trip_table.specs.Day.{AreClosedOrTested, DayParts, HasFarPair, HasTooMany, IsTimetableOfParts, KeepTheLaw, Then, breach_fault, given_footpaths, parts_on, rides_of, trips_on}
+use Rattle.trip_table.specs.Day.{AreClosedOrTested, DayParts, HasFarPair, HasTooMany, IsTimetableOfParts, Then, breach_fault, given_footpaths, rides_of, trips_on}
 use Rattle.trip_table.specs.Feed.{Feed, sized}
 use Rattle.trip_table.specs.LeftFeed.{IsLeftOf, IsLenientOf, IsTimetableLeft, LeftData, feed_files, gone_trips, leave_starts, left_after_rows, left_data, left_frequencies, left_rows, left_start, left_starts, left_transfers, named_frequencies, parts_left, sized_all, start_unless, text_at}
 use Rattle.trip_table.specs.References.{Rows}
-use Rattle.trip_table.specs.Sieves.{Sieved, after, and_look, look_on, silent}
+use Rattle.trip_table.specs.Sieves.{Sieved, and_look, silent}
 use Rattle.trip_table.proofs.LeftUnborne.{Unborne, data_unborne, look_gives, looks, rides_right, rows_right, transfers_right}
 
 one_fault : {A : Type 0} (g f : FeedFault) → (let r : Result A FeedFault = Err g in r) ≡ Err f → g ≡ f

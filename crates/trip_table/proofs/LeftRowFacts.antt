@@ -17,7 +17,6 @@ use Rattle.service_trips.specs.Times.{HasFileTimes}
 use Rattle.service_trips.specs.declared.stop_time.StopTime.{StopTime}
 use Rattle.trip_table.specs.LeftFeed.{duplicate_stop, good, good_time, keep_unless, leave_found, leave_orphans, or_nothing, sift, unless_bad, wrong_in}
 use Rattle.trip_table.specs.References.{numbered_row, wrong_names, wrong_twice}
-use Rattle.trip_table.specs.Sieves.{Sieved, after, ended}
 use Rattle.trip_table.proofs.DayTrips.{unless_wrong-value}
 use Rattle.trip_table.proofs.GoodRows.{good_row, timed_row}
 use Rattle.trip_table.proofs.RowFacts.{named_row, rows_all}

@@ -1,10 +1,10 @@
 -- Stop times of which those of some trips are left out.
-use Rattle.std.proofs.Common.{◌≡◌, ◌≢◌, ◌∙◌, refl, sym, ap, ℕ, suc, ◌+◌, ◌<◌, ◌≤◌, List, [], ◌∷◌, ◌++◌, length, map, take, drop, set, get_or, Bool, true, false, ◌||◌, inl, inr, arith, append-nil, append_assoc}
-use Rattle.std.specs.Prelude.{All, filter, not, cond, ◌==◌}
+use Rattle.std.proofs.Common.{◌≡◌, ◌≢◌, ◌∙◌, refl, sym, ap, ℕ, ◌+◌, ◌<◌, ◌≤◌, List, [], ◌∷◌, ◌++◌, length, take, set, get_or, Bool, true, false, ◌||◌, inl, inr, arith}
+use Rattle.std.specs.Prelude.{All, filter, not, ◌==◌}
 use Rattle.std.specs.List.{list_any}
 use Rattle.std.proofs.lemmas.Bool.{cases_Bool, ne_eqb, eq-eqb}
 use Rattle.std.proofs.lemmas.Bool.Decides.{nat_tests}
-use Rattle.std.proofs.lemmas.List.{take_more, drop_more, get_or-set_same, get_or-set_other}
+use Rattle.std.proofs.lemmas.List.{take_more, get_or-set_same, get_or-set_other}
 use Rattle.std.proofs.lemmas.List.Elements.{All-head, All-tail, All-filter}
 use Rattle.std.proofs.lemmas.List.Folds.{list_any-append}
 use Rattle.std.proofs.lemmas.List.Kept.{AllPairs-filter}
@@ -15,7 +15,7 @@ use Rattle.service_trips.specs.Times.{HasFileTimes}
 use Rattle.service_trips.specs.declared.broken.TripFault.{TripFault}
 use Rattle.service_trips.specs.declared.stop_time.StopTime.{StopTime}
 use Rattle.trip_table.specs.GoodTimes.{AreGoodTimes}
-use Rattle.trip_table.specs.LeftFeed.{is_among, without_trips}
+use Rattle.trip_table.specs.LeftFeed.{without_trips}
 use Rattle.tb_base.proofs.Lists.{length-filter_le}
 
 found_more : (t : ℕ) (found : List TripFault) (i : ℕ) (x : TripFault) → i < length found → x ≡ get_or found i x → list_any (λ f. TripFault.trip f == t) (take (i + 1) found) ≡ (list_any (λ f. TripFault.trip f == t) (take i found) || ((x.trip == t) || false))

@@ -1,6 +1,6 @@
 -- No row bears a fault that ends a look at what is left.
-use Rattle.std.proofs.Common.{◌≡◌, ◌∙◌, refl, sym, ap, subst, ℕ, List, [], ◌∷◌, ◌++◌, length, map, Bool, true, false, Option, Some, None, arith}
-use Rattle.std.specs.Prelude.{Result, Ok, Err, All, filter, not, nat_le, nat_lt, unwrap_or, if◌then◌else◌}
+use Rattle.std.proofs.Common.{◌≡◌, ◌∙◌, refl, sym, ap, subst, ℕ, List, [], ◌∷◌, length, map, Bool, true, false, Option, Some, None, arith}
+use Rattle.std.specs.Prelude.{Result, Ok, Err, All, not, nat_le, nat_lt, unwrap_or, if◌then◌else◌}
 use Rattle.std.proofs.lemmas.Bool.Decides.{nat_tests}
 use Rattle.std.proofs.lemmas.List.{length-map}
 use Rattle.std.proofs.lemmas.List.Elements.{All-filter, All-head, All-nil, All-tail}
@@ -32,7 +32,7 @@ use Rattle.service_trips.specs.declared.stop_time.StopTime.{StopTime}
 use Rattle.trip_table.specs.Feed.{or_missing, rows_in}
 use Rattle.trip_table.specs.LeftFeed.{apart_times, bad, bad_time, duplicate_stop, fault_of, gone_trips, good, good_time, is_among, leave_orphans, leave_starts, leave_trips, left_after_rows, left_data, left_frequencies, left_frequency, left_rows, left_services, left_start, left_starts, left_stops, left_times, left_transfers, left_trips, name_row, named_frequencies, named_frequency, names_gone, no_starts, or_no_starts, or_nothing, sieve_file, sift, sift_found, tell_found, text_at, timed_rows, times_in, twins, without_trips}
 use Rattle.trip_table.specs.References.{Rows, check_named, check_services, duplicate_service, duplicate_trip, numbered_frequency, service_id, trip_id, trip_number, unknown_trip, wrong_names, wrong_time, wrong_trip, wrong_twice}
-use Rattle.trip_table.specs.Sieves.{Sieved, after, and_look, ended, look_on, silent}
+use Rattle.trip_table.specs.Sieves.{Sieved, and_look, look_on, silent}
 use Rattle.trip_table.proofs.LeftRowFacts.{names_there}
 use Rattle.trip_table.proofs.RowFacts.{rows_all}
 use Rattle.trip_table.proofs.SiftedRight.{sift_never, sifted_right}

@@ -6,7 +6,7 @@ use Rattle.tb_base.proofs.Lists.{list_any-over_map}
 use Rattle.gtfs_rows.specs.declared.fault.FeedFault.{FeedFault}
 use Rattle.service_trips.specs.Faults.{first_wrong}
 use Rattle.trip_table.specs.References.{wrong_twice}
-use Rattle.trip_table.specs.Sieves.{Sieved, ended, after}
+use Rattle.trip_table.specs.Sieves.{ended, after}
 use Rattle.trip_table.specs.LeftFeed.{sift, keep_unless}
 use Rattle.trip_table.proofs.Looks.{after_twice}
 

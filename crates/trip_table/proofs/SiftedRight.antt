@@ -1,12 +1,10 @@
 -- Nothing is wrong with the rows that are kept.
 use Rattle.std.proofs.Common.{◌≡◌, ◌∙◌, refl, sym, ap, subst, List, [], ◌∷◌, ◌++◌, Option, Some, None, append-nil, append_assoc}
-use Rattle.std.specs.Prelude.{Result, Ok, Err}
-use Rattle.std.specs.Option.{option_or}
+use Rattle.std.specs.Prelude.{Result, Ok}
 use Rattle.gtfs_rows.specs.Faults.{unless_wrong, wrong_after, check_rows}
 use Rattle.gtfs_rows.specs.declared.fault.FeedFault.{FeedFault}
 use Rattle.service_trips.specs.Faults.{first_wrong}
 use Rattle.trip_table.specs.LeftFeed.{keep_unless, sift}
-use Rattle.trip_table.specs.Sieves.{Sieved, after, ended, silent}
 
 no_wrong : {A : Type 0} (wrong : List (Option FeedFault)) (x : A) → first_wrong wrong ≡ None → unless_wrong wrong x ≡ Ok x
 no_wrong [] x e = refl

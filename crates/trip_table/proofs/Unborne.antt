@@ -1,16 +1,16 @@
 -- No row bears a fault that ends what is read of a file of which bad rows are left out.
-use Rattle.std.proofs.Common.{◌≡◌, ◌∙◌, refl, sym, ap, subst, ℕ, zero, suc, ◌+◌, List, [], ◌∷◌, Option, Some, None, Bool, true, false}
+use Rattle.std.proofs.Common.{◌≡◌, ◌∙◌, refl, sym, ap, ℕ, zero, suc, ◌+◌, List, [], ◌∷◌, Option, Some, None, Bool, true, false}
 use Rattle.std.specs.Prelude.{Result, Ok, Err, is_none, option_to_list, position, take, if◌then◌else◌}
 use Rattle.std.specs.Str.{is_utf8}
 use Rattle.gtfs_rows.specs.Columns.{column_names, required_count, row_limit, rows_of_file}
 use Rattle.gtfs_rows.specs.LeftOut.{bearer}
 use Rattle.gtfs_rows.specs.RawRows.{RawRow, check_columns, check_utf8, header, missing_fault, positions, raw_rows, shape, table, typed_rows}
-use Rattle.gtfs_rows.specs.Records.{Record, file_records}
+use Rattle.gtfs_rows.specs.Records.{file_records}
 use Rattle.gtfs_rows.specs.Steps.{and_then, prepend}
 use Rattle.gtfs_rows.specs.declared.fault.FeedFile.{FeedFile}
 use Rattle.gtfs_rows.specs.declared.fault.FeedFault.{FeedFault}
 use Rattle.gtfs_rows.specs.declared.fault.FeedFault.TheVariants as fault
-use Rattle.trip_table.specs.Feed.{or_missing, rows_in, sized}
+use Rattle.trip_table.specs.Feed.{or_missing, rows_in}
 
 one_fault : {A : Type 0} (g f : FeedFault) → (let r : Result A FeedFault = Err g in r) ≡ Err f → g ≡ f
 one_fault g f e = cc

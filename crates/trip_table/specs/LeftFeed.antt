@@ -8,7 +8,7 @@ use Rattle.gtfs_rows.specs.Faults.{spot, fault_if, unless_wrong, check_rows}
 use Rattle.gtfs_rows.specs.LeftOut.{bearer, IsUnborne}
 use Rattle.gtfs_rows.specs.RawRows.{RawRow, cell}
 use Rattle.gtfs_rows.specs.StopsFile.{StopData, stop_row}
-use Rattle.gtfs_rows.specs.CalendarFile.{CalendarData, calendar_row}
+use Rattle.gtfs_rows.specs.CalendarFile.{calendar_row}
 use Rattle.gtfs_rows.specs.DatesFile.{date_row}
 use Rattle.gtfs_rows.specs.TripsFile as trip
 use Rattle.gtfs_rows.specs.TransfersFile.{TransferData, transfer_row}

@@ -1,4 +1,4 @@
-use Rattle.std.proofs.Common.{rules, ◌≡◌, true, subst, sym}
+use Rattle.std.proofs.Common.{rules, ◌≡◌, true}
 use Rattle.std.specs.Prelude.{is_some}
 use Rattle.gtfs_rows.specs.LeftOut.{bearer}
 use Rattle.trip_table.specs.Answers.{feed_of}

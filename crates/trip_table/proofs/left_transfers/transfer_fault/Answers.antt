@@ -1,4 +1,4 @@
-use Rattle.std.proofs.Common.{rules, ◌≡◌, ◌∙◌, ap, Some, None, false, true}
+use Rattle.std.proofs.Common.{rules, ◌≡◌, ◌∙◌, ap, None, false, true}
 use Rattle.std.specs.Prelude.{bytes_eq, position}
 use Rattle.gtfs_rows.specs.TransfersFile.{TransferData}
 use Rattle.trip_table.proofs.EndsSteps.{no_origin, no_target, ends_twice, ends_fresh, knows_more, knows_same}
