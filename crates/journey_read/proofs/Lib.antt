@@ -2,6 +2,9 @@ pub mod Passes
 pub mod Faults
 pub mod Hours
 pub mod RideSteps
+pub mod CallSearch
+pub mod CallEnds
+pub mod CallLists
 pub mod TripNames
 pub mod LineSteps
 pub mod Reading

@@ -1,5 +1,6 @@
 pub mod Known
 pub mod Times
+pub mod Calls
 pub mod Rides
 pub mod TripNames
 pub mod Claims

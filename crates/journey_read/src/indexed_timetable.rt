@@ -1,8 +1,11 @@
-//! A timetable with its trips by their names.
-ghost use Rattle.std.specs.Prelude.{◌≡◌, ◌<◌, ◌≤◌, All, IfOk, length};
+//! A timetable with its trips by their names, and the calls of long trips.
+ghost use Rattle.std.specs.Prelude.{◌≡◌, ◌<◌, ◌≤◌, All, IfOk, IfSome, length};
+ghost use Rattle.journey_read.specs.Calls.{HoldsCalls};
 ghost use Rattle.journey_read.specs.Rides.{HaveRides};
 ghost use Rattle.journey_read.specs.TripNames.{name_place, name_places};
+ghost use Rattle.tb_base.specs.TimetableData.{events_of};
 
+use crate::calls::{TripCalls, all_calls};
 use std::alloc::Global;
 use std::marker::Model;
 use tb_base::{Groups, Memory, NameIndex, Timetable, TripNo};
@@ -43,27 +46,33 @@ fn places_of(alloc: Global, table: &Timetable, names: &NameIndex) -> Result<Vec<
     Ok(places)
 }
 
-/// A timetable, and its trips by their names. Contracts see it as the timetable.
+/// A timetable, its trips by their names, and the calls of its long trips. Contracts see it as the
+/// timetable.
 #[derive(Drop)]
 pub(crate) struct IndexedTimetable<'a> {
     table: &'a Timetable,
     names: NameIndex,
     trips: Groups,
+    calls: Vec<Option<TripCalls>>,
 }
 
 impl<'a> Model for IndexedTimetable<'a> {
     ghost use Rattle.tb_base.specs.TimetableData.{TimetableData};
     ghost use Rattle.journey_read.specs.TripNames.{AreByName};
+    ghost use Rattle.journey_read.specs.Calls.{HaveCalls};
 
     ghost Value = { TimetableData };
 
     ghost view = { λ t. t.table.now };
 
-    ghost invariant = { λ t. AreByName t.names t.trips t.table.now.trips };
+    ghost invariant = { λ t.
+        AreByName t.names t.trips t.table.now.trips
+        × HaveCalls t.table.now.trips t.calls.items };
 }
 
 impl<'a> IndexedTimetable<'a> {
-    /// A timetable, with its trips by their names. Refused only for want of memory.
+    /// A timetable, with its trips by their names and the calls of its long trips. Refused only for
+    /// want of memory.
     pub(crate) fn new(alloc: Global, table: &'a Timetable) -> Result<IndexedTimetable<'a>, Memory>
         ensures { IfOk result (λ indexed. indexed ≡ table.now) }
     {
@@ -75,6 +84,7 @@ impl<'a> IndexedTimetable<'a> {
             table,
             names,
             trips,
+            calls: all_calls(alloc, table)?,
         })
     }
 
@@ -93,5 +103,12 @@ impl<'a> IndexedTimetable<'a> {
         let table = self.table;
         self.trips
             .of(place_of(&self.names, table.trip_count(), name) as usize)
+    }
+    /// The calls of a trip, if it is long.
+    pub(crate) fn calls(&self, trip: TripNo) -> Option<&TripCalls>
+        requires { trip < length self.now.trips }
+        ensures { IfSome result (λ c. HoldsCalls (events_of self.now trip) c.now) }
+    {
+        self.calls[trip.index()].as_ref()
     }
 }

@@ -10,6 +10,7 @@
 //! GTFS transfers.txt. Times are in seconds from noon minus twelve hours.
 #![tactic(auto)]
 
+mod calls;
 mod claim;
 mod indexed_timetable;
 mod json_claim;

@@ -12,7 +12,7 @@ returns-clause-rides c =
     let trips = inside.table.now.trips in
     let named : c.place_of.result ≡ name_place inside.names (length trips) c.args.name.now = c.place_of.ensures.place ∙ ap (λ n. name_place inside.names n c.args.name.now) c.trip_count.ensures in
     subst (λ (T : TimetableData). HaveRides c.args.name.now T.trips c.of.result.now) c.self.view_is
-    (rides_named inside.names inside.trips trips c.self.invariant c.args.name.now c.of.result.now c.place_of.result named (omega (arith, c.place_of.ensures.within, c.trip_count.ensures)) c.of.ensures)
+    (rides_named inside.names inside.trips trips c.self.invariant.0 c.args.name.now c.of.result.now c.place_of.result named (omega (arith, c.place_of.ensures.within, c.trip_count.ensures)) c.of.ensures)
 
 pub returns-clause-within : goal.returns-clause-within
 returns-clause-within c =
@@ -20,4 +20,4 @@ returns-clause-within c =
     let trips = inside.table.now.trips in
     let named : c.place_of.result ≡ name_place inside.names (length trips) c.args.name.now = c.place_of.ensures.place ∙ ap (λ n. name_place inside.names n c.args.name.now) c.trip_count.ensures in
     subst (λ (T : TimetableData). All (λ t. t < length T.trips) c.of.result.now) c.self.view_is
-    (numbers_within inside.names inside.trips trips c.self.invariant c.args.name.now c.of.result.now c.place_of.result named (omega (arith, c.place_of.ensures.within, c.trip_count.ensures)) c.of.ensures)
+    (numbers_within inside.names inside.trips trips c.self.invariant.0 c.args.name.now c.of.result.now c.place_of.result named (omega (arith, c.place_of.ensures.within, c.trip_count.ensures)) c.of.ensures)
