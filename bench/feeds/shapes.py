@@ -329,6 +329,13 @@ def late_trips_whose_ids_collide(folder, n):
     write(folder, "late", f"late {collisions.names(n)[-1]} 0 60\n")
 
 
+def claim_on_trips_whose_ids_collide(folder, n):
+    """The same, with rides on the last of them."""
+    trip_ids_that_collide(folder, n)
+    ride = f"ride {collisions.names(n)[-1]} A 08:00:00 B 09:00:00\n"
+    write(folder, "claim", f"arrive 09:00:00 rides {n // 10}\n" + ride * (n // 10))
+
+
 def service_ids_that_collide(folder, n):
     """Each with a row that adds it, and a trip."""
     names = collisions.names(n)
@@ -465,6 +472,27 @@ def rides_of_a_claim_on_one_trip(folder, n):
     write(folder, "claim", f"arrive 08:01:00 rides {n}\n" + ride * n)
 
 
+def rides_of_a_claim_at_one_time(folder, n):
+    """Rides from the last but one to the last of as many stops where a trip calls at one time."""
+    times = (f"t0,08:00:00,,P{i},{i}\n" for i in range(2 * n))
+    smallest.make(folder, f"stop_id\nA\nB\n{stops_of(2 * n)}", times=times)
+    ride = f"ride t0 P{2 * n - 2} 08:00:00 P{2 * n - 1} 08:00:00\n"
+    write(folder, "claim", f"arrive 08:00:00 rides {n}\n" + ride * n)
+
+
+def rides_of_a_claim_on_starts_at_one_time(folder, n):
+    """Rides on one of as many starts of a trip at one time, of the day before, which stand behind
+    as many of the day.
+    """
+    smallest.make(folder)
+    dates = [f"S,{int(DAY) - 1},1\n", smallest.RUNS]
+    smallest.write_rows(folder, "calendar_dates.txt", smallest.DATES, dates)
+    rows = "t0,32:00:00,32:00:01,1\n" * n
+    write(folder, "frequencies.txt", f"trip_id,start_time,end_time,headway_secs\n{rows}")
+    ride = "ride t0#32:00:00 A 08:00:00 B 08:01:00 day-before\n"
+    write(folder, "claim", f"arrive 08:01:00 rides {n}\n" + ride * n)
+
+
 def rides_of_a_claim_on_starts_of_one_trip(folder, n):
     """Rides on the last of as many starts of a trip."""
     one_row_of_starts(folder, n)
@@ -559,6 +587,7 @@ OTHERS = {
     station_ids_that_collide: (10_000, "direct"),
     trip_ids_that_collide: (10_000, "direct"),
     late_trips_whose_ids_collide: (10_000, "late"),
+    claim_on_trips_whose_ids_collide: (10_000, "verify"),
     service_ids_that_collide: (10_000, "direct"),
     calendar_ids_that_collide: (10_000, "direct"),
     transfers_that_collide: (10_000, "direct"),
@@ -581,6 +610,8 @@ OTHERS = {
     remarks_between_origins: (4_000_000, "matrix"),
     rides_of_a_claim: (6_000, "verify"),
     rides_of_a_claim_on_one_trip: (6_000, "verify"),
+    rides_of_a_claim_at_one_time: (6_000, "verify"),
+    rides_of_a_claim_on_starts_at_one_time: (4_000, "verify"),
     rides_of_a_claim_on_starts_of_one_trip: (6_000, "verify"),
     legs_of_a_claim: (7_500, "verify json"),
     members_of_a_claim: (20_000, "verify json"),

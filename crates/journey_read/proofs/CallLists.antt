@@ -1,6 +1,6 @@
 -- The calls of a trip are put into a list, and in order.
 use Rattle.std.proofs.Common.{◌≡◌, ◌∙◌, ap, refl, sym, subst, ℕ, ◌+◌, ◌<◌, ◌≤◌, ◌++◌, List, [], ◌∷◌, length, get_or, ◌-◌, ◌⊎◌, Option, None, inl, inr, arith, ℤ}
-use Rattle.std.specs.Prelude.{All, Contains, IfSome}
+use Rattle.std.specs.Prelude.{Contains, IfSome}
 use Rattle.std.specs.List.Sorted.{IsPermutation, IsSorted}
 use Rattle.std.proofs.lemmas.Bool.{cases_lt}
 use Rattle.std.proofs.lemmas.List.{get_or_append_left, get_or_default, get_or-append_right, length-append}

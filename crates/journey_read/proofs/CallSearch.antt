@@ -1,6 +1,6 @@
 -- A call is found by halving.
-use Rattle.std.proofs.Common.{◌≡◌, ◌∙◌, refl, ap, sym, subst, ℕ, ◌+◌, ◌<◌, ◌≤◌, Bool, true, false, List, length, get_or, Option, Some, None, inl, inr, ◌⊎◌, ◌==◌, ◌&&◌, arith, ℤ}
-use Rattle.std.specs.Prelude.{Contains, nat_lt}
+use Rattle.std.proofs.Common.{◌≡◌, ◌∙◌, refl, ap, sym, subst, ℕ, ◌<◌, ◌≤◌, Bool, true, false, List, length, get_or, Some, None, inl, inr, ◌==◌, ◌&&◌, arith, ℤ}
+use Rattle.std.specs.Prelude.{Contains}
 use Rattle.std.specs.Cmp.{IsStrictWeakOrder, nat_cmp_total, int_cmp_total, on_total, then_total}
 use Rattle.std.specs.List.Sorted.{IsPartitionedBy, IsPartitionPoint, IsSortedBy}
 use Rattle.std.specs.Ordering.{int_cmp, int_eq, is_lt, nat_cmp, ordering_then}
