@@ -156,12 +156,16 @@ def records(text):
 
 
 def bytes_of(path):
-    """The bytes of a file, or None if it isn't there, or a folder."""
+    """The bytes of a file, or None if it isn't there, or a folder. A path with a zero byte, which
+    no file has, can't be read.
+    """
     try:
         with open(path, "rb") as file:
             return file.read()
     except (FileNotFoundError, NotADirectoryError, IsADirectoryError):
         return None
+    except ValueError as error:
+        raise OSError(f"{path!r}: {error}") from None
 
 
 def rows_of(name, data):

@@ -137,6 +137,12 @@ class Feeds(unittest.TestCase):
             "10 DuplicateId stops.txt row 5 column stop_id", self.fault_with("stops.txt", stops)
         )
 
+    def test_files_that_are_not_there(self):
+        self.assertIsNone(feeds.bytes_of(os.path.join(FEEDS, "f1", "none.txt")))
+        self.assertIsNone(feeds.bytes_of(FEEDS))
+        with self.assertRaises(OSError):
+            feeds.bytes_of(os.path.join(FEEDS, "f1\0"))
+
     def test_records(self):
         text = 'a,"b ""c"",d"e\n\n"x\ny",\r"'
         self.assertEqual([["a", 'b "c",de'], ["x\ny", ""], [""]], list(feeds.records(text)))
