@@ -164,25 +164,30 @@ fn run_behind<'a>(hops: &'a HopList, spots: &[Spot], k: usize) -> Hops<'a>
     hops.run(spots[k].end as usize, spots[k + 1].end as usize)
 }
 
-// How many spots are few: these are counted one by one.
-const FEW: usize = 16;
+// How many spots are few: these are halved to none in as many steps each time.
+const FEW: usize = 31;
 
-// Where a part of the spots begins, and how many they are: all before it end with no more than so
-// many hops behind `from`, and none behind it does. It is halved, without a branch that hangs on a
-// spot, until they are few.
-fn narrowed(spots: &[Spot], from: usize, count: usize) -> (usize, usize)
-    requires { IsNonDecreasingBy (λ s. s.end) spots.now }
+// Where a part of the spots begins, and how many they are: all before it end by this place, and
+// none behind it does. It is halved until no more than so many are left. Where the numbers are
+// known no branch hangs on a spot.
+#[inline(always)]
+fn halved(spots: &[Spot], from: usize, count: usize, least: usize, place: usize) -> (usize, usize)
+    requires rising { IsNonDecreasingBy (λ s. s.end) spots.now }
+    requires within { from + count ≤ length spots.now }
+    requires ended { AllWithin (λ s. s.end ≤ place) spots.now 0 from }
+    requires open { AllWithin (λ s. place < s.end) spots.now (from + count) (length spots.now) }
+    ensures few { result.1 ≤ least }
     ensures within { result.0 + result.1 ≤ length spots.now }
-    ensures ended { AllWithin (λ s. s.end - from ≤ count) spots.now 0 result.0 }
-    ensures open { AllWithin (λ s. count < s.end - from) spots.now (result.0 + result.1)
+    ensures ended { AllWithin (λ s. s.end ≤ place) spots.now 0 result.0 }
+    ensures open { AllWithin (λ s. place < s.end) spots.now (result.0 + result.1)
         (length spots.now) }
 {
-    let mut first = 0;
-    let mut left = spots.len();
-    while left > FEW {
-        let half = left / 2;
-        let middle = (spots[first + half - 1].end as usize).saturating_sub(from);
-        if middle <= count {
+    let mut first = from;
+    let mut left = count;
+    while left > least {
+        let half = left - left / 2;
+        let end = spots[first + half - 1].end as usize;
+        if end <= place {
             first += half;
         }
         left -= half;
@@ -190,33 +195,21 @@ fn narrowed(spots: &[Spot], from: usize, count: usize) -> (usize, usize)
     (first, left)
 }
 
-// How many of the spots end with no more than so many hops behind `from`, counted without a branch
-// for each.
-fn count_ended(spots: &[Spot], from: usize, count: usize) -> usize
-    requires { IsNonDecreasingBy (λ s. s.end) spots.now }
-    ensures within { result ≤ length spots.now }
-    ensures ended { AllWithin (λ s. s.end - from ≤ count) spots.now 0 result }
-    ensures open { AllWithin (λ s. count < s.end - from) spots.now result (length spots.now) }
+// How many of the spots end by this place: no more than so many.
+#[inline(always)]
+fn ended_by(spots: &[Spot], count: usize, place: usize) -> usize
+    requires rising { IsNonDecreasingBy (λ s. s.end) spots.now }
+    requires within { count ≤ length spots.now }
+    requires open { AllWithin (λ s. place < s.end) spots.now count (length spots.now) }
+    ensures within { result ≤ count }
+    ensures ended { AllWithin (λ s. s.end ≤ place) spots.now 0 result }
+    ensures open { AllWithin (λ s. place < s.end) spots.now result (length spots.now) }
 {
-    let mut ended = 0;
-    for spot in spots {
-        let behind = (spot.end as usize).saturating_sub(from);
-        if behind <= count {
-            ended += 1;
-        }
+    let (first, left) = halved(spots, 0, count, FEW, place);
+    if first + FEW <= spots.len() {
+        return halved(spots, first, FEW, 0, place).0;
     }
-    ended
-}
-
-// The same, of any spots: a part of them is counted.
-fn ended_within(spots: &[Spot], from: usize, count: usize) -> usize
-    requires { IsNonDecreasingBy (λ s. s.end) spots.now }
-    ensures within { result ≤ length spots.now }
-    ensures ended { AllWithin (λ s. s.end - from ≤ count) spots.now 0 result }
-    ensures open { AllWithin (λ s. count < s.end - from) spots.now result (length spots.now) }
-{
-    let (first, left) = narrowed(spots, from, count);
-    first + count_ended(part(spots, first, first + left), from, count)
+    halved(spots, first, left, 0, place).0
 }
 
 impl Set {
@@ -305,12 +298,14 @@ impl Set {
             slice_get (hops_over (packed self.now) trip first last) place ≡ Some h →
             Contains (packed self.now trip result) h }
     {
-        let from = self.begin_of(trip, first) as usize;
+        let begin = self.begin_of(trip, first) as usize;
+        // Where the hops end bounds the sum below.
+        let _end = self.end_of(trip, last);
         let spots = self.spots.as_slice();
         let next = self.event(trip, first) + 1;
         let end = self.event(trip, last) + 1;
-        let between = part(spots, next, end);
-        first + ended_within(between, from, place) as u32
+        let behind = part(spots, next, spots.len());
+        first + ended_by(behind, end - next, begin + place) as u32
     }
 
     /// Reads event `at` of a trip ahead.
