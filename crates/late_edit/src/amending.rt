@@ -1,5 +1,5 @@
 //! An edition is amended by what is said of its trips.
-ghost use Rattle.std.specs.Prelude.{◌≡◌, ℕ, IfErr, IfOk, length, map};
+ghost use Rattle.std.specs.Prelude.{◌≡◌, ℕ, IfErr, IfOk, None, length, map};
 ghost use Rattle.tb_base.specs.Refusals.{Yields};
 ghost use Rattle.tb_base.specs.Transfers.{kept_hops};
 ghost use Rattle.transfer_pack.specs.Packed.{packed};
@@ -87,6 +87,7 @@ fn amended_over(
     ensures table { IfOk result (λ a. EditionData.table a.edition ≡ table) }
     ensures redone { IfOk result
         (λ a. a.redone ≡ touched_count (edition_lines old.now) (edition_lines a.edition)) }
+    ensures mirror { IfOk result (λ a. EditionData.mirror a.edition ≡ None) }
 {
     match kept_of(alloc, old, &table, &lines, others) {
         Ok(Kept { set, kept, redone }) => {
@@ -116,6 +117,7 @@ fn amend_named(
     ensures own { IfErr result IsOfUpdateAlone }
     ensures redone { IfOk result
         (λ a. a.redone ≡ touched_count (edition_lines old.now) (edition_lines a.edition)) }
+    ensures mirror { IfOk result (λ a. EditionData.mirror a.edition ≡ None) }
 {
     let table = amended_by(alloc, old.table(), updates, named)?;
     match split(alloc, &table) {
@@ -140,6 +142,7 @@ pub fn amend(
     ensures own { IfErr result IsOfUpdateAlone }
     ensures redone { IfOk result
         (λ a. a.redone ≡ touched_count (edition_lines old.now) (edition_lines a.edition)) }
+    ensures mirror { IfOk result (λ a. EditionData.mirror a.edition ≡ None) }
 {
     let table = old.table();
     let named = named_trips(alloc, table, updates)?;

@@ -70,6 +70,7 @@ impl<'a> Amendment<'a> {
 
     // Whether the transfers of a change onto the lines at a stop are plainly the same in both
     // timetables, and none leads to a trip with other events.
+    #[inline(always)]
     fn is_settled_to(&self, stop: StopNo, from: &Changing) -> bool
         requires trip { from.now.trip < length self.now.before.table.trips }
         requires stop { stop < length self.now.before.table.stops }

@@ -26,7 +26,8 @@ fn row_onto(
     }
 }
 
-// Whether a doubt is settled for a change.
+// Whether a doubt is settled for a change. Mostly there is none, so it is called and not inlined.
+#[inline(never)]
 fn is_settled(compared: &Compared<'_>, doubt: &Doubt, from: &Changing) -> bool
     requires trip { from.now.trip < length compared.now.before.table.trips }
     requires doubt { IsDoubt compared.now.before compared.now.after doubt.now }
@@ -44,6 +45,7 @@ fn is_settled(compared: &Compared<'_>, doubt: &Doubt, from: &Changing) -> bool
 }
 
 /// Whether all of these doubts are settled for a change.
+#[inline(always)]
 pub(crate) fn are_settled(compared: &Compared<'_>, doubts: &[Doubt], from: &Changing) -> bool
     requires trip { from.now.trip < length compared.now.before.table.trips }
     requires doubts { All (IsDoubt compared.now.before compared.now.after) doubts.now }
