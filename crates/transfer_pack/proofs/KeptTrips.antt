@@ -38,12 +38,6 @@ before_more hops_from t at =
     last : (at : ℕ) → 0 + (at - 0) ≡ at
     last at = omega arith
 
--- how many they are
-pub before_count_more : (hops_from : ℕ → ℕ → List Hop) (t at first : ℕ) → first + length (hops_before hops_from t 0 (at + 1)) ≡ (first + length (hops_before hops_from t 0 at)) + length (hops_from t at)
-before_count_more hops_from t at first =
-    let one : length (hops_before hops_from t 0 (at + 1)) ≡ length (hops_before hops_from t 0 at ++ hops_from t at) = ap length (before_more hops_from t at) in
-    omega (arith, one, length-append (hops_before hops_from t 0 at) (hops_from t at))
-
 -- one event more
 pub kept_added : (hops_from : ℕ → ℕ → List Hop) (t : ℕ) (events : List Event) (e : Event) (at : ℕ) (hops : List Hop) (first end : ℕ) (before spots spots' : List Spot) → AddsEvents (hops_from t) (take at events) hops (hops ++ hops_before hops_from t 0 at) before spots → at < length events → e ≡ get_or events at e → length hops ≡ first
     → end ≡ first + length (hops_before hops_from t 0 (at + 1)) → ends_in spots' ≡ ends_in spots ++ end ∷ [] → calls_beside spots' ≡ calls_beside spots ++ call_of e ∷ [] → AddsEvents (hops_from t) (take (at + 1) events) hops (hops ++ hops_before hops_from t 0 (at + 1)) before spots'

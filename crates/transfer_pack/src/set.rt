@@ -8,6 +8,7 @@ ghost use Rattle.transfer_pack.specs.CallsOf.{call_of};
 ghost use Rattle.transfer_pack.specs.Packed.{AreBounds, begin_of, hops_before, hops_over, hops_rebuilt, packed, runs_in};
 ghost use Rattle.transfer_pack.specs.Spots.{calls_beside, ends_in};
 ghost use Rattle.transfer_pack.specs.Words.{lent};
+ghost use Rattle.transfer_pack.specs.declared.set.Spot.{Spot};
 
 use super::ahead::ReadAhead;
 use super::calls::Call;
@@ -130,6 +131,7 @@ impl Set {
         let mut starts = Vec::new(alloc);
         let mut spots = Vec::new(alloc);
         let mut hops = HopList::new(alloc);
+        spots.reserve(kept.spots.len())?;
         spots.push(NO_SPOT)?;
         starts.push(0)?;
         for t in 0..table.trip_count() {
@@ -254,7 +256,7 @@ impl Set {
     }
 
     // Where the hops from an event begin among all hops.
-    fn begin_of(&self, trip: TripNo, at: u32) -> u32
+    pub(crate) fn begin_of(&self, trip: TripNo, at: u32) -> u32
         requires trip { trip < length self.now.table.trips }
         requires at { at < length (events_of self.now.table trip) }
         ensures { result ≡ begin_of self.now trip at }
@@ -269,6 +271,20 @@ impl Set {
         ensures { result ≡ begin_of self.now trip (suc at) }
     {
         self.spots[self.event(trip, at) + 1].end
+    }
+
+    // The spots of a trip's events, of which it has some.
+    pub(crate) fn spots_of(&self, trip: TripNo) -> &[Spot]
+        requires trip { trip < length self.now.table.trips }
+        requires some { 0 < length (events_of self.now.table trip) }
+        ensures count { length result.now ≡ length (events_of self.now.table trip) }
+        ensures ends { (i : ℕ) (d : Spot) → i < length result.now →
+            (slice_index_or result.now i d).end
+            ≡ begin_of self.now trip 0 + length (hops_before (packed self.now) trip 0 (i + 1)) }
+    {
+        let first = self.event(trip, 0);
+        let last = self.event(trip, self.event_count(trip) - 1);
+        part(self.spots.as_slice(), first + 1, last + 2)
     }
 
     /// The hops from the events of a trip from `first` to `last`, one event behind the other.

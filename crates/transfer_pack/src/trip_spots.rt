@@ -123,6 +123,7 @@ fn add_kept_spots(
 ) -> Result<(), Memory>
     requires trip { trip < length kept.now.table.trips }
     requires events { length (events_of kept.now.table trip) ≡ length events.now }
+    requires some { 0 < length events.now }
     requires stops { All (λ e. e.stop < 100000) events.now }
     ensures { OnOk result ((hops : List Hop) → length hops ≡ first →
         AreBounds (ends_in spots.old.items) (length hops) →
@@ -130,10 +131,12 @@ fn add_kept_spots(
         (hops ++ hops_before (packed kept.now) trip 0 (length events.now))
         spots.old.items spots.new.items) }
 {
-    let mut end = first;
-    for at in 0..kept.event_count(trip) {
-        end = end_behind(end, kept.out(trip, at).count())?;
-        add_spot_to(spots, end, &events[at as usize])?;
+    let begin = kept.begin_of(trip, 0);
+    let kept_spots = kept.spots_of(trip);
+    for at in 0..events.len() {
+        let count = kept_spots[at].end - begin;
+        let end = end_behind(first, count as usize)?;
+        add_spot_to(spots, end, &events[at])?;
     }
     Ok(())
 }

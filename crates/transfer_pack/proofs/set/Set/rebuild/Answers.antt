@@ -18,8 +18,8 @@ loop-t-preserved c =
     let events = c.events-events.result.now in
     let inside : t < length T.trips = rw (← c.trip_count-t-end.ensures) c.loop-t-test.true in
     let row_same = row_is (λ v. v.items) c.args.rows.now t _ c.index-rows-t.result row c.requires.rows.long inside c.index-rows-t.is c.as_slice.ensures.value in
-    let long : c.len.result ≡ length c.add_rebuilt_trip.new.spots.items = grind (arith, common_steps) in
-    let next = trip_packed T want t c.loop-t.starts.items (λ (i : ℕ). if get_or c.args.redone.now t false then hops_at row i else packed c.args.kept.now t i) events (c.len.result - 1) c.loop-t.hops c.add_rebuilt_trip.new.hops c.loop-t.spots.items c.add_rebuilt_trip.new.spots.items
+    let long : c.len-in-loop-t.result ≡ length c.add_rebuilt_trip.new.spots.items = grind (arith, common_steps) in
+    let next = trip_packed T want t c.loop-t.starts.items (λ (i : ℕ). if get_or c.args.redone.now t false then hops_at row i else packed c.args.kept.now t i) events (c.len-in-loop-t.result - 1) c.loop-t.hops c.add_rebuilt_trip.new.hops c.loop-t.spots.items c.add_rebuilt_trip.new.spots.items
     c.loop-t.invariant.bounds c.loop-t.invariant.packed c.in_ok-add_rebuilt_trip.ensures (λ i inside. ap (λ r. if get_or c.args.redone.now t false then hops_at r i else packed c.args.kept.now t i) row_same) c.events-events.ensures (ap (λ n. n - 1) long) in
     record {
       bounds = c.in_ok-add_rebuilt_trip.ensures.bounds;
