@@ -18,7 +18,7 @@ use Rattle.line_split.specs.LinesOf.{calls_at}
 abbrev pub IsNonempty : List ℕ → Type 0
 IsNonempty line = 0 < length line
 
-place_nonempty : (T : TimetableData) (lines : List (List ℕ)) (t : ℕ) → All IsNonempty lines → All IsNonempty (place_trip T lines t)
+pub place_nonempty : (T : TimetableData) (lines : List (List ℕ)) (t : ℕ) → All IsNonempty lines → All IsNonempty (place_trip T lines t)
 place_nonempty T [] t all = All-cons IsNonempty (t ∷ []) [] (omega arith) (All-nil IsNonempty)
 place_nonempty T (line ∷ ls) t all =
     elim (may_join T line t) as (λ b. All IsNonempty (cond b ((line ++ t ∷ []) ∷ ls) (line ∷ place_trip T ls t))) [

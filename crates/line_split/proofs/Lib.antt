@@ -4,6 +4,12 @@ pub mod RowLemmas
 pub mod EventLemmas
 pub mod PatternLemmas
 pub mod Placing
+pub mod ApartLines
+pub mod Once
+pub mod OrderMade
+pub mod SplitAgain
+pub mod PatternsAmong
+pub mod PartedLines
 pub mod TripOrders
 pub mod TimedTrips
 pub mod CallLemmas

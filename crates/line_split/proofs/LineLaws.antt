@@ -44,7 +44,7 @@ module _ (T : TimetableData) where
   last_trip-more u v vs = let e : suc (suc (length vs)) - 1 ≡ suc (suc (length vs) - 1) = omega arith in ap (λ n. get_or (u ∷ v ∷ vs) n 0) e
 
   -- the last trip of a line may follow each before it
-  follows_last : (line : List ℕ) → AllPairs (MayFollow T) line → (x : ℕ) → Member x line → (x ≡ last_trip line) ⊎ MayFollow T x (last_trip line)
+  pub follows_last : (line : List ℕ) → AllPairs (MayFollow T) line → (x : ℕ) → Member x line → (x ≡ last_trip line) ⊎ MayFollow T x (last_trip line)
   follows_last [] p x h = absurd h
   follows_last (u ∷ []) p x (inl e) = inl (sym e)
   follows_last (u ∷ []) p x (inr h) = absurd h
@@ -57,7 +57,7 @@ module _ (T : TimetableData) where
   follows_last (u ∷ v ∷ vs) p x (inr h) =
       subst (λ w. (x ≡ w) ⊎ MayFollow T x w) (sym (last_trip-more u v vs)) (follows_last (v ∷ vs) (AllPairs-tail (MayFollow T) u (v ∷ vs) p) x h)
 
-  one_alone : {X : Type 0} (R : X → X → Type 0) (x : X) → AllPairs R (x ∷ [])
+  pub one_alone : {X : Type 0} (R : X → X → Type 0) (x : X) → AllPairs R (x ∷ [])
   one_alone R x = AllPairs-cons R x [] (λ y h. absurd h) (λ i j d before below. absurd (omega (arith, before, below)))
 
   -- along the line with the trip behind it no time falls
@@ -198,7 +198,7 @@ slice_cmp-same (x ∷ xs) = rw (int_cmp-same x) (slice_cmp-same xs)
 nat_cmp-same : (n : ℕ) → nat_cmp n n ≡ Equal
 nat_cmp-same n = grind arith
 
-earlier_differ : (T : TimetableData) (t u : ℕ) → TripPrecedes T t u → t ≢ u
+pub earlier_differ : (T : TimetableData) (t u : ℕ) → TripPrecedes T t u → t ≢ u
 earlier_differ T t u h e =
     let here : TripPrecedes T t t = subst (λ x. TripPrecedes T t x) (sym e) h in
     not_itself here

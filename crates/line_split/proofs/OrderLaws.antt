@@ -19,7 +19,7 @@ clash Equal Equal h k = cc
 clash Equal Greater h k = cc
 clash Greater s h k = cc
 
-TripPrecedes-asymmetric : (T : TimetableData) (t u : ℕ) → TripPrecedes T t u → TripPrecedes T u t → ⊥
+pub TripPrecedes-asymmetric : (T : TimetableData) (t u : ℕ) → TripPrecedes T t u → TripPrecedes T u t → ⊥
 TripPrecedes-asymmetric T t u h k =
     clash (slice_cmp int_cmp (times_of (events_of T t)) (times_of (events_of T u))) (nat_cmp t u) h
     (subst (λ r. IsTrue (is_lt (ordering_then r (ordering_reverse (nat_cmp t u))))) ((lists_total int_cmp_total).antisymm (times_of (events_of T u)) (times_of (events_of T t)))

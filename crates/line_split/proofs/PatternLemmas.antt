@@ -42,7 +42,7 @@ same_hash hash (e ∷ es) (f ∷ fs) h =
     let one : step hash e ≡ step hash f = cc (n.stop, n.board, n.alight) in
     ap (λ x. fold step x es) one ∙ same_hash (step hash f) es fs p.1
 
-same_bucket : (count : ℕ) (es fs : List Event) → may_follow es fs ≡ true → bucket_of count es ≡ bucket_of count fs
+pub same_bucket : (count : ℕ) (es fs : List Event) → may_follow es fs ≡ true → bucket_of count es ≡ bucket_of count fs
 same_bucket count es fs h = ap (λ hash. (hash / 2 ^ 32) % count) (same_hash 0 es fs h)
 
 same_pattern : (es fs : List Event) → may_follow es fs ≡ true → pattern_of es ≡ pattern_of fs
@@ -88,6 +88,11 @@ pattern_partitioned T xs t up i j d low below later = by_test (pattern_precedes 
         absurd (false≢true (sym ((pattern_ranks T).chain (get_or xs j d) (get_or xs i d) t (sorted_far (pattern_precedes T) (pattern_ranks T) xs up i j d low below) (sym e)) ∙ later))
 
 -- ---- the numbers
+
+-- as many trips have an earlier pattern than each of two trips, of which one may follow the other
+pub same_earlier : (T : TimetableData) (trips : List ℕ) (t u : ℕ) → may_follow (events_of T t) (events_of T u) ≡ true → length (filter (λ v. pattern_precedes T v t) trips) ≡ length (filter (λ v. pattern_precedes T v u) trips)
+same_earlier T trips t u h =
+    ap (λ p. length (filter (λ v. is_lt (slice_cmp nat_cmp (pattern_of (events_of T v)) p)) trips)) (same_pattern (events_of T t) (events_of T u) h)
 
 module _ (T : TimetableData) (first others : List ℕ) where
   same_number : (b t u : ℕ) → pattern_of (events_of T t) ≡ pattern_of (events_of T u) → number_of T first others b t ≡ number_of T first others b u

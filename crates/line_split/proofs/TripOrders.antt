@@ -70,8 +70,12 @@ different n xs p i j d h k e =
 abbrev pub precedes : TimetableData → ℕ → ℕ → Bool
 precedes T t u = is_lt (ordering_then (slice_cmp int_cmp (times_of (events_of T t)) (times_of (events_of T u))) (nat_cmp t u))
 
+-- items by the trips that stand for them
+pub ranks_of : {X : Type 0} (T : TimetableData) (f : X → ℕ) → IsStrictWeakOrder (λ x y. precedes T (f x) (f y))
+ranks_of T f = ranks_by (then_total (on_total (λ t. times_of (events_of T t)) (lists_total int_cmp_total)) nat_cmp_total) f
+
 pub precedes-ranks : (T : TimetableData) → IsStrictWeakOrder (precedes T)
-precedes-ranks T = ranks_by (then_total (on_total (λ t. times_of (events_of T t)) (lists_total int_cmp_total)) nat_cmp_total) (λ t. t)
+precedes-ranks T = ranks_of T (λ t. t)
 
 pub sorted_is_order : (T : TimetableData) (order : List ℕ) → IsPermutation (range_with_len 0 (length T.trips)) order → IsSortedBy (precedes T) order → IsTripOrder T order
 sorted_is_order T order p up = record {

@@ -5,6 +5,7 @@ pub mod LinesOf
 pub mod Layout
 pub mod Places
 pub mod Orders
+pub mod Marks
 pub mod Calls
 pub mod Floors
 pub mod Bitmaps

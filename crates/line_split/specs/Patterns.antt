@@ -1,5 +1,5 @@
 -- A number that trips of one pattern have in common.
-use Rattle.std.specs.Prelude.{◌≡◌, ℕ, ◌+◌, ◌*◌, ◌^◌, ◌%◌, ◌/◌, ◌<◌, Bool, List, [], ◌∷◌, length, filter, flat_map, fold, if◌then◌else◌, bit_xor, IsTrue, slice_index_or}
+use Rattle.std.specs.Prelude.{◌≡◌, ℕ, ◌+◌, ◌*◌, ◌^◌, ◌%◌, ◌/◌, ◌<◌, Bool, List, [], ◌∷◌, length, filter, flat_map, fold, if◌then◌else◌, bit_xor, Contains, IsTrue, slice_index_or}
 use Rattle.std.specs.Ordering.{nat_cmp, is_eq, is_lt}
 use Rattle.std.specs.declared.cmp.Ordering.{Ordering}
 use Rattle.std.specs.Cmp.Lexicographic.{slice_cmp}
@@ -50,3 +50,10 @@ pub record AreNumbered (T : TimetableData) (numbers : List ℕ) (count : ℕ) : 
   pub same : (t u : ℕ) → t < length T.trips → u < length T.trips →
       IsTrue (may_follow (events_of T t) (events_of T u)) →
       slice_index_or numbers t 0 ≡ slice_index_or numbers u 0
+
+-- of two trips, of which one may follow the other, these are both or neither
+abbrev pub HasWholePatterns : TimetableData → List ℕ → Type 0
+HasWholePatterns T trips =
+    (t u : ℕ) → t < length T.trips → u < length T.trips →
+    IsTrue (may_follow (events_of T t) (events_of T u)) →
+    (Contains trips t → Contains trips u) × (Contains trips u → Contains trips t)

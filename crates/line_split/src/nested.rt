@@ -1,5 +1,5 @@
 //! A list of rows, each of which grows.
-ghost use Rattle.std.specs.Prelude.{◌≡◌, ◌<◌, ◌++◌, ◌∷◌, [], OnOk, IfOk, length, replicate, set, slice_index_or};
+ghost use Rattle.std.specs.Prelude.{◌≡◌, ◌<◌, ◌++◌, ◌∷◌, [], OnOk, IfOk, length, map, replicate, set, slice_index_or};
 
 use std::alloc::Global;
 use std::marker::Model;
@@ -38,6 +38,20 @@ impl<T: Drop> Nested<T> {
             rows.open(alloc)?;
         }
         Ok(rows)
+    }
+
+    /// These rows.
+    pub(crate) fn of(rows: Vec<Vec<T>>) -> Nested<T>
+        ensures { result ≡ map (λ v. v.items) rows.items }
+    {
+        Nested { rows }
+    }
+
+    /// The rows.
+    pub(crate) fn into_rows(self) -> Vec<Vec<T>>
+        ensures { map (λ v. v.items) result.items ≡ self }
+    {
+        self.rows
     }
 
     /// How many rows there are.

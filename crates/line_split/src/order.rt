@@ -1,8 +1,9 @@
 //! The order in which trips are placed.
 ghost use Rattle.std.specs.Prelude.{◌≡◌, ◌<◌, All, IfOk, length, map};
 ghost use Rattle.std.specs.List.{range_with_len};
+ghost use Rattle.std.specs.List.Sorted.{IsPermutation, IsSortedBy};
 ghost use Rattle.tb_base.specs.Lines.{compare_trips, IsTripOrder};
-ghost use Rattle.line_split.specs.Orders.{IsTimed, compare_timed};
+ghost use Rattle.line_split.specs.Orders.{IsTimed, compare_timed, trip_precedes};
 
 use super::events::{compare_times, events_of};
 use std::alloc::Global;
@@ -26,6 +27,14 @@ pub(crate) fn trip_order(alloc: Global, table: &Timetable) -> Result<Vec<TripNo>
     let mut timed = all_timed(alloc, table)?;
     timed.sort_unstable_by(|a, b| compare_timed(table, a, b));
     trips_of(alloc, timed.as_slice())
+}
+
+/// Sorts trips by their times, then by their numbers.
+pub(crate) fn sort_trips(table: &Timetable, trips: &mut Vec<TripNo>)
+    ensures permutation { IsPermutation trips.old.items trips.new.items }
+    ensures sorted { IsSortedBy (trip_precedes table.now) trips.new.items }
+{
+    trips.sort_unstable_by(|t, u| compare_trips(table, *t, *u));
 }
 
 // The trips, by their numbers, each with the times of its first event.
@@ -81,8 +90,8 @@ fn compare_timed(table: &Timetable, a: &Timed, b: &Timed) -> Ordering
     compare_trips(table, a.trip, b.trip)
 }
 
-// How two trips compare: by their times, then by their numbers.
-fn compare_trips(table: &Timetable, t: TripNo, u: TripNo) -> Ordering
+/// How two trips compare: by their times, then by their numbers.
+pub(crate) fn compare_trips(table: &Timetable, t: TripNo, u: TripNo) -> Ordering
     ensures { result ≡ compare_trips table.now t u }
 {
     compare_times(events_of(table, t), events_of(table, u)).then(t.index().cmp(&u.index()))

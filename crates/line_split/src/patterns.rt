@@ -3,7 +3,7 @@ ghost use Rattle.std.specs.Prelude.{◌≡◌, ◌+◌, ◌<◌, ◌≤◌, ◌^
 ghost use Rattle.std.specs.List.{range_with_len};
 ghost use Rattle.std.specs.List.Sorted.{IsSortedBy};
 ghost use Rattle.tb_base.specs.TimetableData.{events_of};
-ghost use Rattle.line_split.specs.Patterns.{AreNumbered, bucket_of, compare_patterns, number_of, pattern_precedes};
+ghost use Rattle.line_split.specs.Patterns.{AreNumbered, HasWholePatterns, bucket_of, compare_patterns, number_of, pattern_precedes};
 
 use super::events::{compare_patterns, events_of, pattern_hash};
 use std::alloc::Global;
@@ -45,8 +45,8 @@ fn buckets_of(alloc: Global, table: &Timetable) -> Result<Vec<usize>, Memory>
     Ok(buckets)
 }
 
-// The bucket of a pattern.
-fn bucket_of(events: &[Event], count: usize) -> usize
+/// The bucket of a pattern, of so many.
+pub(crate) fn bucket_of(events: &[Event], count: usize) -> usize
     requires { 0 < count }
     ensures value { result ≡ bucket_of count events.now }
     ensures below { result < count }
@@ -140,6 +140,39 @@ fn number_of(
         return bucket;
     }
     first.len() + earlier_patterns(table, others, trip)
+}
+
+/// Numbers of patterns for trips that are all trips of their patterns, behind which comes a number
+/// that is above all of them. They are told apart by a search in these trips, which are sorted; all
+/// other trips have one number.
+pub(crate) fn patterns_among(
+    alloc: Global,
+    table: &Timetable,
+    trips: &[TripNo],
+) -> Result<(Vec<usize>, usize), Memory>
+    requires trips { All (λ t. t < length table.now.trips) trips.now }
+    requires whole { HasWholePatterns table.now trips.now }
+    ensures { IfOk result (λ all. AreNumbered table.now all.0.items all.1) }
+{
+    let sorted = by_pattern(alloc, table, trips)?;
+    let mut numbers = Vec::new(alloc);
+    numbers.resize(table.trip_count() as usize, trips.len())?;
+    for trip in trips {
+        numbers[trip.index()] = earlier_patterns(table, sorted.as_slice(), *trip);
+    }
+    Ok((numbers, trips.len() + 1))
+}
+
+// These trips, sorted by their patterns.
+fn by_pattern(alloc: Global, table: &Timetable, trips: &[TripNo]) -> Result<Vec<TripNo>, Memory>
+    ensures sorted { IfOk result (λ sorted.
+        IsSortedBy (pattern_precedes table.now) sorted.items) }
+    ensures count { IfOk result (λ sorted. length sorted.items ≡ length trips.now) }
+{
+    let mut sorted = Vec::new(alloc);
+    sorted.extend_from_slice(trips)?;
+    sorted.sort_unstable_by(|t, u| compare_trips(table, *t, *u));
+    Ok(sorted)
 }
 
 // How many of these trips have an earlier pattern.

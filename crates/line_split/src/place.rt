@@ -11,23 +11,22 @@ use super::bitmaps::WORD;
 use super::events::{events_of, last_trip, may_follow};
 use super::floors::{Floors, lack_bitmaps, map_at, mark_at, no_floors, note_in};
 use super::nested::Nested;
-use super::patterns::patterns_of;
 use std::alloc::Global;
 use tb_base::{Memory, Timetable, TripNo};
 
 /// The lines: each trip in turn joins the first line that it may follow the last trip of, else it
-/// opens a new one.
+/// opens a new one. For each trip of the timetable there is a number of its pattern, below a count.
 pub(crate) fn place_trips(
     alloc: Global,
     table: &Timetable,
+    numbers: &[usize],
+    count: usize,
     order: &[TripNo],
 ) -> Result<Nested<TripNo>, Memory>
-    requires { All (λ t. t < length table.now.trips) order.now }
-    ensures placed { IfOk result (λ lines. lines ≡ fold (place_trip table.now) [] order.now) }
-    ensures count { IfOk result (λ lines. length lines ≤ length order.now) }
-    ensures rows { IfOk result (λ lines. All (λ line. length line ≤ length order.now) lines) }
+    requires order { All (λ t. t < length table.now.trips) order.now }
+    requires numbered { AreNumbered table.now numbers.now count }
+    ensures { IfOk result (λ lines. lines ≡ fold (place_trip table.now) [] order.now) }
 {
-    let (numbers, count) = patterns_of(alloc, table)?;
     let mut lines = Nested::new(alloc);
     let mut buckets = Nested::with_rows(alloc, count)?;
     let mut floors = no_floors(alloc, count)?;
@@ -35,7 +34,7 @@ pub(crate) fn place_trips(
         place(
             alloc,
             table,
-            numbers.as_slice(),
+            numbers,
             &mut lines,
             &mut buckets,
             floors.as_mut_slice(),

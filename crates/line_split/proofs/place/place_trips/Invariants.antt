@@ -8,6 +8,6 @@ abbrev pub invariant-loop-trip : goal.invariant-loop-trip
 invariant-loop-trip l = record {
   placed : l.lines ≡ fold (place_trip l.table) [] (take l.trip-index l.order);
   room : length l.buckets ≡ l.count;
-  bucketed : AreBucketed l.table l.numbers.items l.lines l.buckets;
+  bucketed : AreBucketed l.table l.numbers l.lines l.buckets;
   floors : AreFloors l.table l.lines l.buckets l.floors.items;
 }
