@@ -331,7 +331,7 @@ module _ (mode : LiveMode) where
   -- nothing was read
   pub cut_at_once : (left written : Option (List ℕ)) (a : LineSideData) → IsCutBy fault.Memory mode 1026 left left written written a a
   cut_at_once left written a =
-      let i : IntakeData = record { most = 1026; begun = [] } in
+      let i : IntakeData = record { most = 1026; room = 0; begun = [] } in
       cut_by fault.Memory 1026 left left left i i written written written a a a (start (IsLiveTurn mode) left written i a refl) (refl, extends_self a.live.kept, none_come left left i i a)
 
   -- a turn of lines that came fails

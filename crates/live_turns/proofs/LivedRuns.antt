@@ -1,6 +1,6 @@
 -- The run of a process that lives, from its sides.
 use Rattle.std.proofs.Common.{◌≡◌, ◌⊎◌, inl, inr, ℕ, suc, ◌+◌, ◌<◌, ◌≤◌, List, [], ◌∷◌, ◌++◌, drop, take, length, refl, sym, ap, subst, ◌∙◌, Option, Some, None, Result, Ok, Err, Bool, true, false, get_or, arith, append_assoc}
-use Rattle.std.specs.Prelude.{IfErr, IfOk, IfSome, MatchResult, OnOk, flat_map}
+use Rattle.std.specs.Prelude.{IfErr, IfOk, IfSome, MatchResult, OnOk, flat_map, map}
 use Rattle.std.proofs.lemmas.Bool.{false≢true}
 use Rattle.std.proofs.lemmas.List.{append-nil, length-append, take_all}
 use Rattle.std.proofs.Math.Seq.{take-append-add}
@@ -8,6 +8,7 @@ use Rattle.std.specs.Io.KnownBytes.{Appends, Consumes}
 use Rattle.tb_io.proofs.Pieces.{appends_more}
 use Rattle.tb_io.specs.Files.{FileList}
 use Rattle.footpaths.specs.declared.paths.Options.{Options}
+use Rattle.gtfs_rows.specs.declared.fault.FeedFault.{FeedFault}
 use Rattle.edition_store.specs.Editions.{EditionData}
 use Rattle.history.specs.Lists.{Extends, Shown, StartsWith}
 use Rattle.history.proofs.Lists.{rest_of, starts_more, starts_self, starts_trans}
@@ -20,7 +21,7 @@ use Rattle.live_turns.specs.declared.live.lived.LiveFault.TheVariants as fault
 use Rattle.live_turns.specs.declared.live.running.LinesFault.{LinesFault}
 use Rattle.live_turns.specs.declared.live.running.LinesFault.TheVariants as cut
 use Rattle.live_turns.specs.declared.live.saying.LiveMode.{LiveMode}
-use Rattle.live_turns.specs.Live.{ArePublished, HasAnEdition, HasBecome, HasFailed, HasFailedBehind, HasLived, HasLivedUntil, IsNewsOf, IsTextOf, ReadFaultsRose}
+use Rattle.live_turns.specs.Live.{ArePublished, HasAnEdition, HasBecome, HasFailed, HasFailedBehind, HasLived, HasLivedUntil, HasToldFirst, IsFirstNews, IsNewsOf, IsTextOf, ReadFaultsRose}
 use Rattle.edition_build.specs.Plans.{BeginsWithFirst}
 use Rattle.live_turns.specs.LiveLines.{live_counts, live_gives}
 use Rattle.live_turns.specs.LivePublisher.{ArePublishedSoFar, HavePublished, items_taken}
@@ -360,6 +361,37 @@ module _ (files : Option FileList) (options : Options) (mode : LiveMode) (words 
 
     pub read_behind : (rest : Option (List ℕ)) → HasFailedBehind files options mode words told left rest mid now fault.ReadFault → HasLivedUntil fault.ReadFault files options mode words [] left rest before now
     read_behind rest h = lived_until rest now fault.ReadFault (subst (λ t. HasLivedUntil fault.ReadFault files options mode words t left rest mid now) one h)
+
+  -- the first news were told, and then what the run behind them wrote
+  pub told_first_is : {A : Type 0} (told : List NewsData) (start end : ℕ) (rest now : Option (List ℕ)) (result : Result A LiveFault) → IsFirstNews words first →
+      OnOk result (HasLived files options mode words told start end left mid now) → IfErr result (HasFailedBehind files options mode words told left rest mid now) → HasToldFirst mode.json words before now
+  told_first_is {A} told start end rest now result f ok err =
+      let w2 = more_written result ok err in record {
+        news = first;
+        first = f;
+        behind = w2.0;
+        written = subst (λ l. Appends before now (l ++ w2.0)) is (appends_more before mid now line w2.0 w w2.1);
+      } where
+        until : (cause : LiveFault) → HasFailedBehind files options mode words told left rest mid now cause → (more : List ℕ) × Appends mid now more
+        until (fault.Feed f) h = absurd h
+        until fault.ReadFault h = (take h.count h.text, h.written)
+        until fault.WriteFault h = (take h.count h.text, h.written)
+        until fault.Memory h = (take h.count h.text, h.written)
+
+        more_written : (r : Result A LiveFault) → OnOk r (HasLived files options mode words told start end left mid now) → IfErr r (HasFailedBehind files options mode words told left rest mid now) → (more : List ℕ) × Appends mid now more
+        more_written (Ok x) ok err = (ok.text, ok.written)
+        more_written (Err cause) ok err = until cause err
+
+-- the first news can't fail to be told by a refused feed
+pub no_feed : (line : List ℕ) (before now : Option (List ℕ)) (cause : LiveFault) (f : FeedFault) → FailsToTellFirst line before now cause → cause ≡ fault.Feed f → ⊥
+no_feed line before now cause f h e = subst (λ c. FailsToTellFirst line before now c) e h
+
+-- the news of the first item, which was published
+pub first_news : (words : List ItemData) (w : ItemData) (e : EditionData) (x : NewsData) → take 1 words ≡ w ∷ [] → x ≡ record { word = w.word; became = became.Outcome (outcome_of 1 e) } → IsFirstNews words x
+first_news words w e x one is = record {
+  word = ap (λ l. map (λ (i : ItemData). i.word) l) one ∙ ap (λ i. i ∷ []) (sym (ap (λ (n : NewsData). n.word) is));
+  edition = subst (λ b. HasAnEdition b) (sym (ap (λ (n : NewsData). n.became) is)) tt;
+}
 
 -- what fails to be told is no fault of a source
 pub no_read : {A : Type 0} (line : List ℕ) (before now : Option (List ℕ)) (cause : LiveFault) (result : Result A LiveFault) (P : Type 0) → FailsToTellFirst line before now cause → result ≡ Err cause → result ≡ Err fault.ReadFault → P

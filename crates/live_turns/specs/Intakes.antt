@@ -1,22 +1,26 @@
 -- What an intake takes, and what it gives.
-use Rattle.std.specs.Prelude.{◌≡◌, ℕ, ◌<◌, List, [], Bool, Option, MatchBool, MatchOption, Vec, length}
+use Rattle.std.specs.Prelude.{◌≡◌, ℕ, ◌<◌, ◌≤◌, List, [], Bool, Option, MatchBool, MatchOption, Vec, length}
 use Rattle.std.specs.declared.alloc.Global.{Global}
 use Rattle.std.specs.Io.KnownBytes.{Consumes, IsAtEnd}
 use Rattle.text_lines.specs.Lines.{last_line}
 use Rattle.live_turns.specs.Coming.{begun_by, ended}
 
--- how many bytes of a line are kept at most, and what is kept of the line that is begun
+-- how many bytes of a line are kept at most, how many bytes a piece has at most, and what is kept of
+-- the line that is begun
 pub record IntakeData : Type 0 where
   pub most : ℕ
+  pub room : ℕ
   pub begun : List ℕ
 
--- the intake takes a piece, and gives the lines that end in it
+-- the intake takes a piece, for which it has room, and gives the lines that end in it
 pub record TakesPiece (left now : Option (List ℕ)) (old new : IntakeData) (given : List (List ℕ))
     : Type 0 where
   pub piece : List ℕ
   pub some : 0 < length piece
+  pub fits : length piece ≤ old.room
   pub taken : Consumes left now piece
   pub most : new.most ≡ old.most
+  pub room : new.room ≡ old.room
   pub lines : given ≡ ended old.most old.begun piece
   pub begun : new.begun ≡ begun_by old.most old.begun piece
 

@@ -53,6 +53,19 @@ abbrev pub BeginsWithEdition : List NewsData → Type 0
 BeginsWithEdition [] = ⊥
 BeginsWithEdition (x ∷ news) = HasAnEdition x.became
 
+-- the news of the first item, which was published
+pub record IsFirstNews (words : List ItemData) (news : NewsData) : Type 0 where
+  pub word : map (λ (w : ItemData). w.word) (take 1 words) ≡ news.word ∷ []
+  pub edition : HasAnEdition news.became
+
+-- the news of the first item were written, and then some bytes
+pub record HasToldFirst (json : Bool) (words : List ItemData) (before now : Option (List ℕ))
+    : Type 0 where
+  pub news : NewsData
+  pub first : IsFirstNews words news
+  pub behind : List ℕ
+  pub written : Appends before now (news_shown json news ++ behind)
+
 -- these items were taken, the first of which was published, with this news and these editions
 pub record ArePublished (files : Option FileList) (options : Options) (mirrored : Bool)
     (items : List ItemData) (news : List NewsData) (editions : List EditionData) : Type 0 where

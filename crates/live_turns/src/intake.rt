@@ -30,12 +30,16 @@ pub struct Intake {
 }
 
 impl Model for Intake {
-    ghost use Rattle.std.specs.Prelude.{◌<◌, ◌≤◌, length};
+    ghost use Rattle.std.specs.Prelude.{◌<◌, ◌≤◌, length, vec_len};
     ghost use Rattle.live_turns.specs.Intakes.{IntakeData};
 
     ghost Value = { IntakeData };
 
-    ghost view = { λ i. record { most = i.most; begun = i.begun.items } };
+    ghost view = { λ i. record {
+      most = i.most;
+      room = vec_len i.room;
+      begun = i.begun.items;
+    } };
 
     ghost invariant = { λ i. (length i.begun.items ≤ i.most) × (0 < length i.room.items) };
 }
@@ -55,7 +59,7 @@ impl Intake {
     /// Refused only for want of memory.
     pub fn new(alloc: Global, most: usize, piece: usize) -> Result<Intake, Memory>
         requires { 0 < piece }
-        ensures { IfOk result (λ i. i ≡ record { most = most; begun = [] }) }
+        ensures { IfOk result (λ i. i ≡ record { most = most; room = piece; begun = [] }) }
     {
         Ok(Intake {
             alloc,
@@ -76,6 +80,9 @@ impl Intake {
         ensures taken { (bytes : List ℕ) × Consumes (S.left source.old) (S.left source.new) bytes }
         ensures none { result ≡ Err fault.ReadFault →
             Consumes (S.left source.old) (S.left source.new) [] }
+        ensures same { result ≡ Err fault.ReadFault → self.new ≡ self.old }
+        ensures most { self.new.most ≡ self.old.most }
+        ensures room { self.new.room ≡ self.old.room }
     {
         let count = match source.read(self.room.as_mut_slice()) {
             Err(_) => return Err(IntakeFault::ReadFault),
@@ -111,6 +118,9 @@ impl Intake {
         ensures taken { (bytes : List ℕ) × Consumes (S.left source.old) (S.left source.new) bytes }
         ensures none { result ≡ Err fault.ReadFault →
             Consumes (S.left source.old) (S.left source.new) [] }
+        ensures same { result ≡ Err fault.ReadFault → self.new ≡ self.old }
+        ensures most { self.new.most ≡ self.old.most }
+        ensures room { self.new.room ≡ self.old.room }
     {
         match self.next_piece(source) {
             Ok(Some(lines)) => Ok((lines, true)),

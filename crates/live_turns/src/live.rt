@@ -1,7 +1,7 @@
 //! A process that lives: lines as they come, answered turn by turn.
 //!
-//! `run_turns` takes a source piece by piece. The lines that end in a piece are one turn: news of the
-//! publisher are told, the published list is pinned once, each line has its reply by the last
+//! `run_turns` takes a source piece by piece. The lines that end in a piece are one turn: news of
+//! the publisher are told, the published list is pinned once, each line has its reply by the last
 //! edition of it, and the text is written before the next piece is read.
 
 mod issuing;

@@ -83,7 +83,8 @@ fn issue<P: Issues<E>, E: Ends, G: Gate, R: Wait>(
 }
 
 /// Publishes the edition that item i was found to have, where it has one. That of a day is kept as
-/// the last day's. Refused only for want of memory: the list is as before, or ends with the edition.
+/// the last day's. Refused only for want of memory: the list is as before, or ends with the
+/// edition.
 pub(crate) fn issue_found<P: Issues<E>, E: Ends, G: Gate, R: Wait>(
     rt: &R,
     gate: &G,

@@ -194,7 +194,8 @@ fn find_lent<B: Lends + Drop, G: Gate, R: Threads + Sync>(
     find_named::<Brand, B, G, R>(rt, alloc, gate, building, lender, before, day, item)
 }
 
-// Does nothing; but that the lent folder is used once more is what ties it to the one that was lent.
+// Does nothing; but that the lent folder is used once more is what ties it to the one that was
+// lent.
 fn take_back<F: Folder>(folder: &mut F)
     ensures { folder.new ≡ folder.old }
 {}

@@ -6,7 +6,7 @@ ghost use Rattle.gtfs_rows.specs.declared.fault.FeedFault.{FeedFault};
 ghost use Rattle.tb_base.specs.Workers.{AreWorkers};
 ghost use Rattle.live_turns.specs.Runs.{Tells};
 ghost use Rattle.edition_build.specs.Plans.{BeginsWithFirst};
-ghost use Rattle.live_turns.specs.Live.{HasFailed, HasFailedBehind, HasLived, HasLivedUntil, ReadFaultsRose};
+ghost use Rattle.live_turns.specs.Live.{HasFailed, HasFailedBehind, HasLived, HasLivedUntil, HasToldFirst, IsFirstNews, ReadFaultsRose};
 ghost use Rattle.live_turns.specs.LiveSides.{BeginsLive, FailsToTellFirst, FailsToTellRest, HaveClosed, HaveMet, TellsRest, told_as};
 ghost use Rattle.live_turns.specs.LiveTexts.{news_shown};
 ghost use Rattle.live_turns.specs.LiveTurns.{before_lines};
@@ -81,7 +81,8 @@ fn seat_one<J: Naming, R: Wait>(
     }
 }
 
-// Who gives items and who takes them, and who gives news and who takes them, with the first of each.
+// Who gives items and who takes them, and who gives news and who takes them, with the first of
+// each.
 fn hand_overs<K: Naming, L: Naming>(
     alloc: Global,
     named: Opened<PlanItem>,
@@ -494,6 +495,7 @@ fn live_behind<
     requires begins { BeginsLive (F.files folder.old) building.now.options mode words.now
         publisher day items tells side }
     requires news { tells ≡ news.now ∷ [] }
+    requires told { IsFirstNews words.now news.now }
     requires rose { ReadFaultsRose (F.faults folder.old) (F.faults folder.old) tells }
     requires source { S.faults source.old < 2 ^ 64 - 1 }
     requires sink { O.faults sink.old < 2 ^ 64 - 1 }
@@ -507,6 +509,9 @@ fn live_behind<
     ensures later { result ≡ Err LiveFault.ReadFault → HasLivedUntil LiveFault.ReadFault
         (F.files folder.old) building.now.options mode words.now [] (S.left source.old)
         (S.left source.new) (O.written sink.old) (O.written sink.new) }
+    ensures behind { (f : FeedFault) → result ≢ Err (LiveFault.Feed f) }
+    ensures folder { (F.faults folder.new ≡ F.faults folder.old)
+        ⊎ HasToldFirst mode.json words.now (O.written sink.old) (O.written sink.new) }
     ensures bytes { (bytes : List ℕ) × Consumes (S.left source.old) (S.left source.new) bytes }
     ensures read { result ≡ Err LiveFault.ReadFault → S.faults source.old < S.faults source.new }
     ensures source { (result ≡ Err LiveFault.ReadFault)
@@ -579,6 +584,9 @@ fn live_from<
     ensures later { result ≡ Err LiveFault.ReadFault → HasLivedUntil LiveFault.ReadFault
         (F.files folder.old) building.now.options mode words.now [] (S.left source.old)
         (S.left source.new) (O.written sink.old) (O.written sink.new) }
+    ensures behind { (f : FeedFault) → result ≢ Err (LiveFault.Feed f) }
+    ensures folder { (F.faults folder.new ≡ F.faults folder.old)
+        ⊎ HasToldFirst mode.json words.now (O.written sink.old) (O.written sink.new) }
     ensures bytes { (bytes : List ℕ) × Consumes (S.left source.old) (S.left source.new) bytes }
     ensures read { result ≡ Err LiveFault.ReadFault → S.faults source.old < S.faults source.new }
     ensures source { (result ≡ Err LiveFault.ReadFault)
@@ -609,11 +617,13 @@ fn live_from<
 }
 
 /// Publishes the plan's items, and then those that lines name, each as it is read and built, while
-/// the lines of a source are answered as they come, by so many lanes: 1 to 64. News of each item are
-/// told, first of all that of the first one, a day, which is published before a line is read. `workers`
-/// workers reduce the transfers of an item: 1 to 64. `Feed` comes only where the first item's feed
-/// is refused; what becomes of further items ends nothing. It may wait. That lines are answered
-/// while an item is built is tested and in no clause.
+/// the lines of a source are answered as they come, by so many lanes: 1 to 64. News of each item
+/// are told, first of all that of the first one, a day, which is published before a line is read.
+/// `workers` workers reduce the transfers of an item: 1 to 64. `Feed` comes only where the first
+/// item's feed is refused; what becomes of further items ends nothing. At `Feed` the folder's count
+/// of faults stays. Else it rises only once the news of the first item are written, or at
+/// `ReadFault`. It may wait. That lines are answered while an item is built is tested and in no
+/// clause.
 pub fn run_live<F: Folder + Send, S: Source, O: Sink, G: Gate, R: Threads + Wait + Sync>(
     rt: &R,
     alloc: Global,
@@ -646,6 +656,14 @@ pub fn run_live<F: Folder + Send, S: Source, O: Sink, G: Gate, R: Threads + Wait
         ⊎ (S.faults source.old < S.faults source.new) }
     ensures source { (result ≡ Err LiveFault.ReadFault)
         ⊎ (S.faults source.new ≡ S.faults source.old) }
+    ensures alone { (F.faults folder.new ≡ F.faults folder.old)
+        ⊎ (S.faults source.new ≡ S.faults source.old)
+        ⊎ HasToldFirst mode.json plan.now (O.written sink.old) (O.written sink.new) }
+    ensures feed { (f : FeedFault) → result ≡ Err (LiveFault.Feed f) →
+        F.faults folder.new ≡ F.faults folder.old }
+    ensures folder_kept { (result ≡ Err LiveFault.ReadFault)
+        ⊎ (F.faults folder.new ≡ F.faults folder.old)
+        ⊎ HasToldFirst mode.json plan.now (O.written sink.old) (O.written sink.new) }
     ensures later { result ≡ Err LiveFault.ReadFault →
         F.faults folder.new ≡ F.faults folder.old → HasLivedUntil LiveFault.ReadFault
         (F.files folder.old) options.now mode plan.now [] (S.left source.old)

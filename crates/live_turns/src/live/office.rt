@@ -94,9 +94,9 @@ impl<'a, G: Gate> Office<Asked, Desk, Vec<u8>> for Bureau<'a, G> {
     }
 }
 
-// The texts of the right replies by the last edition of a pinned list, in order: the lanes, of which
-// there is one at each desk, answer at once where threads can be started. With a refusal the desks
-// are gone.
+// The texts of the right replies by the last edition of a pinned list, in order: the lanes, of
+// which there is one at each desk, answer at once where threads can be started. With a refusal the
+// desks are gone.
 pub(crate) fn answer_asked<J: Naming, G: Gate, R: Threads + Sync>(
     rt: &R,
     alloc: Global,
@@ -112,7 +112,8 @@ pub(crate) fn answer_asked<J: Naming, G: Gate, R: Threads + Sync>(
     ensures replies { IfOk result (λ texts. (e : EditionData)
         × IsEditionOf pinned.now.list (length pinned.now.list) e
         × AreReplies (λ (a : Asked) v.
-        IsWantedBy json (length pinned.now.list) e a.number a.wanted v.items) asked.now texts.items) }
+        IsWantedBy json (length pinned.now.list) e a.number a.wanted v.items)
+        asked.now texts.items) }
 {
     let bureau = Bureau {
         gate,

@@ -218,10 +218,10 @@ fn publish_named<
 }
 
 /// Reads, builds and publishes the further items of the words, behind the first one, which is
-/// published, and then each item that is handed over, up to the end, all in order; and gives news of
-/// each. An item that is refused, a folder that fails and want of memory for an item end nothing.
-/// Refused where a publication fails for want of memory, or where news can't be given: the list
-/// that is left has the editions of some first items.
+/// published, and then each item that is handed over, up to the end, all in order; and gives news
+/// of each. An item that is refused, a folder that fails and want of memory for an item end
+/// nothing. Refused where a publication fails for want of memory, or where news can't be given: the
+/// list that is left has the editions of some first items.
 pub(crate) fn publish_all<
     P: Issues<E>,
     E: Ends,

@@ -151,8 +151,8 @@ fn run_on<J: Naming, K: Naming, L: Naming, G: Gate, S: Source, O: Sink, R: Threa
 /// Answers the lines of a source to its end, turn by turn: those that end in a piece of it are
 /// answered, and the text is written, before the next piece is read. It may wait for the source
 /// without end. `ReadFault` comes only where the source's count of faults rose, `WriteFault` only
-/// where the sink's did. At most 64 KiB are read at once, and of a line no more than 1,026 bytes are
-/// kept.
+/// where the sink's did. At most 64 KiB are read at once, and of a line no more than 1,026 bytes
+/// are kept.
 pub(crate) fn run_turns<
     J: Naming,
     K: Naming,

@@ -282,8 +282,9 @@ fn line_side<
     ended
 }
 
-// The two sides, with what each of them is in places. The proof of a closure asks that no two things
-// that it meets stand on one type parameter, so the hand-overs have other names at each side.
+// The two sides, with what each of them is in places. The proof of a closure asks that no two
+// things that it meets stand on one type parameter, so the hand-overs have other names at each
+// side.
 fn both_beside<
     P: Issues<E> + Send,
     E: Ends + Drop + Send + Sync,
