@@ -11,7 +11,7 @@ use Rattle.history.specs.Lists.{StartsWith}
 use Rattle.history.proofs.Lists.{starts_more, starts_self, starts_trans}
 use Rattle.live_turns.specs.declared.live.news.Became.{Became}
 use Rattle.live_turns.specs.declared.live.news.Became.TheVariants as became
-use Rattle.live_turns.specs.Live.{ArePublished, BeginsWithEdition, HasBecome, IsNewsOf, ReadFaultsRose}
+use Rattle.live_turns.specs.Live.{ArePublished, BeginsWithEdition, HasBecome, HasUnread, IsNewsOf, ReadFaultsRose, UnreadRose}
 use Rattle.live_turns.specs.LivePublisher.{ArePublishedSoFar, HavePublished, IsNextItem, StopsAt, TakesItem, items_taken}
 use Rattle.live_turns.specs.LiveTexts.{NewsData}
 use Rattle.edition_build.specs.Plans.{AreSoFar, HasOutcome, ItemData, day_after}
@@ -99,23 +99,37 @@ starts_take xs n = subst (λ l. StartsWith l (take n xs)) (take-append-drop n xs
 rose_longer : (start before after : ℕ) → Rose start before → before ≤ after → Rose start after
 rose_longer start before after r le = omega (arith, r, le)
 
-rose_later : (start before after : ℕ) (news : List NewsData) → before ≤ after → ReadFaultsRose start before news → ReadFaultsRose start after news
+rose_later : (start before after : ℕ) (news : List NewsData) → before ≤ after → UnreadRose start before news → UnreadRose start after news
 rose_later start before after [] le h = tt
 rose_later start before after (x ∷ news) le h = (λ e. rose_longer start before after (h.0 e) le, rose_later start before after news le h.1)
 
-rose_snoc : (start after : ℕ) (news : List NewsData) (x : NewsData) → ReadFaultsRose start after news → (x.became ≡ became.ReadFault → Rose start after) → ReadFaultsRose start after (news ++ x ∷ [])
+rose_snoc : (start after : ℕ) (news : List NewsData) (x : NewsData) → UnreadRose start after news → (x.became ≡ became.ReadFault → Rose start after) → UnreadRose start after (news ++ x ∷ [])
 rose_snoc start after [] x h r = (r, tt)
 rose_snoc start after (y ∷ news) x h r = (h.0, rose_snoc start after news x h.1 r)
 
 rose_earlier : (start before after : ℕ) → start ≤ before → Rose before after → Rose start after
 rose_earlier start before after le r = omega (arith, le, r)
 
+unread_more : (news : List NewsData) (x : NewsData) → HasUnread news → HasUnread (news ++ x ∷ [])
+unread_more [] x h = absurd h
+unread_more (y ∷ news) x (inl h) = inl h
+unread_more (y ∷ news) x (inr h) = inr (unread_more news x h)
+
+unread_last : (news : List NewsData) (x : NewsData) → x.became ≡ became.ReadFault → HasUnread (news ++ x ∷ [])
+unread_last [] x h = inl h
+unread_last (y ∷ news) x h = inr (unread_last news x h)
+
+kept_snoc : (start before after : ℕ) (news : List NewsData) (x : NewsData) → (before ≡ start) ⊎ HasUnread news → (x.became ≡ became.ReadFault) ⊎ (after ≡ before) → (after ≡ start) ⊎ HasUnread (news ++ x ∷ [])
+kept_snoc start before after news x h (inl r) = inr (unread_last news x r)
+kept_snoc start before after news x (inl same) (inr e) = inl (e ∙ same)
+kept_snoc start before after news x (inr u) (inr e) = inr (unread_more news x u)
+
 -- a folder's count that rose behind one item rose over all of them
 pub rose_more : (start before after : ℕ) (files : Option FileList) (options : Options) (mirrored : Bool) (item : ItemData) (es gone : List EditionData) (day next : EditionData) (told news : List NewsData) →
     start ≤ before → before ≤ after → ReadFaultsRose start before told → TakesItem files options mirrored item before after es gone day next told news → ReadFaultsRose start after news
 rose_more start before after files options mirrored item es gone day next told news low le h t =
     let x : NewsData = record { word = item.word; became = t.0 } in
-    rw t.2 (rose_snoc start after told x (rose_later start before after told le h) (λ e. rose_earlier start before after low (t.1.4 e)))
+    rw t.2 (rose_snoc start after told x (rose_later start before after told le h.0) (λ e. rose_earlier start before after low (t.1.4 e)), kept_snoc start before after told x h.1 t.1.5)
 
 -- one more item was handed over
 pub handed_more : (words old new : List ItemData) (item : ItemData) → 0 < length old → new ≡ old ++ item ∷ [] → items_taken words new ≡ items_taken words old ++ item ∷ []
@@ -138,10 +152,10 @@ day_stays day (source.Late path) = refl
 
 -- an item has an outcome
 pub next_found : (files : Option FileList) (options : Options) (mirrored : Bool) (item : ItemData) (before after n : ℕ) (es gone : List EditionData) (day next : EditionData) (o : Outcome) (added : List EditionData) →
-    n ≡ length es → HasOutcome files options mirrored (Some day) n item o added → gone ≡ es ++ added → day_after (Some day) item.source added ≡ Some next →
+    n ≡ length es → HasOutcome files options mirrored (Some day) n item o added → gone ≡ es ++ added → day_after (Some day) item.source added ≡ Some next → after ≡ before →
     IsNextItem files options mirrored item before after es gone day next (became.Outcome o)
-next_found files options mirrored item before after n es gone day next o added count h more then =
-    (added, more, subst (λ m. HasOutcome files options mirrored (Some day) m item o added) count h, then, λ k. absurd (cc k))
+next_found files options mirrored item before after n es gone day next o added count h more then same =
+    (added, more, subst (λ m. HasOutcome files options mirrored (Some day) m item o added) count h, then, λ k. absurd (cc k), inr same)
 
 -- an item has an outcome, and its edition may have been published
 pub stops_found : (files : Option FileList) (options : Options) (mirrored : Bool) (item : ItemData) (n : ℕ) (es gone : List EditionData) (day : EditionData) (o : Outcome) (added : List EditionData) →
@@ -163,12 +177,12 @@ stops_told files options mirrored item before after es gone day next told news b
 -- an item could not be read
 pub next_unread : (files : Option FileList) (options : Options) (mirrored : Bool) (item : ItemData) (before after : ℕ) (es : List EditionData) (day : EditionData) → Rose before after →
     IsNextItem files options mirrored item before after es es day day became.ReadFault
-next_unread files options mirrored item before after es day rose = ([], sym (append-nil es), refl, day_stays day item.source, λ k. rose)
+next_unread files options mirrored item before after es day rose = ([], sym (append-nil es), refl, day_stays day item.source, λ k. rose, inl refl)
 
 -- there was no memory for an item
-pub next_unmade : (files : Option FileList) (options : Options) (mirrored : Bool) (item : ItemData) (before after : ℕ) (es : List EditionData) (day : EditionData) →
+pub next_unmade : (files : Option FileList) (options : Options) (mirrored : Bool) (item : ItemData) (before after : ℕ) (es : List EditionData) (day : EditionData) → after ≡ before →
     IsNextItem files options mirrored item before after es es day day became.Memory
-next_unmade files options mirrored item before after es day = ([], sym (append-nil es), refl, day_stays day item.source, λ k. absurd (cc k))
+next_unmade files options mirrored item before after es day same = ([], sym (append-nil es), refl, day_stays day item.source, λ k. absurd (cc k), inr same)
 
 pub where_ok : {T E : Type 0} (result : Result T E) (A B : Type 0) → (A → B) → OnOk result A → OnOk result B
 where_ok (Ok t) A B f h = f h

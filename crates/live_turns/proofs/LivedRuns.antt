@@ -469,7 +469,7 @@ begins_live files options mode words w e x es day items news lanes side one is g
 pub first_rose : (count : ℕ) (w : List ℕ) (e : EditionData) (x : NewsData) (news : List NewsData) → x ≡ record { word = w; became = became.Outcome (outcome_of 1 e) } → news ≡ x ∷ [] → ReadFaultsRose count count news
 first_rose count w e x news is news_is =
     let b : x.became ≡ became.Outcome (outcome_of 1 e) = ap (λ (n : NewsData). n.became) is in
-    subst (λ l. ReadFaultsRose count count l) (sym news_is) (λ h. absurd (cc (sym b ∙ h)), tt)
+    subst (λ l. ReadFaultsRose count count l) (sym news_is) ((λ h. absurd (cc (sym b ∙ h)), tt), inl refl)
 
 -- the first of some things
 pub take_one : {A : Type 0} (xs : List A) (x y : A) → 0 < length xs → y ≡ get_or xs 0 x → take 1 xs ≡ y ∷ []

@@ -82,10 +82,20 @@ IsTextOf mode es told lines text news =
     news
 
 -- a read failed only where the folder's count rose, or stands at its last value
+abbrev pub UnreadRose : ℕ → ℕ → List NewsData → Type 0
+UnreadRose start end [] = ⊤
+UnreadRose start end (x ∷ news) =
+    (x.became ≡ became.ReadFault → Rose start end) × UnreadRose start end news
+
+-- an item could not be read
+abbrev pub HasUnread : List NewsData → Type 0
+HasUnread [] = ⊥
+HasUnread (x ∷ news) = (x.became ≡ became.ReadFault) ⊎ HasUnread news
+
+-- a read failed only where the folder's count rose, or stands at its last value; and that count is
+-- another one only where a read failed
 abbrev pub ReadFaultsRose : ℕ → ℕ → List NewsData → Type 0
-ReadFaultsRose start end [] = ⊤
-ReadFaultsRose start end (x ∷ news) =
-    (x.became ≡ became.ReadFault → Rose start end) × ReadFaultsRose start end news
+ReadFaultsRose start end news = UnreadRose start end news × ((end ≡ start) ⊎ HasUnread news)
 
 -- The items of the words, then those that lines name, were taken in order, and the text for all
 -- lines of the source was written, over the editions of the lawful ones, with all news but those

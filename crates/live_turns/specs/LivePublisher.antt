@@ -20,7 +20,7 @@ pub record HavePublished (files : Option FileList) (options : Options) (mirrored
   pub first : BeginsWithEdition news
 
 -- What became of an item is so, where this is the edition of the last day and then that one; and a
--- read failed only where the folder's count rose, or stands at its last value.
+-- read failed only where the folder's count rose, or stands at its last value; else it is the same.
 abbrev pub IsNextItem : Option FileList → Options → Bool → ItemData → ℕ → ℕ →
     List EditionData → List EditionData → EditionData → EditionData → Became → Type 0
 IsNextItem files options mirrored item before after es now day next b =
@@ -28,6 +28,7 @@ IsNextItem files options mirrored item before after es now day next b =
     × HasBecome files options mirrored (Some day) (length es) item b added
     × (day_after (Some day) item.source added ≡ Some next)
     × (b ≡ became.ReadFault → Rose before after)
+    × ((b ≡ became.ReadFault) ⊎ (after ≡ before))
 
 -- an item was taken, and news given of it
 abbrev pub TakesItem : Option FileList → Options → Bool → ItemData → ℕ → ℕ →

@@ -1,5 +1,5 @@
 //! Items that are read and built whatever the folder's count of faults is.
-ghost use Rattle.std.specs.Prelude.{◌≡◌, ◌↔◌, ◌<◌, ◌≤◌, ◌-◌, ◌^◌, IfErr, IfOk, IfSome, IsSome, IsTrue, Some, option_to_list};
+ghost use Rattle.std.specs.Prelude.{◌≡◌, ◌↔◌, ◌<◌, ◌≤◌, ◌-◌, ◌^◌, IfErr, IfOk, IfSome, IsSome, IsTrue, OnOk, Some, option_to_list};
 ghost use Rattle.std.specs.Io.{ReadsAtMost};
 ghost use Rattle.tb_io.specs.Causes.{HasCause};
 ghost use Rattle.tb_io.specs.Files.{IsPiece, file_at};
@@ -155,6 +155,7 @@ fn find_named<N: Lent, B: Lends + Drop, G: Gate, R: Threads + Sync>(
     ensures name { B.name result.0 ≡ B.name lender }
     ensures files { B.lent_files result.0 ≡ B.lent_files lender }
     ensures later { B.count lender ≤ B.count result.0 }
+    ensures kept { OnOk result.1 (B.count result.0 ≡ B.count lender) }
     ensures failed { IfErr result.1 (HasFailedBy (B.count lender) (B.count result.0)) }
     ensures found { IfOk result.1 (λ found. HasOutcome (B.lent_files lender) building.options
         building.mirrored (Some day.now) before item.now found.outcome
@@ -186,6 +187,7 @@ fn find_lent<B: Lends + Drop, G: Gate, R: Threads + Sync>(
     ensures name { B.name result.0 ≡ B.name lender }
     ensures files { B.lent_files result.0 ≡ B.lent_files lender }
     ensures later { B.count lender ≤ B.count result.0 }
+    ensures kept { OnOk result.1 (B.count result.0 ≡ B.count lender) }
     ensures failed { IfErr result.1 (HasFailedBy (B.count lender) (B.count result.0)) }
     ensures found { IfOk result.1 (λ found. HasOutcome (B.lent_files lender) building.options
         building.mirrored (Some day.now) before item.now found.outcome
@@ -201,7 +203,7 @@ fn take_back<F: Folder>(folder: &mut F)
 {}
 
 /// What an item is found to be, whatever the folder's count of faults is. `ReadFault` comes only
-/// where that count rose, or stands at its last value.
+/// where that count rose, or stands at its last value; without it the count is the same.
 pub(crate) fn find_anyway<F: Folder, G: Gate, R: Threads + Sync>(
     rt: &R,
     alloc: Global,
@@ -216,6 +218,7 @@ pub(crate) fn find_anyway<F: Folder, G: Gate, R: Threads + Sync>(
     requires room { before < 2 ^ 32 - 1 }
     ensures files { F.files folder.new ≡ F.files folder.old }
     ensures later { F.faults folder.old ≤ F.faults folder.new }
+    ensures kept { OnOk result (F.faults folder.new ≡ F.faults folder.old) }
     ensures failed { IfErr result (HasFailedBy (F.faults folder.old) (F.faults folder.new)) }
     ensures found { IfOk result (λ found. HasOutcome (F.files folder.old) building.options
         building.mirrored (Some day.now) before item.now found.outcome
