@@ -104,7 +104,8 @@ impl Intake {
 
     /// The lines that come next, in order, and whether more may come behind them: those that end in
     /// the next piece of the source; or, at its end, the line that is begun, where there is one.
-    /// `ReadFault` comes only where the source's count of faults rose.
+    /// `ReadFault` comes only where the source's count of faults rose, and leaves the intake as it
+    /// was.
     pub fn next_lines<S: Source>(
         &mut self,
         source: &mut S,
