@@ -12,6 +12,7 @@ USAGE = (
     "usage: router [--change SECS] [--station SECS] [--close] [--lenient] [--days N] [--workers N]"
     " [--plain] [--lanes N] [--mirror] [--csv] COMMAND WORDS"
 )
+USAGE_JSON = f'{{"status":2,"message":"{USAGE.replace("[--csv]", "[--csv] [--json]")}"}}'
 ASK = [DAY, "A", "D", "08:00:00"]
 
 
@@ -36,6 +37,7 @@ def cases(program, folder):
     yield "an answer", 0, BEST, "", run(ask)
     yield "no words", 2, "", USAGE, run([])
     yield "a word too many", 2, "", USAGE, run([*ask, "more"])
+    yield "a word that isn't UTF-8", 2, "", USAGE_JSON, run(["--json", "ask", b"\xff"])
     yield "no feed", 3, "", refused, run(nowhere)
     closed = run(serve, before=lambda: os.close(0))
     yield "no standard input for a script", 4, "", "router: read fault", closed

@@ -8,11 +8,35 @@
 
 use router_cli::{Status, asks_json, end, route};
 use std::env;
+use std::env::FillError;
 use std::io::ErrorKind;
 use std::process::ExitCode;
 use std::rt::Env;
 use tb_base::{HashKey, IdleGate};
 use tb_io::{HostFolder, InSource, OutSink};
+
+// The flag that asks for JSON.
+const JSON: &[u8] = b"--json";
+
+// Ends the options.
+const BEHIND_OPTIONS: &[u8] = b"--";
+
+// The length of the longer one of both.
+const LONGEST: usize = 6;
+
+// What `asks_json` says of the words, where one of them isn't UTF-8.
+fn asks_json_by_bytes(rt: &impl Env) -> bool {
+    let mut room = [0u8; LONGEST];
+    for i in 1..usize::MAX {
+        match rt.arg(i, &mut room) {
+            Ok(count) if &room[..count] == JSON => return true,
+            Ok(count) if &room[..count] == BEHIND_OPTIONS => return false,
+            Ok(_) | Err(FillError::TooLong) => {}
+            Err(FillError::NotPresent) => return false,
+        }
+    }
+    false
+}
 
 // The words after the program's name. One that isn't UTF-8 has no meaning.
 fn words_of(rt: &(impl Env + AllocGlobal)) -> Result<Vec<String>, Status> {
@@ -33,7 +57,7 @@ fn words_of(rt: &(impl Env + AllocGlobal)) -> Result<Vec<String>, Status> {
 fn main(rt: HostRuntime) -> ExitCode {
     let words = match words_of(&rt) {
         Ok(words) => words,
-        Err(status) => return end(&rt, false, &[], status),
+        Err(status) => return end(&rt, asks_json_by_bytes(&rt), &[], status),
     };
     let mut folder = HostFolder::new(&rt, HashKey::drawn(&rt));
     let mut script = InSource::new(rt.stdin());
