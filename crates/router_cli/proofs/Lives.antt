@@ -1,5 +1,5 @@
 -- How the program ends as a process that lives.
-use Rattle.std.proofs.Common.{◌≡◌, ℕ, inl, List, Option, Result, Ok, Err, refl}
+use Rattle.std.proofs.Common.{◌≡◌, ◌∙◌, ◌⊎◌, ℕ, inl, inr, List, Option, Result, Ok, Err, refl, sym}
 use Rattle.std.specs.Prelude.{IsSome}
 use Rattle.tb_base.specs.TimetableData.{TimetableData}
 use Rattle.gtfs_rows.specs.declared.fault.FeedFault.{FeedFault}
@@ -7,6 +7,8 @@ use Rattle.tb_io.specs.Files.{FileList}
 use Rattle.command_line.specs.Plans.{LiveRequestData}
 use Rattle.edition_build.specs.Plans.{FirstGives}
 use Rattle.live_turns.proofs.LiveFirst.{first_table}
+use Rattle.live_turns.specs.declared.live.lived.LiveFault.{LiveFault}
+use Rattle.live_turns.specs.declared.live.lived.LiveFault.TheVariants as fault
 use Rattle.router_cli.proofs.Endings.{IsDetermined, out_of_memory}
 use Rattle.router_cli.proofs.Runs.{by_day, first_day}
 use Rattle.router_cli.specs.Living.{IsLiveOutcome, first_items, mode_of}
@@ -30,3 +32,8 @@ live_completed same files shown faults risen told left r (status.ScriptRefused f
 live_completed same files shown faults risen told left r (status.LateRefused f) before now h read write day is = absurd h
 live_completed same files shown faults risen told left r (status.JourneyRefused f) before now h read write day is = absurd h
 live_completed same files shown faults risen told left r status.FaultsFound before now h read write day is = absurd h
+
+-- what holds unless a read failed holds where a write failed
+pub kept_else : {A Other Kept : Type 0} (result : Result A LiveFault) → (result ≡ Err fault.ReadFault) ⊎ Kept → result ≡ Err fault.WriteFault → Other ⊎ Kept
+kept_else result (inl failed) is = absurd (cc (sym is ∙ failed))
+kept_else result (inr kept) is = inr kept

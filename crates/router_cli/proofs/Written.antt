@@ -2,6 +2,7 @@
 use Rattle.std.proofs.Common.{◌≡◌, ◌∙◌, ℕ, ◌⊎◌, inl, inr, List, Option, Some, None, Result, Ok, Err, ap, subst, sym}
 use Rattle.std.specs.Prelude.{IfErr, IfOk, MatchResult, Vec}
 use Rattle.std.specs.Global.{Global}
+use Rattle.gtfs_rows.specs.declared.fault.FeedFault.{FeedFault}
 use Rattle.tb_io.specs.Files.{FileList}
 use Rattle.command_line.specs.declared.request.Request.{Request}
 use Rattle.command_line.specs.declared.request.Request.TheVariants as request
@@ -202,6 +203,11 @@ pub read_or_kept : {Kept : Type 0} (text : Text) (s : Status) (before now : Opti
     (text ≡ Err status.ReadFault) ⊎ Kept → (s ≡ status.ReadFault) ⊎ Kept
 read_or_kept text s before now written (inl failed) = inl (ends_unread text s before now written failed)
 read_or_kept text s before now written (inr kept) = inr kept
+
+-- what holds unless a read failed holds where a feed is refused
+pub at_refusal : {Kept : Type 0} (s : Status) (f : FeedFault) → (s ≡ status.ReadFault) ⊎ Kept → s ≡ status.FeedRefused f → Kept
+at_refusal s f (inl failed) is = absurd (cc (sym failed ∙ is))
+at_refusal s f (inr kept) is = kept
 
 -- what holds of a request whose text is gathered
 pub or_live : {A B Live : Type 0} → A ⊎ B → A ⊎ B ⊎ Live

@@ -8,7 +8,7 @@ use Rattle.trip_table.specs.Answers.{feed_of}
 use Rattle.trip_table.specs.AskedDay.{AreFaultsOf}
 use Rattle.command_line.specs.declared.request.Request.{Request}
 use Rattle.command_line.specs.declared.request.Request.TheVariants as request
-use Rattle.live_turns.specs.Live.{HasLivedUntil}
+use Rattle.live_turns.specs.Live.{HasLivedUntil, HasToldFirst}
 use Rattle.live_turns.specs.declared.live.lived.LiveFault.TheVariants as live
 use Rattle.lane_serve.specs.Script.{script_of}
 use Rattle.edition_build.specs.Plans.{FirstGives}
@@ -31,10 +31,11 @@ IsGathered (request.Matrix r) = ⊥
 IsGathered (request.Check r) = ⊥
 IsGathered r = ⊤
 
--- the words ask for a process that lives
-abbrev pub AskLive : Option Request → Type 0
-AskLive (Some (request.Live r)) = ⊤
-AskLive asked = ⊥
+-- the words ask for a process that lives, and the news of its first day were written, by the bytes
+-- that a sink held before and holds now
+abbrev pub HasLivedOn : Option Request → Option (List ℕ) → Option (List ℕ) → Type 0
+HasLivedOn (Some (request.Live r)) before now = HasToldFirst r.json (first_items r) before now
+HasLivedOn asked before now = ⊥
 
 -- the words ask for what is written as it is found
 abbrev pub WriteAsTheyGo : Option Request → Type 0

@@ -2,8 +2,9 @@
 ghost use Rattle.std.specs.Prelude.{◌≡◌, ◌⊎◌, ◌<◌, ◌-◌, ◌^◌, [], List, length, ℕ};
 ghost use Rattle.std.specs.Io.KnownBytes.{Consumes};
 ghost use Rattle.footpaths.specs.Limits.{AreWithinADay};
+ghost use Rattle.gtfs_rows.specs.declared.fault.FeedFault.{FeedFault};
 ghost use Rattle.tb_base.specs.Workers.{AreWorkers};
-ghost use Rattle.live_turns.specs.Live.{HasLivedUntil};
+ghost use Rattle.live_turns.specs.Live.{HasLivedUntil, HasToldFirst};
 ghost use Rattle.edition_build.specs.Plans.{BeginsWithDay};
 ghost use Rattle.router_cli.specs.Living.{IsLiveOutcome, first_items, mode_of};
 
@@ -46,6 +47,14 @@ fn lived<R: Threads + Wait + Sync, F: Folder + Send, S: Source, K: Sink, G: Gate
     ensures later { result ≡ Status.ReadFault → F.faults folder.new ≡ F.faults folder.old →
         HasLivedUntil LiveFault.ReadFault (F.files folder.old) options.now mode plan.now []
         (S.left source.old) (S.left source.new) (K.written out.old) (K.written out.new) }
+    ensures alone { (F.faults folder.new ≡ F.faults folder.old)
+        ⊎ (S.faults source.new ≡ S.faults source.old)
+        ⊎ HasToldFirst mode.json plan.now (K.written out.old) (K.written out.new) }
+    ensures refused { (f : FeedFault) → result ≡ Status.FeedRefused f →
+        F.faults folder.new ≡ F.faults folder.old }
+    ensures folder_kept { (result ≡ Status.ReadFault)
+        ⊎ (F.faults folder.new ≡ F.faults folder.old)
+        ⊎ HasToldFirst mode.json plan.now (K.written out.old) (K.written out.new) }
     ensures read { result ≡ Status.ReadFault → (F.faults folder.old < F.faults folder.new)
         ⊎ (S.faults source.old < S.faults source.new) }
     ensures write { result ≡ Status.WriteFault → K.faults out.old < K.faults out.new }
@@ -88,6 +97,16 @@ pub(crate) fn live_status<R: Threads + Wait + Sync, F: Folder + Send, S: Source,
         HasLivedUntil LiveFault.ReadFault (F.files folder.old) request.entry.options
         (mode_of request.entry) (first_items request.entry) [] (S.left source.old)
         (S.left source.new) (K.written out.old) (K.written out.new) }
+    ensures alone { (F.faults folder.new ≡ F.faults folder.old)
+        ⊎ (S.faults source.new ≡ S.faults source.old)
+        ⊎ HasToldFirst request.entry.json (first_items request.entry) (K.written out.old)
+        (K.written out.new) }
+    ensures refused { (f : FeedFault) → result ≡ Status.FeedRefused f →
+        F.faults folder.new ≡ F.faults folder.old }
+    ensures folder_kept { (result ≡ Status.ReadFault)
+        ⊎ (F.faults folder.new ≡ F.faults folder.old)
+        ⊎ HasToldFirst request.entry.json (first_items request.entry) (K.written out.old)
+        (K.written out.new) }
     ensures read { result ≡ Status.ReadFault → (F.faults folder.old < F.faults folder.new)
         ⊎ (S.faults source.old < S.faults source.new) }
     ensures write { result ≡ Status.WriteFault → K.faults out.old < K.faults out.new }

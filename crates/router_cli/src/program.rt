@@ -2,7 +2,7 @@
 ghost use Rattle.std.specs.Prelude.{◌≡◌, ◌⊎◌, ◌<◌, ◌-◌, ◌^◌, [], Err, IfErr, IfOk, IfSome, IsSome, None, Some, map, string_bytes};
 ghost use Rattle.command_line.specs.Requests.{request_of};
 ghost use Rattle.router_cli.specs.Outcome.{LeavesOutside, status_of_text};
-ghost use Rattle.router_cli.specs.Promise.{AskLive, HasReadBehind, IsGathered, IsNoRequestAnswer, IsRequestAnswer, IsRequestEnding, IsRequestOutcome, LeavesScript, ReadsBehind, TellsFirst, TellsLeftOut, WriteAsTheyGo};
+ghost use Rattle.router_cli.specs.Promise.{HasLivedOn, HasReadBehind, IsGathered, IsNoRequestAnswer, IsRequestAnswer, IsRequestEnding, IsRequestOutcome, LeavesScript, ReadsBehind, TellsFirst, TellsLeftOut, WriteAsTheyGo};
 
 use crate::checking::check_status;
 use crate::day::day_text;
@@ -104,14 +104,16 @@ fn request_text<R: Threads + Wait + Sync, F: Folder + Send, S: Source, G: Gate>(
 /// lines in order the text of the right reply by the edition of which it is, and these never go
 /// back; the list of editions is that of the lawful days in order, those of the words first, then
 /// those that lines name; and of each day it is told what became of it, that it can't be read only
-/// where the folder's count of faults rose. With `FeedRefused`, which tells of the first day,
-/// nothing is written, and nothing read of the script. With `ReadFault` neither, where the folder
-/// failed before the first day was published; else what is written is that of the lines before the
-/// fault. With `Memory` neither, or what is written is that of some first lines; with `WriteFault`
-/// a first part of such. The editions of a run that ends so are those of the lawful ones among some
-/// first days, of the words and of the lines that it read, in that order, and it told what became
-/// of first ones of these. A day behind the first one that can't be read, or for which there is no
-/// memory, ends nothing: so the folder's count of faults may rise there with any status.
+/// where the folder's count of faults rose, which rises only where this is told. With
+/// `FeedRefused`, which tells of the first day, nothing is written, and nothing read of the script.
+/// With `ReadFault` neither, where the folder failed before the first day was published; else what
+/// is written is that of the lines before the fault. With `Memory` neither, or what is written is
+/// that of some first lines; with `WriteFault` a first part of such. The editions of a run that
+/// ends so are those of the lawful ones among some first days, of the words and of the lines that
+/// it read, in that order, and it told what became of first ones of these. A day behind the first
+/// one that can't be read, or for which there is no memory, ends nothing: so the folder's count of
+/// faults may rise there, once the news of the first day are written, with any status but
+/// `FeedRefused`.
 ///
 /// That the gate is told of the pieces that workers reduce, and of the publications and requests of
 /// a run, is tested and in no clause. Its own work ends; it joins the workers that it starts. A
@@ -152,11 +154,15 @@ pub fn route<R: Threads + Wait + Sync, F: Folder + Send, S: Source, K: Sink, G: 
         ⊎ (S.faults script.old < S.faults script.new) }
     ensures alone { (F.faults folder.new ≡ F.faults folder.old)
         ⊎ (S.faults script.new ≡ S.faults script.old)
-        ⊎ AskLive (request_of (map string_bytes words.now)) }
+        ⊎ HasLivedOn (request_of (map string_bytes words.now)) (K.written out.old)
+        (K.written out.new) }
     ensures write { result ≡ Status.WriteFault → K.faults out.old < K.faults out.new }
+    ensures refused { (f : FeedFault) → result ≡ Status.FeedRefused f →
+        F.faults folder.new ≡ F.faults folder.old }
     ensures folder_kept { (result ≡ Status.ReadFault)
         ⊎ (F.faults folder.new ≡ F.faults folder.old)
-        ⊎ AskLive (request_of (map string_bytes words.now)) }
+        ⊎ HasLivedOn (request_of (map string_bytes words.now)) (K.written out.old)
+        (K.written out.new) }
     ensures script_kept { (result ≡ Status.ReadFault)
         ⊎ (S.faults script.new ≡ S.faults script.old) }
     ensures out_kept { (result ≡ Status.WriteFault) ⊎ (K.faults out.new ≡ K.faults out.old) }

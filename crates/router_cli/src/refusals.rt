@@ -20,7 +20,8 @@ use std::str;
 use tb_base::Memory;
 
 const USAGE: &[u8] =
-    b"usage: router [--change SECS] [--station SECS] [--close] [--lenient] [--days N] [--workers N] [--plain] [--lanes N] [--mirror] [--csv] [--json] COMMAND WORDS";
+    b"usage: router [--change SECS] [--station SECS] [--close] [--lenient] [--days N] \
+    [--workers N] [--plain] [--lanes N] [--mirror] [--csv] [--json] COMMAND WORDS";
 
 // Adds a fault of a script.
 fn add_script_fault(text: &mut Text, fault: ScriptFault) -> Result<(), Memory>
@@ -100,8 +101,8 @@ fn add_late_refusal(text: &mut Text, fault: LateFault) -> Result<(), Memory>
 
 // Adds that a claim is refused.
 fn add_journey_refusal(text: &mut Text, fault: JourneyFault) -> Result<(), Memory>
-    ensures { OnOk result
-        (text.new ≡ text.old ++ refusal_json 9 (codes "journey refused") (journey_fault_json fault)) }
+    ensures { OnOk result (text.new ≡ text.old
+        ++ refusal_json 9 (codes "journey refused") (journey_fault_json fault)) }
 {
     add_head(text, 9, b"journey refused")?;
     text.add(b",\"fault\":")?;

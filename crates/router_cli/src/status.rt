@@ -13,7 +13,8 @@ use std::alloc::Global;
 use tb_base::Memory;
 
 const USAGE: &[u8] =
-    b"usage: router [--change SECS] [--station SECS] [--close] [--lenient] [--days N] [--workers N] [--plain] [--lanes N] [--mirror] [--csv] COMMAND WORDS\n";
+    b"usage: router [--change SECS] [--station SECS] [--close] [--lenient] [--days N] \
+    [--workers N] [--plain] [--lanes N] [--mirror] [--csv] COMMAND WORDS\n";
 
 /// How the program ends. No status but `Memory` tells of want of memory.
 #[derive(Debug, Drop)]

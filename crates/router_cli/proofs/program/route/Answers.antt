@@ -5,7 +5,7 @@ use Rattle.command_line.specs.declared.request.Request.TheVariants as request
 use Rattle.router_cli.specs.Promise.{TellsFirst}
 use Rattle.router_cli.specs.declared.status.Status.TheVariants as status
 use Rattle.router_cli.proofs.Completed.{completed, unread}
-use Rattle.router_cli.proofs.Written.{at_end, first_in_part, has_meaning, left_at_end, none_written, or_live, promised, read_behind, read_or_kept, unread_text, where_done}
+use Rattle.router_cli.proofs.Written.{at_end, at_refusal, first_in_part, has_meaning, left_at_end, none_written, or_live, promised, read_behind, read_or_kept, unread_text, where_done}
 use Rattle.router_cli.proofs.program.route.Goals as goal
 
 pub returns-in-Err-clause-left : goal.returns-in-Err-clause-left
@@ -59,6 +59,10 @@ pub returns-in-Ok-Some-clause-folder_kept : goal.returns-in-Ok-Some-clause-folde
 returns-in-Ok-Some-clause-folder_kept g c =
     or_live (read_or_kept c.request_text-text.result c.write.result _ _ c.write.ensures.writes c.request_text-text.ensures.leaves.folder_kept)
 
+pub returns-in-Ok-Some-clause-refused : goal.returns-in-Ok-Some-clause-refused
+returns-in-Ok-Some-clause-refused g c f is =
+    at_refusal c.write.result f (read_or_kept c.request_text-text.result c.write.result _ _ c.write.ensures.writes c.request_text-text.ensures.leaves.folder_kept) is
+
 pub returns-in-Ok-Some-clause-script_kept : goal.returns-in-Ok-Some-clause-script_kept
 returns-in-Ok-Some-clause-script_kept g c =
     read_or_kept c.request_text-text.result c.write.result _ _ c.write.ensures.writes c.request_text-text.ensures.leaves.source_kept
@@ -79,6 +83,11 @@ returns-in-Ok-Some-clause-complete g c =
     (completed c.asked_determined.ensures c.lenient_determined.ensures (Some at.request) _ _ (g.S.Source.left c.args.script.now) c.write.result _ _ _ _ _ _ _ _
     (promised _ _ _ _ _ at.request c.request_text-text.result c.write.result _ _ c.request_text-text.ensures.text c.request_text-text.ensures.refused c.write.ensures.writes)
     (λ is. c.request_text-text.ensures.leaves.read (unread_text c.request_text-text.result c.write.result _ _ c.write.ensures.writes is)) c.write.ensures.write)
+
+pub returns-in-Ok-Some-Live-clause-later : goal.returns-in-Ok-Some-Live-clause-later
+returns-in-Ok-Some-Live-clause-later g c =
+    let at = c.in-Ok-Some-Live in
+    rw (sym at.ensures, at.field-0-is, at.field-0-0-is) c.live_status.ensures.later
 
 pub returns-in-Ok-Some-Live-clause-complete : goal.returns-in-Ok-Some-Live-clause-complete
 returns-in-Ok-Some-Live-clause-complete g c =
