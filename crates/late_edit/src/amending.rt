@@ -17,7 +17,7 @@ use crate::named_trips::{named_marks, named_trips};
 use crate::rows::Rows;
 use crate::update::Update;
 use edition_store::Edition;
-use line_split::{Lines, split};
+use line_split::{Lines, split_again};
 use std::alloc::Global;
 use tb_base::{Memory, Refused, Timetable};
 use transfer_pack::Set;
@@ -120,7 +120,7 @@ fn amend_named(
     ensures mirror { IfOk result (λ a. EditionData.mirror a.edition ≡ None) }
 {
     let table = amended_by(alloc, old.table(), updates, named)?;
-    match split(alloc, &table) {
+    match split_again(alloc, old.table(), old.lines(), &table, marks) {
         Ok(lines) => Ok(amended_over(alloc, old, table, lines, marks)?),
         Err(Memory) => {
             drop(table);
