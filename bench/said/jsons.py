@@ -25,12 +25,8 @@ class Other(Exception):
 
 
 def asks_json(words):
-    """Whether words, as bytes, ask for JSON: not where one isn't UTF-8."""
-    try:
-        plain = [word.decode() for word in words]
-    except UnicodeDecodeError:
-        return False
-    return next((word for word in plain if word in ("--json", "--")), "--") == "--json"
+    """Whether words, as bytes, ask for JSON, also where one isn't UTF-8."""
+    return next((word for word in words if word in (b"--json", b"--")), b"--") == b"--json"
 
 
 def no_constant(text):

@@ -57,7 +57,8 @@ class Texts(unittest.TestCase):
             ("ask f", False),
         ):
             self.assertEqual(right, jsons.asks_json([word.encode() for word in line.split()]), line)
-        self.assertFalse(jsons.asks_json([b"--json", b"\xff"]))
+        self.assertTrue(jsons.asks_json([b"--json", b"\xff"]))
+        self.assertFalse(jsons.asks_json([b"--", b"\xff", b"--json"]))
 
     def test_an_origin_that_is_no_place(self):
         found = jsons.text_of("matrix", '{"from":"X","unknown_stop":"X"}\n', b"X")
