@@ -2,12 +2,15 @@
 import contextlib
 import hashlib
 import os
+import shutil
 import subprocess
 import time
 
 PROGRAM = "router"
 # What a proof reads of a crate.
 PROVED_PARTS = ("src", "specs", "proofs")
+# What a program is run on in `rt ci`, and what it has to give.
+RUN_PARTS = ("args", "stdin", "stdout", "status", "data")
 
 
 def read_crates(top):
@@ -43,7 +46,7 @@ def files_below(folder):
 
 
 def line_count(crate, ending):
-    """The lines of the proved files of a crate whose names end so."""
+    """The lines of the proved files of a crate whose names end so (or in one of several ways)."""
     count = 0
     for part in PROVED_PARTS:
         for file in files_below(os.path.join(crate, part)):
@@ -64,6 +67,23 @@ def sum_of_sources(top):
         with contextlib.suppress(FileNotFoundError), open(os.path.join(top, path), "rb") as file:
             total.update(f"\n{path} {hashlib.sha256(file.read()).hexdigest()}".encode())
     return total.hexdigest()
+
+
+def copy_sources(top, to):
+    """Makes a folder with what the proof and the run of the program read of the repository."""
+    names = crates_below(PROGRAM, read_crates(top))
+    parts = [os.path.join("crates", name, it) for name in names for it in PROVED_PARTS + RUN_PARTS]
+    os.makedirs(to)
+    for path in ["HANDLES", *parts]:
+        one, other = os.path.join(top, path), os.path.join(to, path)
+        if os.path.isdir(one):
+            shutil.copytree(one, other, copy_function=shutil.copyfile)
+        elif os.path.isfile(one):
+            os.makedirs(os.path.dirname(other), exist_ok=True)
+            shutil.copyfile(one, other)
+    with open(os.path.join(top, "crates.txt"), encoding="utf-8") as file:
+        lines = [line for line in file if {*line.partition(":")[0].split()[:1]} & {*names}]
+    write_whole(os.path.join(to, "crates.txt"), "".join(lines))
 
 
 def built_program(top):
@@ -113,11 +133,30 @@ def write_stamp(top, commit, total, begun):
     date_stamp(stamp_file(top), begun)
 
 
+def take_program(copy, top):
+    """Has the program that was built in a copy of the sources stand where that of these would."""
+    to = built_program(top)
+    os.makedirs(os.path.dirname(to), exist_ok=True)
+    shutil.copyfile(built_program(copy), f"{to}.new")
+    os.chmod(f"{to}.new", 0o755)
+    os.replace(f"{to}.new", to)
+
+
 def write_whole(path, text):
     """Writes a file so that nobody meets half of it."""
     with open(f"{path}.new", "w", encoding="utf-8") as file:
         file.write(text)
     os.replace(f"{path}.new", path)
+
+
+def git_folder(top):
+    """The folder in which git keeps the state of the checkout, or None."""
+    git = os.path.join(top, ".git")
+    if os.path.isfile(git):
+        # (that of a worktree names it)
+        with open(git, encoding="utf-8") as file:
+            git = os.path.join(top, file.read().partition("gitdir:")[2].strip())
+    return git if os.path.isdir(git) else None
 
 
 def commit_of(top):

@@ -1,6 +1,5 @@
 """Tests of the build with a stand-in for the toolchain: python3 -m unittest discover tools"""
 import contextlib
-import fcntl
 import io
 import os
 import signal
@@ -8,50 +7,66 @@ import subprocess
 import sys
 import tempfile
 import time
+import types
 import unittest
 from unittest import mock
 
 import build
+import planned_ci
 import progress
-import shared_rt
 import sources
 
-# Stands in for `rt`: notes when it begins and ends, and keeps a library whose source is as it was.
-# A crate's file `fails`, `killed` or `sleeps` has it end so, be killed that often, or take long.
+# Stands in for `rt ci`: notes when it begins with a crate and ends, and keeps what passed by its
+# source and those below. A file of the folder `wants`, beside that of this script, has it do more
+# at a crate: fail, take long, wait for another run, change a file, or have the program run badly.
 STAND_IN = """#!/usr/bin/env python3
 import os, sys, time
-crate, verb = os.path.basename(os.getcwd()), sys.argv[1]
+HERE = os.path.dirname(os.path.dirname(os.path.realpath(__file__)))
 
-def note(text):
-    with open("../../events", "a") as file:
-        file.write(text + "\\n")
-
-def text_of(path):
+def text_of(*path):
+    path = os.path.join(*path)
     return open(path).read() if os.path.exists(path) else ""
 
-os.makedirs("out", exist_ok=True)
-source = text_of("src/lib.rt")
-if text_of("out/stamp") == source:
-    sys.exit(0)
-note(f"begin {crate} {' '.join(sys.argv[1:])}")
-print("fn f: proved", flush=True)
-time.sleep(60 if os.path.exists("sleeps") else 0.3)
-if os.path.exists("fails"):
-    print("src/lib.rt:7:5: error: it is wrong\\nstatements core: modules loaded=1")
-    print("logic=not-proved")
+def note(text):
+    with open(HERE + "/events", "a") as file:
+        file.write(text + chr(10))
+
+def say(*lines):
+    print(*lines, sep=chr(10), flush=True)
+
+note(" ".join(sys.argv[1:]) + ": " + " ".join(sorted(os.listdir("."))))
+os.makedirs(HERE + "/kept", exist_ok=True)
+keys = {}
+for line in open("crates.txt"):
+    crate, _, libraries = line.partition("#")[0].partition(":")
+    wants = lambda word: text_of(HERE, "wants", crate + "." + word)
+    source = text_of("crates", crate, "src/lib.rt") + text_of("HANDLES")
+    keys[crate] = source + "".join(keys.get(it, "") for it in libraries.split())
+    if text_of(HERE, "kept", crate) == keys[crate]:
+        say(f"rt: {crate} is kept: an earlier run on this machine proved the same files")
+        continue
+    if wants("waits"):
+        say(f"rt: {crate}: another run on this machine is proving the same; waiting for it")
+    note(f"begin {crate}")
+    os.makedirs(f"crates/{crate}/out/rlib")
+    time.sleep(60 if wants("sleeps") else 0.3)
+    say(f"== {crate}", "fn f: proved", "fn g: proved, may wait")
+    if wants("fails"):
+        at = os.getcwd() + "/crates/" + crate
+        say(f"{at}/src/lib.rt:7:5: error: it is wrong", "statements core: modules loaded=1")
+        say("logic=not-proved", f"rt: {crate} NOT PROVED", "0 passed, 1 failed")
+        sys.exit(1)
+    if wants("edits"):
+        open(wants("edits"), "a").write("// an edit meanwhile")
+    say("logic=proved functions=1", f"rt: {crate} proved")
+    open(HERE + "/kept/" + crate, "w").write(keys[crate])
+    note(f"end {crate}")
+os.makedirs("crates/router/out", exist_ok=True)
+open("crates/router/out/router", "w").write("program")
+if text_of(HERE, "wants", "router.run"):
+    say("rt: router wrote something else", "rt: FAILED: router (run)", "3 passed, 1 failed")
     sys.exit(1)
-kills = text_of("killed")
-if kills:
-    open("killed", "w").write(kills[1:])
-    sys.exit(256 - 9)
-if os.path.exists("edits"):
-    open("../low/src/lib.rt", "a").write("// an edit meanwhile\\n")
-if verb == "run":
-    open("out/router", "w").write("program")
-    os.chmod("out/router", 0o755)
-open("out/stamp", "w").write(source)
-print("logic=proved functions=1")
-note(f"end {crate}")
+say("4 passed, 0 failed")
 """
 
 
@@ -69,39 +84,55 @@ class Checkout(unittest.TestCase):
     def setUp(self):
         folder = tempfile.TemporaryDirectory()
         self.addCleanup(folder.cleanup)
-        self.top = os.path.join(folder.name, "top")
+        self.folder = os.path.realpath(folder.name)
+        self.top = os.path.join(self.folder, "top")
         crates = "# NAME: libraries\nlow: csv\nmid: low\nside: low\nother: low\n"
         write(self.top, "crates.txt", crates + "router: mid side # a program\n")
         write(self.top, "HANDLES", "Handles allowed: none.\n")
+        write(self.top, ".git/config", "")
         for name in ("low", "mid", "side", "other", "router"):
             write(self.top, f"crates/{name}/src/lib.rt", f"// {name}\n")
         write(self.top, "crates/low/must-fail/wrong.edit", "file: src/lib.rt\n")
         write(self.top, "crates/low/proofs/out/Answers.antt", "\n")
-        os.chmod(write(folder.name, "bin/rt", STAND_IN), 0o755)
-        path = f"{folder.name}/bin:{os.environ['PATH']}"
-        home = {"PATH": path, "XDG_CACHE_HOME": f"{folder.name}/cache"}
+        write(self.top, "crates/router/data/f1/stops.txt", "stop_id\n")
+        os.chmod(write(self.folder, "bin/rt", STAND_IN), 0o755)
+        path = f"{self.folder}/bin:{os.environ['PATH']}"
+        temporary = os.path.join(self.folder, "temporary")
+        os.mkdir(temporary)
+        home = {"PATH": path, "XDG_CACHE_HOME": f"{self.folder}/cache", "TMPDIR": temporary}
         environment = mock.patch.dict(os.environ, home)
         environment.start()
         self.addCleanup(environment.stop)
+        place = mock.patch.object(tempfile, "tempdir", temporary)
+        place.start()
+        self.addCleanup(place.stop)
+
+    def want(self, *names, text="x"):
+        for name in names:
+            write(self.folder, f"wants/{name}", text)
 
     def events(self):
         with contextlib.suppress(FileNotFoundError):
-            with open(os.path.join(self.top, "events"), encoding="utf-8") as file:
+            with open(os.path.join(self.folder, "events"), encoding="utf-8") as file:
                 return file.read().splitlines()
         return []
 
-    def build(self, processors=4, memory=1e12):
+    def build(self):
         """What a build says, or why it failed."""
         out = io.StringIO()
-        machine = {"processor_count": lambda: processors, "free_memory": lambda: memory}
-        with mock.patch.multiple(build, **machine), contextlib.redirect_stdout(out):
+        with contextlib.redirect_stdout(out):
             build.build(self.top)
         return out.getvalue()
 
-    def why_not(self, **machine):
+    def why_not(self):
         with self.assertRaises(build.BuildError) as caught:
-            self.build(**machine)
+            self.build()
         return str(caught.exception)
+
+    def left(self):
+        """What builds left beside the sources and the folders `out`."""
+        git = [it for it in os.listdir(f"{self.top}/.git") if it not in ("config", "rt-ci.lock")]
+        return git + os.listdir(os.path.join(self.folder, "temporary"))
 
 
 class Sources(Checkout):
@@ -110,6 +141,18 @@ class Sources(Checkout):
         below = sources.crates_below("router", libraries)
         self.assertEqual(["low", "mid", "side", "router"], below)
         self.assertEqual(["low", "other"], sources.crates_below("other", libraries))
+
+    def test_copy(self):
+        copy = os.path.join(self.folder, "copy")
+        write(self.top, "crates/low/out/incremental/old", "")
+        sources.copy_sources(self.top, copy)
+        lines = "low: csv\nmid: low\nside: low\nrouter: mid side # a program\n"
+        with open(f"{copy}/crates.txt", encoding="utf-8") as file:
+            self.assertEqual(lines, file.read())
+        found = {it for it in sources.files_below(copy) if not it.endswith("lib.rt")}
+        more = {"crates/low/proofs/out/Answers.antt", "crates/router/data/f1/stops.txt"}
+        self.assertEqual({"crates.txt", "HANDLES", *more}, found)
+        self.assertEqual(sources.sum_of_sources(self.top), sources.sum_of_sources(copy))
 
     def test_program_of_these_sources(self):
         self.assertFalse(sources.is_current(self.top))
@@ -138,81 +181,83 @@ class Sources(Checkout):
         os.utime(sources.built_program(self.top), ns=(2**61, 2**61))
         self.assertFalse(sources.is_current(self.top))
 
+    def test_git_folder(self):
+        self.assertEqual(f"{self.top}/.git", sources.git_folder(self.top))
+        os.rename(f"{self.top}/.git", f"{self.folder}/of_worktree")
+        self.assertIsNone(sources.git_folder(self.top))
+        write(self.top, ".git", f"gitdir: {self.folder}/of_worktree\n")
+        self.assertEqual(f"{self.folder}/of_worktree", sources.git_folder(self.top))
+
 
 class Builds(Checkout):
-    def test_each_crate_once_those_below_are_proved(self):
+    def test_tells_of_each_crate(self):
         said = self.build()
         self.assertRegex(said, r"1 of 4 proved, low \d+ s; \d+ s so far")
         self.assertRegex(said, r"4 of 4 proved, router \d+ s; \d+ s so far\n")
         self.assertIn("the proved program is built", said)
-        events = self.events()
-        self.assertEqual(["begin low lib --jobs 4", "end low"], events[:2])
-        self.assertEqual(["begin mid lib --jobs 2", "begin side lib --jobs 2"], sorted(events[2:4]))
-        self.assertEqual(["begin router run --jobs 4 -- city 2", "end router"], events[6:])
+        self.assertTrue(os.access(sources.built_program(self.top), os.X_OK))
+        self.assertEqual("ci: .git HANDLES crates crates.txt", self.events()[0])
+        self.assertEqual(["begin low", "end low", "begin mid"], self.events()[1:4])
+        self.assertEqual([], self.left())
+        self.assertGreater(build.read_figures()["low"], 0.05)
 
     def test_what_is_proved_is_kept(self):
         self.build()
-        write(self.top, "crates/mid/src/lib.rt", "// changed\n")
+        write(self.top, "crates/side/src/lib.rt", "// changed\n")
         before = len(self.events())
         said = self.build()
-        self.assertIn("low in an earlier run", said)
-        self.assertEqual(["begin mid lib --jobs 2", "end mid"], self.events()[before:])
+        self.assertIn("1 of 4 proved, low in an earlier run", said)
+        changed = ["begin side", "end side", "begin router", "end router"]
+        self.assertEqual(changed, self.events()[before + 1 :])
+        self.assertTrue(sources.is_current(self.top))
 
-    def test_one_processor_or_little_memory(self):
-        one_by_one = ["low", "mid", "side", "router"]
-        for machine in ({"processors": 1}, {"memory": 1e9}):
-            with self.subTest(**machine):
-                for name in one_by_one:
-                    write(self.top, f"crates/{name}/src/lib.rt", f"// {machine}\n")
-                before = len(self.events())
-                self.build(**machine)
-                words = [line.split() for line in self.events()[before:]]
-                self.assertEqual([it[1] for it in words[::2]], [it[1] for it in words[1::2]])
-                self.assertEqual({"1"}, {it[4] for it in words[::2]})
+    def test_without_git(self):
+        os.rename(f"{self.top}/.git", f"{self.top}/no_git")
+        self.build()
+        self.assertTrue(sources.is_current(self.top))
+        self.assertEqual([], os.listdir(os.path.join(self.folder, "temporary")))
+
+    def test_another_run_at_the_same_crate(self):
+        self.want("mid.waits")
+        self.assertIn("\nmid: another run on this machine is proving the same", self.build())
 
     def test_a_crate_that_fails(self):
-        write(self.top, "crates/mid/fails", "")
-        write(self.top, "crates/side/sleeps", "")
+        self.want("mid.fails", "side.sleeps")
         begin = time.monotonic()
         why = self.why_not()
         self.assertLess(time.monotonic() - begin, 30)
         self.assertIn("mid failed", why)
-        last = "build.log:\n  src/lib.rt:7:5: error: it is wrong\n  logic=not-proved"
-        self.assertTrue(why.endswith(last), why)
+        last = f"{self.top}/crates/mid/src/lib.rt:7:5: error: it is wrong\n  logic=not-proved"
+        self.assertTrue(why.endswith(f"build.log:\n  {last}"), why)
         self.assertFalse(sources.is_current(self.top))
+        self.assertEqual([], self.left())
 
-    def test_a_crate_that_is_killed(self):
-        write(self.top, "crates/mid/killed", "x")
-        said = self.build()
-        self.assertIn("mid was killed, most likely for memory: again, alone", said)
-        events = self.events()
-        self.assertLess(events.index("end side"), events.index("begin mid lib --jobs 1"))
-        write(self.top, "crates/side/src/lib.rt", "// more\n")
-        write(self.top, "crates/side/killed", "xx")
-        self.assertIn("side failed", self.why_not())
+    def test_a_run_that_fails(self):
+        self.want("router.run")
+        self.assertIn("rt: FAILED: router (run)", self.why_not())
+        self.assertFalse(sources.is_current(self.top))
 
     def test_sources_that_change_meanwhile(self):
-        write(self.top, "crates/router/edits", "")
+        self.want("router.edits", text=f"{self.top}/crates/low/src/lib.rt")
         self.assertIn("sources changed during the build", self.why_not())
         self.assertFalse(sources.is_current(self.top))
-        edited = os.stat(os.path.join(self.top, "crates/low/src/lib.rt")).st_mtime
-        self.assertLess(os.stat(sources.built_program(self.top)).st_mtime, edited)
+        self.assertFalse(os.path.exists(sources.built_program(self.top)))
 
 
 class Stops(Checkout):
-    """Builds by a process of their own, which is at `mid` and `side` for long."""
+    """Builds by a process of their own, which is at `mid` for long."""
 
     def begin(self):
-        write(self.top, "events", "")
-        for name in ("mid", "side"):
-            write(self.top, f"crates/{name}/sleeps", "")
+        write(self.folder, "events", "")
+        self.want("mid.sleeps")
         words = [sys.executable, build.__file__, "--top", self.top]
         how = {"stdout": subprocess.PIPE, "stderr": subprocess.STDOUT, "text": True}
         child = subprocess.Popen(words, **how)
         self.addCleanup(child.stdout.close)
         self.addCleanup(child.wait)
         self.addCleanup(child.kill)
-        self.wait_until(lambda: {"mid", "side"} <= {it.split()[1] for it in self.events()})
+        self.wait_until(lambda: "begin mid" in self.events())
+        self.assertTrue(any(line.startswith("1 of 4 proved, low") for line in child.stdout))
         return child
 
     def wait_until(self, holds):
@@ -239,11 +284,15 @@ class Stops(Checkout):
                 self.assertEqual(130, child.returncode)
                 self.assertTrue(said.endswith("router: stopped; 1 of 4 proved\n"), said)
                 self.assertFalse(self.at_work())
+                self.assertEqual([], self.left())
 
     def test_killed(self):
         child = self.begin()
         child.kill()
         self.wait_until(lambda: not self.at_work())
+        os.remove(f"{self.folder}/wants/mid.sleeps")
+        self.assertIn("low in an earlier run", self.build())
+        self.assertEqual([], self.left())
 
     def test_two_builds(self):
         self.begin()
@@ -282,82 +331,44 @@ class Left(unittest.TestCase):
         self.assertEqual(60, self.estimate({}).left(["low"], {"low": 20}, {}))
 
 
-class SideBySide(unittest.TestCase):
+class Planned(Checkout):
     """What the toolchain's script is run with."""
 
-    class Crate:
-        def __init__(self, folder, libraries=()):
-            self.folder, self.libraries, self.sums = folder, libraries, 0
-            self.built = True
+    KNOWN = "STORE = '/nowhere/kept'\ndef need(crate): return 9e9\ndef main(words): "
 
-        def is_built(self):
-            return self.built
+    def run_known(self, store):
+        """What a script of the known make gives that is run by this user."""
+        write(self.folder, "bin/rtlib.py", "")
+        known = self.KNOWN.replace("/nowhere/kept", store) + "return words, need, STORE\n"
+        write(self.folder, "bin/rt", known)
+        with mock.patch.object(planned_ci, "end_with_parent"):
+            return planned_ci.main([f"{self.folder}/own"])
 
-        def below(self):
-            return [it for library in self.libraries for it in (*library.below(), library)]
+    def test_keeps_where_it_can(self):
+        kept = f"{self.folder}/kept"
+        self.assertEqual((["ci"], planned_ci.memory, kept), self.run_known(kept))
+        own = f"{self.folder}/own"
+        write(self.folder, "file", "")
+        self.assertEqual((["ci"], planned_ci.memory, own), self.run_known(f"{self.folder}/file/in"))
+        self.assertTrue(os.path.isdir(own))
 
-        def stamp(self):
-            self.sums += 1
-            with open(f"{self.folder}/a", encoding="utf-8") as file:
-                return [file.read(), *[it.stamp() for it in self.libraries]]
-
-    def setUp(self):
-        folder = tempfile.TemporaryDirectory()
-        self.addCleanup(folder.cleanup)
-        for name in ("low", "mid", "side"):
-            write(folder.name, f"{name}/a", name)
-        self.crate_class = type("Crate", (self.Crate,), {})
-        self.low = self.crate_class(f"{folder.name}/low")
-        self.mid = self.crate_class(f"{folder.name}/mid", [self.low])
-        self.side = self.crate_class(f"{folder.name}/side", [self.low, self.mid])
-
-    def test_each_sum_once(self):
-        shared_rt.sum_once(self.crate_class, lambda folder: [f"{folder}/a"])
-        first = self.side.stamp()
-        self.assertEqual((first, 1), (self.side.stamp(), self.low.sums))
-        write(self.mid.folder, "a", "changed")
-        self.assertNotEqual(first, self.side.stamp())
-        self.assertEqual((1, 2, 2), (self.low.sums, self.mid.sums, self.side.sums))
-
-    def test_locks(self):
-        here = os.getcwd()
-        self.addCleanup(os.chdir, here)
-        os.chdir(self.mid.folder)
-        held = shared_rt.lock_shared([self.low, self.mid])
-        # another run over the same library goes on, and one that would change it doesn't
-        os.chdir(self.side.folder)
-        held += shared_rt.lock_shared([self.low, self.side])
-        for crate in (self.low, self.mid):
-            other = os.open(crate.folder, os.O_RDONLY)
-            held.append(other)
-            with self.assertRaises(BlockingIOError):
-                fcntl.flock(other, fcntl.LOCK_EX | fcntl.LOCK_NB)
-        for it in held:
-            os.close(it)
-
-    def test_lock_of_a_library_that_is_to_be_built(self):
-        here = os.getcwd()
-        self.addCleanup(os.chdir, here)
-        os.chdir(self.mid.folder)
-        self.low.built = False
-        held = shared_rt.lock_shared([self.low, self.mid])
-        held.append(os.open(self.low.folder, os.O_RDONLY))
-        with self.assertRaises(BlockingIOError):
-            fcntl.flock(held[-1], fcntl.LOCK_SH | fcntl.LOCK_NB)
-        for it in held:
-            os.close(it)
+    def test_memory(self):
+        folder = lambda name: os.path.join(self.top, "crates", name)
+        low = types.SimpleNamespace(folder=folder("low"), below=lambda: [])
+        mid = types.SimpleNamespace(folder=folder("mid"), below=lambda: [low])
+        before = planned_ci.memory(mid)
+        for name in ("low", "mid"):
+            write(folder(name), "src/more.rt", "\n" * 10)
+        self.assertEqual(5.15e6, round(planned_ci.memory(mid) - before))
 
     def test_a_script_of_another_make(self):
-        folder = os.path.dirname(self.low.folder)
-        known = "import types\ndef main(words): pass\n"
-        known += "class Crate:\n    stamp = below = is_built = main\n"
-        known += "rtlib = types.SimpleNamespace(lock=main, files_of=main, Crate=Crate)\n"
-        self.assertIsNone(shared_rt.load(write(folder, "rt", known)))
-        write(folder, "rtlib.py", "")
-        for more in ("", "def stamp_once(crate, made=main): pass\nCrate.stamp = stamp_once\n"):
-            self.assertIsNotNone(shared_rt.load(write(folder, "rt", known + more)))
-        for other in ("rtlib = None\n", "rtlib.lock = lambda crates, kind: []\n"):
-            self.assertIsNone(shared_rt.load(write(folder, "rt", known + other)))
+        path = write(self.folder, "other/rt", self.KNOWN + "pass\n")
+        self.assertIsNone(planned_ci.load(path))
+        write(self.folder, "other/rtlib.py", "")
+        self.assertIsNotNone(planned_ci.load(path))
+        for more in ("STORE = None\n", "def need(crate, jobs): pass\n", "main = None\n"):
+            write(self.folder, "other/rt", self.KNOWN + "pass\n" + more)
+            self.assertIsNone(planned_ci.load(path))
 
 
 if __name__ == "__main__":

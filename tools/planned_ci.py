@@ -1,0 +1,80 @@
+"""Runs the toolchain's `rt ci` in the current folder, and ends with whoever started it.
+
+The toolchain begins a proof once the memory that it plans for it is free: two or three times what
+proofs of this repository take, so that processors would be idle. Here it plans by what they take.
+What passed it keeps beside itself, and nothing where this user can't write there: then in the
+folder that the first word names. What is proved, and whether what was kept fits, is for it to say,
+as ever. One whose script is made otherwise runs as it is.
+"""
+import ctypes
+import importlib.machinery
+import importlib.util
+import inspect
+import os
+import shutil
+import signal
+import sys
+
+import sources
+
+# Of prctl(2): the signal that comes when the parent ends.
+PR_SET_PDEATHSIG = 1
+
+
+def end_with_parent():
+    parent = os.getppid()
+    ctypes.CDLL(None).prctl(PR_SET_PDEATHSIG, signal.SIGTERM)
+    if os.getppid() != parent:
+        sys.exit(1)
+
+
+def memory(crate):
+    """The bytes that a proof of a crate takes with one job, a little more than seen on 2026-12-02."""
+    code, proofs = (sources.line_count(crate.folder, it) for it in (".rt", ".antt"))
+    below = sum(sources.line_count(it.folder, ".rt") for it in crate.below())
+    return 1e6 * (1200 + 0.45 * code + 0.065 * below + 0.08 * proofs)
+
+
+def can_keep(folder):
+    """Whether the toolchain, run by this user, can keep there what passed."""
+    try:
+        os.makedirs(folder, 0o700, exist_ok=True)
+        return os.stat(folder).st_uid == os.geteuid() and os.access(folder, os.W_OK)
+    except OSError:
+        return False
+
+
+def takes_one(function):
+    """Whether it is a function of one value; others that it takes have a value of their own."""
+    if not callable(function):
+        return False
+    needed = [it for it in inspect.signature(function).parameters.values() if it.default is it.empty]
+    return len(needed) == 1
+
+
+def load(path):
+    """The toolchain's script as a module, or None where it isn't made as the ones known here."""
+    if not os.path.isfile(os.path.join(os.path.dirname(path), "rtlib.py")):
+        return None
+    loader = importlib.machinery.SourceFileLoader("rt_of_the_toolchain", path)
+    module = importlib.util.module_from_spec(importlib.util.spec_from_loader(loader.name, loader))
+    loader.exec_module(module)
+    is_known = all(takes_one(getattr(module, name, None)) for name in ("main", "need"))
+    return module if is_known and isinstance(getattr(module, "STORE", None), str) else None
+
+
+def main(words):
+    end_with_parent()
+    rt = shutil.which("rt")
+    module = load(os.path.realpath(rt))
+    if module is None:
+        os.execv(rt, [rt, "ci"])
+    module.need = memory
+    if not can_keep(module.STORE):
+        os.makedirs(words[0], 0o700, exist_ok=True)
+        module.STORE = words[0]
+    return module.main(["ci"])
+
+
+if __name__ == "__main__":
+    sys.exit(main(sys.argv[1:]))
