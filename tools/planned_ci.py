@@ -1,7 +1,9 @@
 """Runs the toolchain's `rt ci` in the current folder, and ends with whoever started it.
 
 The toolchain begins a proof once the memory that it plans for it is free: two or three times what
-proofs of this repository take, so that processors would be idle. Here it plans by what they take.
+proofs of this repository take. And it leaves processors to the tests of a crate that has none, so
+that a proof which begins then has fewer jobs for all its time. Here it does neither.
+
 What passed it keeps beside itself, and nothing where this user can't write there: then in the
 folder that the first word names. What is proved, and whether what was kept fits, is for it to say,
 as ever. One whose script is made otherwise runs as it is.
@@ -19,6 +21,9 @@ import sources
 
 # Of prctl(2): the signal that comes when the parent ends.
 PR_SET_PDEATHSIG = 1
+# Functions of a toolchain's script that is made as those known here: what it runs, what memory it
+# plans for a crate, and how it runs tasks side by side.
+KNOWN = ("main", "need", "in_lanes")
 
 
 def end_with_parent():
@@ -33,6 +38,18 @@ def memory(crate):
     code, proofs = (sources.line_count(crate.folder, it) for it in (".rt", ".antt"))
     below = sum(sources.line_count(it.folder, ".rt") for it in crate.below())
     return 1e6 * (1200 + 0.45 * code + 0.065 * below + 0.08 * proofs)
+
+
+def without_empty(in_lanes):
+    """Has the toolchain's tasks run without those of tests that aren't there, which end well."""
+
+    def run(tasks):
+        awaited = {it for task in tasks.values() for it in task[0]}
+        lines = {key: task[1] for key, task in tasks.items() if key[1] == "tests"}
+        empty = {key: True for key, count in lines.items() if not count and key not in awaited}
+        return {**in_lanes({it: tasks[it] for it in tasks if it not in empty}), **empty}
+
+    return run
 
 
 def can_keep(folder):
@@ -59,7 +76,7 @@ def load(path):
     loader = importlib.machinery.SourceFileLoader("rt_of_the_toolchain", path)
     module = importlib.util.module_from_spec(importlib.util.spec_from_loader(loader.name, loader))
     loader.exec_module(module)
-    is_known = all(takes_one(getattr(module, name, None)) for name in ("main", "need"))
+    is_known = all(takes_one(getattr(module, name, None)) for name in KNOWN)
     return module if is_known and isinstance(getattr(module, "STORE", None), str) else None
 
 
@@ -69,9 +86,8 @@ def main(words):
     module = load(os.path.realpath(rt))
     if module is None:
         os.execv(rt, [rt, "ci"])
-    module.need = memory
-    if not can_keep(module.STORE):
-        os.makedirs(words[0], 0o700, exist_ok=True)
+    module.need, module.in_lanes = memory, without_empty(module.in_lanes)
+    if not can_keep(module.STORE) and can_keep(words[0]):
         module.STORE = words[0]
     return module.main(["ci"])
 

@@ -334,7 +334,11 @@ class Left(unittest.TestCase):
 class Planned(Checkout):
     """What the toolchain's script is run with."""
 
-    KNOWN = "STORE = '/nowhere/kept'\ndef need(crate): return 9e9\ndef main(words): "
+    KNOWN = "STORE = '/nowhere/kept'\ndef need(crate): return 9e9\n"
+    KNOWN += "def in_lanes(tasks): return {it: call() for it, (*_, call) in tasks.items()}\n"
+    KNOWN += "def main(words): "
+
+    TASKS = [("low", "proof", 9), ("low", "tests", 0), ("mid", "tests", 0), ("side", "tests", 9)]
 
     def run_known(self, store):
         """What a script of the known make gives that is run by this user."""
@@ -353,13 +357,20 @@ class Planned(Checkout):
         self.assertTrue(os.path.isdir(own))
 
     def test_memory(self):
-        folder = lambda name: os.path.join(self.top, "crates", name)
-        low = types.SimpleNamespace(folder=folder("low"), below=lambda: [])
-        mid = types.SimpleNamespace(folder=folder("mid"), below=lambda: [low])
+        low = types.SimpleNamespace(folder=f"{self.top}/crates/low", below=lambda: [])
+        mid = types.SimpleNamespace(folder=f"{self.top}/crates/mid", below=lambda: [low])
         before = planned_ci.memory(mid)
-        for name in ("low", "mid"):
-            write(folder(name), "src/more.rt", "\n" * 10)
+        for crate in (low, mid):
+            write(crate.folder, "src/more.rt", "\n" * 10)
         self.assertEqual(5.15e6, round(planned_ci.memory(mid) - before))
+
+    def test_tests_that_are_not_there(self):
+        tasks = {(name, what): ([], lines, 1, None) for name, what, lines in self.TASKS}
+        tasks["mid", "edits"] = [("mid", "tests")], 0, 1, None
+        ran = []
+        run = planned_ci.without_empty(lambda given: ran.extend(given) or dict.fromkeys(given, 0))
+        self.assertEqual({**dict.fromkeys(tasks, 0), ("low", "tests"): True}, run(tasks))
+        self.assertEqual([it for it in tasks if it != ("low", "tests")], ran)
 
     def test_a_script_of_another_make(self):
         path = write(self.folder, "other/rt", self.KNOWN + "pass\n")
