@@ -37,7 +37,8 @@ WAITS = re.compile(r"rt: (\w+: another run on this machine .*)")
 # How many of its lines are shown where it fails, and which not, since they say what went well.
 LAST_LINES = 30
 OF_NO_USE = re.compile(
-    r"(statements|library|crate) \w+: modules |logic /|\w+ \S+: proved(, .*)?$|== |empty contracts: 0 "
+    r"(statements|library|crate) \w+: modules |logic /|\w+ \S+: proved(, .*)?$|== \w+$"
+    r"|empty contracts: 0 "
 )
 
 
@@ -80,7 +81,7 @@ class Crates:
         return {name: sources.line_count(at, (".rt", ".antt")) for name, at in folders.items()}
 
     def is_begun(self, name):
-        """Whether the toolchain has begun to prove the crate: it has made a folder for what comes."""
+        """Whether the toolchain has begun to prove the crate: it has made a folder for it."""
         made = ["out"] if name == sources.PROGRAM else ["out", "rlib"]
         return os.path.isdir(os.path.join(self.folder(name), *made))
 
@@ -91,18 +92,18 @@ class Run:
     def __init__(self, copy, top, store):
         self.copy, self.top = copy, top
         out = os.path.dirname(sources.built_program(top))
-        self.log_file, self.half_line = os.path.join(out, "build.log"), ""
+        self.log_file, self.half_line = os.path.join(out, "build.log"), b""
         os.makedirs(out, exist_ok=True)
         words = [sys.executable, os.path.join(HERE, "planned_ci.py"), store]
         with open(self.log_file, "wb") as log:
             how = {"stdin": subprocess.DEVNULL, "stdout": log, "stderr": subprocess.STDOUT}
             self.child = subprocess.Popen(words, cwd=copy, start_new_session=True, **how)
-        self.log = open(self.log_file, encoding="utf-8", errors="replace")
+        self.log = open(self.log_file, "rb")
 
     def new_lines(self):
         """What it has said since this was last asked for, with the paths of the checkout."""
-        *lines, self.half_line = (self.half_line + self.log.read()).split("\n")
-        return [line.replace(self.copy, self.top) for line in lines]
+        *lines, self.half_line = (self.half_line + self.log.read()).split(b"\n")
+        return [it.decode(errors="replace").replace(self.copy, self.top) for it in lines]
 
     def has_ended(self):
         return self.child.poll() is not None

@@ -34,7 +34,7 @@ def end_with_parent():
 
 
 def memory(crate):
-    """The bytes that a proof of a crate takes with one job, a little more than seen on 2026-12-02."""
+    """The bytes that a proof of a crate takes with one job: a little more than was seen."""
     code, proofs = (sources.line_count(crate.folder, it) for it in (".rt", ".antt"))
     below = sum(sources.line_count(it.folder, ".rt") for it in crate.below())
     return 1e6 * (1200 + 0.45 * code + 0.065 * below + 0.08 * proofs)
@@ -65,8 +65,8 @@ def takes_one(function):
     """Whether it is a function of one value; others that it takes have a value of their own."""
     if not callable(function):
         return False
-    needed = [it for it in inspect.signature(function).parameters.values() if it.default is it.empty]
-    return len(needed) == 1
+    values = inspect.signature(function).parameters.values()
+    return [it.default is it.empty for it in values].count(True) == 1
 
 
 def load(path):
