@@ -6,7 +6,7 @@ verdict is the one that it gives on the repository: handles, contracts that no c
 terms that a tactic chose are looked at, and the program is run. It proves as many crates at once as
 processors and memory allow, and keeps on this machine what passed, by checksum: a build that was
 stopped goes on where it was, and `rt ci` in any checkout takes what was proved here, as this does
-from there. What is left to `rt ci`: mutants, tests, and the other crates.
+from there. What is left to `rt ci` are mutants and the other crates, among them those with tests.
 
 The program then stands as crates/router/out/router beside a stamp of its sources.
 
