@@ -37,7 +37,7 @@ def memory(crate):
     """The bytes that a proof of a crate takes with one job: a little more than was seen."""
     code, proofs = (sources.line_count(crate.folder, it) for it in (".rt", ".antt"))
     below = sum(sources.line_count(it.folder, ".rt") for it in crate.below())
-    return 1e6 * (1200 + 0.45 * code + 0.065 * below + 0.08 * proofs)
+    return 1e6 * (1200 + 0.5 * code + 0.075 * below + 0.08 * proofs)
 
 
 def without_empty(in_lanes):

@@ -362,7 +362,7 @@ class Planned(Checkout):
         before = planned_ci.memory(mid)
         for crate in (low, mid):
             write(crate.folder, "src/more.rt", "\n" * 10)
-        self.assertEqual(5.15e6, round(planned_ci.memory(mid) - before))
+        self.assertEqual(5.75e6, round(planned_ci.memory(mid) - before))
 
     def test_tests_that_are_not_there(self):
         tasks = {(name, what): ([], lines, 1, None) for name, what, lines in self.TASKS}
