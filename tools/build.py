@@ -243,7 +243,7 @@ def prove(top, copy):
     try:
         work.follow()
     except KeyboardInterrupt:
-        progress.say(f"router: stopped; {progress.so_far()}")
+        progress.say(f"router: stopped, {progress.so_far()}; removing its copy of the sources")
         raise
     finally:
         write_figures({**figures, **progress.took})

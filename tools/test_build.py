@@ -247,6 +247,8 @@ class Builds(Checkout):
 class Stops(Checkout):
     """Builds by a process of their own, which is at `mid` for long."""
 
+    STOPPED = "router: stopped, 1 of 4 proved; removing its copy of the sources\n"
+
     def begin(self):
         write(self.folder, "events", "")
         self.want("mid.sleeps")
@@ -282,7 +284,7 @@ class Stops(Checkout):
                 child.send_signal(number)
                 said = child.communicate()[0]
                 self.assertEqual(130, child.returncode)
-                self.assertTrue(said.endswith("router: stopped; 1 of 4 proved\n"), said)
+                self.assertTrue(said.endswith(self.STOPPED), said)
                 self.assertFalse(self.at_work())
                 self.assertEqual([], self.left())
 
