@@ -373,6 +373,20 @@ def lates_of_one_trip(folder, n):
     write(folder, "late", "late t0 0 0\n" * n)
 
 
+def lates_of_each_call(folder, n):
+    """A delay from each call of a trip on, from the last one back."""
+    times = (f"t0,{clock(i // 8)},,{'AB'[i % 2]},{i}\n" for i in range(n))
+    smallest.make(folder, times=times)
+    write(folder, "late", "".join(f"late t0 {i} 1\n" for i in reversed(range(n))))
+
+
+def cancels_of_one_trip(folder, n):
+    """A trip is cancelled as often as it has calls."""
+    times = (f"t0,{clock(i // 8)},,{'AB'[i % 2]},{i}\n" for i in range(n))
+    smallest.make(folder, times=times)
+    write(folder, "late", "cancel t0\n" * n)
+
+
 def lates_of_many_trips(folder, n):
     """A delay of each trip."""
     smallest.make(folder, trips=(f"S,t{i}\n" for i in range(n)), times=smallest.times_of(n, 2))
@@ -593,6 +607,8 @@ OTHERS = {
     transfers_that_collide: (10_000, "direct"),
     sequences_that_collide: (10_000, "direct"),
     lates_of_one_trip: (10_000, "late"),
+    lates_of_each_call: (10_000, "late"),
+    cancels_of_one_trip: (10_000, "late"),
     lates_of_many_trips: (50_000, "late"),
     remarks_of_a_late_file: (4_000_000, "late"),
     requests_of_a_script: (5_000, "serve"),
