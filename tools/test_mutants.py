@@ -48,7 +48,7 @@ class MutantsTest(unittest.TestCase):
     def test_mutants_are_tried_beside_all_other_crates(self):
         self.assertEqual(mutants.main(["high"]), 0)
         lines = self.noted()
-        self.assertEqual(lines[:2], ["must-fail high", "text of high"])
+        self.assertEqual(lines[:2], ["ci high", "text of high"])
         self.assertIn("wrong.edit", lines)
         self.assertTrue({"accepted", "high", "low"} <= set(lines))
         self.assertFalse(os.path.exists(f"{self.top}/crates/high/must-fail"))
