@@ -1,8 +1,9 @@
 """Runs the toolchain's `rt ci` in the current folder, and ends with whoever started it.
 
 The toolchain begins a proof once the memory that it plans for it is free: two or three times what
-proofs of this repository take. And it leaves processors to the tests of a crate that has none, so
-that a proof which begins then has fewer jobs for all its time. Here it does neither.
+proofs of this repository take. It leaves processors to the tests of a crate that has none, and one
+job to a proof that begins when others can, also where all the rest waits for that proof. Here it
+does none of that: proofs of the longest chain have as many jobs as processors and memory allow.
 
 What passed it keeps beside itself, and nothing where this user can't write there: then in the
 folder that the first word names. What is proved, and whether what was kept fits, is for it to say,
@@ -22,8 +23,11 @@ import sources
 # Of prctl(2): the signal that comes when the parent ends.
 PR_SET_PDEATHSIG = 1
 # Functions of a toolchain's script that is made as those known here: what it runs, what memory it
-# plans for a crate, and how it runs tasks side by side.
-KNOWN = ("main", "need", "in_lanes")
+# plans for a crate, and how it runs tasks side by side; and its numbers of processors and of free
+# bytes.
+KNOWN, NUMBERS = ("main", "need", "in_lanes"), ("processors", "free")
+# The most jobs of one proof, and the memory of each further one in parts of what the first takes.
+MOST_JOBS, MORE_MEMORY = 4, 0.6
 
 
 def end_with_parent():
@@ -52,6 +56,40 @@ def without_empty(in_lanes):
     return run
 
 
+def longest_chain(tasks):
+    """The keys of the longest chain of proofs in which each waits for the one before."""
+    lines, above = {}, {}
+    # (a task stands behind those that it waits for)
+    for key in reversed([it for it in tasks if it[1] == "proof"]):
+        waits, own, *_ = tasks[key]
+        lines[key] = lines.get(key, 0) + own
+        for below in waits:
+            if lines[key] > lines.get(below, -1):
+                lines[below], above[below] = lines[key], key
+    chain = [max(lines, key=lines.get)] if lines else []
+    while chain and chain[-1] in above:
+        chain.append(above[chain[-1]])
+    return chain
+
+
+def with_more_jobs(in_lanes, processors, free):
+    """Has the toolchain's tasks run with more jobs for the proofs of the longest chain."""
+
+    def more(needs, call):
+        def with_jobs(given, jobs):
+            room = 1 + int((free() / needs - 1) / MORE_MEMORY)
+            return call(given, max(jobs, min(MOST_JOBS, processors(), room)))
+
+        return with_jobs
+
+    def run(tasks):
+        chain = longest_chain(tasks)
+        changed = {it: (*tasks[it][:3], more(*tasks[it][2:])) for it in chain}
+        return in_lanes({**tasks, **changed})
+
+    return run
+
+
 def can_keep(folder):
     """Whether the toolchain, run by this user, can keep there what passed."""
     try:
@@ -61,12 +99,12 @@ def can_keep(folder):
         return False
 
 
-def takes_one(function):
-    """Whether it is a function of one value; others that it takes have a value of their own."""
+def takes(count, function):
+    """Whether it is a function of so many values; others that it takes have one of their own."""
     if not callable(function):
         return False
     values = inspect.signature(function).parameters.values()
-    return [it.default is it.empty for it in values].count(True) == 1
+    return [it.default is it.empty for it in values].count(True) == count
 
 
 def load(path):
@@ -76,7 +114,8 @@ def load(path):
     loader = importlib.machinery.SourceFileLoader("rt_of_the_toolchain", path)
     module = importlib.util.module_from_spec(importlib.util.spec_from_loader(loader.name, loader))
     loader.exec_module(module)
-    is_known = all(takes_one(getattr(module, name, None)) for name in KNOWN)
+    wanted = [*((1, name) for name in KNOWN), *((0, name) for name in NUMBERS)]
+    is_known = all(takes(count, getattr(module, name, None)) for count, name in wanted)
     return module if is_known and isinstance(getattr(module, "STORE", None), str) else None
 
 
@@ -86,7 +125,8 @@ def main(words):
     module = load(os.path.realpath(rt))
     if module is None:
         os.execv(rt, [rt, "ci"])
-    module.need, module.in_lanes = memory, without_empty(module.in_lanes)
+    in_lanes = with_more_jobs(module.in_lanes, module.processors, module.free)
+    module.need, module.in_lanes = memory, without_empty(in_lanes)
     if not can_keep(module.STORE) and can_keep(words[0]):
         module.STORE = words[0]
     return module.main(["ci"])

@@ -338,6 +338,7 @@ class Planned(Checkout):
 
     KNOWN = "STORE = '/nowhere/kept'\ndef need(crate): return 9e9\n"
     KNOWN += "def in_lanes(tasks): return {it: call() for it, (*_, call) in tasks.items()}\n"
+    KNOWN += "def processors(): return 4\ndef free(): return 9e9\n"
     KNOWN += "def main(words): "
 
     TASKS = [("low", "proof", 9), ("low", "tests", 0), ("mid", "tests", 0), ("side", "tests", 9)]
@@ -373,6 +374,27 @@ class Planned(Checkout):
         run = planned_ci.without_empty(lambda given: ran.extend(given) or dict.fromkeys(given, 0))
         self.assertEqual({**dict.fromkeys(tasks, 0), ("low", "tests"): True}, run(tasks))
         self.assertEqual([it for it in tasks if it != ("low", "tests")], ran)
+
+    def jobs(self, processors, free):
+        """The jobs of each proof of four crates, of which the last stands on a chain of three."""
+        tasks, call = {}, lambda given, jobs: jobs
+        for name, below, lines in (("a", "", 5), ("b", "a", 20), ("c", "a", 30), ("d", "bc", 1)):
+            waits = [(it, "proof") for it in below]
+            tasks[name, "proof"] = waits, lines, 1e9, call
+            tasks[name, "tests"] = waits, 99, 1e9, call
+        in_lanes = lambda given: {it: task[3]({}, 1) for it, task in given.items()}
+        found = planned_ci.with_more_jobs(in_lanes, lambda: processors, lambda: free)(tasks)
+        self.assertEqual({1}, {jobs for (_, kind), jobs in found.items() if kind == "tests"})
+        return [found[name, "proof"] for name in "abcd"]
+
+    def test_jobs_of_the_longest_chain(self):
+        self.assertEqual([3, 1, 3, 3], self.jobs(3, 9e9))
+        self.assertEqual([4, 1, 4, 4], self.jobs(8, 9e9))
+        self.assertEqual([2, 1, 2, 2], self.jobs(8, 1.7e9))
+        self.assertEqual([1, 1, 1, 1], self.jobs(8, 5e8))
+
+    def test_no_tasks(self):
+        self.assertEqual([], planned_ci.longest_chain({}))
 
     def test_a_script_of_another_make(self):
         path = write(self.folder, "other/rt", self.KNOWN + "pass\n")
