@@ -45,13 +45,13 @@ abbrev pub IsPossible : TimetableData → ArrivalData → LeavingData → Type 0
 IsPossible T A d = (j : Journey) × HasLeaving T A j d
 
 -- d leaves no earlier than e and has no more rides
-abbrev pub IsNoWorse : LeavingData → LeavingData → Type 0
-IsNoWorse d e = (e.leave ≤ℤ d.leave) × (d.rides ≤ e.rides)
+abbrev pub LeavesNoWorse : LeavingData → LeavingData → Type 0
+LeavesNoWorse d e = (e.leave ≤ℤ d.leave) × (d.rides ≤ e.rides)
 
 -- a departure that no different one is no worse than
 pub record IsLatest (T : TimetableData) (A : ArrivalData) (d : LeavingData) : Type 0 where
   pub possible : IsPossible T A d
-  pub undominated : (e : LeavingData) → IsPossible T A e → IsNoWorse e d → e ≡ d
+  pub undominated : (e : LeavingData) → IsPossible T A e → LeavesNoWorse e d → e ≡ d
 
 -- the latest departures, all of them, by rides, smallest first
 pub record AreLatest (T : TimetableData) (A : ArrivalData) (ds : List LeavingData) : Type 0 where
