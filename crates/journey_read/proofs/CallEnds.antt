@@ -10,7 +10,7 @@ use Rattle.journey_read.specs.declared.calls.Call.{Call}
 use Rattle.journey_read.specs.declared.calls.EventTime.TheVariants as which
 use Rattle.journey_read.specs.declared.calls.TripCalls.{TripCalls}
 use Rattle.journey_read.specs.declared.rides.Ends.{Ends}
-use Rattle.journey_read.specs.Calls.{AreCalls, HoldsCalls, IsFirstCall, call_at, first_begin, first_end, moved, time_by}
+use Rattle.journey_read.specs.Calls.{AreCalls, HoldsCalls, IsFirstCall, call_at, first_begin, first_end, moved_call, time_by}
 use Rattle.journey_read.specs.Rides.{arrives, departs, ends_among}
 use Rattle.journey_read.proofs.CallSearch.{same_stop_and_time, same_stop_and_time_from}
 use Rattle.journey_read.proofs.RideSteps.{IsLookedFor, none_found, not_begun, not_ended, ride_begins, ride_ends}
@@ -23,15 +23,15 @@ module _ (time : Event → ℤ) (events : List Event) (calls : List Call) (are :
   abbrev event : ℕ → Event
   event i = get_or events i no_event
 
-  has : (i : ℕ) → i < length events → fits (event i) ≡ true → Contains calls (moved w i)
+  has : (i : ℕ) → i < length events → fits (event i) ≡ true → Contains calls (moved_call w i)
   has i inside test =
       let same = same_stop_and_time (event i).stop w.stop (time (event i)) w.time test in
-      let is : call_at time events i ≡ moved w i = λ k. record { stop = same.0 k; time = same.1 k; at = i } in
+      let is : call_at time events i ≡ moved_call w i = λ k. record { stop = same.0 k; time = same.1 k; at = i } in
       subst (Contains calls) is (are.each i inside)
 
-  passes : (i : ℕ) → Contains calls (moved w i) → (i < length events) × (fits (event i) ≡ true)
+  passes : (i : ℕ) → Contains calls (moved_call w i) → (i < length events) × (fits (event i) ≡ true)
   passes i there =
-      let real = All-contains (λ c. (c.at < length events) × (c ≡ call_at time events c.at)) calls (moved w i) are.real there in
+      let real = All-contains (λ c. (c.at < length events) × (c ≡ call_at time events c.at)) calls (moved_call w i) are.real there in
       let stops : (event i).stop ≡ w.stop = sym (ap (λ (c : Call). c.stop) real.1) in
       let times : time (event i) ≡ w.time = sym (ap (λ (c : Call). c.time) real.1) in
       (real.0, same_stop_and_time_from (event i).stop w.stop (time (event i)) w.time stops times)

@@ -13,7 +13,7 @@ use Rattle.std.proofs.lemmas.List.{get_or_default}
 use Rattle.std.proofs.lemmas.List.Elements.{Contains-get_or}
 use Rattle.std.proofs.lemmas.List.Sorted.{ranks_by, sorted_far}
 use Rattle.journey_read.specs.declared.calls.Call.{Call}
-use Rattle.journey_read.specs.Calls.{IsFirstCall, compare_calls, is_at, moved}
+use Rattle.journey_read.specs.Calls.{IsFirstCall, compare_calls, is_at, moved_call}
 
 abbrev pub precedes : Call → Call → Bool
 precedes c d = is_lt (compare_calls c d)
@@ -57,7 +57,7 @@ not_less_from : (m n : ℕ) → n ≤ m → is_lt (nat_cmp m n) ≡ false
 not_less_from m n h = grind (arith, nat_tests, h)
 
 -- a call with a stop and a time is not before that with the same and an index no greater
-pub not_before : (w : Call) (i : ℕ) → w.at ≤ i → precedes (moved w i) w ≡ false
+pub not_before : (w : Call) (i : ℕ) → w.at ≤ i → precedes (moved_call w i) w ≡ false
 not_before w i h = rw (nat_same w.stop, int_same w.time) (not_less_from i w.at h)
 
 -- what stands between two calls with one stop and time has these too
@@ -65,14 +65,14 @@ module _ (w x : Call) (i : ℕ) where
   abbrev Between : Type 0
   Between = (x.stop ≡ w.stop) × (x.time ≡ w.time) × (w.at ≤ x.at) × (x.at ≤ i)
 
-  same_times : (x.stop ≡ w.stop) → (x.time ≡ w.time) → is_lt (nat_cmp x.at w.at) ≡ false → precedes (moved w i) x ≡ false → Between
+  same_times : (x.stop ≡ w.stop) → (x.time ≡ w.time) → is_lt (nat_cmp x.at w.at) ≡ false → precedes (moved_call w i) x ≡ false → Between
   same_times stops times first second =
       let one : nat_cmp w.stop x.stop ≡ Equal = subst (λ n. nat_cmp n x.stop ≡ Equal) stops (nat_same x.stop) in
       let two : int_cmp w.time x.time ≡ Equal = subst (λ n. int_cmp n x.time ≡ Equal) times (int_same x.time) in
       let rest : is_lt (nat_cmp i x.at) ≡ false = rw (one, two) at second in
       (stops, times, not_less x.at w.at first, not_less i x.at rest)
 
-  by_times : (o : Ordering) → int_cmp x.time w.time ≡ o → x.stop ≡ w.stop → is_lt (ordering_then o (nat_cmp x.at w.at)) ≡ false → precedes (moved w i) x ≡ false → Between
+  by_times : (o : Ordering) → int_cmp x.time w.time ≡ o → x.stop ≡ w.stop → is_lt (ordering_then o (nat_cmp x.at w.at)) ≡ false → precedes (moved_call w i) x ≡ false → Between
   by_times Less is stops first second = absurd (false≢true (sym first))
   by_times Equal is stops first second = same_times stops (int_equal x.time w.time is) first second
   by_times Greater is stops first second =
@@ -81,7 +81,7 @@ module _ (w x : Call) (i : ℕ) where
       let clash : true ≡ false = rw (one, two) at second in
       absurd (false≢true (sym clash))
 
-  by_stops : (o : Ordering) → nat_cmp x.stop w.stop ≡ o → is_lt (ordering_then (ordering_then o (int_cmp x.time w.time)) (nat_cmp x.at w.at)) ≡ false → precedes (moved w i) x ≡ false → Between
+  by_stops : (o : Ordering) → nat_cmp x.stop w.stop ≡ o → is_lt (ordering_then (ordering_then o (int_cmp x.time w.time)) (nat_cmp x.at w.at)) ≡ false → precedes (moved_call w i) x ≡ false → Between
   by_stops Less is first second = absurd (false≢true (sym first))
   by_stops Equal is first second = by_times (int_cmp x.time w.time) refl (nat_equal x.stop w.stop is) first second
   by_stops Greater is first second =
@@ -89,7 +89,7 @@ module _ (w x : Call) (i : ℕ) where
       let clash : true ≡ false = rw one at second in
       absurd (false≢true (sym clash))
 
-  pub squeezed : precedes x w ≡ false → precedes (moved w i) x ≡ false → Between
+  pub squeezed : precedes x w ≡ false → precedes (moved_call w i) x ≡ false → Between
   squeezed first second = by_stops (nat_cmp x.stop w.stop) refl first second
 
 parts_of : (a b : Bool) → (a && b) ≡ true → (a ≡ true) × (b ≡ true)
@@ -113,27 +113,27 @@ same_stop_and_time_from s p time when stops times = rw (nat_is_from s p stops, (
 module _ (calls : List Call) (w : Call) (up : IsSortedBy precedes calls) (k : ℕ)
     (parts : IsPartitionPoint (λ c. precedes c w ≡ true) (λ c. precedes c w ≡ false) calls k) where
   -- a call that is wanted stands at the place or behind it
-  behind : (i : ℕ) → w.at ≤ i → (has : Contains calls (moved w i)) → k ≤ has.0
+  behind : (i : ℕ) → w.at ≤ i → (has : Contains calls (moved_call w i)) → k ≤ has.0
   behind i low (j, inside, is) = elim (cases_lt j k) [
     | inr from ↦ from
     | inl before ↦
-        let early : precedes (moved w i) w ≡ true = subst (λ c. precedes c w ≡ true) is (parts.0 j (moved w i) (omega arith) before) in
+        let early : precedes (moved_call w i) w ≡ true = subst (λ c. precedes c w ≡ true) is (parts.0 j (moved_call w i) (omega arith) before) in
         absurd (false≢true (sym (not_before w i low) ∙ early))
   ]
 
-  pub none_past : length calls ≤ k → (i : ℕ) → w.at ≤ i → Contains calls (moved w i) → ⊥
+  pub none_past : length calls ≤ k → (i : ℕ) → w.at ≤ i → Contains calls (moved_call w i) → ⊥
   none_past past i low has = let from = behind i low has in let inside = has.1 in absurd (omega (arith, past, from, inside))
 
   module _ (x : Call) (inside : k < length calls) (at : x ≡ get_or calls k x) where
     here : precedes x w ≡ false
     here = subst (λ c. precedes c w ≡ false) (sym at) (parts.1 k x (omega arith) inside)
 
-    between : (i : ℕ) → w.at ≤ i → Contains calls (moved w i) → Between w x i
+    between : (i : ℕ) → w.at ≤ i → Contains calls (moved_call w i) → Between w x i
     between i low has = squeezed w x i here (later has (behind i low has)) where
-      later : (has : Contains calls (moved w i)) → k ≤ has.0 → precedes (moved w i) x ≡ false
+      later : (has : Contains calls (moved_call w i)) → k ≤ has.0 → precedes (moved_call w i) x ≡ false
       later (j, below, is) from =
           let far : precedes (get_or calls j x) (get_or calls k x) ≡ false = sorted_far precedes precedes-ranks calls up k j x from below in
-          let there : get_or calls j x ≡ moved w i = get_or_default calls j x (moved w i) below ∙ is in
+          let there : get_or calls j x ≡ moved_call w i = get_or_default calls j x (moved_call w i) below ∙ is in
           subst (λ c. precedes c x ≡ false) there (subst (λ c. precedes (get_or calls j x) c ≡ false) (sym at) far)
 
     pub other_first : is_at x w ≡ false → IsFirstCall calls w None
@@ -144,7 +144,7 @@ module _ (calls : List Call) (w : Call) (up : IsSortedBy precedes calls) (k : �
     pub found_first : is_at x w ≡ true → IsFirstCall calls w (Some x.at)
     found_first test = found (same_stop_and_time x.stop w.stop x.time w.time test).0 (same_stop_and_time x.stop w.stop x.time w.time test).1
       where
-        same_call : x.stop ≡ w.stop → x.time ≡ w.time → x ≡ moved w x.at
+        same_call : x.stop ≡ w.stop → x.time ≡ w.time → x ≡ moved_call w x.at
         same_call stops times = λ i. record { stop = stops i; time = times i; at = x.at }
 
         no_less : x.stop ≡ w.stop → x.time ≡ w.time → w.at ≤ x.at
@@ -154,6 +154,6 @@ module _ (calls : List Call) (w : Call) (up : IsSortedBy precedes calls) (k : �
 
         found : x.stop ≡ w.stop → x.time ≡ w.time → IsFirstCall calls w (Some x.at)
         found stops times =
-            let is : get_or calls k x ≡ moved w x.at = sym at ∙ same_call stops times in
-            let has : Contains calls (moved w x.at) = subst (Contains calls) is (Contains-get_or calls k x inside) in
+            let is : get_or calls k x ≡ moved_call w x.at = sym at ∙ same_call stops times in
+            let has : Contains calls (moved_call w x.at) = subst (Contains calls) is (Contains-get_or calls k x inside) in
             (no_less stops times, has, λ i low there. (between i low there).3)

@@ -8,7 +8,7 @@ use Rattle.text_lines.specs.LineWords.{line_words}
 use Rattle.tb_base.specs.TimetableData.{TimetableData}
 use Rattle.tb_base.specs.declared.query.Leg.{Leg}
 use Rattle.tb_base.specs.declared.query.Value.{Value}
-use Rattle.journey_read.specs.Claims.{claim_at, claim_from, claim_with, good, leg_of, legs_from, legs_on, value_of}
+use Rattle.journey_read.specs.Claims.{claim_at, claim_from, claim_with, good, leg_of, legs_from, legs_on, value_claimed}
 use Rattle.text_lines.specs.Lines.{last_line, lines_from, lines_of, without_cr}
 use Rattle.tb_base.specs.declared.refused.Refused.{Refused}
 use Rattle.journey_read.specs.declared.claim.JourneyFault.{JourneyFault}
@@ -53,7 +53,7 @@ at_line : (n k : ℕ) (words : Option (List (List ℕ))) (further : Result (List
     HasAtMost k further → ClaimsAtMost k later → ClaimsAtMost (suc k) (claim_at n words further later)
 at_line n k None further later few fewer = tt
 at_line n k (Some []) further later few fewer = one_later k later fewer
-at_line n k (Some (word ∷ words)) further later few fewer = with_value (value_of (word ∷ words)) n k further few
+at_line n k (Some (word ∷ words)) further later few fewer = with_value (value_claimed (word ∷ words)) n k further few
 
 in_lines : (T : TimetableData) (n : ℕ) (lines : List (List ℕ)) → ClaimsAtMost (length lines) (claim_from T n lines)
 in_lines T n [] = tt

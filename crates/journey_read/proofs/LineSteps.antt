@@ -9,7 +9,7 @@ use Rattle.tb_base.specs.declared.query.Leg.{Leg}
 use Rattle.tb_base.specs.declared.query.Value.{Value}
 use Rattle.journey_read.specs.declared.claim.JourneyFault.{JourneyFault}
 use Rattle.journey_read.specs.declared.claim.JourneyFault.TheVariants as fault
-use Rattle.journey_read.specs.Claims.{claim_behind, claim_so_far, claim_with, claim_with_words, leg_of, legs_from, value_of}
+use Rattle.journey_read.specs.Claims.{claim_behind, claim_so_far, claim_with, claim_with_words, leg_of, legs_from, value_claimed}
 
 prepend-nothing : {A E : Type 0} (r : Result (List A) E) → prepend [] r ≡ r
 prepend-nothing (Ok ys) = refl
@@ -34,11 +34,11 @@ module _ (T : TimetableData) (n : ℕ) where
   leg_added c [] lines leg some is = absurd (omega (arith, some))
   leg_added c (w ∷ words) lines leg some is = rw is (one_leg_more c.value c.legs leg (legs_from T (n + 1) lines))
 
-  pub value_refused : (words lines : List (List ℕ)) → 0 < length words → value_of words ≡ None → claim_with_words T n None words lines ≡ Err (fault.BadLine n)
+  pub value_refused : (words lines : List (List ℕ)) → 0 < length words → value_claimed words ≡ None → claim_with_words T n None words lines ≡ Err (fault.BadLine n)
   value_refused [] lines some is = absurd (omega (arith, some))
   value_refused (w ∷ words) lines some is = rw is refl
 
-  pub value_taken : (words lines : List (List ℕ)) (v : Value) → 0 < length words → value_of words ≡ Some v → claim_with_words T n None words lines ≡ claim_behind T (Some (record { value = v; legs = [] })) (n + 1) lines
+  pub value_taken : (words lines : List (List ℕ)) (v : Value) → 0 < length words → value_claimed words ≡ Some v → claim_with_words T n None words lines ≡ claim_behind T (Some (record { value = v; legs = [] })) (n + 1) lines
   value_taken [] lines v some is = absurd (omega (arith, some))
   value_taken (w ∷ words) lines v some is = rw is refl
 

@@ -57,16 +57,16 @@ pub record HaveCalls (trips : List TripData) (calls : List (Option TripCalls)) :
       (HoldsCalls (TripData.events (slice_index_or trips t no_trip)))
 
 -- the call with the same stop and time, at another index
-abbrev pub moved : Call → ℕ → Call
-moved c i = record { stop = c.stop; time = c.time; at = i }
+abbrev pub moved_call : Call → ℕ → Call
+moved_call c i = record { stop = c.stop; time = c.time; at = i }
 
 -- the least index, no less than that of a call, at which a call has its stop and time
 abbrev pub IsFirstCall : List Call → Call → Option ℕ → Type 0
 IsFirstCall calls wanted result =
     MatchOption result
-    ((i : ℕ) → wanted.at ≤ i → Contains calls (moved wanted i) → ⊥)
-    (λ at. (wanted.at ≤ at) × Contains calls (moved wanted at)
-    × ((i : ℕ) → wanted.at ≤ i → Contains calls (moved wanted i) → at ≤ i))
+    ((i : ℕ) → wanted.at ≤ i → Contains calls (moved_call wanted i) → ⊥)
+    (λ at. (wanted.at ≤ at) × Contains calls (moved_call wanted at)
+    × ((i : ℕ) → wanted.at ≤ i → Contains calls (moved_call wanted i) → at ≤ i))
 
 -- the first call at which a ride can begin
 abbrev pub first_begin : Ends → Call

@@ -60,18 +60,18 @@ ride_named T n trip day ends =
     ok_or (ride_among trip day ends 0 T.trips) (fault.NoSuchRide n)
 
 -- line n is `ride TRIP STOP TIME STOP TIME`, or the same with a service day behind it
-abbrev pub ride_of : TimetableData → ℕ → List (List ℕ) → Result Leg JourneyFault
-ride_of T n (trip ∷ from ∷ departure ∷ to ∷ arrival ∷ marks) =
+abbrev pub ride_claimed : TimetableData → ℕ → List (List ℕ) → Result Leg JourneyFault
+ride_claimed T n (trip ∷ from ∷ departure ∷ to ∷ arrival ∷ marks) =
     and_then (good n (day_by marks))
     (λ day. and_then (ends_of T n from departure to arrival) (ride_named T n trip day))
-ride_of T n words = Err (fault.BadLine n)
+ride_claimed T n words = Err (fault.BadLine n)
 
 -- the leg that line n claims
 abbrev pub leg_of : TimetableData → ℕ → List (List ℕ) → Result Leg JourneyFault
 leg_of T n [] = Err (fault.BadLine n)
 leg_of T n (word ∷ words) =
     if bytes_eq word (codes "walk") then walk_of T n words
-    else if bytes_eq word (codes "ride") then ride_of T n words
+    else if bytes_eq word (codes "ride") then ride_claimed T n words
     else Err (fault.BadLine n)
 
 -- the legs that line n claims, by its words: none where it has none
@@ -94,12 +94,12 @@ value_shown time count =
     (shown_time_of time)
 
 -- `arrive TIME rides N`
-abbrev pub value_of : List (List ℕ) → Option Value
-value_of (arrive ∷ time ∷ rides ∷ count ∷ []) =
+abbrev pub value_claimed : List (List ℕ) → Option Value
+value_claimed (arrive ∷ time ∷ rides ∷ count ∷ []) =
     if bytes_eq arrive (codes "arrive") && bytes_eq rides (codes "rides")
     then value_shown time count
     else None
-value_of words = None
+value_claimed words = None
 
 -- a value, with legs before further legs
 abbrev pub claim_with : Value → List Leg → Result (List Leg) JourneyFault →
@@ -114,7 +114,7 @@ abbrev pub claim_at : ℕ → Option (List (List ℕ)) → Result (List Leg) Jou
 claim_at n None further later = Err (fault.BadLine n)
 claim_at n (Some []) further later = later
 claim_at n (Some (word ∷ words)) further later =
-    and_then (good n (value_of (word ∷ words))) (λ v. claim_with v [] further)
+    and_then (good n (value_claimed (word ∷ words))) (λ v. claim_with v [] further)
 
 -- the claim of these lines, of which the first is line n
 abbrev pub claim_from : TimetableData → ℕ → List (List ℕ) → Result ChoiceData JourneyFault

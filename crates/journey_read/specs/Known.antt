@@ -6,14 +6,14 @@ use Rattle.tb_base.specs.TimetableData.{TimetableData}
 use Rattle.tb_base.specs.JourneyRules.{HasNumbers}
 
 -- a walk takes at most a day
-abbrev pub IsShort : Leg → Type 0
-IsShort (WalkLeg p q secs) = secs ≤ 86400
-IsShort (RideLeg t b i) = ⊤
+abbrev pub IsShortLeg : Leg → Type 0
+IsShortLeg (WalkLeg p q secs) = secs ≤ 86400
+IsShortLeg (RideLeg t b i) = ⊤
 
 -- the leg's numbers exist, and it is no longer than a walk may be
 pub record IsKnownLeg (T : TimetableData) (leg : Leg) : Type 0 where
   pub numbers : HasNumbers T leg
-  pub short : IsShort leg
+  pub short : IsShortLeg leg
 
 -- so it is, if there is such a leg
 abbrev pub IsKnown : TimetableData → Option Leg → Type 0

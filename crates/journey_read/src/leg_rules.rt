@@ -2,7 +2,7 @@
 ghost use Rattle.std.specs.Prelude.{◌≡◌, ◌<◌, ◌≤◌, ◌↔◌, ◌+ℤ◌, ◌-ℤ◌, ◌≤ℤ◌, pos, negsuc, IsTrue, IfNone, IsSomeAnd, MatchOption, length};
 ghost use Rattle.std.specs.Bool.{OnTrue};
 ghost use Rattle.std.specs.Option.{option_copied};
-ghost use Rattle.journey_read.specs.Known.{IsKnown, IsKnownLeg, IsShort};
+ghost use Rattle.journey_read.specs.Known.{IsKnown, IsKnownLeg, IsShortLeg};
 ghost use Rattle.tb_base.specs.JourneyRules.{AlightsAllowed, BeginsAtOrigin, BoardsAllowed, BreaksRule, ChangesInTime, EndsAtTarget, FollowsNoWalk, HasNumbers, IsFootpathLeg, IsOnFoot, Joins, KeepsRule, LeavesInTime, end_of, start_of};
 ghost use Rattle.tb_base.specs.TimetableData.{events_of};
 ghost use Rattle.tb_base.specs.Walking.{change};
@@ -78,7 +78,7 @@ fn follows_no_walk(previous: Option<&Leg>, leg: &Leg) -> bool
 fn is_footpath_leg(table: &Timetable, leg: &Leg) -> bool
     requires { HasNumbers table.now leg.now }
     ensures footpath { IsTrue result ↔ IsFootpathLeg table.now leg.now }
-    ensures short { OnTrue result (IsShort leg.now) }
+    ensures short { OnTrue result (IsShortLeg leg.now) }
 {
     match leg {
         Leg::Walk { from, to, secs } => from.index() != to.index()

@@ -1,6 +1,6 @@
 //! What the words of a line claim.
 ghost use Rattle.std.specs.Prelude.{◌≡◌};
-ghost use Rattle.journey_read.specs.Claims.{ends_of, leg_of, ride_named, ride_of, stop_named, stop_of, value_of, value_shown, walk_between, walk_of};
+ghost use Rattle.journey_read.specs.Claims.{ends_of, leg_of, ride_named, ride_claimed, stop_named, stop_of, value_claimed, value_shown, walk_between, walk_of};
 
 use crate::claim::JourneyFault;
 use crate::indexed_timetable::IndexedTimetable;
@@ -93,7 +93,7 @@ pub(crate) fn ride_named(
 
 // TRIP STOP TIME STOP TIME, or the same and a service day.
 fn ride_of(table: &IndexedTimetable<'_>, line: u32, words: &[Name]) -> Result<Leg, JourneyFault>
-    ensures { result ≡ ride_of table.now line words.now }
+    ensures { result ≡ ride_claimed table.now line words.now }
 {
     let [trip, from, departure, to, arrival, marks @ ..] = words else {
         return Err(JourneyFault::BadLine(line));
@@ -144,7 +144,7 @@ pub(crate) fn value_shown(time: &[u8], count: &[u8]) -> Option<Value>
 
 /// The value that a line claims: `arrive TIME rides N`.
 pub(crate) fn value_of(words: &[Name]) -> Option<Value>
-    ensures { result ≡ value_of words.now }
+    ensures { result ≡ value_claimed words.now }
 {
     let [arrive, time, rides, count] = words else {
         return None;
