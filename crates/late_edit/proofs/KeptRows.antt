@@ -10,7 +10,7 @@ use Rattle.std.proofs.lemmas.List.Elements.{filter-append}
 use Rattle.tb_base.specs.declared.transfer.Hop.{Hop}
 use Rattle.tb_base.specs.declared.transfer.Transfer.{Transfer}
 use Rattle.tb_base.specs.Lines.{AreDividedInto}
-use Rattle.tb_base.specs.OutSets.{AreRowsOf, IsTransferOf, hops_at, row_of as row_of_trip}
+use Rattle.tb_base.specs.OutSets.{AreRowsOf, IsTransferOf, hops_at, row_of}
 use Rattle.tb_base.specs.Soundness.{IsSound}
 use Rattle.tb_base.specs.Sufficiency.{AreSufficient}
 use Rattle.tb_base.specs.TimetableData.{TimetableData, TripData, events_of, no_trip}
@@ -173,7 +173,7 @@ module _ (before after : LinesData) (sound : IsSound after.table) (divided : Are
       by_trip (inr h) =
           let none : get_or r.touched t false ≡ false = get_or_past r.touched t false (omega (arith, h, ap length are.touched, length-map-range_with_len (is_touched before after) 0 count)) in
           let empty : length (events_of after.table t) ≡ 0 = ap (λ (x : TripData). length x.events) (get_or_past after.table.trips t no_trip h) in
-          ap (λ b. if b then hops_at (row_of_trip r.rows t) i else packed set t i) none ∙ packed_past set t i (omega (arith, events t, empty)) ∙ sym (hops_past t i h)
+          ap (λ b. if b then hops_at (row_of r.rows t) i else packed set t i) none ∙ packed_past set t i (omega (arith, events t, empty)) ∙ sym (hops_past t i h)
 
 -- the same, over the timetable that the lines are of, where the rows and marks are these lists
 module _ (e : EditionData) (M : LinesData) (T : TimetableData) (own : M.table ≡ T) (updated : IsUpdated e.table T) (sound : IsSound T) (divided : AreDividedInto M.table M.lines) (r : RowsData) (are : AreKeptRows (edition_lines e) M (length T.trips) r) (rows : List (List Transfer)) (marks : List Bool) (rows_are : rows ≡ r.rows) (marks_are : marks ≡ r.touched) where

@@ -9,7 +9,7 @@ use Rattle.std.proofs.lemmas.Grind.{get_or-set_at}
 use Rattle.tb_base.specs.declared.table.Event.{Event}
 use Rattle.tb_base.specs.Soundness.{IsSoundEvent, IsSoundTrip}
 use Rattle.tb_base.specs.TimetableData.{TripData, no_event}
-use Rattle.late_edit.specs.Amended.{closed, events_after, events_skipped, moved, moved_from, with_events}
+use Rattle.late_edit.specs.Amended.{closed, events_after, events_skipped, delayed, moved_from, with_events}
 use Rattle.late_edit.specs.Finding.{IsTimedEvent}
 use Rattle.late_edit.specs.UpdateData.{LateData, SkipData}
 use Rattle.late_edit.specs.Updated.{bare_event}
@@ -28,13 +28,13 @@ pub record IsNewEvents (es ms : List Event) : Type 0 where
 
 -- ---- moved events
 
-bare_moved : (secs : ℤ) (es : List Event) → map bare_event (map (moved secs) es) ≡ map bare_event es
+bare_moved : (secs : ℤ) (es : List Event) → map bare_event (map (delayed secs) es) ≡ map bare_event es
 bare_moved secs [] = refl
 bare_moved secs (e ∷ es) = ap (λ (fs : List Event). bare_event e ∷ fs) (bare_moved secs es)
 
 bare_from : (from : ℕ) (secs : ℤ) (es : List Event) → map bare_event (moved_from from secs es) ≡ map bare_event es
 bare_from from secs es =
-    map-append bare_event (take from es) (map (moved secs) (drop from es))
+    map-append bare_event (take from es) (map (delayed secs) (drop from es))
     ∙ (ap (λ fs. map bare_event (take from es) ++ fs) (bare_moved secs (drop from es))
     ∙ (sym (map-append bare_event (take from es) (drop from es)) ∙ ap (map bare_event) (take-append-drop from es)))
 

@@ -10,7 +10,7 @@ use Rattle.tb_base.specs.declared.table.Event.{Event}
 use Rattle.tb_base.specs.Soundness.{IsSoundEvent, IsSoundTrip}
 use Rattle.tb_base.specs.TimetableData.{TripData}
 use Rattle.tb_base.proofs.Lists.{list_any-over_map}
-use Rattle.late_edit.specs.Amended.{events_moved, has_time_outside, is_outside, is_over_a_day, is_reached_early, moved, moved_from, with_events}
+use Rattle.late_edit.specs.Amended.{events_moved, has_time_outside, is_outside, is_over_a_day, is_reached_early, delayed, moved_from, with_events}
 use Rattle.late_edit.specs.Finding.{IsTimedEvent}
 use Rattle.late_edit.specs.UpdateData.{LateData}
 use Rattle.late_edit.specs.declared.late.LateFault.{LateFault}
@@ -25,7 +25,7 @@ timed_event n e h = record { earliest = h.earliest; waits = h.waits; latest = h.
 pub record IsMove (late : LateData) (es moved_es : List Event) : Type 0 where
   pub from : late.from < length es
   pub is : moved_es ≡ moved_from late.from late.secs es
-  pub limits : list_any has_time_outside (map (moved late.secs) (drop late.from es)) ≡ false
+  pub limits : list_any has_time_outside (map (delayed late.secs) (drop late.from es)) ≡ false
   pub onward : is_reached_early (moved_from late.from late.secs es) late.from ≡ false
 
 -- of a choice that isn't refused
@@ -36,7 +36,7 @@ unless false f r x h = (refl, h)
 pub is_move : (late : LateData) (es ms : List Event) → events_moved late es ≡ Ok ms → IsMove late es ms
 is_move late es ms h =
     let moved_es = moved_from late.from late.secs es in
-    let outside = list_any has_time_outside (map (moved late.secs) (drop late.from es)) in
+    let outside = list_any has_time_outside (map (delayed late.secs) (drop late.from es)) in
     let early = is_reached_early moved_es late.from in
     let third = cond early (Err (fault.TimeRunsBack late.line)) (Ok moved_es) in
     let second = cond outside (Err (fault.OutOfRange late.line)) third in
@@ -66,9 +66,9 @@ module _ (late : LateData) (es ms : List Event) (move : IsMove late es ms) where
 
   pub length-move : length ms ≡ length es
   length-move =
-      ap length move.is ∙ (length-append (take late.from es) (map (moved late.secs) (drop late.from es))
+      ap length move.is ∙ (length-append (take late.from es) (map (delayed late.secs) (drop late.from es))
       ∙ (let a : length (take late.from es) ≡ late.from = length-take-le late.from es within in
-      let b : length (map (moved late.secs) (drop late.from es)) ≡ length (drop late.from es) = length-map (drop late.from es) (moved late.secs) in
+      let b : length (map (delayed late.secs) (drop late.from es)) ≡ length (drop late.from es) = length-map (drop late.from es) (delayed late.secs) in
       let c : length (drop late.from es) ≡ length es - late.from = length-drop late.from es in
       omega (arith, a, b, c, within)))
 
@@ -76,27 +76,27 @@ module _ (late : LateData) (es ms : List Event) (move : IsMove late es ms) where
   at_before : (i : ℕ) (d : Event) → i < late.from → get_or ms i d ≡ get_or es i d
   at_before i d ahead = ap (λ (l : List Event). get_or l i d) move.is ∙ kept_at late.from late.secs es within i d ahead
 
-  at_behind : (i : ℕ) (d : Event) → late.from ≤ i → i < length es → get_or ms i d ≡ moved late.secs (get_or es i d)
+  at_behind : (i : ℕ) (d : Event) → late.from ≤ i → i < length es → get_or ms i d ≡ delayed late.secs (get_or es i d)
   at_behind i d behind inside = ap (λ (l : List Event). get_or l i d) move.is ∙ moved_at late.from late.secs es within i d d behind inside
 
   -- a moved event's times are within the limits
-  stays : (i : ℕ) (d : Event) → late.from ≤ i → i < length es → has_time_outside (moved late.secs (get_or es i d)) ≡ false
+  stays : (i : ℕ) (d : Event) → late.from ≤ i → i < length es → has_time_outside (delayed late.secs (get_or es i d)) ≡ false
   stays i d behind inside =
       let long : length (drop late.from es) ≡ length es - late.from = length-drop late.from es in
       let back : late.from + (i - late.from) ≡ i = omega (arith, behind) in
-      let none : list_any (λ e. has_time_outside (moved late.secs e)) (drop late.from es) ≡ false = sym (list_any-over_map has_time_outside (moved late.secs) (drop late.from es)) ∙ move.limits in
-      ap (λ k. has_time_outside (moved late.secs (get_or es k d))) (sym back)
-      ∙ (ap (λ (e : Event). has_time_outside (moved late.secs e)) (sym (get_or-drop late.from es (i - late.from) d))
-      ∙ list_any-none (λ e. has_time_outside (moved late.secs e)) (drop late.from es) none _ (Member-get_or (drop late.from es) (i - late.from) d (omega (arith, long, behind, inside))))
+      let none : list_any (λ e. has_time_outside (delayed late.secs e)) (drop late.from es) ≡ false = sym (list_any-over_map has_time_outside (delayed late.secs) (drop late.from es)) ∙ move.limits in
+      ap (λ k. has_time_outside (delayed late.secs (get_or es k d))) (sym back)
+      ∙ (ap (λ (e : Event). has_time_outside (delayed late.secs e)) (sym (get_or-drop late.from es (i - late.from) d))
+      ∙ list_any-none (λ e. has_time_outside (delayed late.secs e)) (drop late.from es) none _ (Member-get_or (drop late.from es) (i - late.from) d (omega (arith, long, behind, inside))))
 
-  earliest : (i : ℕ) (d : Event) → late.from ≤ i → i < length es → negsuc 86399 ≤ℤ (moved late.secs (get_or es i d)).arr
+  earliest : (i : ℕ) (d : Event) → late.from ≤ i → i < length es → negsuc 86399 ≤ℤ (delayed late.secs (get_or es i d)).arr
   earliest i d behind inside =
-      let e = moved late.secs (get_or es i d) in
+      let e = delayed late.secs (get_or es i d) in
       (within_limits e.arr (or_parts (is_outside e.arr) (is_outside e.dep) (stays i d behind inside)).0).0
 
-  latest : (i : ℕ) (d : Event) → late.from ≤ i → i < length es → (moved late.secs (get_or es i d)).dep ≤ℤ pos 359999
+  latest : (i : ℕ) (d : Event) → late.from ≤ i → i < length es → (delayed late.secs (get_or es i d)).dep ≤ℤ pos 359999
   latest i d behind inside =
-      let e = moved late.secs (get_or es i d) in
+      let e = delayed late.secs (get_or es i d) in
       (within_limits e.dep (or_parts (is_outside e.arr) (is_outside e.dep) (stays i d behind inside)).1).1
 
   pub timed_move : All IsTimedEvent es → All IsTimedEvent ms
@@ -130,9 +130,9 @@ module _ (late : LateData) (es ms : List Event) (move : IsMove late es ms) where
       }
 
   -- the first moved event is reached when the one before it is left, or later
-  joins : (d : Event) → 0 < late.from → (get_or es (late.from - 1) d).dep ≤ℤ (moved late.secs (get_or es late.from d)).arr
+  joins : (d : Event) → 0 < late.from → (get_or es (late.from - 1) d).dep ≤ℤ (delayed late.secs (get_or es late.from d)).arr
   joins d some =
-      let on : int_lt (moved late.secs (get_or es late.from d)).arr (get_or es (late.from - 1) d).dep ≡ false = early_is late.from late.secs es within d d some move.from ∙ move.onward in
+      let on : int_lt (delayed late.secs (get_or es late.from d)).arr (get_or es (late.from - 1) d).dep ≡ false = early_is late.from late.secs es within d d some move.from ∙ move.onward in
       grind (arith, ints, on)
 
   pub sound_move : (n : ℕ) → All (IsSoundEvent n) es → AllPairs (λ e f. e.dep ≤ℤ f.arr) es → AllPairs (λ e f. e.dep ≤ℤ f.arr) ms

@@ -23,8 +23,8 @@ abbrev pub trip_named : List TripData → Update → Option ℕ
 trip_named trips u = position (is_named (day_of u) (trip_of u)) trips
 
 -- an event with its times moved by so many seconds
-abbrev pub moved : ℤ → Event → Event
-moved secs e = record {
+abbrev pub delayed : ℤ → Event → Event
+delayed secs e = record {
   stop = e.stop;
   arr = e.arr +ℤ secs;
   dep = e.dep +ℤ secs;
@@ -34,7 +34,7 @@ moved secs e = record {
 
 -- events of which one and all behind it are moved
 abbrev pub moved_from : ℕ → ℤ → List Event → List Event
-moved_from from secs events = take from events ++ map (moved secs) (drop from events)
+moved_from from secs events = take from events ++ map (delayed secs) (drop from events)
 
 -- more than a day, late or early
 abbrev pub is_over_a_day : ℤ → Bool
@@ -59,7 +59,7 @@ abbrev pub events_moved : LateData → List Event → Result (List Event) LateFa
 events_moved late events =
     if not (nat_lt late.from (length events)) then Err (fault.BadEvent late.line)
     else if is_over_a_day late.secs then Err (fault.OutOfRange late.line)
-    else if list_any has_time_outside (map (moved late.secs) (drop late.from events))
+    else if list_any has_time_outside (map (delayed late.secs) (drop late.from events))
     then Err (fault.OutOfRange late.line)
     else if is_reached_early (moved_from late.from late.secs events) late.from
     then Err (fault.TimeRunsBack late.line)

@@ -1,7 +1,7 @@
 //! The events of a late trip are moved.
 ghost use Rattle.std.specs.Prelude.{◌≡◌, ◌<◌, ◌≤ℤ◌, All, Err, IfErr, MatchResult, Ok, OnErr, OnOk, int_lt, length, map, negsuc, pos};
 ghost use Rattle.std.specs.List.{list_any};
-ghost use Rattle.late_edit.specs.Amended.{events_moved, has_time_outside, is_outside, is_over_a_day, is_reached_early, moved, moved_from};
+ghost use Rattle.late_edit.specs.Amended.{events_moved, has_time_outside, is_outside, is_over_a_day, is_reached_early, delayed, moved_from};
 ghost use Rattle.late_edit.specs.Finding.{IsTimedEvent};
 ghost use Rattle.late_edit.specs.Updates.{IsOfUpdate};
 
@@ -33,7 +33,7 @@ fn moved(event: &Event, late: &Late) -> Event
     requires event { IsTimedEvent event.now }
     requires early { negsuc 86399 ≤ℤ late.now.secs }
     requires late { late.now.secs ≤ℤ pos 86400 }
-    ensures { result ≡ moved late.now.secs event.now }
+    ensures { result ≡ delayed late.now.secs event.now }
 {
     Event {
         stop: event.stop,
@@ -56,7 +56,7 @@ fn leave_limits(events: &[Event], late: &Late) -> bool
     requires events { All IsTimedEvent events.now }
     requires early { negsuc 86399 ≤ℤ late.now.secs }
     requires late { late.now.secs ≤ℤ pos 86400 }
-    ensures { result ≡ list_any has_time_outside (map (moved late.now.secs) events.now) }
+    ensures { result ≡ list_any has_time_outside (map (delayed late.now.secs) events.now) }
 {
     for event in events {
         if has_time_outside(&moved(event, late)) {
@@ -91,7 +91,7 @@ fn move_all(events: &mut [Event], late: &Late)
     requires events { All IsTimedEvent events.old }
     requires early { negsuc 86399 ≤ℤ late.now.secs }
     requires late { late.now.secs ≤ℤ pos 86400 }
-    ensures { events.new ≡ map (moved late.now.secs) events.old }
+    ensures { events.new ≡ map (delayed late.now.secs) events.old }
 {
     for event in events.iter_mut() {
         *event = moved(event, late);
