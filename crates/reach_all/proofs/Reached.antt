@@ -31,7 +31,7 @@ use Rattle.earliest_query.proofs.Answering.{searched}
 use Rattle.earliest_query.proofs.Reaching.{no_hits}
 use Rattle.earliest_query.proofs.Sorting.{part_at, parts}
 use Rattle.reach_all.specs.Reach.{IsReach, query_to, values_at}
-use Rattle.reach_all.specs.Arriving.{AreFound, IsOfferedFrom, IsWalkedOn, Keep}
+use Rattle.reach_all.specs.Arriving.{AreFoundByStop, IsOfferedFrom, IsWalkedOn, Keep}
 use Rattle.reach_all.specs.Spreading.{AreSpread, AreSpreadOrRefused, HoldsAlighting, HoldsAlightingOrRefused}
 use Rattle.reach_all.proofs.Offering.{keep-refl, late-kept}
 
@@ -39,9 +39,9 @@ use Rattle.reach_all.proofs.Offering.{keep-refl, late-kept}
 pub record IsAlighted (T : TimetableData) (from : List ℕ) (leave : ℤ) (trip i round : ℕ) (old new : List (List Value)) : Type 0 where
   pub kept : Keep old new
   pub held : HoldsAlighting T new trip i round
-  pub found : AreFound T from leave round new
+  pub found : AreFoundByStop T from leave round new
 
-module _ (T : TimetableData) (from : List ℕ) (leave : ℤ) (trip board i round : ℕ) (reached : IsReached T from leave round trip board) (onward : board < i) (old new : List (List Value)) (found : AreFound T from leave round old) where
+module _ (T : TimetableData) (from : List ℕ) (leave : ℤ) (trip board i round : ℕ) (reached : IsReached T from leave round trip board) (onward : board < i) (old new : List (List Value)) (found : AreFoundByStop T from leave round old) where
   walked_attained : (q : ℕ) (w : Value) → MayAlight T trip i → IsWalkedOn T (stop_at T trip i) (record { arrive = arrival_at T trip i; rides = round }) q w → IsAttained T (query_to from leave q) w
   walked_attained q w alights on =
       subst (IsAttained T (query_to from leave q))
@@ -87,7 +87,7 @@ pub alighting-kept : (T : TimetableData) (old new : List (List Value)) (trip i r
 alighting-kept T old new trip i rides keep held = λ alights q secs walks. late-kept old new q (arrival_at T trip i +ℤ pos secs) rides keep (held alights q secs walks)
 
 -- values with so many rides at most are values with more at most
-pub found-later : (T : TimetableData) (from : List ℕ) (leave : ℤ) (rides more : ℕ) (lists : List (List Value)) → rides ≤ more → AreFound T from leave rides lists → AreFound T from leave more lists
+pub found-later : (T : TimetableData) (from : List ℕ) (leave : ℤ) (rides more : ℕ) (lists : List (List Value)) → rides ≤ more → AreFoundByStop T from leave rides lists → AreFoundByStop T from leave more lists
 found-later T from leave rides more lists le found = record {
   each_stop = found.each_stop;
   attained = found.attained;

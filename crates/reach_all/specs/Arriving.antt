@@ -64,7 +64,7 @@ pub record AreOfferedBy (T : TimetableData) (stop : ℕ) (v : Value) (paths : Li
   pub stairs : AreStairs v.rides new
 
 -- the values of some journeys, for each stop
-pub record AreFound (T : TimetableData) (from : List ℕ) (leave : ℤ) (rides : ℕ)
+pub record AreFoundByStop (T : TimetableData) (from : List ℕ) (leave : ℤ) (rides : ℕ)
     (lists : List (List Value)) : Type 0 where
   pub each_stop : length lists ≡ length T.stops
   pub attained : (q : ℕ) → All (IsAttained T (query_to from leave q)) (values_at lists q)

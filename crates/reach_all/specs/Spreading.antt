@@ -6,7 +6,7 @@ use Rattle.tb_base.specs.TimetableData.{TimetableData, arrival_at, stop_at, MayA
 use Rattle.tb_base.specs.Walking.{walk}
 use Rattle.tb_laws.specs.Pruning.{IsLate}
 use Rattle.reach_all.specs.Reach.{values_at}
-use Rattle.reach_all.specs.Arriving.{AreFound, AreStairs}
+use Rattle.reach_all.specs.Arriving.{AreFoundByStop, AreStairs}
 
 -- the query without a target
 abbrev pub everywhere : List ℕ → ℤ → QueryData
@@ -29,7 +29,7 @@ HoldStarts T from leave lists = (p q secs : ℕ) → Contains from p → walk T 
 -- the first values: of walks alone, and of all walks from origins
 pub record AreStarts (T : TimetableData) (from : List ℕ) (leave : ℤ)
     (lists : List (List Value)) : Type 0 where
-  pub found : AreFound T from leave 0 lists
+  pub found : AreFoundByStop T from leave 0 lists
   pub held : HoldStarts T from leave lists
   pub only : (q : ℕ) (v : Value) → Contains (values_at lists q) v → IsOnFoot T from leave q v
 
@@ -52,7 +52,7 @@ HoldsAlighting T lists trip i rides = MayAlight T trip i → (q secs : ℕ) →
 -- the values of a search under way, with at most so many rides
 pub record AreSpread (T : TimetableData) (Q : QueryData) (rides : ℕ)
     (lists : List (List Value)) : Type 0 where
-  pub found : AreFound T Q.from Q.leave rides lists
+  pub found : AreFoundByStop T Q.from Q.leave rides lists
   pub starts : HoldStarts T Q.from Q.leave lists
 
 -- so it is, unless memory was refused
