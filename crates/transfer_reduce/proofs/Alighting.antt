@@ -5,7 +5,7 @@ use Rattle.transfer_pack.specs.declared.calls.Call.{Call}
 use Rattle.transfer_pack.specs.CallsOf.{call_of}
 use Rattle.tb_base.specs.TimetableData.{TimetableData, event_at}
 use Rattle.tb_base.proofs.NumberFacts.{below_or_at}
-use Rattle.transfer_reduce.specs.Reached.{AreLowered, AreReached, IsAlighting, IsBy, IsReached}
+use Rattle.transfer_reduce.specs.Reached.{AreLowered, AreReached, IsAlighting, IsBy, IsReachedOnFoot}
 
 -- between an index and itself there is none
 pub none_lowered : (T : TimetableData) (t from : ℕ) (times : List (Option ℤ)) → AreLowered T t from from times times
@@ -52,9 +52,9 @@ lowered_until T t from at to old new past until lowered p x = by_case until
         back (inl h) = (lowered p x).1 (inl h)
         back (inr a) = absurd (omega (arith, a.first, a.last, e, past))
 
-pub reached_more : (T : TimetableData) (times : List (Option ℤ)) (t from at : ℕ) (c : Call) → c ≡ call_of (event_at T t at) → AreReached T times t from at → (IsTrue c.alight → IsReached T times c.stop c.arr) → AreReached T times t from (at + 1)
+pub reached_more : (T : TimetableData) (times : List (Option ℤ)) (t from at : ℕ) (c : Call) → c ≡ call_of (event_at T t at) → AreReached T times t from at → (IsTrue c.alight → IsReachedOnFoot T times c.stop c.arr) → AreReached T times t from (at + 1)
 reached_more T times t from at c is before one i first last alights = by_case (below_or_at i at last)
   where
-    by_case : (i < at) ⊎ (i ≡ at) → IsReached T times (event_at T t i).stop (event_at T t i).arr
+    by_case : (i < at) ⊎ (i ≡ at) → IsReachedOnFoot T times (event_at T t i).stop (event_at T t i).arr
     by_case (inl less) = before i first less alights
-    by_case (inr e) = subst (λ (d : Call). (d.alight ≡ true) → IsReached T times d.stop d.arr) (is ∙ ap (λ k. call_of (event_at T t k)) (sym e)) one alights
+    by_case (inr e) = subst (λ (d : Call). (d.alight ≡ true) → IsReachedOnFoot T times d.stop d.arr) (is ∙ ap (λ k. call_of (event_at T t k)) (sym e)) one alights

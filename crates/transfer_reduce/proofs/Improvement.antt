@@ -16,7 +16,7 @@ use Rattle.tb_laws.proofs.LabelLaws.{is_soonest-label}
 use Rattle.tb_base.proofs.Members.{Member-numbers_below}
 use Rattle.tb_laws.proofs.Triangles.{change-change, change-other, walk-other, walk-same, walk-walk}
 use Rattle.tb_laws.specs.Labels.{label}
-use Rattle.transfer_reduce.proofs.Lesser.{IsOffered, earliest_sooner, label_below, label_offered, not_sooner-some, offer_by, offer_by-walk, some_not_sooner}
+use Rattle.transfer_reduce.proofs.Lesser.{IsTimeOffered, earliest_sooner, label_below, label_offered, not_sooner-some, offer_by, offer_by-walk, some_not_sooner}
 use Rattle.tb_base.proofs.Lists.{option_map-back}
 
 plus_zero : (x : ℤ) → (x +ℤ pos 0) ≡ x
@@ -87,7 +87,7 @@ module _ (T : TimetableData) (sound : IsSound T) where
       by_secs None w b k below = refl
       by_secs (Some t) w None k below = absurd below
       by_secs (Some t) w (Some y) k below =
-          let r : IsOffered (walk T) ess e.stop y = label_offered (walk T) ess e.stop y (sym k) in
+          let r : IsTimeOffered (walk T) ess e.stop y = label_offered (walk T) ess e.stop y (sym k) in
           let way = option_map-back (λ n. r.event.arr +ℤ pos n) (walk T r.event.stop e.stop) y (sym (offer_by-walk T r.event e.stop) ∙ r.offer) in
           some_not_sooner (e.arr +ℤ pos t) (label secs_to ess p)
           (label_below secs_to ess p r.events r.event (e.arr +ℤ pos t) r.among r.member

@@ -169,7 +169,7 @@ earliest_sooner secs_to (e ∷ es) p c =
     ap (λ o. is_sooner o c) (earliest_offer-cons secs_to e es p) ∙ is_sooner-lesser_left (offer_by secs_to e p) (earliest_offer secs_to es p) c ∙ ap (λ b. is_sooner (offer_by secs_to e p) c || b) (earliest_sooner secs_to es p c)
 
 -- a label is the offer of an event of some earlier alternative
-pub record IsOffered (secs_to : ℕ → ℕ → Option ℕ) (ess : List (List Event)) (p : ℕ) (time : ℤ) : Type 0 where
+pub record IsTimeOffered (secs_to : ℕ → ℕ → Option ℕ) (ess : List (List Event)) (p : ℕ) (time : ℤ) : Type 0 where
   pub events : List Event
   pub among : Member events ess
   pub event : Event
@@ -184,13 +184,13 @@ earliest_is secs_to (e ∷ es) p time h = by_case (λ k. earliest_is secs_to es 
     by_case more (inl k) = (e, inl refl, k)
     by_case more (inr k) = let r = more k in (r.0, inr r.1, r.2)
 
-pub label_offered : (secs_to : ℕ → ℕ → Option ℕ) (ess : List (List Event)) (p : ℕ) (time : ℤ) → label secs_to ess p ≡ Some time → IsOffered secs_to ess p time
+pub label_offered : (secs_to : ℕ → ℕ → Option ℕ) (ess : List (List Event)) (p : ℕ) (time : ℤ) → label secs_to ess p ≡ Some time → IsTimeOffered secs_to ess p time
 label_offered secs_to [] p time h = cc
 label_offered secs_to (es ∷ ess) p time h = by_case (λ k. label_offered secs_to ess p time k) (lesser-is (earliest_offer secs_to es p) (label secs_to ess p) time h)
   where
-    by_case : (label secs_to ess p ≡ Some time → IsOffered secs_to ess p time) → (earliest_offer secs_to es p ≡ Some time) ⊎ (label secs_to ess p ≡ Some time) → IsOffered secs_to (es ∷ ess) p time
+    by_case : (label secs_to ess p ≡ Some time → IsTimeOffered secs_to ess p time) → (earliest_offer secs_to es p ≡ Some time) ⊎ (label secs_to ess p ≡ Some time) → IsTimeOffered secs_to (es ∷ ess) p time
     by_case more (inl k) = let r = earliest_is secs_to es p time k in record { events = es; among = inl refl; event = r.0; member = r.1; offer = r.2 }
-    by_case more (inr k) = let r : IsOffered secs_to ess p time = more k in record { events = r.events; among = inr r.among; event = r.event; member = r.member; offer = r.offer }
+    by_case more (inr k) = let r : IsTimeOffered secs_to ess p time = more k in record { events = r.events; among = inr r.among; event = r.event; member = r.member; offer = r.offer }
 
 -- and at most each such offer
 pub earliest_below : (secs_to : ℕ → ℕ → Option ℕ) (es : List Event) (p : ℕ) (e : Event) (x : ℤ) → Member e es → IsSomeAnd (offer_by secs_to e p) (λ y. y ≤ℤ x) → IsSomeAnd (earliest_offer secs_to es p) (λ y. y ≤ℤ x)

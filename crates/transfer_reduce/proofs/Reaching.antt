@@ -21,7 +21,7 @@ use Rattle.tb_base.proofs.Ordered.{Contains-from_Member, Member, Member-from_Con
 use Rattle.tb_laws.proofs.Triangles.{walk-same, walk-walk}
 use Rattle.tb_laws.specs.Labels.{label}
 use Rattle.transfer_reduce.specs.declared.tried.Tried.{Tried}
-use Rattle.transfer_reduce.specs.Reached.{AreLowered, AreReached, AreShown, IsAlighting, IsBy, IsReached, hop_alightings}
+use Rattle.transfer_reduce.specs.Reached.{AreLowered, AreReached, AreShown, IsAlighting, IsBy, IsReachedOnFoot, hop_alightings}
 use Rattle.transfer_reduce.specs.Tried.{AreTried, IsTried}
 use Rattle.transfer_reduce.proofs.Improvement.{any-none, any-some}
 use Rattle.transfer_reduce.proofs.Lesser.{earliest_below, earliest_is, lesser-below_left, lesser-below_right, lesser-by, not_sooner-some, offer_by, offer_by-walk, some_not_sooner}
@@ -36,37 +36,37 @@ stops_inside T sound t = by_case (cases_lt t (length T.trips))
 -- ---- by a time, on foot
 
 -- one is at a stop where one arrives there
-pub reached_there : (T : TimetableData) (times : List (Option ℤ)) (p : ℕ) (time : ℤ) → IsBy times p time → IsReached T times p time
+pub reached_there : (T : TimetableData) (times : List (Option ℤ)) (p : ℕ) (time : ℤ) → IsBy times p time → IsReachedOnFoot T times p time
 reached_there T times p time h = by_option (get_or times p None) refl h
   where
-    by_option : (o : Option ℤ) → o ≡ get_or times p None → IsSomeAnd o (λ t. t ≤ℤ time) → IsReached T times p time
+    by_option : (o : Option ℤ) → o ≡ get_or times p None → IsSomeAnd o (λ t. t ≤ℤ time) → IsReachedOnFoot T times p time
     by_option None e k = absurd k
     by_option (Some t) e k = record { from = p; since = t; secs = 0; there = sym e; way = walk-same T p; in_time = omega (arith, ints, k) }
 
 -- earlier arrivals lose nothing
-pub reached_kept : (T : TimetableData) (old new : List (Option ℤ)) → ((p : ℕ) (x : ℤ) → IsBy old p x → IsBy new p x) → (p : ℕ) (time : ℤ) → IsReached T old p time → IsReached T new p time
+pub reached_kept : (T : TimetableData) (old new : List (Option ℤ)) → ((p : ℕ) (x : ℤ) → IsBy old p x → IsBy new p x) → (p : ℕ) (time : ℤ) → IsReachedOnFoot T old p time → IsReachedOnFoot T new p time
 reached_kept T old new kept p time r = by_option (get_or new r.from None) refl (kept r.from r.since (subst (λ o. IsSomeAnd o (λ t. t ≤ℤ r.since)) (sym r.there) (≤ℤ-refl r.since)))
   where
     earlier : (t since time : ℤ) (secs : ℕ) → t ≤ℤ since → (since +ℤ pos secs) ≤ℤ time → (t +ℤ pos secs) ≤ℤ time
     earlier t since time secs h k = omega (arith, ints, h, k)
 
-    by_option : (o : Option ℤ) → o ≡ get_or new r.from None → IsSomeAnd o (λ t. t ≤ℤ r.since) → IsReached T new p time
+    by_option : (o : Option ℤ) → o ≡ get_or new r.from None → IsSomeAnd o (λ t. t ≤ℤ r.since) → IsReachedOnFoot T new p time
     by_option None e k = absurd k
     by_option (Some t) e k = record { from = r.from; since = t; secs = r.secs; there = sym e; way = r.way; in_time = earlier t r.since time r.secs k r.in_time }
 
 -- walks in a row are no faster than one
-pub reached_on_foot : (T : TimetableData) → IsSound T → (times : List (Option ℤ)) (p q secs : ℕ) (time x : ℤ) → IsReached T times p time → walk T p q ≡ Some secs → (time +ℤ pos secs) ≤ℤ x → IsReached T times q x
+pub reached_on_foot : (T : TimetableData) → IsSound T → (times : List (Option ℤ)) (p q secs : ℕ) (time x : ℤ) → IsReachedOnFoot T times p time → walk T p q ≡ Some secs → (time +ℤ pos secs) ≤ℤ x → IsReachedOnFoot T times q x
 reached_on_foot T sound times p q secs time x r way h = by_option (walk T r.from q) refl (walk-walk T sound.law r.from p q r.secs secs r.way way)
   where
     sums : (since time x : ℤ) (a b u : ℕ) → (since +ℤ pos a) ≤ℤ time → (time +ℤ pos b) ≤ℤ x → u ≤ a + b → (since +ℤ pos u) ≤ℤ x
     sums since time x a b u h k l = omega (arith, ints, h, k, l)
 
-    by_option : (o : Option ℕ) → o ≡ walk T r.from q → IsSomeAnd o (λ u. u ≤ r.secs + secs) → IsReached T times q x
+    by_option : (o : Option ℕ) → o ≡ walk T r.from q → IsSomeAnd o (λ u. u ≤ r.secs + secs) → IsReachedOnFoot T times q x
     by_option None e k = absurd k
     by_option (Some u) e k = record { from = r.from; since = r.since; secs = u; there = r.there; way = sym e; in_time = sums r.since time x r.secs secs u r.in_time h k }
 
 -- without any arrival one is nowhere
-pub nowhere : (T : TimetableData) (times : List (Option ℤ)) → ((p : ℕ) → get_or times p None ≡ None) → (p : ℕ) (time : ℤ) → IsReached T times p time → ⊥
+pub nowhere : (T : TimetableData) (times : List (Option ℤ)) → ((p : ℕ) → get_or times p None ≡ None) → (p : ℕ) (time : ℤ) → IsReachedOnFoot T times p time → ⊥
 nowhere T times none p time r = clash (get_or times r.from None) r.since (none r.from) r.there
   where
     clash : (o : Option ℤ) (time : ℤ) → o ≡ None → o ≡ Some time → ⊥
@@ -75,7 +75,7 @@ nowhere T times none p time r = clash (get_or times r.from None) r.since (none r
 -- ---- one alternative more
 
 module _ (T : TimetableData) (sound : IsSound T) (es : List Event) (old new : List (Option ℤ))
-    (each : (e : Event) → Member e es → IsReached T new e.stop e.arr)
+    (each : (e : Event) → Member e es → IsReachedOnFoot T new e.stop e.arr)
     (from : (p : ℕ) (x : ℤ) → IsBy new p x → IsBy old p x ⊎ ((e : Event) × Member e es × (e.stop ≡ p) × (e.arr ≤ℤ x)))
     (kept : (p : ℕ) (x : ℤ) → IsBy old p x → IsBy new p x) where
   pub shown_more : (earlier : List (List Event)) → AreShown T old earlier → AreShown T new (es ∷ earlier)
@@ -84,7 +84,7 @@ module _ (T : TimetableData) (sound : IsSound T) (es : List Event) (old new : Li
       sum : (a since time : ℤ) (secs : ℕ) → a ≤ℤ since → (since +ℤ pos secs) ≤ℤ time → (a +ℤ pos secs) ≤ℤ time
       sum a since time secs h k = omega (arith, ints, h, k)
 
-      forth : IsReached T new p time → IsSomeAnd (label (walk T) (es ∷ earlier) p) (λ y. y ≤ℤ time)
+      forth : IsReachedOnFoot T new p time → IsSomeAnd (label (walk T) (es ∷ earlier) p) (λ y. y ≤ℤ time)
       forth r = by_case (from r.from r.since (subst (λ o. IsSomeAnd o (λ t. t ≤ℤ r.since)) (sym r.there) (≤ℤ-refl r.since)))
         where
           by_case : IsBy old r.from r.since ⊎ ((e : Event) × Member e es × (e.stop ≡ r.from) × (e.arr ≤ℤ r.since)) → IsSomeAnd (label (walk T) (es ∷ earlier) p) (λ y. y ≤ℤ time)
@@ -97,10 +97,10 @@ module _ (T : TimetableData) (sound : IsSound T) (es : List Event) (old new : Li
               lesser-below_left (earliest_offer (walk T) es p) (label (walk T) earlier p) time
               (earliest_below (walk T) es p e time h.1 (subst (λ o. IsSomeAnd o (λ y. y ≤ℤ time)) (sym offer) (sum e.arr r.since time r.secs h.3 r.in_time)))
 
-      back : IsSomeAnd (label (walk T) (es ∷ earlier) p) (λ y. y ≤ℤ time) → IsReached T new p time
+      back : IsSomeAnd (label (walk T) (es ∷ earlier) p) (λ y. y ≤ℤ time) → IsReachedOnFoot T new p time
       back h = by_case (lesser-by (earliest_offer (walk T) es p) (label (walk T) earlier p) time h)
         where
-          by_option : (o : Option ℤ) → o ≡ earliest_offer (walk T) es p → IsSomeAnd o (λ y. y ≤ℤ time) → IsReached T new p time
+          by_option : (o : Option ℤ) → o ≡ earliest_offer (walk T) es p → IsSomeAnd o (λ y. y ≤ℤ time) → IsReachedOnFoot T new p time
           by_option None e k = absurd k
           by_option (Some y) e k =
               let r : (e : Event) × Member e es × (offer_by (walk T) e p ≡ Some y) = earliest_is (walk T) es p y (sym e) in
@@ -108,7 +108,7 @@ module _ (T : TimetableData) (sound : IsSound T) (es : List Event) (old new : Li
               let way = option_map-back (λ secs. f.arr +ℤ pos secs) (walk T f.stop p) y (sym (offer_by-walk T f p) ∙ r.2) in
               reached_on_foot T sound new f.stop p way.0 f.arr time (each f r.1) way.1 (subst (λ z. z ≤ℤ time) (sym way.2) k)
 
-          by_case : IsSomeAnd (earliest_offer (walk T) es p) (λ y. y ≤ℤ time) ⊎ IsSomeAnd (label (walk T) earlier p) (λ y. y ≤ℤ time) → IsReached T new p time
+          by_case : IsSomeAnd (earliest_offer (walk T) es p) (λ y. y ≤ℤ time) ⊎ IsSomeAnd (label (walk T) earlier p) (λ y. y ≤ℤ time) → IsReachedOnFoot T new p time
           by_case (inl k) = by_option (earliest_offer (walk T) es p) refl k
           by_case (inr k) = reached_kept T old new kept p time ((shown p time below).1 k)
 
@@ -148,17 +148,17 @@ module _ (T : TimetableData) (sound : IsSound T) (r : Transfer) (old new : List 
   pub hop_reached : AreReached T new r.to_trip (r.to_at + 1) (length (events_of T r.to_trip))
   hop_reached i begin below alights = by_case (cases_lt i first) (cases_lt i end)
     where
-      by_case : (i < first) ⊎ (first ≤ i) → (i < end) ⊎ (end ≤ i) → IsReached T new (event_at T r.to_trip i).stop (event_at T r.to_trip i).arr
+      by_case : (i < first) ⊎ (first ≤ i) → (i < end) ⊎ (end ≤ i) → IsReachedOnFoot T new (event_at T r.to_trip i).stop (event_at T r.to_trip i).arr
       by_case (inl h) k = reached_kept T old new hop_kept (event_at T r.to_trip i).stop (event_at T r.to_trip i).arr (late i begin h alights)
       by_case (inr h) (inl k) =
           reached_there T new (event_at T r.to_trip i).stop (event_at T r.to_trip i).arr
           ((lowered (event_at T r.to_trip i).stop (event_at T r.to_trip i).arr).1 (inr (record { at = i; first = h; last = k; alights = alights; stop = refl; by = ≤ℤ-refl (event_at T r.to_trip i).arr })))
       by_case (inr h) (inr k) = reached_kept T old new hop_kept (event_at T r.to_trip i).stop (event_at T r.to_trip i).arr (rest i k below alights)
 
-  hop_each : (e : Event) → Member e (hop_alightings T r) → IsReached T new e.stop e.arr
+  hop_each : (e : Event) → Member e (hop_alightings T r) → IsReachedOnFoot T new e.stop e.arr
   hop_each e m =
       let k = hop_member T r e m in
-      subst (λ (f : Event). IsReached T new f.stop f.arr) k.3 (hop_reached k.0 k.1 k.2 k.4)
+      subst (λ (f : Event). IsReachedOnFoot T new f.stop f.arr) k.3 (hop_reached k.0 k.1 k.2 k.4)
 
   hop_from : (p : ℕ) (x : ℤ) → IsBy new p x → IsBy old p x ⊎ ((e : Event) × Member e (hop_alightings T r) × (e.stop ≡ p) × (e.arr ≤ℤ x))
   hop_from p x h = by_case ((lowered p x).0 h)
@@ -186,12 +186,12 @@ module _ (T : TimetableData) (sound : IsSound T) (r : Transfer) (old new : List 
       (some_not_sooner (event_at T r.to_trip at).arr (label (walk T) earlier (event_at T r.to_trip at).stop)
       ((shown (event_at T r.to_trip at).stop (event_at T r.to_trip at).arr (stops_inside T sound r.to_trip at no_event k.2)).0 (by_place k.0 k.1 k.2 k.4 (cases_lt k.0 first)))))
     where
-      by_place : (i : ℕ) → r.to_at + 1 ≤ i → i < length (events_of T r.to_trip) → (event_at T r.to_trip i).alight ≡ true → (i < first) ⊎ (first ≤ i) → IsReached T old (event_at T r.to_trip i).stop (event_at T r.to_trip i).arr
+      by_place : (i : ℕ) → r.to_at + 1 ≤ i → i < length (events_of T r.to_trip) → (event_at T r.to_trip i).alight ≡ true → (i < first) ⊎ (first ≤ i) → IsReachedOnFoot T old (event_at T r.to_trip i).stop (event_at T r.to_trip i).arr
       by_place i begin below alights (inl h) = late i begin h alights
       by_place i begin below alights (inr h) = rest i (omega (arith, all, h)) below alights
 
   -- else the first is
-  first_sooner : (earlier : List (List Event)) → AreShown T old earlier → first < end → (event_at T r.to_trip first).alight ≡ true → (IsReached T old (event_at T r.to_trip first).stop (event_at T r.to_trip first).arr → ⊥)
+  first_sooner : (earlier : List (List Event)) → AreShown T old earlier → first < end → (event_at T r.to_trip first).alight ≡ true → (IsReachedOnFoot T old (event_at T r.to_trip first).stop (event_at T r.to_trip first).arr → ⊥)
       → list_any (λ e. is_sooner (Some e.arr) (label (walk T) earlier e.stop)) (hop_alightings T r) ≡ true
   first_sooner earlier shown some alights away =
       let below : first < length (events_of T r.to_trip) = omega (arith, some, inside) in
@@ -205,7 +205,7 @@ module _ (T : TimetableData) (sound : IsSound T) (r : Transfer) (old new : List 
           (not_sooner-some (event_at T r.to_trip first).arr (label (walk T) earlier (event_at T r.to_trip first).stop) (sym e))))
 
   -- so there is one exactly where the index comes before the end
-  pub hop_sooner : (first < end → (event_at T r.to_trip first).alight ≡ true) → (first < end → IsReached T old (event_at T r.to_trip first).stop (event_at T r.to_trip first).arr → ⊥)
+  pub hop_sooner : (first < end → (event_at T r.to_trip first).alight ≡ true) → (first < end → IsReachedOnFoot T old (event_at T r.to_trip first).stop (event_at T r.to_trip first).arr → ⊥)
       → (earlier : List (List Event)) → AreShown T old earlier → nat_lt first end ≡ list_any (λ e. is_sooner (Some e.arr) (label (walk T) earlier e.stop)) (hop_alightings T r)
   hop_sooner alights away earlier shown = by_case (cases_lt first end)
     where
@@ -231,9 +231,9 @@ module _ (T : TimetableData) (sound : IsSound T) (t i : ℕ) (old new : List (Op
   pub stay_shown : (event_at T t i).alight ≡ true → AreShown T old earlier → AreShown T new ((event_at T t i ∷ []) ∷ earlier)
   stay_shown alights = shown_more T sound (event_at T t i ∷ []) old new each from stay_kept earlier
     where
-      each : (e : Event) → Member e (event_at T t i ∷ []) → IsReached T new e.stop e.arr
+      each : (e : Event) → Member e (event_at T t i ∷ []) → IsReachedOnFoot T new e.stop e.arr
       each e (inl is) =
-          subst (λ (f : Event). IsReached T new f.stop f.arr) is
+          subst (λ (f : Event). IsReachedOnFoot T new f.stop f.arr) is
           (reached_there T new (event_at T t i).stop (event_at T t i).arr
           ((lowered (event_at T t i).stop (event_at T t i).arr).1 (inr (record { at = i; first = omega arith; last = omega arith; alights = alights; stop = refl; by = ≤ℤ-refl (event_at T t i).arr }))))
       each e (inr none) = absurd none

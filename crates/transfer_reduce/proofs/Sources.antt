@@ -13,18 +13,18 @@ use Rattle.tb_base.proofs.NumberFacts.{below_or_at, int_lt-false, int_lt-true}
 use Rattle.tb_laws.proofs.Triangles.{walk-same}
 use Rattle.transfer_pack.specs.TurnedPaths.{turned_into}
 use Rattle.transfer_pack.proofs.Ways.{path_way, way_path}
-use Rattle.transfer_reduce.specs.Reached.{IsReached}
+use Rattle.transfer_reduce.specs.Reached.{IsReachedOnFoot}
 
 module _ (T : TimetableData) (times : List (Option ℤ)) (q : ℕ) (time : ℤ) where
   -- from a stop from where it is no sooner one walks there by then
-  late_from : (p secs : ℕ) → walk T p q ≡ Some secs → is_sooner (Some time) (option_map (λ t. t +ℤ pos secs) (get_or times p None)) ≡ false → IsReached T times q time
+  late_from : (p secs : ℕ) → walk T p q ≡ Some secs → is_sooner (Some time) (option_map (λ t. t +ℤ pos secs) (get_or times p None)) ≡ false → IsReachedOnFoot T times q time
   late_from p secs way h = by_option (get_or times p None) refl h
     where
-      by_option : (o : Option ℤ) → o ≡ get_or times p None → is_sooner (Some time) (option_map (λ t. t +ℤ pos secs) o) ≡ false → IsReached T times q time
+      by_option : (o : Option ℤ) → o ≡ get_or times p None → is_sooner (Some time) (option_map (λ t. t +ℤ pos secs) o) ≡ false → IsReachedOnFoot T times q time
       by_option None e k = cc
       by_option (Some t) e k = record { from = p; since = t; secs = secs; there = sym e; way = way; in_time = int_lt-false time (t +ℤ pos secs) k }
 
-  pub late_there : is_sooner (Some time) (option_map (λ t. t +ℤ pos 0) (get_or times q None)) ≡ false → IsReached T times q time
+  pub late_there : is_sooner (Some time) (option_map (λ t. t +ℤ pos 0) (get_or times q None)) ≡ false → IsReachedOnFoot T times q time
   late_there h = late_from q 0 (walk-same T q) h
 
   -- and from one from where it is sooner one doesn't
@@ -42,14 +42,14 @@ module _ (T : TimetableData) (times : List (Option ℤ)) (q : ℕ) (time : ℤ) 
         subst (λ (r : List Path). ((get_or r j d).to < length T.stops) × ((get_or r j d).secs ≤ 86400)) (sym is)
         (let way = path_way T sound q j d (subst (λ (r : List Path). j < length r) is below) in (way.0.to, way.0.secs))
 
-    pub late_by_path : (j : ℕ) (d : Path) → j < length row → is_sooner (Some time) (option_map (λ t. t +ℤ pos (get_or row j d).secs) (get_or times (get_or row j d).to None)) ≡ false → IsReached T times q time
+    pub late_by_path : (j : ℕ) (d : Path) → j < length row → is_sooner (Some time) (option_map (λ t. t +ℤ pos (get_or row j d).secs) (get_or times (get_or row j d).to None)) ≡ false → IsReachedOnFoot T times q time
     late_by_path j d below =
-        subst (λ (r : List Path). is_sooner (Some time) (option_map (λ t. t +ℤ pos (get_or r j d).secs) (get_or times (get_or r j d).to None)) ≡ false → IsReached T times q time) (sym is)
+        subst (λ (r : List Path). is_sooner (Some time) (option_map (λ t. t +ℤ pos (get_or r j d).secs) (get_or times (get_or r j d).to None)) ≡ false → IsReachedOnFoot T times q time) (sym is)
         (let way = path_way T sound q j d (subst (λ (r : List Path). j < length r) is below) in
         late_from (get_or (turned_into T.footpaths.paths q (length T.stops)) j d).to (get_or (turned_into T.footpaths.paths q (length T.stops)) j d).secs way.1)
 
     pub not_reached : length times ≡ length T.stops → is_sooner (Some time) (option_map (λ t. t +ℤ pos 0) (get_or times q None)) ≡ true →
-        ((j : ℕ) (d : Path) → j < length row → is_sooner (Some time) (option_map (λ t. t +ℤ pos (get_or row j d).secs) (get_or times (get_or row j d).to None)) ≡ true) → IsReached T times q time → ⊥
+        ((j : ℕ) (d : Path) → j < length row → is_sooner (Some time) (option_map (λ t. t +ℤ pos (get_or row j d).secs) (get_or times (get_or row j d).to None)) ≡ true) → IsReachedOnFoot T times q time → ⊥
     not_reached long own others r = by_place (cases_lt r.from (length times)) (cases_eq r.from q)
       where
         none : (o : Option ℤ) (t : ℤ) → o ≡ None → o ≡ Some t → ⊥

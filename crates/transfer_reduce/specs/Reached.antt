@@ -11,7 +11,7 @@ abbrev pub IsBy : List (Option ℤ) → ℕ → ℤ → Type 0
 IsBy times p time = IsSomeAnd (slice_index_or times p None) (λ t. t ≤ℤ time)
 
 -- the same, on foot from some stop
-pub record IsReached (T : TimetableData) (times : List (Option ℤ)) (p : ℕ) (time : ℤ) : Type 0
+pub record IsReachedOnFoot (T : TimetableData) (times : List (Option ℤ)) (p : ℕ) (time : ℤ) : Type 0
   where
     pub from : ℕ
     pub since : ℤ
@@ -23,12 +23,12 @@ pub record IsReached (T : TimetableData) (times : List (Option ℤ)) (p : ℕ) (
 -- one is at every stop by a time exactly where these alternatives bring one there by then
 abbrev pub AreShown : TimetableData → List (Option ℤ) → List (List Event) → Type 0
 AreShown T times earlier = (p : ℕ) (time : ℤ) → p < length T.stops →
-    IsReached T times p time ↔ IsSomeAnd (label (walk T) earlier p) (λ y. y ≤ℤ time)
+    IsReachedOnFoot T times p time ↔ IsSomeAnd (label (walk T) earlier p) (λ y. y ≤ℤ time)
 
 -- where one may alight from trip t between two indexes one is by then
 abbrev pub AreReached : TimetableData → List (Option ℤ) → ℕ → ℕ → ℕ → Type 0
 AreReached T times t from to = (i : ℕ) → from ≤ i → i < to → IsTrue (event_at T t i).alight →
-    IsReached T times (event_at T t i).stop (event_at T t i).arr
+    IsReachedOnFoot T times (event_at T t i).stop (event_at T t i).arr
 
 -- one may alight from trip t between two indexes, at stop p by the time
 pub record IsAlighting (T : TimetableData) (t from to p : ℕ) (time : ℤ) : Type 0 where

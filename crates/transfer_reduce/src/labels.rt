@@ -1,6 +1,6 @@
 //! For each stop the earliest arrival that was offered there, and who can walk there.
 ghost use Rattle.std.specs.Prelude.{◌≡◌, ◌<◌, ◌↔◌, ◌⊎◌, ◌≤ℤ◌, ℕ, ℤ, pos, negsuc, true, false, IfOk, None, length, replicate, slice_index_or};
-ghost use Rattle.transfer_reduce.specs.Reached.{IsBy, IsReached};
+ghost use Rattle.transfer_reduce.specs.Reached.{IsBy, IsReachedOnFoot};
 
 use super::times::Times;
 use std::alloc::Global;
@@ -59,8 +59,8 @@ impl Labels {
         requires stop { stop < length self.now.table.stops }
         requires earliest { negsuc 86399 ≤ℤ time }
         requires latest { time ≤ℤ pos 359999 }
-        ensures sooner { result ≡ true → IsReached self.now.table self.now.times stop time → ⊥ }
-        ensures late { result ≡ false → IsReached self.now.table self.now.times stop time }
+        ensures sooner { result ≡ true → IsReachedOnFoot self.now.table self.now.times stop time → ⊥ }
+        ensures late { result ≡ false → IsReachedOnFoot self.now.table self.now.times stop time }
     {
         if !self.times.is_sooner(time, stop, 0) {
             return false;

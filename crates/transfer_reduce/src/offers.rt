@@ -7,7 +7,7 @@ ghost use Rattle.tb_base.specs.Transfers.{is_sooner};
 ghost use Rattle.tb_base.specs.Walking.{walk};
 ghost use Rattle.tb_base.specs.declared.table.Event.{Event};
 ghost use Rattle.tb_laws.specs.Labels.{label};
-ghost use Rattle.transfer_reduce.specs.Reached.{AreLowered, AreReached, AreShown, IsAlighting, IsBy, IsReached, hop_alightings};
+ghost use Rattle.transfer_reduce.specs.Reached.{AreLowered, AreReached, AreShown, IsAlighting, IsBy, IsReachedOnFoot, hop_alightings};
 ghost use Rattle.transfer_reduce.specs.Tried.{AreTried};
 
 use super::labels::Labels;
@@ -21,9 +21,9 @@ fn is_sooner_at(labels: &Labels, call: &Call) -> bool
     requires { IsSoundCall (length labels.now.table.stops) call.now }
     ensures alights { result ≡ true → IsTrue call.now.alight }
     ensures sooner { result ≡ true →
-        IsReached labels.now.table labels.now.times call.now.stop call.now.arr → ⊥ }
+        IsReachedOnFoot labels.now.table labels.now.times call.now.stop call.now.arr → ⊥ }
     ensures late { result ≡ false → IsTrue call.now.alight →
-        IsReached labels.now.table labels.now.times call.now.stop call.now.arr }
+        IsReachedOnFoot labels.now.table labels.now.times call.now.stop call.now.arr }
 {
     call.alight && labels.is_sooner(call.stop, call.arr)
 }
@@ -58,7 +58,7 @@ fn first_sooner<C: Calls>(
     ensures late { AreReached table.now labels.now.times trip from result }
     ensures after { result < to → from ≤ result }
     ensures alights { result < to → IsTrue (event_at table.now trip result).alight }
-    ensures sooner { result < to → IsReached table.now labels.now.times
+    ensures sooner { result < to → IsReachedOnFoot table.now labels.now.times
         (event_at table.now trip result).stop (event_at table.now trip result).arr → ⊥ }
 {
     table.soundness();
