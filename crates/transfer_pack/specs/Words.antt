@@ -6,7 +6,7 @@ use Rattle.transfer_pack.specs.declared.hops.Hops.{Hops}
 use Rattle.transfer_pack.specs.declared.hops.Lent.{Lent}
 
 -- the hop fits one word
-pub record IsShort (h : Hop) : Type 0 where
+pub record IsShortHop (h : Hop) : Type 0 where
   pub trip : h.trip < 4194304
   pub at : h.at < 1024
 
@@ -16,7 +16,7 @@ hop_in word = record { trip = word / 1024; at = word % 1024 }
 
 -- what holds hops has words that are wide enough for this one
 abbrev pub Takes : Held → Hop → Type 0
-Takes (Held.Short words) h = IsShort h
+Takes (Held.Short words) h = IsShortHop h
 Takes (Held.Long hops) h = ⊤
 
 -- the hops that are lent

@@ -1,6 +1,6 @@
 ghost use Rattle.std.specs.Prelude.{◌≡◌, ◌+◌, ◌-◌, ◌<◌, ◌≤◌, ◌++◌, ◌∷◌, [], Some, IfOk, IsTrue, ◌↔◌, OnOk, drop, length, map, slice_get, take};
 ghost use Rattle.std.specs.Bool.{OnFalse, OnTrue};
-ghost use Rattle.transfer_pack.specs.Words.{IsShort, Takes, hop_in, hops_held, lent};
+ghost use Rattle.transfer_pack.specs.Words.{IsShortHop, Takes, hop_in, hops_held, lent};
 
 use super::ahead::ReadAhead;
 use std::alloc::Global;
@@ -14,14 +14,14 @@ const SHORT_INDICES: u32 = 1024;
 
 // Whether a hop fits one word.
 fn is_short(hop: &Hop) -> bool
-    ensures { IsTrue result ↔ IsShort hop.now }
+    ensures { IsTrue result ↔ IsShortHop hop.now }
 {
     hop.trip.0 < SHORT_TRIPS && hop.at < SHORT_INDICES
 }
 
 // The word of a hop.
 fn word_of(hop: &Hop) -> u32
-    requires { IsShort hop.now }
+    requires { IsShortHop hop.now }
     ensures { hop_in result ≡ hop.now }
 {
     hop.trip.0 * SHORT_INDICES + hop.at
