@@ -8,7 +8,7 @@ use Rattle.query_gate.specs.declared.said.Line.{Line}
 use Rattle.lane_serve.specs.declared.lane.ReplyText.{ReplyText}
 use Rattle.query_gate.specs.Json.{shown_reply}
 use Rattle.answer_json.specs.declared.frame.Frame.TheVariants as frame
-use Rattle.lane_serve.specs.Lanes.{IsAnswered, IsReplyOf}
+use Rattle.lane_serve.specs.Lanes.{IsRequestAnswered, IsReplyOf}
 
 -- at a place of a list stands one edition
 pub same_edition : (o : List EditionData) (n : ℕ) (e f : EditionData) → slice_get o n ≡ Some e → slice_get o n ≡ Some f → f ≡ e
@@ -16,7 +16,7 @@ same_edition o n e f h k = let s : Some f ≡ Some e = sym k ∙ h in cc
 
 -- the number, the edition and the text are those of the reply
 pub answered : (es : List EditionData) (q : Line) (e : EditionData) (reply : Reply) (r : ReplyText) → IsReplyOf es (length es) q reply →
-    slice_get es (length es - 1) ≡ Some e → r.edition ≡ length es → r.text ≡ shown_reply q.json frame.Array e.table reply → IsAnswered es q r
+    slice_get es (length es - 1) ≡ Some e → r.edition ≡ length es → r.text ≡ shown_reply q.json frame.Array e.table reply → IsRequestAnswered es q r
 answered es q e reply r h is n t =
     let same = same_edition es (length es - 1) h.0 e h.1.1 is in
     record {

@@ -8,7 +8,7 @@ use Rattle.query_gate.proofs.Longer.{starts_get}
 use Rattle.edition_store.specs.Editions.{EditionData}
 use Rattle.query_gate.specs.declared.said.Line.{Line}
 use Rattle.lane_serve.specs.declared.lane.ReplyText.{ReplyText}
-use Rattle.lane_serve.specs.Lanes.{Due, IsAnswered, RunsFrom, IsLaneRun, IsClosing, is_due, to_close}
+use Rattle.lane_serve.specs.Lanes.{Due, IsRequestAnswered, RunsFrom, IsLaneRun, IsClosing, is_due, to_close}
 
 get_or_default : {A : Type 0} (xs : List A) (i : ℕ) (d e : A) → i < length xs → get_or xs i d ≡ get_or xs i e
 get_or_default [] i d e lt = absurd (omega arith)
@@ -18,7 +18,7 @@ get_or_default (x ∷ xs) (suc i) d e lt = get_or_default xs i d e (omega arith)
 starts_length : {A : Type 0} (ys xs : List A) → StartsWith ys xs → length xs ≤ length ys
 starts_length ys xs h = omega (arith, length-take (length xs) ys, sym (ap length h))
 
-answered_more : (fs es : List EditionData) → StartsWith fs es → (q : Line) (r : ReplyText) → IsAnswered es q r → IsAnswered fs q r
+answered_more : (fs es : List EditionData) → StartsWith fs es → (q : Line) (r : ReplyText) → IsRequestAnswered es q r → IsRequestAnswered fs q r
 answered_more fs es s q r h = record {
   by = h.by;
   edition = (h.edition.0, starts_get fs es (r.edition - 1) h.by s h.edition.1);
@@ -43,7 +43,7 @@ last_of_more least [] r = refl
 last_of_more least (q ∷ rs) r = last_of_more q.edition rs r
 
 runs_snoc : (es : List EditionData) (k least : ℕ) (qs : List Line) (rs : List ReplyText) (q : Line) (r : ReplyText) → RunsFrom es k least qs rs
-    → r.line ≡ k + length qs → last_edition least rs ≤ r.edition → IsAnswered es q r → RunsFrom es k least (qs ++ q ∷ []) (rs ++ r ∷ [])
+    → r.line ≡ k + length qs → last_edition least rs ≤ r.edition → IsRequestAnswered es q r → RunsFrom es k least (qs ++ q ∷ []) (rs ++ r ∷ [])
 runs_snoc es k least [] [] q r h l le a = (omega arith, le, a, tt)
 runs_snoc es k least [] (p ∷ rs) q r h l le a = absurd h
 runs_snoc es k least (o ∷ qs) [] q r h l le a = absurd h
@@ -61,7 +61,7 @@ pub record IsSoFar (es : List EditionData) (requests : List Line) (i : ℕ) (rep
   pub at_most : last_edition 0 replies ≤ length es
 
 pub so_far_more : (fs es : List EditionData) → StartsWith fs es → (requests : List Line) (i : ℕ) (d : Line) (replies : List ReplyText) (r : ReplyText)
-    → IsSoFar es requests i replies → i < length requests → r.line ≡ i + 1 → r.edition ≡ length fs → IsAnswered fs (get_or requests i d) r → IsSoFar fs requests (i + 1) (replies ++ r ∷ [])
+    → IsSoFar es requests i replies → i < length requests → r.line ≡ i + 1 → r.edition ≡ length fs → IsRequestAnswered fs (get_or requests i d) r → IsSoFar fs requests (i + 1) (replies ++ r ∷ [])
 so_far_more fs es s requests i d replies r h lt l n a =
     let q = get_or requests i d in
     let here : length (take i requests) ≡ i = omega (arith, length-take i requests) in
@@ -83,7 +83,7 @@ since_more fs es s rs r h n =
     All-push (λ (p : ReplyText). length es ≤ p.edition) rs r h (omega arith)
 
 closing_snoc : (es : List EditionData) (ds : List Due) (cs : List ReplyText) (d : Due) (c : ReplyText) → IsClosing es ds cs
-    → c.line ≡ d.line → c.edition ≡ length es → IsAnswered es d.request c → IsClosing es (ds ++ d ∷ []) (cs ++ c ∷ [])
+    → c.line ≡ d.line → c.edition ≡ length es → IsRequestAnswered es d.request c → IsClosing es (ds ++ d ∷ []) (cs ++ c ∷ [])
 closing_snoc es [] [] d c h l n a = (l, n, a, tt)
 closing_snoc es [] (x ∷ cs) d c h l n a = absurd h
 closing_snoc es (p ∷ ds) [] d c h l n a = absurd h
@@ -135,14 +135,14 @@ close_at requests replies i d e same lt =
 
 -- where the caller keeps the whole list: a request that is due is answered once more
 pub closing_then : (es : List EditionData) (now : Shown EditionData) → now ≡ record { list = es; closed = true } → (requests : List Line) (replies : List ReplyText) (i : ℕ) (d : Line) (e : ReplyText) (cs : List ReplyText) (c : ReplyText) → length replies ≡ length requests → i < length requests
-    → is_due (i + 1) (get_or requests i d) (get_or replies i e) ≡ true → IsClosing es (to_close 1 (take i requests) (take i replies)) cs → c.line ≡ i + 1 → c.edition ≡ length now.list → IsAnswered now.list (get_or requests i d) c
+    → is_due (i + 1) (get_or requests i d) (get_or replies i e) ≡ true → IsClosing es (to_close 1 (take i requests) (take i replies)) cs → c.line ≡ i + 1 → c.edition ≡ length now.list → IsRequestAnswered now.list (get_or requests i d) c
     → IsClosing es (to_close 1 (take (i + 1) requests) (take (i + 1) replies)) (cs ++ c ∷ [])
 closing_then es now same requests replies i d e cs c long lt due h l n a =
     let at = close_at requests replies i d e long lt ∙ ap (λ b. to_close 1 (take i requests) (take i replies) ++ one_if b (due_at (i + 1) (get_or requests i d))) due in
     subst (λ k. IsClosing es k (cs ++ c ∷ [])) (sym at)
     (closing_snoc es (to_close 1 (take i requests) (take i replies)) cs (due_at (i + 1) (get_or requests i d)) c h l
     (n ∙ ap (λ (s : Shown EditionData). length s.list) same)
-    (subst (λ (s : Shown EditionData). IsAnswered s.list (get_or requests i d) c) same a))
+    (subst (λ (s : Shown EditionData). IsRequestAnswered s.list (get_or requests i d) c) same a))
 
 -- and one that isn't due is not
 pub closing_else : (es : List EditionData) (requests : List Line) (replies : List ReplyText) (i : ℕ) (d : Line) (e : ReplyText) (cs : List ReplyText) → length replies ≡ length requests → i < length requests
@@ -153,8 +153,8 @@ closing_else es requests replies i d e cs long lt due h =
     subst (λ k. IsClosing es k cs) (sym at) h
 
 -- the same request, as it was read
-pub read_as : (es : List EditionData) (p q : Line) (r : ReplyText) → p ≡ q → IsAnswered es p r → IsAnswered es q r
-read_as es p q r e h = subst (λ k. IsAnswered es k r) e h
+pub read_as : (es : List EditionData) (p q : Line) (r : ReplyText) → p ≡ q → IsRequestAnswered es p r → IsRequestAnswered es q r
+read_as es p q r e h = subst (λ k. IsRequestAnswered es k r) e h
 
 pub due_as : (k : ℕ) (p q : Line) (r s : ReplyText) (b : Bool) → p ≡ q → r ≡ s → is_due k p r ≡ b → is_due k q s ≡ b
 due_as k p q r s b e f h = subst (λ x. is_due k x s ≡ b) e (subst (λ y. is_due k p y ≡ b) f h)

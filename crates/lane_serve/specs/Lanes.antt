@@ -19,7 +19,7 @@ IsReplyOf es n request reply = IsAnsweredBy es n request.since request.question 
 
 -- a reply's text is that of the right reply of the edition of a list that the reply names: as
 -- lines, or where that is wanted, as a member of a JSON object
-pub record IsAnswered (es : List EditionData) (request : Line) (r : ReplyText) : Type 0 where
+pub record IsRequestAnswered (es : List EditionData) (request : Line) (r : ReplyText) : Type 0 where
   pub by : EditionData
   pub edition : IsEditionOf es r.edition by
   pub reply : Reply
@@ -33,7 +33,7 @@ RunsFrom es k least [] [] = ⊤
 RunsFrom es k least [] (r ∷ rs) = ⊥
 RunsFrom es k least (q ∷ qs) [] = ⊥
 RunsFrom es k least (q ∷ qs) (r ∷ rs) =
-    (r.line ≡ k) × (least ≤ r.edition) × IsAnswered es q r × RunsFrom es (k + 1) r.edition qs rs
+    (r.line ≡ k) × (least ≤ r.edition) × IsRequestAnswered es q r × RunsFrom es (k + 1) r.edition qs rs
 
 -- the replies to a lane's requests, as a run over a list of editions gives them
 abbrev pub IsLaneRun : List EditionData → List Line → List ReplyText → Type 0
@@ -62,4 +62,4 @@ IsClosing es [] [] = ⊤
 IsClosing es [] (c ∷ cs) = ⊥
 IsClosing es (d ∷ ds) [] = ⊥
 IsClosing es (d ∷ ds) (c ∷ cs) =
-    (c.line ≡ d.line) × (c.edition ≡ length es) × IsAnswered es d.request c × IsClosing es ds cs
+    (c.line ≡ d.line) × (c.edition ≡ length es) × IsRequestAnswered es d.request c × IsClosing es ds cs

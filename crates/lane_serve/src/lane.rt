@@ -4,7 +4,7 @@ ghost use Rattle.history.specs.Lists.{Extends, StartsWith};
 ghost use Rattle.edition_store.specs.Editions.{EditionData};
 ghost use Rattle.query_gate.specs.Callers.{HasLegNumbersIn};
 ghost use Rattle.query_gate.specs.Said.{IsAskable};
-ghost use Rattle.lane_serve.specs.Lanes.{IsAnswered, IsClosing, IsLaneRun, IsReplyOf, is_due, to_close};
+ghost use Rattle.lane_serve.specs.Lanes.{IsRequestAnswered, IsClosing, IsLaneRun, IsReplyOf, is_due, to_close};
 
 use answer_json::Frame;
 use edition_store::{Last, Naming};
@@ -50,7 +50,7 @@ fn told<J: Naming>(
         answer.now.reply }
     ensures line { IfOk result (λ r. r.line ≡ k) }
     ensures edition { IfOk result (λ r. r.edition ≡ length answer.now.pinned.list) }
-    ensures right { IfOk result (IsAnswered answer.now.pinned.list request.now) }
+    ensures right { IfOk result (IsRequestAnswered answer.now.pinned.list request.now) }
 {
     let edition = answer.pinned.edition();
     let text = shown_reply(
@@ -77,7 +77,7 @@ fn answer<J: Naming>(
     requires { IsAskable request.now }
     ensures line { IfOk result (λ r. r.line ≡ k) }
     ensures edition { IfOk result (λ r. r.edition ≡ length caller.new.kept.list) }
-    ensures right { IfOk result (IsAnswered caller.new.kept.list request.now) }
+    ensures right { IfOk result (IsRequestAnswered caller.new.kept.list request.now) }
     ensures later { Extends caller.new.kept caller.old.kept }
     ensures last { caller.old.kept.closed ≡ true → caller.new.kept ≡ caller.old.kept }
 {
