@@ -14,7 +14,7 @@ use Rattle.tb_base.proofs.Ordered.{Member}
 use Rattle.tb_base.proofs.LineFacts.{MayFollow, no_later}
 use Rattle.segment_queue.specs.declared.desk.Segment.{Segment}
 use Rattle.segment_queue.specs.Scans.{trips_from}
-use Rattle.segment_queue.specs.Queue.{DeskData, EntersSegment, Fits, IsFalling, IsInStep, IsSoundSegment, covered_indices, last_index, lowered, mark_of}
+use Rattle.segment_queue.specs.Queue.{DeskData, EntersSegment, Fits, IsFalling, IsInStep, IsSoundSegment, covered_indices, last_index, lowered_mark, mark_of}
 use Rattle.segment_queue.proofs.Distinct.{has_member, member_or_not, all_by_member, of_member, pairs_weaker}
 use Rattle.segment_queue.proofs.LineParts.{StaysBehind, itself, later_too, member_concat, of_lines}
 use Rattle.segment_queue.proofs.LoweredMarks.{lowered-in, lowered-out, lowered-le}
@@ -102,7 +102,7 @@ in_step-entered N D D' t at parent divided step inside below enters = record {
 
     here : mark_of N.table D'.marks t ≤ at
     here =
-        let low : lowered (trips_from N.lines t) at t (mark_of N.table D.marks t) ≡ min (mark_of N.table D.marks t) at
+        let low : lowered_mark (trips_from N.lines t) at t (mark_of N.table D.marks t) ≡ min (mark_of N.table D.marks t) at
         = lowered-in (trips_from N.lines t) at t (mark_of N.table D.marks t) (has_member t (trips_from N.lines t) (itself t N.lines (of_lines N.table N.lines t divided inside))) in
         omega (arith, enters.marks t inside, low)
 

@@ -14,7 +14,7 @@ use Rattle.tb_base.specs.Lines.{AreDividedInto, IsTripNoLater}
 use Rattle.tb_base.specs.Search.{IsCovered, RoundSegment, segment_at}
 use Rattle.tb_base.proofs.LineFacts.{no_later}
 use Rattle.segment_queue.specs.Scans.{trips_from}
-use Rattle.segment_queue.specs.Queue.{IsFalling, lowered, mark_of}
+use Rattle.segment_queue.specs.Queue.{IsFalling, lowered_mark, mark_of}
 use Rattle.segment_queue.specs.Levels.{AreDescending, AreKept, EntersLevel, level_mark, level_segment, with_level}
 use Rattle.segment_queue.proofs.Distinct.{all_by_member, has_member, member_or_not, of_member, pairs_weaker}
 use Rattle.segment_queue.proofs.LineParts.{StaysBehind, later_too, member_concat, pairs_of, trips_no_later}
@@ -174,7 +174,7 @@ pub made_all : (P : List (Option ℕ) → Type 0) (levels : List (List (Option �
 made_all P levels some all = All-push P levels (get_or levels (length levels - 1) []) all (all (length levels - 1) [] (omega (arith, some)))
 
 -- marks that fall along the lines still do when a trip is entered
-pub falling_on : (T : TimetableData) (lines : List (List ℕ)) (old new : List (Option ℕ)) (t at : ℕ) → AreDividedInto T lines → ((u : ℕ) → u < length T.trips → mark_of T new u ≡ lowered (trips_from lines t) at u (mark_of T old u)) → All (IsFalling T old) lines → All (IsFalling T new) lines
+pub falling_on : (T : TimetableData) (lines : List (List ℕ)) (old new : List (Option ℕ)) (t at : ℕ) → AreDividedInto T lines → ((u : ℕ) → u < length T.trips → mark_of T new u ≡ lowered_mark (trips_from lines t) at u (mark_of T old u)) → All (IsFalling T old) lines → All (IsFalling T new) lines
 falling_on T lines old new t at divided is falling = all_by_member (IsFalling T new) lines (λ line h. line_falls line h)
   where
     falls : (u : ℕ) → u < length T.trips → mark_of T new u ≤ mark_of T old u
@@ -208,12 +208,12 @@ pub record AreLowered (N : NetData) (first k trip at : ℕ) (old now : List (Lis
   pub long : length now ≡ length old
   pub untouched : (m : ℕ) → m < first → get_or now m [] ≡ get_or old m []
   pub left : (m : ℕ) → k ≤ m → get_or now m [] ≡ get_or old m []
-  pub done : (m u : ℕ) → first ≤ m → m < k → m < length old → u < length N.table.trips → level_mark N.table now m u ≡ lowered (trips_from N.lines trip) at u (level_mark N.table old m u)
+  pub done : (m u : ℕ) → first ≤ m → m < k → m < length old → u < length N.table.trips → level_mark N.table now m u ≡ lowered_mark (trips_from N.lines trip) at u (level_mark N.table old m u)
   pub room : All (λ marks. length N.table.trips ≤ length marks) now
   pub falling : All (λ marks. All (IsFalling N.table marks) N.lines) now
 
 pub one_lowered : (N : NetData) (first k trip at : ℕ) (old now : List (List (Option ℕ))) (marks new : List (Option ℕ)) → AreDividedInto N.table N.lines → AreLowered N first k trip at old now → first ≤ k → k < length now → marks ≡ get_or now k marks →
-    length new ≡ length marks → ((u : ℕ) → u < length N.table.trips → mark_of N.table new u ≡ lowered (trips_from N.lines trip) at u (mark_of N.table marks u)) → AreLowered N first (k + 1) trip at old (set now k new)
+    length new ≡ length marks → ((u : ℕ) → u < length N.table.trips → mark_of N.table new u ≡ lowered_mark (trips_from N.lines trip) at u (mark_of N.table marks u)) → AreLowered N first (k + 1) trip at old (set now k new)
 one_lowered N first k trip at old now marks new divided so_far from inside is long lowers = record {
   long = length-set now k new ∙ so_far.long;
   untouched = λ m h. get_or-set_other now k m new [] (λ e. omega (arith, e, h, from)) ∙ so_far.untouched m h;
@@ -221,8 +221,8 @@ one_lowered N first k trip at old now marks new divided so_far from inside is lo
   done = λ m u a b there trip_inside. elim (cases_lt m k) [
     | inl low ↦ ap (λ ms. mark_of N.table ms u) (get_or-set_other now k m new [] (λ e. omega (arith, e, low))) ∙ so_far.done m u a low there trip_inside
     | inr high ↦ (let e : m ≡ k = omega (arith, high, b) in
-        subst (λ i. level_mark N.table (set now k new) i u ≡ lowered (trips_from N.lines trip) at u (level_mark N.table old i u)) (sym e)
-        (ap (λ ms. mark_of N.table ms u) (get_or-set_same now k new [] inside) ∙ lowers u trip_inside ∙ ap (λ ms. lowered (trips_from N.lines trip) at u (mark_of N.table ms u)) (marks_are ∙ so_far.left k (omega arith))))
+        subst (λ i. level_mark N.table (set now k new) i u ≡ lowered_mark (trips_from N.lines trip) at u (level_mark N.table old i u)) (sym e)
+        (ap (λ ms. mark_of N.table ms u) (get_or-set_same now k new [] inside) ∙ lowers u trip_inside ∙ ap (λ ms. lowered_mark (trips_from N.lines trip) at u (mark_of N.table ms u)) (marks_are ∙ so_far.left k (omega arith))))
   ];
   room = all_set (λ ms. length N.table.trips ≤ length ms) now k new so_far.room inside (omega (arith, long, subst (λ ms. length N.table.trips ≤ length ms) (sym is) (so_far.room k marks inside)));
   falling = all_set (λ ms. All (IsFalling N.table ms) N.lines) now k new so_far.falling inside (falling_on N.table N.lines marks new trip at divided lowers (subst (λ ms. All (IsFalling N.table ms) N.lines) (sym is) (so_far.falling k marks inside)));

@@ -8,24 +8,24 @@ use Rattle.tb_base.specs.TimetableData.{TimetableData}
 use Rattle.tb_base.specs.Lines.{AreDividedInto}
 use Rattle.tb_base.proofs.Ordered.{Member, AllPairs-tail}
 use Rattle.segment_queue.specs.Scans.{trips_from}
-use Rattle.segment_queue.specs.Queue.{IsFalling, lowered, mark_of, last_index}
+use Rattle.segment_queue.specs.Queue.{IsFalling, lowered_mark, mark_of, last_index}
 use Rattle.segment_queue.specs.Words.{is_at_most, lowered_marks}
 use Rattle.segment_queue.proofs.Distinct.{all_by_member, has, has_member, same_or_other, member_or_not, before_member, pairs_weaker}
 use Rattle.segment_queue.proofs.LineParts.{pairs_of, all_distinct, trips_no_later}
 use Rattle.segment_queue.proofs.LineViews.{member_at}
 
-pub lowered-in : (trips : List ℕ) (at u m : ℕ) → has u trips ≡ true → lowered trips at u m ≡ min m at
+pub lowered-in : (trips : List ℕ) (at u m : ℕ) → has u trips ≡ true → lowered_mark trips at u m ≡ min m at
 lowered-in trips at u m e = ap (λ b. cond b (min m at) m) e
 
-pub lowered-out : (trips : List ℕ) (at u m : ℕ) → has u trips ≡ false → lowered trips at u m ≡ m
+pub lowered-out : (trips : List ℕ) (at u m : ℕ) → has u trips ≡ false → lowered_mark trips at u m ≡ m
 lowered-out trips at u m e = ap (λ b. cond b (min m at) m) e
 
-pub lowered-le : (trips : List ℕ) (at u m : ℕ) → lowered trips at u m ≤ m
+pub lowered-le : (trips : List ℕ) (at u m : ℕ) → lowered_mark trips at u m ≤ m
 lowered-le trips at u m =
     elim (member_or_not u trips) [ inl e ↦ omega (arith, lowered-in trips at u m e.1) | inr e ↦ omega (arith, lowered-out trips at u m e.1) ]
 
 -- where the mark isn't above the index it stays
-pub lowered-kept : (trips : List ℕ) (at u m : ℕ) → (Member u trips → m ≤ at) → lowered trips at u m ≡ m
+pub lowered-kept : (trips : List ℕ) (at u m : ℕ) → (Member u trips → m ≤ at) → lowered_mark trips at u m ≡ m
 lowered-kept trips at u m low =
     elim (member_or_not u trips) [ inl e ↦ omega (arith, low e.0, lowered-in trips at u m e.1) | inr e ↦ lowered-out trips at u m e.1 ]
 
@@ -37,7 +37,7 @@ mark-set_other T marks t at u other = ap (λ o. unwrap_or o (last_index T u)) (g
 
 -- one trip is entered, and the rest of the line is still to do
 one_done : (T : TimetableData) (marks : List (Option ℕ)) (t at : ℕ) (rest : List ℕ) → t < length marks → at < mark_of T marks t → (u : ℕ)
-    → lowered (t ∷ rest) at u (mark_of T marks u) ≡ lowered rest at u (mark_of T (set marks t (Some at)) u)
+    → lowered_mark (t ∷ rest) at u (mark_of T marks u) ≡ lowered_mark rest at u (mark_of T (set marks t (Some at)) u)
 one_done T marks t at rest inside above u =
     elim (same_or_other t u) [
       | inl e ↦
@@ -45,11 +45,11 @@ one_done T marks t at rest inside above u =
           let old : at < mark_of T marks u = subst (λ k. at < mark_of T marks k) e.0 above in
           lowered-in (t ∷ rest) at u (mark_of T marks u) (has_member u (t ∷ rest) (inl e.0))
           ∙ min_at (mark_of T marks u) old
-          ∙ sym (ap (lowered rest at u) here ∙ lowered-kept rest at u at (λ _. omega arith)))
+          ∙ sym (ap (lowered_mark rest at u) here ∙ lowered-kept rest at u at (λ _. omega arith)))
       | inr e ↦
           (let there : mark_of T (set marks t (Some at)) u ≡ mark_of T marks u = mark-set_other T marks t at u (λ f. e.0 (sym f)) in
           ap (λ b. cond (b || has u rest) (min (mark_of T marks u) at) (mark_of T marks u)) e.1
-          ∙ ap (lowered rest at u) (sym there))
+          ∙ ap (lowered_mark rest at u) (sym there))
     ]
   where
     min_at : (m : ℕ) → at < m → min m at ≡ at
@@ -60,7 +60,7 @@ drop_item trips k t there is = drop_more trips k t there ∙ ap (λ x. x ∷ dro
 
 -- The marks of the rest of the trips are still to be lowered.
 pub record StillToLower (T : TimetableData) (whole rest : List ℕ) (at : ℕ) (old marks : List (Option ℕ)) : Type 0 where
-  pub todo : (u : ℕ) → u < length T.trips → lowered whole at u (mark_of T old u) ≡ lowered rest at u (mark_of T marks u)
+  pub todo : (u : ℕ) → u < length T.trips → lowered_mark whole at u (mark_of T old u) ≡ lowered_mark rest at u (mark_of T marks u)
   pub falling : IsFalling T marks rest
   pub distinct : AllPairs (λ x y. x ≢ y) rest
 
@@ -68,7 +68,7 @@ pub record StillToLower (T : TimetableData) (whole rest : List ℕ) (at : ℕ) (
 pub all_to_lower : (T : TimetableData) (lines : List (List ℕ)) (t at : ℕ) (trips : List ℕ) (marks : List (Option ℕ)) → AreDividedInto T lines → trips ≡ trips_from lines t → IsFalling T marks (trips_from lines t)
     → StillToLower T (trips_from lines t) trips at marks marks
 all_to_lower T lines t at trips marks divided same falling = record {
-  todo = λ u h. ap (λ xs. lowered xs at u (mark_of T marks u)) (sym same);
+  todo = λ u h. ap (λ xs. lowered_mark xs at u (mark_of T marks u)) (sym same);
   falling = subst (λ xs. IsFalling T marks xs) (sym same) falling;
   distinct = subst (λ xs. AllPairs (λ x y. x ≢ y) xs) (sym same) (pairs_of (λ x y. x ≢ y) t lines (all_distinct lines divided.once));
 }
@@ -94,7 +94,7 @@ one_more_lowered T whole trips k t at old marks new still there is inside above 
     (one_lowered T whole (drop (k + 1) trips) t at old marks (subst (λ (xs : List ℕ). StillToLower T whole xs at old marks) (drop_item trips k t there is) still) inside above)
 
 stops : (T : TimetableData) (whole rest : List ℕ) (t at : ℕ) (old marks : List (Option ℕ)) → StillToLower T whole (t ∷ rest) at old marks → mark_of T marks t ≤ at
-    → (u : ℕ) → u < length T.trips → mark_of T marks u ≡ lowered whole at u (mark_of T old u)
+    → (u : ℕ) → u < length T.trips → mark_of T marks u ≡ lowered_mark whole at u (mark_of T old u)
 stops T whole rest t at old marks still low u h = sym (still.todo u h ∙ lowered-kept (t ∷ rest) at u (mark_of T marks u) below)
   where
     below : Member u (t ∷ rest) → mark_of T marks u ≤ at
@@ -103,7 +103,7 @@ stops T whole rest t at old marks still low u h = sym (still.todo u h ∙ lowere
 
 -- where a trip's mark isn't above the index, nor are those of later trips
 pub no_more_to_lower : (T : TimetableData) (whole trips : List ℕ) (k t at : ℕ) (old marks : List (Option ℕ)) → StillToLower T whole (drop k trips) at old marks → k < length trips → t ≡ get_or trips k t → mark_of T marks t ≤ at
-    → (u : ℕ) → u < length T.trips → mark_of T marks u ≡ lowered whole at u (mark_of T old u)
+    → (u : ℕ) → u < length T.trips → mark_of T marks u ≡ lowered_mark whole at u (mark_of T old u)
 no_more_to_lower T whole trips k t at old marks still there is low =
     stops T whole (drop (k + 1) trips) t at old marks (subst (λ (xs : List ℕ). StillToLower T whole xs at old marks) (drop_item trips k t there is) still) low
 
@@ -141,7 +141,7 @@ length-lowered_marks (t ∷ trips) at marks = elim (is_at_most at (get_or marks 
 
 -- the rest of the trips get the index, up to the first whose mark isn't above it
 rest_lowered : (T : TimetableData) (whole rest : List ℕ) (at : ℕ) (old marks : List (Option ℕ)) → StillToLower T whole rest at old marks → All (λ t. t < length marks) rest → All (λ t. at < last_index T t) rest → (u : ℕ) → u < length T.trips →
-    mark_of T (lowered_marks rest at marks) u ≡ lowered whole at u (mark_of T old u)
+    mark_of T (lowered_marks rest at marks) u ≡ lowered_mark whole at u (mark_of T old u)
 rest_lowered T whole [] at old marks still inside below u h = sym (still.todo u h)
 rest_lowered T whole (t ∷ rest) at old marks still inside below u h = by_test (is_at_most at (get_or marks t None)) refl (λ next. rest_lowered T whole rest at old fallen next there (All-tail (λ x. at < last_index T x) t rest below) u h)
   where
@@ -151,8 +151,8 @@ rest_lowered T whole (t ∷ rest) at old marks still inside below u h = by_test 
     there : All (λ x. x < length fallen) rest
     there = All-weaker (λ x. x < length marks) (λ x. x < length fallen) (λ x k. omega (arith, k, length-set marks t (Some at))) rest (All-tail (λ x. x < length marks) t rest inside)
 
-    by_test : (b : Bool) → b ≡ is_at_most at (get_or marks t None) → (StillToLower T whole rest at old fallen → mark_of T (lowered_marks rest at fallen) u ≡ lowered whole at u (mark_of T old u)) →
-        mark_of T (cond b marks (lowered_marks rest at fallen)) u ≡ lowered whole at u (mark_of T old u)
+    by_test : (b : Bool) → b ≡ is_at_most at (get_or marks t None) → (StillToLower T whole rest at old fallen → mark_of T (lowered_marks rest at fallen) u ≡ lowered_mark whole at u (mark_of T old u)) →
+        mark_of T (cond b marks (lowered_marks rest at fallen)) u ≡ lowered_mark whole at u (mark_of T old u)
     by_test true e more = stops T whole rest t at old marks still (low_mark (get_or marks t None) at (last_index T t) e) u h
     by_test false e more =
         let above : at < mark_of T marks t = high_mark (get_or marks t None) at (last_index T t) (All-head (λ x. at < last_index T x) t rest below) e in
@@ -160,7 +160,7 @@ rest_lowered T whole (t ∷ rest) at old marks still inside below u h = by_test 
 
 -- where the index is below the last one, that lowers the marks of all trips from one on
 pub line_lowered : (T : TimetableData) (lines : List (List ℕ)) (t at : ℕ) (trips : List ℕ) (old new : List (Option ℕ)) → AreDividedInto T lines → trips ≡ trips_from lines t → IsFalling T old (trips_from lines t) → All (λ u. u < length T.trips) trips →
-    length T.trips ≤ length old → at < last_index T t → new ≡ lowered_marks trips at old → (u : ℕ) → u < length T.trips → mark_of T new u ≡ lowered (trips_from lines t) at u (mark_of T old u)
+    length T.trips ≤ length old → at < last_index T t → new ≡ lowered_marks trips at old → (u : ℕ) → u < length T.trips → mark_of T new u ≡ lowered_mark (trips_from lines t) at u (mark_of T old u)
 line_lowered T lines t at trips old new divided same falling there room below are u h =
     ap (λ (marks : List (Option ℕ)). mark_of T marks u) are
     ∙ rest_lowered T (trips_from lines t) trips at old old (all_to_lower T lines t at trips old divided same falling)

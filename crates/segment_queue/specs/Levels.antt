@@ -3,7 +3,7 @@ use Rattle.std.specs.Prelude.{◌≡◌, ℕ, suc, ◌-◌, ◌<◌, ◌≤◌, 
 use Rattle.tb_base.specs.Network.{NetData}
 use Rattle.tb_base.specs.TimetableData.{TimetableData, events_of}
 use Rattle.tb_base.specs.Search.{IsCovered, RoundSegment}
-use Rattle.segment_queue.specs.Queue.{lowered, mark_of}
+use Rattle.segment_queue.specs.Queue.{lowered_mark, mark_of}
 use Rattle.segment_queue.specs.Scans.{trips_from}
 
 -- the mark of trip t at level m, which is for at most m + 1 rides
@@ -36,7 +36,7 @@ pub record EntersLevel (N : NetData) (k trip at : ℕ)
       level_mark N.table new m u ≡ level_mark N.table old m u
   pub from : (m u : ℕ) → k ≤ m → m < length old → u < length N.table.trips →
       level_mark N.table new m u
-      ≡ lowered (trips_from N.lines trip) at u (level_mark N.table old m u)
+      ≡ lowered_mark (trips_from N.lines trip) at u (level_mark N.table old m u)
 
 -- a level more, with the marks of the last
 abbrev pub with_level : List (List (Option ℕ)) → List (List (Option ℕ))

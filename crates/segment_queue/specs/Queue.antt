@@ -82,8 +82,8 @@ pub record IsInStep (N : NetData) (D : DeskData) : Type 0 where
   pub counted : sum_by covered_indices D.segments + mark_total N.table D.marks ≤ last_total N.table
 
 -- the mark of trip u after these trips were entered at this index
-abbrev pub lowered : List ℕ → ℕ → ℕ → ℕ → ℕ
-lowered trips at u mark = if list_any (λ x. x == u) trips then min mark at else mark
+abbrev pub lowered_mark : List ℕ → ℕ → ℕ → ℕ → ℕ
+lowered_mark trips at u mark = if list_any (λ x. x == u) trips then min mark at else mark
 
 -- the trip is entered at the index: it is covered from there up to its mark, and its mark and those
 -- of later trips of its line fall
@@ -98,7 +98,7 @@ pub record EntersSegment (N : NetData) (trip at : ℕ) (parent : Option (ℕ × 
       } ∷ []
   pub marks : (u : ℕ) → u < length N.table.trips →
       mark_of N.table D'.marks u
-      ≡ lowered (trips_from N.lines trip) at u (mark_of N.table D.marks u)
+      ≡ lowered_mark (trips_from N.lines trip) at u (mark_of N.table D.marks u)
   pub trips : length D'.marks ≡ length D.marks
   pub hits : D'.hits ≡ D.hits
   pub notes : D'.notes ≡ D.notes

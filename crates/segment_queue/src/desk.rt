@@ -4,7 +4,7 @@ ghost use Rattle.tb_base.specs.Lines.{AreDividedInto};
 ghost use Rattle.tb_base.specs.Network.{NetData};
 ghost use Rattle.tb_base.specs.TimetableData.{TimetableData};
 ghost use Rattle.segment_queue.specs.Scans.{HoldOpen, trips_from};
-ghost use Rattle.segment_queue.specs.Queue.{EntersSegment, Fits, IsClipped, IsFalling, IsInStep, IsSoundSegment, last_index, lowered, mark_of};
+ghost use Rattle.segment_queue.specs.Queue.{EntersSegment, Fits, IsClipped, IsFalling, IsInStep, IsSoundSegment, last_index, lowered_mark, mark_of};
 
 use super::ahead::Ahead;
 use super::marks::Marks;
@@ -129,7 +129,7 @@ pub(crate) fn lower_marks<S: Scan>(
     ensures trips { length marks.new ≡ length marks.old }
     ensures marks { (u : ℕ) → u < length (S.net scan.now).table.trips →
         mark_of (S.net scan.now).table marks.new u
-        ≡ lowered (trips_from (S.net scan.now).lines trip) at u
+        ≡ lowered_mark (trips_from (S.net scan.now).lines trip) at u
         (mark_of (S.net scan.now).table marks.old u) }
 {
     scan.soundness();
