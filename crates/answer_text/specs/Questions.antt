@@ -69,10 +69,10 @@ limit_of word number =
     if bytes_eq word (codes "rides") then most_rides number else Err fault.BadForm
 
 -- any number of rides, or `rides N`
-abbrev pub rides_of : List (List ℕ) → Result (Option ℕ) QuestionFault
-rides_of [] = Ok None
-rides_of (word ∷ number ∷ []) = limit_of word number
-rides_of words = Err fault.BadForm
+abbrev pub rides_asked : List (List ℕ) → Result (Option ℕ) QuestionFault
+rides_asked [] = Ok None
+rides_asked (word ∷ number ∷ []) = limit_of word number
+rides_asked words = Err fault.BadForm
 
 -- the last departure: no earlier than the first, and at most 1,439 steps after it
 abbrev pub last_departure : ℤ → ℕ → ℤ → Result ℤ QuestionFault
@@ -81,14 +81,14 @@ last_departure first step last =
     else Err fault.BadTime
 
 -- FROM FIRST LAST STEP, and nothing or `rides N`
-abbrev pub times_of : List (List ℕ) → Result Question QuestionFault
-times_of (from ∷ begin ∷ end ∷ every ∷ rest) =
-    and_then (rides_of rest)
+abbrev pub times_asked : List (List ℕ) → Result Question QuestionFault
+times_asked (from ∷ begin ∷ end ∷ every ∷ rest) =
+    and_then (rides_asked rest)
     (λ rides. and_then (step_of every)
     (λ step. and_then (word_time begin)
     (λ first. and_then (and_then (word_time end) (last_departure first step))
     (λ last. Ok (question.Times from first last step rides)))))
-times_of words = Err fault.BadForm
+times_asked words = Err fault.BadForm
 
 -- What a word and the words that follow it ask: `ask FROM TO TIME`, `profile FROM TO FIRST LAST`,
 -- `latest FROM TO TIME`, `reach FROM TIME`, or `times FROM FIRST LAST STEP` with or without
@@ -101,7 +101,7 @@ question_of kind words =
     else if bytes_eq kind (codes "profile") then profile_of words
     else if bytes_eq kind (codes "latest") then latest_of words
     else if bytes_eq kind (codes "reach") then reach_of words
-    else if bytes_eq kind (codes "times") then times_of words
+    else if bytes_eq kind (codes "times") then times_asked words
     else Err fault.BadForm
 
 -- a time by which one can be asked to arrive

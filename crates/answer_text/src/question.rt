@@ -2,7 +2,7 @@
 ghost use Rattle.std.specs.Prelude.{◌≡◌, ◌≤◌, ◌≤ℤ◌, IfOk, pos};
 ghost use Rattle.gtfs_rows.specs.Numbers.{IsFileTime};
 ghost use Rattle.tb_base.specs.Refusals.{Yields};
-ghost use Rattle.answer_text.specs.Questions.{HasTimes, IsArrivalTime, IsStep, arrival_time, ask_of, last_departure, latest_of, limit_of, most_rides, needs_mirror, profile_of, question_of, reach_of, rides_of, step_of, times_of, word_time};
+ghost use Rattle.answer_text.specs.Questions.{HasTimes, IsArrivalTime, IsStep, arrival_time, ask_of, last_departure, latest_of, limit_of, most_rides, needs_mirror, profile_of, question_of, reach_of, rides_asked, step_of, times_asked, word_time};
 
 use gtfs_rows::{number_of, time_of};
 use std::alloc::Global;
@@ -200,7 +200,7 @@ fn limit_of(word: &Name, number: &Name) -> Result<Option<u32>, Refused<QuestionF
 
 // No words, or `rides N`.
 fn rides_of(words: &[Name]) -> Result<Option<u32>, Refused<QuestionFault>>
-    ensures { Yields result (λ rides. rides) (rides_of words.now) }
+    ensures { Yields result (λ rides. rides) (rides_asked words.now) }
 {
     match words {
         [] => Ok(None),
@@ -227,7 +227,7 @@ fn last_departure(first: Sec, step: u32, last: Sec) -> Result<Sec, Refused<Quest
 
 // FROM FIRST LAST STEP, and nothing or `rides N`.
 fn times_of(alloc: Global, words: &[Name]) -> Result<Question, Refused<QuestionFault>>
-    ensures reads { Yields result (λ question. question) (times_of words.now) }
+    ensures reads { Yields result (λ question. question) (times_asked words.now) }
     ensures times { IfOk result HasTimes }
 {
     let [from, first, last, step, rest @ ..] = words else {
