@@ -21,13 +21,13 @@ IsLaterAt labels p time = IfSome (label_at labels p) (λ l. time <ℤ l.time)
 
 -- The labels take what is offered at the stops: none gets later, each new one is offered there, and
 -- none is later than one that is offered.
-pub record Takes (old new : List (Option StopLabel)) (IsOffered : ℕ → StopLabel → Type 0)
+pub record Takes (old new : List (Option StopLabel)) (IsLabelOffered : ℕ → StopLabel → Type 0)
     : Type 0 where
   pub long : length new ≡ length old
   pub kept : (p : ℕ) (time : ℤ) → IsNoLaterAt old p time → IsNoLaterAt new p time
   pub made : (p : ℕ) (l : StopLabel) → label_at new p ≡ Some l → (label_at old p ≡ Some l)
-      ⊎ IsOffered p l
-  pub taken : (p : ℕ) (l : StopLabel) → IsOffered p l → IsNoLaterAt new p l.time
+      ⊎ IsLabelOffered p l
+  pub taken : (p : ℕ) (l : StopLabel) → IsLabelOffered p l → IsNoLaterAt new p l.time
 
 -- all times are within the limit of times of events
 abbrev pub AreEarly : List (Option StopLabel) → Type 0

@@ -28,19 +28,19 @@ pub record IsBoardable (T : TimetableData) (ready : List (Option StopLabel)) (s 
 
 -- the label is that of an offered ride, which stands in the list from a place on
 pub record IsLabelOf (T : TimetableData) (ridden : List PlainRide) (from : ℕ)
-    (IsOffered : PlainRide → Type 0) (p : ℕ) (l : StopLabel) : Type 0 where
+    (IsRideOffered : PlainRide → Type 0) (p : ℕ) (l : StopLabel) : Type 0 where
   pub place : ℕ
   pub is_place : l.ride ≡ Some place
   pub new : from ≤ place
   pub step : PlainRide
   pub is_step : slice_get ridden place ≡ Some step
-  pub offered : IsOffered step
+  pub offered : IsRideOffered step
   pub stop : alighting_stop T (ride_of step) ≡ p
   pub time : alighting_time T (ride_of step) ≡ l.time
 
 -- The arrivals take what the offered rides give: no label gets later, each new one is that of an
 -- offered ride, and none is later than such a ride arrives.
-pub record TakesRides (T : TimetableData) (old new : StopArrivals) (IsOffered : PlainRide → Type 0)
+pub record TakesRides (T : TimetableData) (old new : StopArrivals) (IsRideOffered : PlainRide → Type 0)
     : Type 0 where
   pub long : length new.labels.items ≡ length old.labels.items
   pub grown : length old.ridden.items ≤ length new.ridden.items
@@ -52,8 +52,8 @@ pub record TakesRides (T : TimetableData) (old new : StopArrivals) (IsOffered : 
       IsNoLaterAt new.labels.items p time
   pub made : (p : ℕ) (l : StopLabel) → label_at new.labels.items p ≡ Some l →
       (label_at old.labels.items p ≡ Some l) ⊎ IsLabelOf T new.ridden.items
-      (length old.ridden.items) IsOffered p l
-  pub taken : (s : PlainRide) → IsOffered s → IsNoLaterAt new.labels.items
+      (length old.ridden.items) IsRideOffered p l
+  pub taken : (s : PlainRide) → IsRideOffered s → IsNoLaterAt new.labels.items
       (alighting_stop T (ride_of s)) (alighting_time T (ride_of s))
 
 -- the last index of a trip
