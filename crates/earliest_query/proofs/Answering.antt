@@ -28,7 +28,7 @@ use Rattle.segment_queue.specs.Queue.{DeskData, IsInStep, covered_indices}
 use Rattle.segment_queue.specs.Traced.{IsAnswered, IsTracedHit, no_segment, round_of, segment_of}
 use Rattle.segment_queue.proofs.Totals.{last_le_events}
 use Rattle.earliest_query.specs.Choices.{ArrivesBy, hits_of}
-use Rattle.earliest_query.specs.UnderWay.{AreBoarded, Covers, Extends, IsHit, IsOutdone, IsQueue, covered_before}
+use Rattle.earliest_query.specs.UnderWay.{AreBoarded, Covers, AddsSegments, IsHit, IsOutdone, IsQueue, covered_before}
 use Rattle.earliest_query.specs.Ridden.{IsRidden, IsServed}
 use Rattle.earliest_query.proofs.Reaching.{hit_attained, reached_all, same_values}
 use Rattle.earliest_query.proofs.Following.{get_or-inside}
@@ -231,7 +231,7 @@ walk_hits T Q segments (Some h) w =
 
 -- the desk when the first rides have been boarded
 pub first_ridden : (N : NetData) (Q : QueryData) (C D E : DeskData) (walked : Option Hit) → C.segments ≡ [] → C.hits ≡ [] → D ≡ record C { hits = C.hits ++ hits_of 0 walked } →
-    IsQueue N Q E 1 → Extends D E 1 → ((place : ℕ) → place < length Q.from → AreBoarded N.table Q E place) → IfSome walked (IsWalkHit N.table Q) →
+    IsQueue N Q E 1 → AddsSegments D E 1 → ((place : ℕ) → place < length Q.from → AreBoarded N.table Q E place) → IfSome walked (IsWalkHit N.table Q) →
     ((p q secs : ℕ) → Contains Q.from p → Contains Q.to q → walk N.table p q ≡ Some secs → ArrivesBy walked (Q.leave +ℤ pos secs)) → IsRidden N Q E 0 1
 first_ridden N Q C D E walked no_segment no_hit is queue extends boarded traced bounded =
     let hits : E.hits ≡ hits_of 0 walked = extends.hits ∙ ap (λ (d : DeskData). d.hits) is ∙ ap (λ hs. hs ++ hits_of 0 walked) no_hit in

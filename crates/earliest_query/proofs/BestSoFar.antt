@@ -13,10 +13,10 @@ use Rattle.segment_queue.specs.declared.desk.LastLeg.TheVariants.{OnFoot, Aboard
 use Rattle.segment_queue.specs.Queue.{DeskData}
 use Rattle.segment_queue.specs.Traced.{IsTracedBy, IsTracedHit, round_of, segment_of}
 use Rattle.earliest_query.specs.Choices.{ArrivesBy, IsBetterHit, IsNearestTarget, IsWalked, IsWeighed, alighting_hit, earlier_hit, walking_hit}
-use Rattle.earliest_query.specs.UnderWay.{Covers, Extends, IsBounded, IsImproved, IsNewHit}
+use Rattle.earliest_query.specs.UnderWay.{Covers, AddsSegments, IsBounded, IsImproved, IsNewHit}
 use Rattle.earliest_query.proofs.Growing.{extends-long, extends-round, extends-segment}
 
-pub traced-kept : (T : TimetableData) (Q : QueryData) (D D' : DeskData) (joined : ℕ) (h : Hit) → Extends D D' joined → IsTracedHit T Q D.segments h → IsTracedHit T Q D'.segments h
+pub traced-kept : (T : TimetableData) (Q : QueryData) (D D' : DeskData) (joined : ℕ) (h : Hit) → AddsSegments D D' joined → IsTracedHit T Q D.segments h → IsTracedHit T Q D'.segments h
 traced-kept T Q D D' joined h e traced = by_leg h.last traced
   where
     by_leg : (last : LastLeg) → IsTracedBy T Q D.segments last h.value.arrive h.value.rides → IsTracedBy T Q D'.segments last h.value.arrive h.value.rides
@@ -40,7 +40,7 @@ pub some_weaker : {X : Type 0} (P R : X → Type 0) → ((x : X) → P x → R x
 some_weaker P R f None h = h
 some_weaker P R f (Some x) h = f x h
 
-pub new_hit-kept : (T : TimetableData) (Q : QueryData) (D D' : DeskData) (joined round : ℕ) (best result : Option Hit) → Extends D D' joined → IsImproved T Q D round best result → IsImproved T Q D' round best result
+pub new_hit-kept : (T : TimetableData) (Q : QueryData) (D D' : DeskData) (joined round : ℕ) (best result : Option Hit) → AddsSegments D D' joined → IsImproved T Q D round best result → IsImproved T Q D' round best result
 new_hit-kept T Q D D' joined round best result e (inl same) = inl same
 new_hit-kept T Q D D' joined round best result e (inr new) =
     inr (some_weaker (IsNewHit T Q D round best) (IsNewHit T Q D' round best) (λ h n. record { traced = traced-kept T Q D D' joined h e n.traced; rides = n.rides; sooner = n.sooner }) result new)
@@ -50,7 +50,7 @@ sooner_still None b h p q = tt
 sooner_still (Some o) None h p q = absurd p
 sooner_still (Some o) (Some x) h p q = omega (arith, ints, p, q)
 
-pub improved-trans : (T : TimetableData) (Q : QueryData) (D D' : DeskData) (joined round : ℕ) (a b c : Option Hit) → Extends D D' joined → IsImproved T Q D round a b → IsImproved T Q D' round b c → IsImproved T Q D' round a c
+pub improved-trans : (T : TimetableData) (Q : QueryData) (D D' : DeskData) (joined round : ℕ) (a b c : Option Hit) → AddsSegments D D' joined → IsImproved T Q D round a b → IsImproved T Q D' round b c → IsImproved T Q D' round a c
 improved-trans T Q D D' joined round a b c e first (inl same) = subst (λ x. IsImproved T Q D' round a x) (sym same) (new_hit-kept T Q D D' joined round a b e first)
 improved-trans T Q D D' joined round a b c e (inl same) (inr new) = inr (subst (λ x. IsSomeAnd c (IsNewHit T Q D' round x)) same new)
 improved-trans T Q D D' joined round a b c e (inr old) (inr new) =
@@ -93,7 +93,7 @@ weighed_nearest T Q stop arr alight n i round (Some b) f allowed target =
       })
     ]
 
-module _ (T : TimetableData) (Q : QueryData) (D D' : DeskData) (joined n i round : ℕ) (best result : Option Hit) (extends : Extends D D' joined) (inside : n < length D.segments) (covers : Covers D n i) (is_round : round_of D.segments n ≡ round)
+module _ (T : TimetableData) (Q : QueryData) (D D' : DeskData) (joined n i round : ℕ) (best result : Option Hit) (extends : AddsSegments D D' joined) (inside : n < length D.segments) (covers : Covers D n i) (is_round : round_of D.segments n ≡ round)
     (weighed : IsWeighed T Q (stop_at T (segment_of D.segments n).trip i) (arrival_at T (segment_of D.segments n).trip i) (event_at T (segment_of D.segments n).trip i).alight n i round best result) where
   pub weighed_bounded : IsBounded T Q D result n i
   weighed_bounded = λ q secs offer. weighed.bounded offer.alights q secs offer.target offer.walks

@@ -12,7 +12,7 @@ use Rattle.tb_base.proofs.Events.{MayBoard-inside}
 use Rattle.segment_queue.specs.declared.desk.Segment.{Segment}
 use Rattle.segment_queue.specs.Queue.{DeskData}
 use Rattle.segment_queue.specs.Traced.{IsHoppedOnto, round_of, segment_of}
-use Rattle.earliest_query.specs.UnderWay.{Covers, Extends, IsFollowed}
+use Rattle.earliest_query.specs.UnderWay.{Covers, AddsSegments, IsFollowed}
 use Rattle.earliest_query.proofs.Growing.{extends-long, extends-reached, extends-round, extends-segment}
 
 -- within a list the default of a look-up does not matter
@@ -27,7 +27,7 @@ contains_read xs k x inside is = (k, inside, sym is)
 pub contains_at : {X : Type 0} (xs : List X) (k : ℕ) (d : X) → k < length xs → Contains xs (get_or xs k d)
 contains_at xs k d inside = (k, inside, get_or-inside xs k (get_or xs k d) d inside)
 
-module _ (T : TimetableData) (hops : ℕ → ℕ → List Hop) (D D' : DeskData) (joined n i : ℕ) (h : Hop) (sufficient : AreSufficient T hops) (inside : n < length D.segments) (covers : Covers D n i) (extends : Extends D D' joined) (in_set : Contains (hops (segment_of D.segments n).trip i) h) where
+module _ (T : TimetableData) (hops : ℕ → ℕ → List Hop) (D D' : DeskData) (joined n i : ℕ) (h : Hop) (sufficient : AreSufficient T hops) (inside : n < length D.segments) (covers : Covers D n i) (extends : AddsSegments D D' joined) (in_set : Contains (hops (segment_of D.segments n).trip i) h) where
   possible : IsPossibleHop T (segment_of D.segments n).trip i h
   possible = sufficient.possible (segment_of D.segments n).trip i h in_set
 
@@ -54,7 +54,7 @@ module _ (T : TimetableData) (hops : ℕ → ℕ → List Hop) (D D' : DeskData)
       subst (λ (r : ℕ × ℕ). Contains (hops (segment_of D'.segments r.0).trip r.1) h) q
       (subst (λ (s : Segment). Contains (hops s.trip i) h) (sym same) in_set)
 
-pub followed-kept : (N : NetData) (D D' : DeskData) (joined n i : ℕ) → Extends D D' joined → n < length D.segments → IsFollowed N D n i → IsFollowed N D' n i
+pub followed-kept : (N : NetData) (D D' : DeskData) (joined n i : ℕ) → AddsSegments D D' joined → n < length D.segments → IsFollowed N D n i → IsFollowed N D' n i
 followed-kept N D D' joined n i extends inside followed = λ h in_set.
     let same : segment_of D'.segments n ≡ segment_of D.segments n = extends-segment D D' joined extends n inside in
     let round : round_of D'.segments n ≡ round_of D.segments n = extends-round D D' joined extends n inside in

@@ -13,16 +13,16 @@ use Rattle.tb_base.proofs.Ordered.{Member, AllPairs-head, AllPairs-tail}
 use Rattle.tb_base.proofs.Members.{find_found}
 use Rattle.tb_laws.proofs.Triangles.{walk-same, walk-other}
 use Rattle.segment_queue.specs.Queue.{DeskData}
-use Rattle.earliest_query.specs.UnderWay.{AreBoarded, Extends, IsBoarded}
+use Rattle.earliest_query.specs.UnderWay.{AreBoarded, AddsSegments, IsStopBoarded}
 use Rattle.earliest_query.proofs.Growing.{extends-long, extends-reached}
 use Rattle.earliest_query.proofs.Following.{get_or-inside}
 
 -- who has been boarded stays so
-pub boarded-kept : (T : TimetableData) (Q : QueryData) (D D' : DeskData) (stop secs : ℕ) → Extends D D' 1 → IsBoarded T Q D stop secs → IsBoarded T Q D' stop secs
+pub boarded-kept : (T : TimetableData) (Q : QueryData) (D D' : DeskData) (stop secs : ℕ) → AddsSegments D D' 1 → IsStopBoarded T Q D stop secs → IsStopBoarded T Q D' stop secs
 boarded-kept T Q D D' stop secs e boarded = λ t b boards not_last here in_time.
     extends-reached T D D' 1 (length D.segments) (length D'.segments) 1 1 t b e (boarded t b boards not_last here in_time) (omega arith) (extends-long D D' 1 e) (omega arith)
 
-pub are_boarded-kept : (T : TimetableData) (Q : QueryData) (D D' : DeskData) (place : ℕ) → Extends D D' 1 → AreBoarded T Q D place → AreBoarded T Q D' place
+pub are_boarded-kept : (T : TimetableData) (Q : QueryData) (D D' : DeskData) (place : ℕ) → AddsSegments D D' 1 → AreBoarded T Q D place → AreBoarded T Q D' place
 are_boarded-kept T Q D D' place e boarded = λ stop secs walks first. boarded-kept T Q D D' stop secs e (boarded stop secs walks first)
 
 -- along ascending paths a look-up finds the path at its place

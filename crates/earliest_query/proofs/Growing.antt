@@ -12,7 +12,7 @@ use Rattle.segment_queue.specs.declared.desk.Segment.{Segment}
 use Rattle.segment_queue.specs.Queue.{DeskData, mark_of}
 use Rattle.segment_queue.specs.Traced.{IsEntered, round_of, round_segments, segment_of}
 use Rattle.earliest_query.specs.Sweeping.{KeepsSegments}
-use Rattle.earliest_query.specs.UnderWay.{Extends, IsOutdone, IsQueue, IsReachedAhead, IsReachedBy, trips_left}
+use Rattle.earliest_query.specs.UnderWay.{AddsSegments, IsOutdone, IsQueue, IsReachedAhead, IsReachedBy, trips_left}
 use Rattle.segment_queue.proofs.Rounds.{segment_at-kept, segment_of-kept, round_of-kept}
 
 pub covered-kept : (T : TimetableData) (segments more : List Segment) (n m round top t b : ℕ) → IsCovered T (round_segments segments) n round t b → n ≤ length segments → n ≤ m → round ≤ top
@@ -39,10 +39,10 @@ ahead-kept N segments more n m round top t b c inside onward later = record {
   ahead = omega (arith, c.ahead, ap (λ (s : Segment). trips_left N s.trip) (segment_of-kept segments more c.cover.by (omega (arith, c.cover.within, inside))));
 }
 
-pub extends-refl : (D : DeskData) (round : ℕ) → Extends D D round
+pub extends-refl : (D : DeskData) (round : ℕ) → AddsSegments D D round
 extends-refl D round = record { more = []; segments = sym (append-nil D.segments); rounds = λ n h k. absurd (omega (arith, h, k)); hits = refl }
 
-pub extends-trans : (D E F : DeskData) (round : ℕ) → Extends D E round → Extends E F round → Extends D F round
+pub extends-trans : (D E F : DeskData) (round : ℕ) → AddsSegments D E round → AddsSegments E F round → AddsSegments D F round
 extends-trans D E F round p q = record {
   more = p.more ++ q.more;
   segments = q.segments ∙ ap (λ xs. xs ++ q.more) p.segments ∙ append_assoc D.segments p.more q.more;
@@ -53,22 +53,22 @@ extends-trans D E F round p q = record {
   hits = q.hits ∙ p.hits;
 }
 
-pub extends-long : (D D' : DeskData) (round : ℕ) → Extends D D' round → length D.segments ≤ length D'.segments
+pub extends-long : (D D' : DeskData) (round : ℕ) → AddsSegments D D' round → length D.segments ≤ length D'.segments
 extends-long D D' round e = omega (arith, ap length e.segments, length-append D.segments e.more)
 
-pub extends-segment : (D D' : DeskData) (round : ℕ) → Extends D D' round → (n : ℕ) → n < length D.segments → segment_of D'.segments n ≡ segment_of D.segments n
+pub extends-segment : (D D' : DeskData) (round : ℕ) → AddsSegments D D' round → (n : ℕ) → n < length D.segments → segment_of D'.segments n ≡ segment_of D.segments n
 extends-segment D D' round e n inside = ap (λ xs. segment_of xs n) e.segments ∙ segment_of-kept D.segments e.more n inside
 
-pub extends-round : (D D' : DeskData) (round : ℕ) → Extends D D' round → (n : ℕ) → n < length D.segments → round_of D'.segments n ≡ round_of D.segments n
+pub extends-round : (D D' : DeskData) (round : ℕ) → AddsSegments D D' round → (n : ℕ) → n < length D.segments → round_of D'.segments n ≡ round_of D.segments n
 extends-round D D' round e n inside = ap (λ xs. round_of xs n) e.segments ∙ round_of-kept D.segments e.more n inside
 
 -- what a segment has reached stays reached
-pub extends-reached : (T : TimetableData) (D D' : DeskData) (joined n m round top t b : ℕ) → Extends D D' joined → IsReachedBy T D n round t b → n ≤ length D.segments → n ≤ m → round ≤ top → IsReachedBy T D' m top t b
+pub extends-reached : (T : TimetableData) (D D' : DeskData) (joined n m round top t b : ℕ) → AddsSegments D D' joined → IsReachedBy T D n round t b → n ≤ length D.segments → n ≤ m → round ≤ top → IsReachedBy T D' m top t b
 extends-reached T D D' joined n m round top t b e c inside onward later =
     subst (λ xs. IsCovered T (round_segments xs) m top t b) (sym e.segments) (covered-kept T D.segments e.more n m round top t b c inside onward later)
 
 -- what is outdone stays outdone
-pub outdone-kept : (N : NetData) (D D' : DeskData) (joined n i : ℕ) → Extends D D' joined → n < length D.segments → IsOutdone N D.segments n i → IsOutdone N D'.segments n i
+pub outdone-kept : (N : NetData) (D D' : DeskData) (joined n i : ℕ) → AddsSegments D D' joined → n < length D.segments → IsOutdone N D.segments n i → IsOutdone N D'.segments n i
 outdone-kept N D D' joined n i e inside o =
     let by = extends-segment D D' joined e o.by o.within in
     let this = extends-segment D D' joined e n inside in

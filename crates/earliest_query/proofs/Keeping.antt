@@ -17,7 +17,7 @@ use Rattle.segment_queue.specs.Queue.{DeskData, IsInStep}
 use Rattle.segment_queue.specs.Traced.{IsTracedHit, round_of, segment_of}
 use Rattle.segment_queue.proofs.Distinct.{of_member}
 use Rattle.earliest_query.specs.Choices.{ArrivesBy, hits_of, last_of}
-use Rattle.earliest_query.specs.UnderWay.{Covers, Extends, IsBounded, IsDealtWith, IsDone, IsFollowed, IsHit, IsImproved, IsNewHit, IsOffered, IsOutdone, IsQueue}
+use Rattle.earliest_query.specs.UnderWay.{Covers, AddsSegments, IsBounded, IsDealtWith, IsDone, IsFollowed, IsHit, IsImproved, IsNewHit, IsArrivalOffered, IsOutdone, IsQueue}
 use Rattle.earliest_query.specs.Ridden.{IsRidden, IsServed}
 use Rattle.earliest_query.specs.Meeting.{IsMetInTime, IsMetUnlessHit}
 use Rattle.earliest_query.proofs.Meeting.{met-grown}
@@ -169,7 +169,7 @@ module _ (T : TimetableData) (Q : QueryData) (E : DeskData) (hits : List Hit) (r
   adds_best (Some h) (inr new) = adds_new h new
 
 -- the hits after a round
-module _ (T : TimetableData) (Q : QueryData) (D E : DeskData) (joined round : ℕ) (start best : Option Hit) (added : List Hit) (extends : Extends D E joined) (adds : Adds T Q E D.hits round start best added) where
+module _ (T : TimetableData) (Q : QueryData) (D E : DeskData) (joined round : ℕ) (start best : Option Hit) (added : List Hit) (extends : AddsSegments D E joined) (adds : Adds T Q E D.hits round start best added) where
   pub traced_next : All (IsTracedHit T Q D.segments) D.hits → All (IsTracedHit T Q E.segments) (D.hits ++ added)
   traced_next traced = All-append (IsTracedHit T Q E.segments) D.hits added (All-weaker (IsTracedHit T Q D.segments) (IsTracedHit T Q E.segments) (λ h t. traced-kept T Q D E joined h extends t) D.hits traced) adds.traced
 
@@ -183,7 +183,7 @@ module _ (T : TimetableData) (Q : QueryData) (D E : DeskData) (joined round : �
   fewer_next fewer = All-append (λ (h : Hit). h.value.rides < round + 1) D.hits added (All-weaker (λ (h : Hit). h.value.rides < round) (λ (h : Hit). h.value.rides < round + 1) (λ h l. omega (arith, l)) D.hits fewer) adds.fewer
 
 -- what has been done after a round, where one was late by an old measure before it, and is by a new one behind it
-module _ (N : NetData) (Q : QueryData) (D E : DeskData) (best : Option Hit) (from to round : ℕ) (to_is : to ≡ length D.segments) (this_round : (n : ℕ) → from ≤ n → n < length D.segments → round_of D.segments n ≡ round) (extends : Extends D E (suc round))
+module _ (N : NetData) (Q : QueryData) (D E : DeskData) (best : Option Hit) (from to round : ℕ) (to_is : to ≡ length D.segments) (this_round : (n : ℕ) → from ≤ n → n < length D.segments → round_of D.segments n ≡ round) (extends : AddsSegments D E (suc round))
     (Old Late : ℤ → ℕ → Type 0) (still : (time : ℤ) (rides : ℕ) → Old time rides → Late time rides) (by_best : (time : ℤ) → ArrivesBy best time → Late time round) where
   ridden_or_now : (n : ℕ) → (n < from) ⊎ (from ≤ n)
   ridden_or_now n = grind arith
@@ -220,7 +220,7 @@ module _ (N : NetData) (Q : QueryData) (D E : DeskData) (best : Option Hit) (fro
     | inr now ↦ done_now n i h now (followed n i now h (covers-kept E D n i (same n h) covers))
   ]
 
-  pub offered : (n i q secs : ℕ) → n < to → IsOffered N.table Q E n i q secs → IsOffered N.table Q D n i q secs
+  pub offered : (n i q secs : ℕ) → n < to → IsArrivalOffered N.table Q E n i q secs → IsArrivalOffered N.table Q D n i q secs
   offered n i q secs h offer = record {
     alights = subst (λ (s : Segment). MayAlight N.table s.trip i) (same n h) offer.alights;
     target = offer.target;
@@ -236,15 +236,15 @@ module _ (N : NetData) (Q : QueryData) (D E : DeskData) (best : Option Hit) (fro
       late_grown n (λ (s : Segment). arrival_at N.table s.trip i +ℤ pos secs) h
       (subst (λ r. Late (arrival_at N.table (segment_of D.segments n).trip i +ℤ pos secs) r) (sym (now_round n h now)) (by_best (arrival_at N.table (segment_of D.segments n).trip i +ℤ pos secs) by))
 
-  pub offers_next : ((n i : ℕ) → from ≤ n → n < to → Covers D n i → IsBounded N.table Q D best n i) → ((n i q secs : ℕ) → n < from → Covers D n i → IsOffered N.table Q D n i q secs → Old (arrival_at N.table (segment_of D.segments n).trip i +ℤ pos secs) (round_of D.segments n)) →
-      (n i q secs : ℕ) → n < to → Covers E n i → IsOffered N.table Q E n i q secs → Late (arrival_at N.table (segment_of E.segments n).trip i +ℤ pos secs) (round_of E.segments n)
+  pub offers_next : ((n i : ℕ) → from ≤ n → n < to → Covers D n i → IsBounded N.table Q D best n i) → ((n i q secs : ℕ) → n < from → Covers D n i → IsArrivalOffered N.table Q D n i q secs → Old (arrival_at N.table (segment_of D.segments n).trip i +ℤ pos secs) (round_of D.segments n)) →
+      (n i q secs : ℕ) → n < to → Covers E n i → IsArrivalOffered N.table Q E n i q secs → Late (arrival_at N.table (segment_of E.segments n).trip i +ℤ pos secs) (round_of E.segments n)
   offers_next bounded before n i q secs h covers offer = elim (ridden_or_now n) [
     | inl old ↦ offers_before n i q secs h (before n i q secs old (covers-kept E D n i (same n h) covers) (offered n i q secs h offer))
     | inr now ↦ offers_now n i q secs h now (bounded n i now h (covers-kept E D n i (same n h) covers) q secs (offered n i q secs h offer))
   ]
 
 module _ (N : NetData) (Q : QueryData) (D E : DeskData) (best : Option Hit) (from to round : ℕ) (ridden : IsRidden N Q D from round) (to_is : to ≡ length D.segments) (below : from < length D.segments)
-    (queue : IsQueue N Q E (suc round)) (extends : Extends D E (suc round)) (dealt : (n i : ℕ) → from ≤ n → n < to → Covers D n i → IsDealtWith N Q E best n i ⊎ IsOutdone N E.segments n i)
+    (queue : IsQueue N Q E (suc round)) (extends : AddsSegments D E (suc round)) (dealt : (n i : ℕ) → from ≤ n → n < to → Covers D n i → IsDealtWith N Q E best n i ⊎ IsOutdone N E.segments n i)
     (improved : IsImproved N.table Q E round (last_of D.hits) best) where
   abbrev added : List Hit
   added = hits_of round best

@@ -12,7 +12,7 @@ use Rattle.segment_queue.specs.declared.desk.Hit.{Hit}
 use Rattle.segment_queue.specs.Queue.{DeskData, IsSoundSegment}
 use Rattle.segment_queue.specs.Traced.{segment_of}
 use Rattle.earliest_query.specs.Choices.{ArrivesBy}
-use Rattle.earliest_query.specs.UnderWay.{Covers, Extends, IsBounded, IsDone, IsImproved}
+use Rattle.earliest_query.specs.UnderWay.{Covers, AddsSegments, IsBounded, IsDone, IsImproved}
 use Rattle.earliest_query.proofs.Growing.{extends-long, extends-refl, extends-segment}
 use Rattle.earliest_query.proofs.Following.{followed-kept, sound_event}
 use Rattle.earliest_query.proofs.BestSoFar.{arrives_by-improved, bounded-improved}
@@ -31,7 +31,7 @@ arrives_on T t i k sound trip le inside = elim (same_or_less i k le) [ inl e ↦
     same_or_less i k h = grind arith
 
 -- what has been done with an index stays done, with a better hit too
-pub done-kept : (N : NetData) (Q : QueryData) (D D' : DeskData) (joined round n i : ℕ) (a b : Option Hit) → Extends D D' joined → n < length D.segments → IsImproved N.table Q D' round a b → IsDone N D a n i → IsDone N D' b n i
+pub done-kept : (N : NetData) (Q : QueryData) (D D' : DeskData) (joined round n i : ℕ) (a b : Option Hit) → AddsSegments D D' joined → n < length D.segments → IsImproved N.table Q D' round a b → IsDone N D a n i → IsDone N D' b n i
 done-kept N Q D D' joined round n i a b extends inside improved (inl followed) = inl (followed-kept N D D' joined n i extends inside followed)
 done-kept N Q D D' joined round n i a b extends inside improved (inr late) =
     inr (subst (λ (s : Segment). ArrivesBy b (arrival_at N.table s.trip i)) (sym (extends-segment D D' joined extends n inside)) (arrives_by-improved N.table Q D' round a b (arrival_at N.table (segment_of D.segments n).trip i) improved late))
@@ -41,7 +41,7 @@ pub late-bounded : (T : TimetableData) (Q : QueryData) (D : DeskData) (best : Op
 late-bounded T Q D best n i late = λ q secs offer. arrives_by-later best _ _ (≤ℤ-later (arrival_at T (segment_of D.segments n).trip i) secs) late
 
 -- what has been ridden when the segment is left
-module _ (N : NetData) (Q : QueryData) (D E : DeskData) (n at top round : ℕ) (best result : Option Hit) (sound : IsSound N.table) (inside : n < length D.segments) (whole : IsSoundSegment N.table (segment_of D.segments n)) (extends : Extends D E top) (improved : IsImproved N.table Q E round best result)
+module _ (N : NetData) (Q : QueryData) (D E : DeskData) (n at top round : ℕ) (best result : Option Hit) (sound : IsSound N.table) (inside : n < length D.segments) (whole : IsSoundSegment N.table (segment_of D.segments n)) (extends : AddsSegments D E top) (improved : IsImproved N.table Q E round best result)
     (late : ArrivesBy result (arrival_at N.table (segment_of D.segments n).trip at)) where
   late_from : (i : ℕ) → Covers D n i → at ≤ i → ArrivesBy result (arrival_at N.table (segment_of D.segments n).trip i)
   late_from i covers from = arrives_by-later result _ _ (arrives_on N.table (segment_of D.segments n).trip at i sound whole.trip from (omega (arith, covers.within, whole.within))) late

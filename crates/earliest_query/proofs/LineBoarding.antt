@@ -117,7 +117,7 @@ module _ (T : TimetableData) (lines : List (List ℕ)) (p : ℕ) (divided : AreD
       by_test false e f = cc
 
   -- a trip that may be boarded at the stop, for which some line index is boarded by a trip that is no later
-  pub record IsServed (time : ℤ) (t b : ℕ) : Type 0 where
+  pub record IsBoardingServed (time : ℤ) (t b : ℕ) : Type 0 where
     pub index : ℕ
     pub inside : index < length (line_indices_at T lines p)
     pub hop : Hop
@@ -125,7 +125,7 @@ module _ (T : TimetableData) (lines : List (List ℕ)) (p : ℕ) (divided : AreD
     pub trip : IsTripNoLater T hop.trip t
     pub at : hop.at ≡ b
 
-  pub served : (time : ℤ) (t b : ℕ) → MayBoard T t b → b + 1 < length (events_of T t) → stop_at T t b ≡ p → time ≤ℤ departure_at T t b → IsServed time t b
+  pub served : (time : ℤ) (t b : ℕ) → MayBoard T t b → b + 1 < length (events_of T t) → stop_at T t b ≡ p → time ≤ℤ departure_at T t b → IsBoardingServed time t b
   served time t b boards not_last here in_time =
       let on : (line : List ℕ) × Member line lines × Member t line = line_of lines t (Member-from_Contains t (concat lines) (divided.complete t (MayBoard-inside T t b boards).0)) in
       let like : IsTripNoLater T (first_trip on.0) t = first_no_later T on.0 t (pairs on.0 on.1) on.2 in

@@ -11,7 +11,7 @@ use Rattle.segment_queue.specs.Queue.{DeskData}
 use Rattle.segment_queue.specs.Traced.{round_of, segment_of}
 use Rattle.earliest_query.specs.Choices.{ArrivesBy}
 use Rattle.earliest_query.specs.Meeting.{IsMet, IsMetInTime}
-use Rattle.earliest_query.specs.UnderWay.{Covers, Extends, IsImproved}
+use Rattle.earliest_query.specs.UnderWay.{Covers, AddsSegments, IsImproved}
 use Rattle.earliest_query.proofs.BestSoFar.{arrives_by-improved, covers-kept, new_hit-kept}
 use Rattle.earliest_query.proofs.Growing.{extends-refl, extends-round, extends-segment, outdone-kept}
 use Rattle.earliest_query.proofs.Noting.{notes-extends}
@@ -23,7 +23,7 @@ met-grown D E n i old new more same round met =
     (subst (λ (s : Segment). new s.trip i (round_of D.segments n)) (sym same) (more (segment_of D.segments n).trip i (round_of D.segments n) met))
 
 -- so it is with a better hit, too
-pub met-kept : (N : NetData) (Q : QueryData) (D E : DeskData) (joined n i round : ℕ) (a b : Option Hit) (old new : ℕ → ℕ → ℕ → Type 0) → ((t j r : ℕ) → old t j r → new t j r) → Extends D E joined → n < length D.segments → IsImproved N.table Q E round a b
+pub met-kept : (N : NetData) (Q : QueryData) (D E : DeskData) (joined n i round : ℕ) (a b : Option Hit) (old new : ℕ → ℕ → ℕ → Type 0) → ((t j r : ℕ) → old t j r → new t j r) → AddsSegments D E joined → n < length D.segments → IsImproved N.table Q E round a b
     → IsMetInTime N old D a n i → IsMetInTime N new E b n i
 met-kept N Q D E joined n i round a b old new more grown inside improved (inl met) = inl (met-grown D E n i old new more (extends-segment D E joined grown n inside) (extends-round D E joined grown n inside) met)
 met-kept N Q D E joined n i round a b old new more grown inside improved (inr (inl late)) =

@@ -16,7 +16,7 @@ use Rattle.segment_queue.specs.Scans.{AreEvents, seen_arr, seen_first, seen_last
 use Rattle.segment_queue.specs.Traced.{no_segment, round_of, segment_of}
 use Rattle.earliest_query.specs.Choices.{ArrivesBy, IsWeighed}
 use Rattle.earliest_query.specs.Noted.{IsLeft, IsNoted, IsSeenBehind, IsSoundNote, IsWeighedOff, notes_of}
-use Rattle.earliest_query.specs.UnderWay.{Covers, Extends, IsBounded, IsImproved, IsOutdone, IsQueue, trips_left}
+use Rattle.earliest_query.specs.UnderWay.{Covers, AddsSegments, IsBounded, IsImproved, IsOutdone, IsQueue, trips_left}
 use Rattle.earliest_query.proofs.LineBoarding.{no_later-trans}
 use Rattle.segment_queue.proofs.LineParts.{itself, of_lines, trips_no_later}
 use Rattle.segment_queue.proofs.Rounds.{board_of, trip_of}
@@ -49,10 +49,10 @@ queue-notes N Q D notes round q = record {
   ends = q.ends;
 }
 
-pub extends-notes : (D : DeskData) (notes : List Note) (round : ℕ) → Extends D (record D { notes = notes }) round
+pub extends-notes : (D : DeskData) (notes : List Note) (round : ℕ) → AddsSegments D (record D { notes = notes }) round
 extends-notes D notes round = record { more = []; segments = sym (append-nil D.segments); rounds = λ n h k. absurd (omega (arith, h, k)); hits = refl }
 
-pub notes-extends : (D : DeskData) (notes : List Note) (round : ℕ) → Extends (record D { notes = notes }) D round
+pub notes-extends : (D : DeskData) (notes : List Note) (round : ℕ) → AddsSegments (record D { notes = notes }) D round
 notes-extends D notes round = record { more = []; segments = sym (append-nil D.segments); rounds = λ n h k. absurd (omega (arith, h, k)); hits = refl }
 
 -- the notes from number k on are those of before
@@ -68,7 +68,7 @@ left_one_less before notes after k note left is = record {
 }
 
 -- a note stays sound while the queue grows
-pub sound_note-kept : (N : NetData) (D E : DeskData) (joined round : ℕ) (note : Note) → Extends D E joined → IsSoundNote N D.segments round note → IsSoundNote N E.segments round note
+pub sound_note-kept : (N : NetData) (D E : DeskData) (joined round : ℕ) (note : Note) → AddsSegments D E joined → IsSoundNote N D.segments round note → IsSoundNote N E.segments round note
 sound_note-kept N D E joined round note e s =
     let same : segment_of E.segments note.segment ≡ segment_of D.segments note.segment = extends-segment D E joined e note.segment s.inside in
     record {

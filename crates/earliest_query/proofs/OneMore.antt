@@ -16,7 +16,7 @@ use Rattle.segment_queue.specs.Traced.{IsEntered, UsesHops, round_after, round_o
 use Rattle.segment_queue.proofs.Distinct.{member_or_not}
 use Rattle.segment_queue.proofs.LineParts.{trips_no_later}
 use Rattle.segment_queue.proofs.LoweredMarks.{lowered-in, lowered-out}
-use Rattle.earliest_query.specs.UnderWay.{room_of, Extends, IsQueue, IsReachedAhead, IsReachedBy, trips_left}
+use Rattle.earliest_query.specs.UnderWay.{room_of, AddsSegments, IsQueue, IsReachedAhead, IsReachedBy, trips_left}
 use Rattle.earliest_query.proofs.Ahead.{left_behind}
 use Rattle.segment_queue.proofs.Rounds.{segment_at-last, segment_of-last, segment_of-kept, round_of-kept}
 use Rattle.earliest_query.proofs.Growing.{ahead-kept, entered-kept, extends-refl}
@@ -166,7 +166,7 @@ module _ (N : NetData) (Q : QueryData) (D : DeskData) (round trip at : ℕ) (par
     pub reached-entered : IsReachedBy N.table D' (length D'.segments) round trip at
     reached-entered = subst (λ xs. IsCovered N.table (round_segments xs) (length xs) round trip at) (sym enters.segments) reached_all
 
-    pub extends-entered : Extends D D' round
+    pub extends-entered : AddsSegments D D' round
     extends-entered = record {
       more = new ∷ [];
       segments = enters.segments;
@@ -178,12 +178,12 @@ module _ (N : NetData) (Q : QueryData) (D : DeskData) (round trip at : ℕ) (par
   pub queue-reached : (entered : Bool) (D' : DeskData) → IsInStep N D' → (IsTrue entered ↔ (at < mark_of N.table D.marks trip)) → MatchBool entered (EntersSegment N trip at parent D D') (D' ≡ D) →
       round_after (round_segments D.segments) parent ≡ round → IsEntered N.table Q D.segments (length D.segments) parent trip at →
       ((p : ℕ × ℕ) → parent ≡ Some p → Contains (N.hops (segment_of D.segments p.0).trip p.1) (record { trip = trip; at = at })) → at + 1 < length (events_of N.table trip) →
-      IsQueue N Q D' round × IsReachedBy N.table D' (length D'.segments) round trip at × Extends D D' round
+      IsQueue N Q D' round × IsReachedBy N.table D' (length D'.segments) round trip at × AddsSegments D D' round
   queue-reached true D' step told enters same_round boards in_set not_last =
       let below : at < mark_of N.table D.marks trip = told.0 refl in
       (queue-entered D' step enters below same_round boards in_set, reached-entered D' step enters below same_round boards in_set, extends-entered D' step enters below same_round boards in_set)
   queue-reached false D' step told same same_round boards in_set not_last =
-      subst (λ d. IsQueue N Q d round × IsReachedBy N.table d (length (DeskData.segments d)) round trip at × Extends D d round) (sym same)
+      subst (λ d. IsQueue N Q d round × IsReachedBy N.table d (length (DeskData.segments d)) round trip at × AddsSegments D d round) (sym same)
       (queue, reached_before (elim (cases_lt at (mark_of N.table D.marks trip)) [ inl below ↦ absurd (let e : false ≡ true = told.1 below in cc) | inr low ↦ low ]) not_last, extends-refl D round)
 
 -- the room stays, whether a segment has joined or not

@@ -6,13 +6,13 @@ use Rattle.tb_base.proofs.NumberFacts.{below_or_at}
 use Rattle.segment_queue.specs.declared.desk.Hit.{Hit}
 use Rattle.segment_queue.specs.Queue.{DeskData}
 use Rattle.segment_queue.specs.Traced.{segment_of}
-use Rattle.earliest_query.specs.UnderWay.{Covers, Extends, IsBounded, IsDone, IsImproved}
+use Rattle.earliest_query.specs.UnderWay.{Covers, AddsSegments, IsBounded, IsDone, IsImproved}
 use Rattle.earliest_query.proofs.Growing.{extends-long, extends-segment}
 use Rattle.earliest_query.proofs.Lateness.{done-kept}
 use Rattle.earliest_query.proofs.BestSoFar.{bounded-improved, bounded-same, covers-kept}
 
 -- segment k is ridden, which is one of a desk D that has grown to E before, and to F by that
-module _ (N : NetData) (Q : QueryData) (D E F : DeskData) (from k round : ℕ) (best result : Option Hit) (inside : k < length D.segments) (extends : Extends D E (suc round)) (joined : Extends E F (suc round)) (improved : IsImproved N.table Q F round best result) where
+module _ (N : NetData) (Q : QueryData) (D E F : DeskData) (from k round : ℕ) (best result : Option Hit) (inside : k < length D.segments) (extends : AddsSegments D E (suc round)) (joined : AddsSegments E F (suc round)) (improved : IsImproved N.table Q F round best result) where
   same : segment_of E.segments k ≡ segment_of D.segments k
   same = extends-segment D E (suc round) extends k inside
 

@@ -25,7 +25,7 @@ use Rattle.segment_queue.specs.Traced.{IsEntered, IsTraced, IsTracedHit, round_o
 use Rattle.segment_queue.proofs.Distinct.{all_by_member}
 use Rattle.earliest_query.specs.Choices.{ArrivesBy, hits_of}
 use Rattle.earliest_query.specs.Sweeping.{AreStarted, IsGoneOn, IsSweptQueue, IsSweptRound, IsSweptTo, values_with}
-use Rattle.earliest_query.specs.UnderWay.{Covers, Extends, IsHit}
+use Rattle.earliest_query.specs.UnderWay.{Covers, AddsSegments, IsHit}
 use Rattle.earliest_query.proofs.Answering.{AreWalkHits, walk_hits}
 use Rattle.earliest_query.proofs.BestSoFar.{IsWalkHit}
 use Rattle.earliest_query.proofs.Following.{followed-kept}
@@ -105,7 +105,7 @@ module _ (N : NetData) (Q : QueryData) (later : ℤ) (le : Q.leave ≤ℤ later)
 
   -- the first round of the time: on a desk with the segments of before and the best walk, each first ride has been boarded
   module _ (C E : DeskData) (levels : List (List (Option ℕ))) (values : List Value) (walked : Option Hit) (gone_on : IsGoneOn N Later C values (length C.segments)) (hits : C.hits ≡ hits_of 0 walked) (walk_traced : IfSome walked (IsWalkHit N.table Q))
-      (bounded : (p q secs : ℕ) → Contains Q.from p → Contains Q.to q → walk N.table p q ≡ Some secs → ArrivesBy walked (Q.leave +ℤ pos secs)) (queue : IsSweptQueue N Q E levels) (extends : Extends C E 1) (starts : AreStarted N.table Q E) where
+      (bounded : (p q secs : ℕ) → Contains Q.from p → Contains Q.to q → walk N.table p q ≡ Some secs → ArrivesBy walked (Q.leave +ℤ pos secs)) (queue : IsSweptQueue N Q E levels) (extends : AddsSegments C E 1) (starts : AreStarted N.table Q E) where
     hits_are : E.hits ≡ hits_of 0 walked
     hits_are = extends.hits ∙ hits
 

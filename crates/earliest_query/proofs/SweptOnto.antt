@@ -15,7 +15,7 @@ use Rattle.segment_queue.specs.Queue.{DeskData, IsFalling, IsSoundSegment}
 use Rattle.segment_queue.specs.Traced.{IsEntered, UsesHops, round_after, round_of, round_segments, segment_of, with_round}
 use Rattle.segment_queue.proofs.KeptLevels.{level_descending, level_entered, level_falls_on, level_reached, level_refused}
 use Rattle.earliest_query.specs.Sweeping.{IsSweptQueue}
-use Rattle.earliest_query.specs.UnderWay.{Extends, IsReachedBy}
+use Rattle.earliest_query.specs.UnderWay.{AddsSegments, IsReachedBy}
 use Rattle.segment_queue.proofs.Rounds.{length-round_segments, round_of-kept, segment_at-last, segment_of-kept, segment_of-last}
 use Rattle.earliest_query.proofs.Growing.{covered-kept, entered-kept}
 
@@ -138,7 +138,7 @@ module _ (N : NetData) (Q : QueryData) (D : DeskData) (levels : List (List (Opti
         (subst (λ n. IsCovered N.table (round_segments all) n (suc k) trip at) long_all
         (subst (λ rs. IsCovered N.table rs (length rs) (suc k) trip at) (sym rounds_are) (level_reached N divided levels (round_segments D.segments) queue.kept k trip at inside level levels' enters)))
 
-    pub swept-extends : Extends D D' (suc k)
+    pub swept-extends : AddsSegments D D' (suc k)
     swept-extends = record {
       more = new ∷ [];
       segments = is;

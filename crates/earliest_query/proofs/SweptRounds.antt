@@ -18,7 +18,7 @@ use Rattle.segment_queue.proofs.KeptLevels.{level_made, made_all, made_descendin
 use Rattle.earliest_query.specs.Choices.{ArrivesBy, earlier_hit, hits_of, last_of}
 use Rattle.earliest_query.specs.Bounding.{IsBestBefore, bounding_hit, earlier_value}
 use Rattle.earliest_query.specs.Sweeping.{IsSweptQueue, IsSweptRound, values_with}
-use Rattle.earliest_query.specs.UnderWay.{Covers, Extends, IsBounded, IsDone, IsHit, IsImproved}
+use Rattle.earliest_query.specs.UnderWay.{Covers, AddsSegments, IsBounded, IsDone, IsHit, IsImproved}
 use Rattle.earliest_query.proofs.Growing.{extends-long, extends-reached}
 use Rattle.earliest_query.proofs.Nearest.{contains_left, contains_right}
 use Rattle.earliest_query.proofs.BestSoFar.{earlier_kept, earlier_still}
@@ -115,7 +115,7 @@ pub level_there : (N : NetData) (Q : QueryData) (D : DeskData) (levels : List (L
 level_there N Q D levels values from round swept inside = omega (arith, swept.queue.rounds from inside, swept.this_round from (omega arith) inside)
 
 module _ (N : NetData) (Q : QueryData) (D E F : DeskData) (levels levels' : List (List (Option ℕ))) (values : List Value) (start best : Option Hit) (from to round : ℕ) (swept : IsSweptRound N Q D levels values from round) (to_is : to ≡ length D.segments)
-    (queue : IsSweptQueue N Q E levels') (extends : Extends D E (suc round)) (followed : (n i : ℕ) → from ≤ n → n < to → Covers D n i → IsDone N E best n i) (bounded : (n i : ℕ) → from ≤ n → n < to → Covers D n i → IsBounded N.table Q D best n i)
+    (queue : IsSweptQueue N Q E levels') (extends : AddsSegments D E (suc round)) (followed : (n i : ℕ) → from ≤ n → n < to → Covers D n i → IsDone N E best n i) (bounded : (n i : ℕ) → from ≤ n → n < to → Covers D n i → IsBounded N.table Q D best n i)
     (begins : IsBestBefore D.hits values round start) (improved : IsImproved N.table Q E round start best) (segments_are : F.segments ≡ E.segments) (hits_are : F.hits ≡ D.hits ++ hits_of round best) where
   abbrev added : List Hit
   added = hits_of round best

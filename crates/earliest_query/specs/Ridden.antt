@@ -7,7 +7,7 @@ use Rattle.tb_base.specs.BestValues.{IsStep, QueryData}
 use Rattle.segment_queue.specs.declared.desk.Hit.{Hit}
 use Rattle.segment_queue.specs.Queue.{DeskData}
 use Rattle.segment_queue.specs.Traced.{IsTracedHit, round_of, segment_of}
-use Rattle.earliest_query.specs.UnderWay.{AreBoarded, Covers, IsFollowed, IsHit, IsOffered, IsOutdone, IsQueue}
+use Rattle.earliest_query.specs.UnderWay.{AreBoarded, Covers, IsFollowed, IsHit, IsArrivalOffered, IsOutdone, IsQueue}
 
 -- all has been made of index i of segment n: each hop from there has been followed, or some hit is
 -- no worse than to get there; and some hit is no worse than to alight there
@@ -17,7 +17,7 @@ pub record IsServed (N : NetData) (Q : QueryData) (D : DeskData) (n i : ℕ) : T
         arrive = arrival_at N.table (segment_of D.segments n).trip i;
         rides = round_of D.segments n;
       })
-  pub values : (q secs : ℕ) → IsOffered N.table Q D n i q secs →
+  pub values : (q secs : ℕ) → IsArrivalOffered N.table Q D n i q secs →
       IsHit D.hits
       (record {
         arrive = arrival_at N.table (segment_of D.segments n).trip i +ℤ pos secs;

@@ -12,7 +12,7 @@ use Rattle.segment_queue.specs.declared.desk.Segment.{Segment}
 use Rattle.segment_queue.specs.Levels.{AreDescending, AreKept, level_mark}
 use Rattle.segment_queue.specs.Queue.{DeskData, IsFalling, IsSoundSegment}
 use Rattle.segment_queue.specs.Traced.{IsEntered, IsTracedHit, UsesHops, round_of, round_segments, segment_of}
-use Rattle.earliest_query.specs.UnderWay.{Covers, IsBoarded, IsFollowed, IsHit, IsOffered, IsReachedBy}
+use Rattle.earliest_query.specs.UnderWay.{Covers, IsStopBoarded, IsFollowed, IsHit, IsArrivalOffered, IsReachedBy}
 
 -- The desk holds the segments of all departures so far, and the levels are its marks by the number
 -- of rides.
@@ -47,7 +47,7 @@ pub record IsGoneOn (N : NetData) (Q : QueryData) (D : DeskData)
     (values : List Value) (from : ℕ) : Type 0 where
   pub done : (n i : ℕ) → n < from → Covers D n i → IsFollowed N D n i
       ⊎ IsLate values (arrival_at N.table (segment_of D.segments n).trip i) (round_of D.segments n)
-  pub offers : (n i q secs : ℕ) → n < from → Covers D n i → IsOffered N.table Q D n i q secs →
+  pub offers : (n i q secs : ℕ) → n < from → Covers D n i → IsArrivalOffered N.table Q D n i q secs →
       IsLate values (arrival_at N.table (segment_of D.segments n).trip i +ℤ pos secs)
       (round_of D.segments n)
   pub attained : All (IsAttained N.table Q) values
@@ -65,7 +65,7 @@ AreStarted T Q D = (p t b secs : ℕ) → Contains Q.from p → MayBoard T t b �
 -- whoever boards at a stop with a walk from the origin has been reached
 abbrev pub IsWalkedFrom : TimetableData → QueryData → DeskData → ℕ → Type 0
 IsWalkedFrom T Q D origin = (stop secs : ℕ) → walk T origin stop ≡ Some secs →
-    IsBoarded T Q D stop secs
+    IsStopBoarded T Q D stop secs
 
 -- The sweep has come down to the time of the query.
 pub record IsSweptTo (N : NetData)

@@ -17,7 +17,7 @@ use Rattle.segment_queue.specs.Scans.{line_indices_at, trips_from}
 use Rattle.earliest_query.specs.Choices.{ArrivesBy, IsFirstChoice}
 
 -- segments of this round have joined the queue, and the hits are as before
-pub record Extends (D D' : DeskData) (round : ℕ) : Type 0 where
+pub record AddsSegments (D D' : DeskData) (round : ℕ) : Type 0 where
   pub more : List Segment
   pub segments : D'.segments ≡ D.segments ++ more
   pub rounds : (n : ℕ) → length D.segments ≤ n → n < length D'.segments →
@@ -91,7 +91,7 @@ pub record IsOutdone (N : NetData) (segments : List Segment) (n i : ℕ) : Type 
   pub board : (segment_of segments by).board < i
 
 -- to alight from segment n at index i, and walk to a target
-pub record IsOffered (T : TimetableData) (Q : QueryData) (D : DeskData)
+pub record IsArrivalOffered (T : TimetableData) (Q : QueryData) (D : DeskData)
     (n i q secs : ℕ) : Type 0 where
   pub alights : MayAlight T (segment_of D.segments n).trip i
   pub target : Contains Q.to q
@@ -99,7 +99,7 @@ pub record IsOffered (T : TimetableData) (Q : QueryData) (D : DeskData)
 
 -- the best hit so far arrives no later than by alighting from segment n at index i
 abbrev pub IsBounded : TimetableData → QueryData → DeskData → Option Hit → ℕ → ℕ → Type 0
-IsBounded T Q D best n i = (q secs : ℕ) → IsOffered T Q D n i q secs →
+IsBounded T Q D best n i = (q secs : ℕ) → IsArrivalOffered T Q D n i q secs →
     ArrivesBy best (arrival_at T (segment_of D.segments n).trip i +ℤ pos secs)
 
 -- a round has dealt with index i of segment n: it is done with, and the best hit so far arrives no
@@ -131,15 +131,15 @@ pub record IsHit (hits : List Hit) (v : Value) : Type 0 where
   pub no_worse : IsNoWorse by.value v
 
 -- whoever boards at the stop after a walk of so many seconds has been reached
-abbrev pub IsBoarded : TimetableData → QueryData → DeskData → ℕ → ℕ → Type 0
-IsBoarded T Q D stop secs = (t b : ℕ) → MayBoard T t b → b + 1 < length (events_of T t) →
+abbrev pub IsStopBoarded : TimetableData → QueryData → DeskData → ℕ → ℕ → Type 0
+IsStopBoarded T Q D stop secs = (t b : ℕ) → MayBoard T t b → b + 1 < length (events_of T t) →
     stop_at T t b ≡ stop → (Q.leave +ℤ pos secs) ≤ℤ departure_at T t b →
     IsReachedBy T D (length D.segments) 1 t b
 
 -- all stops that are boarded from the origin at this place have been boarded
 abbrev pub AreBoarded : TimetableData → QueryData → DeskData → ℕ → Type 0
 AreBoarded T Q D place = (stop secs : ℕ) → walk T (slice_index Q.from place) stop ≡ Some secs →
-    IsFirstChoice T Q.from place stop secs → IsBoarded T Q D stop secs
+    IsFirstChoice T Q.from place stop secs → IsStopBoarded T Q D stop secs
 
 -- so many steps for a stop that is boarded, and none for one that isn't
 abbrev pub BoardsOnce : NetData → List ℕ → ℕ → ℕ → ℕ → ℕ → ℕ → Type 0

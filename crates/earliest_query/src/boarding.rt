@@ -3,7 +3,7 @@ ghost use Rattle.tb_base.specs.Walking.{walk};
 ghost use Rattle.tb_base.specs.declared.transfer.Hop.{Hop};
 ghost use Rattle.segment_queue.specs.Scans.{boarding_hop, line_indices_at, no_line_index};
 ghost use Rattle.earliest_query.specs.Choices.{IsFirstChoice, IsNear, lines_near};
-ghost use Rattle.earliest_query.specs.UnderWay.{AreBoarded, BoardsOnce, BoardsStops, Extends, IsBoarded, IsQueue, IsReachedBy, room_of};
+ghost use Rattle.earliest_query.specs.UnderWay.{AreBoarded, BoardsOnce, BoardsStops, AddsSegments, IsStopBoarded, IsQueue, IsReachedBy, room_of};
 
 use super::search::Search;
 use super::walks::{after, is_first_choice, origins};
@@ -32,7 +32,7 @@ impl<S: Scan> Search<'_, S> {
         requires secs { secs ≤ 86400 }
         requires leave { self.now.query.now.leave ≤ℤ pos 359999 }
         ensures queue { IsQueue (S.net self.now.scan.now) self.now.query.now desk.new 1 }
-        ensures extends { Extends desk.old desk.new 1 }
+        ensures extends { AddsSegments desk.old desk.new 1 }
         ensures room { room_of desk.new ≡ room_of desk.old }
         ensures reached { (h : Hop) →
             boarding_hop (S.net self.now.scan.now).table
@@ -61,9 +61,9 @@ impl<S: Scan> Search<'_, S> {
         requires secs { secs ≤ 86400 }
         requires leave { self.now.query.now.leave ≤ℤ pos 359999 }
         ensures queue { IsQueue (S.net self.now.scan.now) self.now.query.now desk.new 1 }
-        ensures extends { Extends desk.old desk.new 1 }
+        ensures extends { AddsSegments desk.old desk.new 1 }
         ensures room { room_of desk.new ≡ room_of desk.old }
-        ensures boarded { IsBoarded (S.net self.now.scan.now).table self.now.query.now
+        ensures boarded { IsStopBoarded (S.net self.now.scan.now).table self.now.query.now
             desk.new stop secs }
         ensures steps { steps.new
             ≡ steps.old + length (line_indices_at (S.net self.now.scan.now).table
@@ -97,11 +97,11 @@ impl<S: Scan> Search<'_, S> {
         requires secs { secs ≤ 86400 }
         requires leave { self.now.query.now.leave ≤ℤ pos 359999 }
         ensures queue { IsQueue (S.net self.now.scan.now) self.now.query.now desk.new 1 }
-        ensures extends { Extends desk.old desk.new 1 }
+        ensures extends { AddsSegments desk.old desk.new 1 }
         ensures room { room_of desk.new ≡ room_of desk.old }
         ensures boarded { IsFirstChoice (S.net self.now.scan.now).table self.now.query.now.from
             place stop secs →
-            IsBoarded (S.net self.now.scan.now).table self.now.query.now desk.new stop secs }
+            IsStopBoarded (S.net self.now.scan.now).table self.now.query.now desk.new stop secs }
         ensures steps { BoardsOnce (S.net self.now.scan.now) self.now.query.now.from place stop secs
             steps.old steps.new }
     {
@@ -120,7 +120,7 @@ impl<S: Scan> Search<'_, S> {
         requires place { place < length self.now.query.now.from }
         requires leave { self.now.query.now.leave ≤ℤ pos 359999 }
         ensures queue { IsQueue (S.net self.now.scan.now) self.now.query.now desk.new 1 }
-        ensures extends { Extends desk.old desk.new 1 }
+        ensures extends { AddsSegments desk.old desk.new 1 }
         ensures room { room_of desk.new ≡ room_of desk.old }
         ensures boarded { AreBoarded (S.net self.now.scan.now).table self.now.query.now
             desk.new place }
@@ -145,7 +145,7 @@ impl<S: Scan> Search<'_, S> {
             self.now.query.now.from }
         requires leave { self.now.query.now.leave ≤ℤ pos 359999 }
         ensures queue { IsQueue (S.net self.now.scan.now) self.now.query.now desk.new 1 }
-        ensures extends { Extends desk.old desk.new 1 }
+        ensures extends { AddsSegments desk.old desk.new 1 }
         ensures room { room_of desk.new ≡ room_of desk.old }
         ensures boarded { (place : ℕ) → place < length self.now.query.now.from →
             AreBoarded (S.net self.now.scan.now).table self.now.query.now desk.new place }

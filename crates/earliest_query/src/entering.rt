@@ -1,7 +1,7 @@
 ghost use Rattle.std.specs.Prelude.{◌≡◌, ◌+◌, ◌<◌, ℕ, Some, Contains, length};
 ghost use Rattle.tb_base.specs.TimetableData.{events_of};
 ghost use Rattle.segment_queue.specs.Traced.{IsEntered, round_after, round_segments, segment_of};
-ghost use Rattle.earliest_query.specs.UnderWay.{Extends, IsQueue, IsReachedBy, room_of};
+ghost use Rattle.earliest_query.specs.UnderWay.{AddsSegments, IsQueue, IsReachedBy, room_of};
 
 use super::search::Search;
 use segment_queue::{Desk, Scan};
@@ -25,7 +25,7 @@ impl<S: Scan> Search<'_, S> {
         ensures reached { IsReachedBy (S.net self.now.scan.now).table desk.new
             (length desk.new.segments) (round_after (round_segments desk.old.segments) parent)
             hop.trip hop.at }
-        ensures extends { Extends desk.old desk.new
+        ensures extends { AddsSegments desk.old desk.new
             (round_after (round_segments desk.old.segments) parent) }
         ensures room { room_of desk.new ≡ room_of desk.old }
         ensures notes { desk.new.notes ≡ desk.old.notes }

@@ -10,7 +10,7 @@ ghost use Rattle.transfer_pack.specs.Words.{lent};
 ghost use Rattle.earliest_query.specs.Choices.{ArrivesBy, IsWeighed, alighting_hit, earlier_hit};
 ghost use Rattle.earliest_query.specs.Meeting.{IsMetInTime};
 ghost use Rattle.earliest_query.specs.Noted.{IsOf, IsSeenBehind, IsSoundNote, IsWeighedOff, note_of, notes_of};
-ghost use Rattle.earliest_query.specs.UnderWay.{Covers, Extends, IsDealtWith, IsDone, IsImproved, IsOutdone, IsQueue, IsReachedBy, covered_before, room_of};
+ghost use Rattle.earliest_query.specs.UnderWay.{Covers, AddsSegments, IsDealtWith, IsDone, IsImproved, IsOutdone, IsQueue, IsReachedBy, covered_before, room_of};
 
 use super::at_event::AtEvent;
 use super::search::Search;
@@ -352,7 +352,7 @@ impl<S: Scan> Search<'_, S> {
         requires sufficient { AreSufficient (S.net self.now.scan.now).table
             (S.net self.now.scan.now).hops }
         ensures queue { IsQueue (S.net self.now.scan.now) self.now.query.now desk.new (suc round) }
-        ensures extends { Extends desk.old desk.new (suc round) }
+        ensures extends { AddsSegments desk.old desk.new (suc round) }
         ensures room { room_of desk.new ≡ room_of desk.old }
         ensures notes { desk.new.notes ≡ desk.old.notes }
         ensures reached { IsReachedBy (S.net self.now.scan.now).table desk.new
@@ -391,7 +391,7 @@ impl<S: Scan> Search<'_, S> {
         requires sufficient { AreSufficient (S.net self.now.scan.now).table
             (S.net self.now.scan.now).hops }
         ensures queue { IsQueue (S.net self.now.scan.now) self.now.query.now desk.new (suc round) }
-        ensures extends { Extends desk.old desk.new (suc round) }
+        ensures extends { AddsSegments desk.old desk.new (suc round) }
         ensures room { room_of desk.new ≡ room_of desk.old }
         ensures notes { desk.new.notes ≡ desk.old.notes }
         ensures places { length places.new ≡ length places.old }
@@ -426,7 +426,7 @@ impl<S: Scan> Search<'_, S> {
         requires sufficient { AreSufficient (S.net self.now.scan.now).table
             (S.net self.now.scan.now).hops }
         ensures queue { IsQueue (S.net self.now.scan.now) self.now.query.now desk.new (suc round) }
-        ensures extends { Extends desk.old desk.new (suc round) }
+        ensures extends { AddsSegments desk.old desk.new (suc round) }
         ensures room { room_of desk.new ≡ room_of desk.old }
         ensures notes { desk.new.notes ≡ desk.old.notes }
         ensures places { length places.new ≡ length places.old }
@@ -457,7 +457,7 @@ impl<S: Scan> Search<'_, S> {
         requires sufficient { AreSufficient (S.net self.now.scan.now).table
             (S.net self.now.scan.now).hops }
         ensures queue { IsQueue (S.net self.now.scan.now) self.now.query.now desk.new (suc round) }
-        ensures extends { Extends desk.old desk.new (suc round) }
+        ensures extends { AddsSegments desk.old desk.new (suc round) }
         ensures room { room_of desk.new ≡ room_of desk.old }
         ensures done { (note : Note) (i : ℕ) → Contains desk.old.notes note →
             IsOf note note.segment i →
@@ -495,7 +495,7 @@ impl<S: Scan> Search<'_, S> {
         requires sufficient { AreSufficient (S.net self.now.scan.now).table
             (S.net self.now.scan.now).hops }
         ensures queue { IsQueue (S.net self.now.scan.now) self.now.query.now desk.new (suc round) }
-        ensures extends { Extends desk.old desk.new (suc round) }
+        ensures extends { AddsSegments desk.old desk.new (suc round) }
         ensures room { room_of desk.new ≡ room_of desk.old }
         ensures ridden { (n i : ℕ) → from ≤ n → n < to → Covers desk.old n i →
             IsDealtWith (S.net self.now.scan.now) self.now.query.now desk.new result n i

@@ -8,7 +8,7 @@ ghost use Rattle.segment_queue.specs.Traced.{IsEntered, round_after, round_segme
 ghost use Rattle.transfer_pack.specs.Words.{lent};
 ghost use Rattle.earliest_query.specs.Noted.{IsNoted, IsOf, IsSoundNote, note_of, notes_of};
 ghost use Rattle.earliest_query.specs.Sweeping.{IsSweptQueue};
-ghost use Rattle.earliest_query.specs.UnderWay.{Extends, IsFollowed, IsReachedBy};
+ghost use Rattle.earliest_query.specs.UnderWay.{AddsSegments, IsFollowed, IsReachedBy};
 
 use super::riding::TRIED;
 use super::search::Search;
@@ -85,7 +85,7 @@ impl<S: Scan> Search<'_, S> {
         ensures reached { OnOk result
             (IsReachedBy (S.net self.now.scan.now).table desk.new (length desk.new.segments)
             (suc level) hop.trip hop.at) }
-        ensures extends { OnOk result (Extends desk.old desk.new (suc level)) }
+        ensures extends { OnOk result (AddsSegments desk.old desk.new (suc level)) }
         ensures still { Fits (S.net self.now.scan.now).table desk.old →
             Fits (S.net self.now.scan.now).table desk.new }
     {
@@ -130,7 +130,7 @@ impl<S: Scan> Search<'_, S> {
         ensures queue { OnOk result
             (IsSweptQueue (S.net self.now.scan.now) self.now.query.now desk.new levels.new) }
         ensures levels { OnOk result (length levels.new ≡ length levels.old) }
-        ensures extends { OnOk result (Extends desk.old desk.new (suc level)) }
+        ensures extends { OnOk result (AddsSegments desk.old desk.new (suc level)) }
         ensures reached { OnOk result
             (IsReachedBy (S.net self.now.scan.now).table desk.new (length desk.new.segments)
             (suc level) hop.trip hop.at) }
@@ -176,7 +176,7 @@ impl<S: Scan> Search<'_, S> {
         ensures queue { OnOk result
             (IsSweptQueue (S.net self.now.scan.now) self.now.query.now desk.new levels.new) }
         ensures levels { OnOk result (length levels.new ≡ length levels.old) }
-        ensures extends { OnOk result (Extends desk.old desk.new (suc level)) }
+        ensures extends { OnOk result (AddsSegments desk.old desk.new (suc level)) }
         ensures places { OnOk result (length places.new ≡ length places.old) }
         ensures reached { OnOk result ((k : ℕ) (h : Hop) → from ≤ k → k < to →
             slice_get (lent followed.now.hops) k ≡ Some h →
@@ -223,7 +223,7 @@ impl<S: Scan> Search<'_, S> {
         ensures queue { OnOk result
             (IsSweptQueue (S.net self.now.scan.now) self.now.query.now desk.new levels.new) }
         ensures levels { OnOk result (length levels.new ≡ length levels.old) }
-        ensures extends { OnOk result (Extends desk.old desk.new (suc level)) }
+        ensures extends { OnOk result (AddsSegments desk.old desk.new (suc level)) }
         ensures places { OnOk result (length places.new ≡ length places.old) }
         ensures followed { OnOk result ((i : ℕ) → IsOf note note.segment i →
             IsFollowed (S.net self.now.scan.now) desk.new note.segment i) }
@@ -274,7 +274,7 @@ impl<S: Scan> Search<'_, S> {
         ensures queue { OnOk result
             (IsSweptQueue (S.net self.now.scan.now) self.now.query.now desk.new levels.new) }
         ensures levels { OnOk result (length levels.new ≡ length levels.old) }
-        ensures extends { OnOk result (Extends desk.old desk.new (suc level)) }
+        ensures extends { OnOk result (AddsSegments desk.old desk.new (suc level)) }
         ensures places { OnOk result (length places.new ≡ length places.old) }
         ensures followed { OnOk result ((i : ℕ) → IsNoted (notes_of segment seen) segment i →
             IsFollowed (S.net self.now.scan.now) desk.new segment i) }

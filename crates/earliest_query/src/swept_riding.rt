@@ -9,7 +9,7 @@ ghost use Rattle.earliest_query.specs.Choices.{hits_of};
 ghost use Rattle.earliest_query.specs.Bounding.{IsBestBefore, bounding_hit, earlier_value};
 ghost use Rattle.earliest_query.specs.Noted.{IsSoundNote, IsWeighedOff, notes_of};
 ghost use Rattle.earliest_query.specs.Sweeping.{IsSweptQueue, IsSweptRound, KeepsSegments};
-ghost use Rattle.earliest_query.specs.UnderWay.{Covers, Extends, IsBounded, IsDone, IsImproved};
+ghost use Rattle.earliest_query.specs.UnderWay.{Covers, AddsSegments, IsBounded, IsDone, IsImproved};
 
 use super::all_rounds::last_hit;
 use super::riding::{TRIED, earlier, is_late, seen_on};
@@ -169,7 +169,7 @@ impl<S: Scan> Search<'_, S> {
             (IsSweptQueue (S.net self.now.scan.now) self.now.query.now desk.new levels.new) }
         ensures levels { OnOk result (length levels.new ≡ length levels.old) }
         ensures places { OnOk result (length places.new ≡ length places.old) }
-        ensures extends { OnOk result (Extends desk.old desk.new (suc round)) }
+        ensures extends { OnOk result (AddsSegments desk.old desk.new (suc round)) }
         ensures followed { IfOk result (λ best. (i : ℕ) → Covers desk.old n i →
             IsDone (S.net self.now.scan.now) desk.new best n i) }
         ensures bounded { IfOk result (λ best. (i : ℕ) → Covers desk.old n i →
@@ -208,7 +208,7 @@ impl<S: Scan> Search<'_, S> {
             (S.net self.now.scan.now).hops }
         ensures queue { OnOk result
             (IsSweptQueue (S.net self.now.scan.now) self.now.query.now desk.new levels.new) }
-        ensures extends { OnOk result (Extends desk.old desk.new (suc round)) }
+        ensures extends { OnOk result (AddsSegments desk.old desk.new (suc round)) }
         ensures followed { IfOk result (λ best. (n i : ℕ) → from ≤ n → n < to →
             Covers desk.old n i → IsDone (S.net self.now.scan.now) desk.new best n i) }
         ensures bounded { IfOk result (λ best. (n i : ℕ) → from ≤ n → n < to → Covers desk.old n i →

@@ -4,7 +4,7 @@ ghost use Rattle.segment_queue.specs.Queue.{Fits};
 ghost use Rattle.segment_queue.specs.Scans.{boarding_hop, line_indices_at, no_line_index};
 ghost use Rattle.earliest_query.specs.Choices.{IsNear};
 ghost use Rattle.earliest_query.specs.Sweeping.{AreStarted, IsSweptQueue, IsWalkedFrom};
-ghost use Rattle.earliest_query.specs.UnderWay.{Extends, IsBoarded, IsReachedBy};
+ghost use Rattle.earliest_query.specs.UnderWay.{AddsSegments, IsStopBoarded, IsReachedBy};
 
 use super::search::Search;
 use super::walks::{after, origins};
@@ -36,7 +36,7 @@ impl<S: Scan> Search<'_, S> {
         requires leave { self.now.query.now.leave ≤ℤ pos 359999 }
         ensures queue { OnOk result
             (IsSweptQueue (S.net self.now.scan.now) self.now.query.now desk.new levels.new) }
-        ensures extends { OnOk result (Extends desk.old desk.new 1) }
+        ensures extends { OnOk result (AddsSegments desk.old desk.new 1) }
         ensures reached { OnOk result ((h : Hop) →
             boarding_hop (S.net self.now.scan.now).table
             (slice_index_or (line_indices_at (S.net self.now.scan.now).table
@@ -75,9 +75,9 @@ impl<S: Scan> Search<'_, S> {
         requires leave { self.now.query.now.leave ≤ℤ pos 359999 }
         ensures queue { OnOk result
             (IsSweptQueue (S.net self.now.scan.now) self.now.query.now desk.new levels.new) }
-        ensures extends { OnOk result (Extends desk.old desk.new 1) }
+        ensures extends { OnOk result (AddsSegments desk.old desk.new 1) }
         ensures boarded { OnOk result
-            (IsBoarded (S.net self.now.scan.now).table self.now.query.now desk.new stop secs) }
+            (IsStopBoarded (S.net self.now.scan.now).table self.now.query.now desk.new stop secs) }
         ensures still { Fits (S.net self.now.scan.now).table desk.old →
             Fits (S.net self.now.scan.now).table desk.new }
     {
@@ -106,7 +106,7 @@ impl<S: Scan> Search<'_, S> {
         requires leave { self.now.query.now.leave ≤ℤ pos 359999 }
         ensures queue { OnOk result
             (IsSweptQueue (S.net self.now.scan.now) self.now.query.now desk.new levels.new) }
-        ensures extends { OnOk result (Extends desk.old desk.new 1) }
+        ensures extends { OnOk result (AddsSegments desk.old desk.new 1) }
         ensures boarded { OnOk result
             (IsWalkedFrom (S.net self.now.scan.now).table self.now.query.now desk.new origin) }
         ensures still { Fits (S.net self.now.scan.now).table desk.old →
@@ -137,7 +137,7 @@ impl<S: Scan> Search<'_, S> {
         requires leave { self.now.query.now.leave ≤ℤ pos 359999 }
         ensures queue { OnOk result
             (IsSweptQueue (S.net self.now.scan.now) self.now.query.now desk.new levels.new) }
-        ensures extends { OnOk result (Extends desk.old desk.new 1) }
+        ensures extends { OnOk result (AddsSegments desk.old desk.new 1) }
         ensures starts { OnOk result
             (AreStarted (S.net self.now.scan.now).table self.now.query.now desk.new) }
         ensures still { Fits (S.net self.now.scan.now).table desk.old →

@@ -10,7 +10,7 @@ use Rattle.tb_base.proofs.NumberFacts.{below_or_at}
 use Rattle.tb_laws.proofs.Triangles.{walk-same}
 use Rattle.segment_queue.specs.Queue.{DeskData}
 use Rattle.earliest_query.specs.Choices.{IsFirstChoice}
-use Rattle.earliest_query.specs.UnderWay.{BoardsOnce, IsBoarded}
+use Rattle.earliest_query.specs.UnderWay.{BoardsOnce, IsStopBoarded}
 use Rattle.earliest_query.proofs.Growing.{extends-trans}
 use Rattle.earliest_query.proofs.Following.{get_or-inside}
 use Rattle.earliest_query.proofs.FromOrigins.{boarded-kept, earlier_other, origin_is, path_walk, walked_to}
@@ -27,7 +27,7 @@ loop-path-init g c =
       queue = c.board_if_first.ensures.queue;
       extends = c.board_if_first.ensures.extends;
       room = c.board_if_first.ensures.room;
-      own = subst (λ s. IsFirstChoice N.table Q.from c.args.place s 0 → IsBoarded N.table Q c.board_if_first.new.desk s 0) is c.board_if_first.ensures.boarded;
+      own = subst (λ s. IsFirstChoice N.table Q.from c.args.place s 0 → IsStopBoarded N.table Q c.board_if_first.new.desk s 0) is c.board_if_first.ensures.boarded;
       boarded = λ k d below. absurd (omega (arith, below));
       steps = among_start N Q.from c.args.place (get_or Q.from c.args.place 0) c.walks-path-items.result.now c.requires.place 0 c.args.steps.now c.board_if_first.new.steps
           (c.requires.origins c.args.place 0 c.requires.place) (walk-same N.table (get_or Q.from c.args.place 0))
@@ -74,7 +74,7 @@ loop-path-preserved g c =
       own = λ first. boarded-kept N.table Q E F own 0 more.extends (c.loop-path.invariant.own first);
       boarded = λ i d below. elim (below_or_at i k below) [
         | inl before ↦ λ first. boarded-kept N.table Q E F (get_or paths i d).to (get_or paths i d).secs more.extends (c.loop-path.invariant.boarded i d before first)
-        | inr e ↦ subst (λ (p : Path). IsFirstChoice N.table Q.from c.args.place p.to p.secs → IsBoarded N.table Q F p.to p.secs) (sym (read d) ∙ ap (λ m. get_or paths m d) (sym e)) more.boarded
+        | inr e ↦ subst (λ (p : Path). IsFirstChoice N.table Q.from c.args.place p.to p.secs → IsStopBoarded N.table Q F p.to p.secs) (sym (read d) ∙ ap (λ m. get_or paths m d) (sym e)) more.boarded
       ];
       steps = among_more N Q.from c.args.place own paths c.requires.place k f.secs c.args.steps.now c.loop-path.steps c.board_if_first-in-loop-path.new.steps f read sound.to
           (λ e. sound.away (e ∙ sym is)) (λ i d before. earlier_other paths k i d f c.walks-path-items.ensures.ascending before inside read) walks c.loop-path.invariant.steps more.steps;
@@ -91,13 +91,13 @@ returns-clause-boarded g c = λ stop secs walks first.
     elim (walked_to T o paths stop secs c.walks-path-items.ensures.paths (subst (λ s. walk T s stop ≡ Some secs) (sym is) walks)) [
       | inl e ↦
           (let at : stop ≡ get_or Q.from c.args.place 0 = e.0 ∙ is in
-          subst (λ s. IsBoarded T Q D s secs) (sym at) (subst (λ x. IsBoarded T Q D (get_or Q.from c.args.place 0) x) (sym e.1)
+          subst (λ s. IsStopBoarded T Q D s secs) (sym at) (subst (λ x. IsStopBoarded T Q D (get_or Q.from c.args.place 0) x) (sym e.1)
           (c.loop-path.invariant.own (subst (λ x. IsFirstChoice T Q.from c.args.place (get_or Q.from c.args.place 0) x) e.1 (subst (λ s. IsFirstChoice T Q.from c.args.place s secs) at first)))))
       | inr w ↦
           (let read : (get_or paths w.index w.path) ≡ w.path = w.is w.path in
           let to : (get_or paths w.index w.path).to ≡ stop = ap (λ (p : Path). p.to) read ∙ w.to in
           let time : (get_or paths w.index w.path).secs ≡ secs = ap (λ (p : Path). p.secs) read ∙ w.secs in
-          subst (λ s. IsBoarded T Q D s secs) to (subst (λ x. IsBoarded T Q D (get_or paths w.index w.path).to x) time
+          subst (λ s. IsStopBoarded T Q D s secs) to (subst (λ x. IsStopBoarded T Q D (get_or paths w.index w.path).to x) time
           (c.loop-path.invariant.boarded w.index w.path (omega (arith, w.inside, c.loop-path-test.false))
           (subst (λ x. IsFirstChoice T Q.from c.args.place (get_or paths w.index w.path).to x) (sym time) (subst (λ s. IsFirstChoice T Q.from c.args.place s secs) (sym to) first)))))
     ]

@@ -6,7 +6,7 @@ use Rattle.segment_queue.specs.declared.notes.Note.{Note}
 use Rattle.segment_queue.specs.Queue.{DeskData}
 use Rattle.segment_queue.specs.Scans.{followed_seen, hops_seen}
 use Rattle.earliest_query.specs.Noted.{note_of}
-use Rattle.earliest_query.specs.UnderWay.{Extends, IsQueue, IsReachedBy}
+use Rattle.earliest_query.specs.UnderWay.{AddsSegments, IsQueue, IsReachedBy}
 use Rattle.earliest_query.proofs.Following.{hop_boards, hop_in_set, hop_not_last, hop_trip}
 use Rattle.earliest_query.proofs.Growing.{extends-refl}
 use Rattle.earliest_query.proofs.NotedHops.{IsFrom, found, from_some}
@@ -97,7 +97,7 @@ returns g c =
     let same = ap suc c.requires.note.this_round in
     record {
       queue = subst (λ r. IsQueue N c.args.self.now.query.now E r) same c.enter.ensures.queue;
-      extends = subst (λ r. Extends D E r) same c.enter.ensures.extends;
+      extends = subst (λ r. AddsSegments D E r) same c.enter.ensures.extends;
       room = c.enter.ensures.room;
       notes = c.enter.ensures.notes;
       reached = subst (λ r. IsReachedBy N.table E (length E.segments) r c.args.hop.trip c.args.hop.at) same c.enter.ensures.reached;

@@ -11,7 +11,7 @@ use Rattle.transfer_pack.specs.Words.{lent}
 use Rattle.segment_queue.specs.Scans.{hops_seen, seen_first, seen_last, seen_trip}
 use Rattle.segment_queue.specs.Traced.{segment_of}
 use Rattle.earliest_query.specs.Noted.{IsSoundNote}
-use Rattle.earliest_query.specs.UnderWay.{Extends, IsReachedBy}
+use Rattle.earliest_query.specs.UnderWay.{AddsSegments, IsReachedBy}
 use Rattle.earliest_query.proofs.Following.{in_all}
 use Rattle.earliest_query.proofs.Growing.{extends-long, extends-reached, extends-refl, extends-round, extends-segment, extends-trans}
 use Rattle.earliest_query.proofs.Noting.{note_events, sound_note-kept}
@@ -58,7 +58,7 @@ loop-from-preserved g c =
     let F : DeskData = c.follow_level_some.new.desk in
     let on = c.in_ok-follow_level_some.ensures in
     let before = c.loop-from.invariant in
-    let joined : Extends E F top = on.extends in
+    let joined : AddsSegments E F top = on.extends in
     record {
       queue = on.queue;
       levels = on.levels ∙ before.levels;

@@ -3,7 +3,7 @@ use Rattle.std.specs.Prelude.{slice_get}
 use Rattle.tb_base.specs.declared.transfer.Hop.{Hop}
 use Rattle.segment_queue.specs.Queue.{Fits}
 use Rattle.earliest_query.specs.Sweeping.{IsSweptQueue}
-use Rattle.earliest_query.specs.UnderWay.{Extends, IsReachedBy}
+use Rattle.earliest_query.specs.UnderWay.{AddsSegments, IsReachedBy}
 use Rattle.transfer_pack.specs.Words.{lent}
 use Rattle.earliest_query.proofs.search.Search.follow_level.Given as goal
 
@@ -11,7 +11,7 @@ abbrev pub invariant-loop-from : goal.invariant-loop-from
 invariant-loop-from g l = record {
   queue : IsSweptQueue (g.S.Scan.net l.self.scan.now) l.self.query.now l.desk l.levels;
   levels : length l.levels ≡ length l.fn.levels;
-  extends : Extends l.fn.desk l.desk (suc l.level);
+  extends : AddsSegments l.fn.desk l.desk (suc l.level);
   still : Fits (g.S.Scan.net l.self.scan.now).table l.fn.desk → Fits (g.S.Scan.net l.self.scan.now).table l.desk;
   places : length l.places ≡ length l.fn.places;
   within : l.from ≤ length (lent l.followed.hops);

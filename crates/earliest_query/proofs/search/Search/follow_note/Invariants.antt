@@ -1,14 +1,14 @@
 use Rattle.std.proofs.Common.{◌≡◌, ℕ, suc, ◌-◌, ◌<◌, ◌≤◌, length, Some}
 use Rattle.std.specs.Prelude.{slice_get}
 use Rattle.tb_base.specs.declared.transfer.Hop.{Hop}
-use Rattle.earliest_query.specs.UnderWay.{Extends, IsQueue, IsReachedBy, room_of}
+use Rattle.earliest_query.specs.UnderWay.{AddsSegments, IsQueue, IsReachedBy, room_of}
 use Rattle.transfer_pack.specs.Words.{lent}
 use Rattle.earliest_query.proofs.search.Search.follow_note.Given as goal
 
 abbrev pub invariant-loop-from : goal.invariant-loop-from
 invariant-loop-from g l = record {
   queue : IsQueue (g.S.Scan.net l.self.scan.now) l.self.query.now l.desk (suc l.round);
-  extends : Extends l.fn.desk l.desk (suc l.round);
+  extends : AddsSegments l.fn.desk l.desk (suc l.round);
   room : room_of l.desk ≡ room_of l.fn.desk;
   notes : l.desk.notes ≡ l.fn.desk.notes;
   places : length l.places ≡ length l.fn.places;

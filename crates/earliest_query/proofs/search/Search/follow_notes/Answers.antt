@@ -8,7 +8,7 @@ use Rattle.segment_queue.specs.declared.notes.Note.{Note}
 use Rattle.segment_queue.specs.Queue.{DeskData, spent}
 use Rattle.segment_queue.specs.Scans.{AreEvents}
 use Rattle.earliest_query.specs.Noted.{IsOf, IsSoundNote}
-use Rattle.earliest_query.specs.UnderWay.{Extends, IsDone, IsQueue, room_of}
+use Rattle.earliest_query.specs.UnderWay.{AddsSegments, IsDone, IsQueue, room_of}
 use Rattle.earliest_query.proofs.Growing.{extends-long, extends-refl, extends-trans}
 use Rattle.earliest_query.proofs.Lateness.{done-kept}
 use Rattle.earliest_query.proofs.Noting.{extends-notes, left_one_less, note_events, queue-notes, sound_note-kept}
@@ -76,8 +76,8 @@ loop-k-preserved g c =
     let note : Note = c.take_note-note.result in
     let before = c.loop-k.invariant in
     let notes : X.notes ≡ L.notes = ap (λ (d : DeskData). d.notes) c.read_notes_ahead.ensures in
-    let rest : Extends X E top = subst (λ d. Extends X d top) (sym c.take_note-note.ensures.spent) (extends-notes X (slice_set X.notes k (spent note)) top) in
-    let step : Extends L F top = extends-trans L E F top (subst (λ d. Extends d E top) c.read_notes_ahead.ensures rest) c.follow_note.ensures.extends in
+    let rest : AddsSegments X E top = subst (λ d. AddsSegments X d top) (sym c.take_note-note.ensures.spent) (extends-notes X (slice_set X.notes k (spent note)) top) in
+    let step : AddsSegments L F top = extends-trans L E F top (subst (λ d. AddsSegments d E top) c.read_notes_ahead.ensures rest) c.follow_note.ensures.extends in
     let taken : E.notes ≡ slice_set L.notes k (spent note) = ap (λ (d : DeskData). d.notes) c.take_note-note.ensures.spent ∙ ap (λ ns. slice_set ns k (spent note)) notes in
     let inside : k < length D.notes = omega (arith, slice_get_within X.notes k note c.take_note-note.ensures.taken, ap length notes, before.left.long) in
     record {

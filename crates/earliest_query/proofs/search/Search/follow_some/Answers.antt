@@ -8,7 +8,7 @@ use Rattle.transfer_pack.specs.Words.{lent}
 use Rattle.segment_queue.specs.declared.notes.Note.{Note}
 use Rattle.segment_queue.specs.Queue.{DeskData}
 use Rattle.earliest_query.specs.Noted.{note_of}
-use Rattle.earliest_query.specs.UnderWay.{Extends, IsReachedBy}
+use Rattle.earliest_query.specs.UnderWay.{AddsSegments, IsReachedBy}
 use Rattle.earliest_query.proofs.Following.{hop_not_last, hop_trip}
 use Rattle.earliest_query.proofs.Growing.{extends-long, extends-reached, extends-refl, extends-trans}
 use Rattle.earliest_query.proofs.NotedHops.{IsFrom, from_some, trips_inside, written_one, written_within}
@@ -59,7 +59,7 @@ loop-k-preserved g c =
     let places = c.open_places-count.new.places in
     let hops = lent c.args.followed.now.hops in
     let before = c.loop-k.invariant in
-    let joined : Extends E F top = c.follow_hop.ensures.extends in
+    let joined : AddsSegments E F top = c.follow_hop.ensures.extends in
     record {
       queue = c.follow_hop.ensures.queue;
       extends = extends-trans c.args.desk.now E F top before.extends joined;

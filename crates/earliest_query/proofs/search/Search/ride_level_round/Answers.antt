@@ -3,7 +3,7 @@ use Rattle.tb_base.specs.Network.{NetData}
 use Rattle.segment_queue.specs.Queue.{DeskData, Fits}
 use Rattle.segment_queue.specs.Traced.{round_of}
 use Rattle.earliest_query.specs.Sweeping.{IsSweptQueue}
-use Rattle.earliest_query.specs.UnderWay.{Covers, Extends, IsBounded, IsDone}
+use Rattle.earliest_query.specs.UnderWay.{Covers, AddsSegments, IsBounded, IsDone}
 use Rattle.earliest_query.proofs.Growing.{extends-long, extends-round, extends-trans}
 use Rattle.earliest_query.proofs.BestSoFar.{improved-trans}
 use Rattle.earliest_query.proofs.SegmentBySegment.{bounded_one_more, followed_one_more}
@@ -42,7 +42,7 @@ loop-n-preserved g c =
     let ridden = c.in_ok-best.ensures in
     let same : c.read_level_ahead.new.self ≡ E = c.read_level_ahead.ensures in
     let inside : k < length D.segments = omega (arith, c.loop-n-test.true, c.requires.to) in
-    let joined : Extends E F top = subst (λ d. Extends d F top) same ridden.extends in
+    let joined : AddsSegments E F top = subst (λ d. AddsSegments d F top) same ridden.extends in
     let followed : (i : ℕ) → Covers E k i → IsDone N F best k i = subst (λ d. (i : ℕ) → Covers d k i → IsDone N F best k i) same ridden.followed in
     let bounded : (i : ℕ) → Covers E k i → IsBounded N.table Q E best k i = subst (λ d. (i : ℕ) → Covers d k i → IsBounded N.table Q d best k i) same ridden.bounded in
     record {

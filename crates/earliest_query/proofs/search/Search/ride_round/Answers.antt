@@ -4,7 +4,7 @@ use Rattle.tb_base.specs.Network.{NetData}
 use Rattle.tb_base.specs.BestValues.{QueryData}
 use Rattle.segment_queue.specs.Queue.{DeskData}
 use Rattle.earliest_query.specs.Noted.{IsSoundNote}
-use Rattle.earliest_query.specs.UnderWay.{Extends, IsDone, IsQueue, room_of}
+use Rattle.earliest_query.specs.UnderWay.{AddsSegments, IsDone, IsQueue, room_of}
 use Rattle.earliest_query.proofs.Growing.{extends-segment, extends-trans, outdone-kept, queue-later}
 use Rattle.earliest_query.proofs.BestSoFar.{bounded-same, new_hit-kept}
 use Rattle.earliest_query.proofs.Lateness.{done-kept}
@@ -32,8 +32,8 @@ returns g c =
     let best = c.weigh_round-best.result in
     let told = c.weigh_round-best.ensures in
     let top : ℕ = suc c.args.round in
-    let weighed : Extends D E top = subst (λ d. Extends D d top) (sym told.rest) (extends-notes D E.notes top) in
-    let grown : Extends D F top = extends-trans D E F top weighed c.follow_notes.ensures.extends in
+    let weighed : AddsSegments D E top = subst (λ d. AddsSegments D d top) (sym told.rest) (extends-notes D E.notes top) in
+    let grown : AddsSegments D F top = extends-trans D E F top weighed c.follow_notes.ensures.extends in
     record {
       queue = c.follow_notes.ensures.queue;
       extends = grown;

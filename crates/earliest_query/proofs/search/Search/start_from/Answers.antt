@@ -5,7 +5,7 @@ use Rattle.tb_base.specs.BestValues.{QueryData}
 use Rattle.tb_base.specs.Soundness.{IsSoundPath}
 use Rattle.tb_base.proofs.NumberFacts.{below_or_at}
 use Rattle.segment_queue.specs.Queue.{DeskData}
-use Rattle.earliest_query.specs.UnderWay.{IsBoarded}
+use Rattle.earliest_query.specs.UnderWay.{IsStopBoarded}
 use Rattle.earliest_query.proofs.Growing.{extends-trans}
 use Rattle.earliest_query.proofs.Following.{get_or-inside}
 use Rattle.earliest_query.proofs.FromOrigins.{boarded-kept, path_walk, walked_to}
@@ -57,7 +57,7 @@ loop-path-preserved g c =
       own = boarded-kept T Q E F c.args.origin 0 more.extends c.loop-path.invariant.own;
       boarded = λ i d below. elim (below_or_at i k below) [
         | inl before ↦ boarded-kept T Q E F (get_or paths i d).to (get_or paths i d).secs more.extends (c.loop-path.invariant.boarded i d before)
-        | inr e ↦ subst (λ (p : Path). IsBoarded T Q F p.to p.secs) (sym (read d) ∙ ap (λ m. get_or paths m d) (sym e)) more.boarded
+        | inr e ↦ subst (λ (p : Path). IsStopBoarded T Q F p.to p.secs) (sym (read d) ∙ ap (λ m. get_or paths m d) (sym e)) more.boarded
       ];
       still = λ h. more.still (c.loop-path.invariant.still h);
     }
@@ -69,9 +69,9 @@ returns-clause-boarded g c = λ stop secs walks.
     let D : DeskData = c.loop-path.desk in
     let paths = c.walks-path-items.result.now in
     elim (walked_to T c.args.origin paths stop secs c.walks-path-items.ensures.paths walks) [
-      | inl e ↦ subst (λ s. IsBoarded T Q D s secs) (sym e.0) (subst (λ x. IsBoarded T Q D c.args.origin x) (sym e.1) c.loop-path.invariant.own)
+      | inl e ↦ subst (λ s. IsStopBoarded T Q D s secs) (sym e.0) (subst (λ x. IsStopBoarded T Q D c.args.origin x) (sym e.1) c.loop-path.invariant.own)
       | inr w ↦
           (let read : (get_or paths w.index w.path) ≡ w.path = w.is w.path in
-          subst (λ s. IsBoarded T Q D s secs) (ap (λ (p : Path). p.to) read ∙ w.to) (subst (λ x. IsBoarded T Q D (get_or paths w.index w.path).to x) (ap (λ (p : Path). p.secs) read ∙ w.secs)
+          subst (λ s. IsStopBoarded T Q D s secs) (ap (λ (p : Path). p.to) read ∙ w.to) (subst (λ x. IsStopBoarded T Q D (get_or paths w.index w.path).to x) (ap (λ (p : Path). p.secs) read ∙ w.secs)
           (c.loop-path.invariant.boarded w.index w.path (omega (arith, w.inside, c.loop-path-test.false)))))
     ]
