@@ -8,7 +8,7 @@ use Rattle.gtfs_rows.specs.declared.fault.FeedFault.{FeedFault}
 use Rattle.service_trips.specs.declared.stop_time.StopTime.{StopTime}
 use Rattle.service_trips.specs.Faults.{first_wrong}
 use Rattle.service_trips.specs.TimeFaults.{wrong_end, wrong_times, departed_by, wrong_along, last_row, wrong_trip_times}
-use Rattle.service_trips.specs.Times.{times_of}
+use Rattle.service_trips.specs.Times.{times_of_row}
 
 option_or_assoc : (a b c : Option FeedFault) → option_or a (option_or b c) ≡ option_or (option_or a b) c
 option_or_assoc None b c = refl
@@ -39,16 +39,16 @@ first_wrong-none (Some g ∷ rest) x y h = cc
 -- along the rows, one row on
 along_more : (departed : Option ℤ) (rows : List StopTime) (k : ℕ) (r : StopTime) → k < length rows → r ≡ get_or rows k r
     → first_wrong (wrong_along departed (drop k rows))
-    ≡ option_or (first_wrong (wrong_times departed r (times_of r))) (first_wrong (wrong_along (departed_by departed (times_of r)) (drop (k + 1) rows)))
+    ≡ option_or (first_wrong (wrong_times departed r (times_of_row r))) (first_wrong (wrong_along (departed_by departed (times_of_row r)) (drop (k + 1) rows)))
 along_more departed rows k r h e =
     let here : drop k rows ≡ r ∷ drop (k + 1) rows = drop_more rows k r h ∙ ap (λ x. x ∷ drop (k + 1) rows) (sym e) in
     ap (λ rest. first_wrong (wrong_along departed rest)) here
-    ∙ first_wrong-append (wrong_times departed r (times_of r)) (wrong_along (departed_by departed (times_of r)) (drop (k + 1) rows))
+    ∙ first_wrong-append (wrong_times departed r (times_of_row r)) (wrong_along (departed_by departed (times_of_row r)) (drop (k + 1) rows))
 
 -- the fault of a row, behind rows without one
 pub along_found : (departed : Option ℤ) (rows : List StopTime) (k : ℕ) (r : StopTime) (f : FeedFault) → k < length rows → r ≡ get_or rows k r
-    → Some f ≡ first_wrong (wrong_times departed r (times_of r)) → Some f ≡ first_wrong (wrong_along departed (drop k rows))
-along_found departed rows k r f h e i = sym (along_more departed rows k r h e ∙ ap (λ o. option_or o (first_wrong (wrong_along (departed_by departed (times_of r)) (drop (k + 1) rows)))) (sym i))
+    → Some f ≡ first_wrong (wrong_times departed r (times_of_row r)) → Some f ≡ first_wrong (wrong_along departed (drop k rows))
+along_found departed rows k r f h e i = sym (along_more departed rows k r h e ∙ ap (λ o. option_or o (first_wrong (wrong_along (departed_by departed (times_of_row r)) (drop (k + 1) rows)))) (sym i))
 
 last_row_at : (s : StopTime) (rest : List StopTime) (d : StopTime) → last_row s rest ≡ get_or (s ∷ rest) (length rest) d
 last_row_at s [] d = refl

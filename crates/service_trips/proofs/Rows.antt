@@ -10,7 +10,7 @@ use Rattle.tb_base.specs.declared.table.Event.{Event}
 use Rattle.tb_base.specs.TimetableData.{TripData}
 use Rattle.gtfs_rows.specs.TripsFile as row
 use Rattle.service_trips.specs.Starts.{names_trip}
-use Rattle.service_trips.specs.ServiceDay.{FeedTrips, id_of, ride_of, trips_where, trips_at, service_trips}
+use Rattle.service_trips.specs.ServiceDay.{FeedTrips, id_of, ride_of_trip, trips_where, trips_at, service_trips}
 use Rattle.service_trips.specs.TimetableTrips.{shown}
 use Rattle.service_trips.proofs.Shown.{shown-append}
 
@@ -46,7 +46,7 @@ pub none_behind : (d : ServiceDay) (feed : FeedTrips) (runs : List Bool) (old : 
 none_behind d feed runs old = sym (ap (λ none. old ++ none) (no_trips d feed runs) ∙ append-nil old)
 
 -- the trips of the row with a number
-pub row_at : (d : ServiceDay) (feed : FeedTrips) (runs : List Bool) (k : ℕ) (id : List ℕ) (ride : List Event) → id ≡ id_of feed k → ride ≡ ride_of feed k
+pub row_at : (d : ServiceDay) (feed : FeedTrips) (runs : List Bool) (k : ℕ) (id : List ℕ) (ride : List Event) → id ≡ id_of feed k → ride ≡ ride_of_trip feed k
     → shown d (trips_where (slice_index_or runs k false) id (filter (names_trip k) feed.frequencies) ride) ≡ shown d (trips_at feed runs k)
 row_at d feed runs k id ride i r = rw (i, r) refl
 

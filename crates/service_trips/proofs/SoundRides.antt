@@ -22,7 +22,7 @@ use Rattle.service_trips.specs.Faults.{first_wrong}
 use Rattle.service_trips.specs.StopTimes.{stop_times}
 use Rattle.service_trips.specs.TimeFaults.{wrong_times, departed_by, wrong_along, last_row, wrong_trip_times, wrong_trips}
 use Rattle.gtfs_rows.specs.Numbers.{IsFileTime}
-use Rattle.service_trips.specs.Times.{AreFileTimes, HasFileTimes, times_of, timed_or, first_timed, between, own_or}
+use Rattle.service_trips.specs.Times.{AreFileTimes, HasFileTimes, times_of_row, timed_or, first_timed, between, own_or}
 use Rattle.service_trips.specs.Rides.{event_of, events_in, ride_in, ride_on, rides_on, checked_rides, IsSoundRide}
 use Rattle.service_trips.proofs.FirstWrong.{first_wrong-append, first_wrong-none, unless_wrong-none}
 use Rattle.service_trips.proofs.TripRows.{All-stop_times}
@@ -59,12 +59,12 @@ timed_right d r t rest h =
 -- the last row is timed, where rows follow one with these times
 abbrev EndTimed : Option Times → List StopTime → Type 0
 EndTimed t [] = is_none t ≡ false
-EndTimed t (r ∷ rest) = EndTimed (times_of r) rest
+EndTimed t (r ∷ rest) = EndTimed (times_of_row r) rest
 
 -- the last row is timed, if there is one
 abbrev LastTimed : List StopTime → Type 0
 LastTimed [] = Unit {0}
-LastTimed (r ∷ rest) = EndTimed (times_of r) rest
+LastTimed (r ∷ rest) = EndTimed (times_of_row r) rest
 
 last_timed : (t : Option Times) (rest : List StopTime) → EndTimed t rest → LastTimed rest
 last_timed t [] h = tt
@@ -78,20 +78,20 @@ pub record Next (d : ℤ) (k : ℕ) (found : Option Timepoint) : Type 0 where
   pub onward : d ≤ℤ row.times.arr
 
 next_timed : (d : ℤ) (k : ℕ) (t : Option Times) (r : StopTime) (rest : List StopTime) → EndTimed t rest → Right (wrong_times (Some d) r t ++ wrong_along (departed_by (Some d) t) rest)
-    → Next d k (timed_or k t (first_timed (k + 1) (map times_of rest)))
+    → Next d k (timed_or k t (first_timed (k + 1) (map times_of_row rest)))
 next_timed d k (Some t) r rest e h =
     let right = timed_right d r t (wrong_along (Some t.dep) rest) h in
     record { row = record { at = k; times = t }; is = refl; after = omega arith; onward = right.onward }
 next_timed d k None r [] e h = absurd cc
 next_timed d k None r (s ∷ rest) e h =
-    let next = next_timed d (k + 1) (times_of s) s rest e h in
+    let next = next_timed d (k + 1) (times_of_row s) s rest e h in
     let after = next.after in
     record { row = next.row; is = next.is; after = omega (arith, after); onward = next.onward }
 
 low_step : (low : ℤ) (r : StopTime) (rest : List StopTime) (k : ℕ) (i : Timepoint) (t : Option Times) → low ≤ℤ i.times.dep → EndTimed t rest
     → Right (wrong_times (Some i.times.dep) r t ++ wrong_along (departed_by (Some i.times.dep) t) rest)
     → ((j : Timepoint) → low ≤ℤ j.times.dep → Right (wrong_along (Some j.times.dep) rest) → AllByRecursion (λ e. low ≤ℤ Event.arr e) (walk (Some j) (k + 1) rest))
-    → AllByRecursion (λ e. low ≤ℤ Event.arr e) (event_of r (own_or t (between (Some i) (first_timed (k + 1) (map times_of rest)) k)) ∷ walk (timed_or k t (Some i)) (k + 1) rest)
+    → AllByRecursion (λ e. low ≤ℤ Event.arr e) (event_of r (own_or t (between (Some i) (first_timed (k + 1) (map times_of_row rest)) k)) ∷ walk (timed_or k t (Some i)) (k + 1) rest)
 low_step low r rest k i (Some t) h e right more =
     let timed = timed_right i.times.dep r t (wrong_along (Some t.dep) rest) right in
     let a = timed.onward in
@@ -107,13 +107,13 @@ low : (d : ℤ) (rows : List StopTime) (k : ℕ) (i : Timepoint) → d ≤ℤ i.
     → AllByRecursion (λ e. d ≤ℤ Event.arr e) (walk (Some i) k rows)
 low d [] k i h e right = tt
 low d (r ∷ rest) k i h e right =
-    low_step d r rest k i (times_of r) h e right (λ j h' right'. low d rest (k + 1) j h' (last_timed (times_of r) rest e) right')
+    low_step d r rest k i (times_of_row r) h e right (λ j h' right'. low d rest (k + 1) j h' (last_timed (times_of_row r) rest e) right')
 
 rise_step : (i j : Timepoint) (m : ℕ) (r : StopTime) (rest : List StopTime) (k : ℕ) (t : Option Times) → m ≤ k → i.at < j.at → i.times.dep ≤ℤ j.times.arr → EndTimed t rest
     → Right (wrong_times (Some i.times.dep) r t ++ wrong_along (departed_by (Some i.times.dep) t) rest)
-    → timed_or k t (first_timed (k + 1) (map times_of rest)) ≡ Some j
-    → (first_timed (k + 1) (map times_of rest) ≡ Some j → Right (wrong_along (Some i.times.dep) rest) → AllByRecursion (λ e. part i j m ≤ℤ Event.arr e) (walk (Some i) (k + 1) rest))
-    → AllByRecursion (λ e. part i j m ≤ℤ Event.arr e) (event_of r (own_or t (between (Some i) (first_timed (k + 1) (map times_of rest)) k)) ∷ walk (timed_or k t (Some i)) (k + 1) rest)
+    → timed_or k t (first_timed (k + 1) (map times_of_row rest)) ≡ Some j
+    → (first_timed (k + 1) (map times_of_row rest) ≡ Some j → Right (wrong_along (Some i.times.dep) rest) → AllByRecursion (λ e. part i j m ≤ℤ Event.arr e) (walk (Some i) (k + 1) rest))
+    → AllByRecursion (λ e. part i j m ≤ℤ Event.arr e) (event_of r (own_or t (between (Some i) (first_timed (k + 1) (map times_of_row rest)) k)) ∷ walk (timed_or k t (Some i)) (k + 1) rest)
 rise_step i j m r rest k (Some t) h p up e right is more =
     let timed = timed_right i.times.dep r t (wrong_along (Some t.dep) rest) right in
     let at : k ≡ j.at = cc in
@@ -127,10 +127,10 @@ rise_step i j m r rest k None h p up e right is more =
 
 -- between two timed rows no event is reached before the time of an earlier place
 rise : (i j : Timepoint) (m : ℕ) (rows : List StopTime) (k : ℕ) → m ≤ k → i.at < j.at → i.times.dep ≤ℤ j.times.arr → LastTimed rows
-    → Right (wrong_along (Some i.times.dep) rows) → first_timed k (map times_of rows) ≡ Some j → AllByRecursion (λ e. part i j m ≤ℤ Event.arr e) (walk (Some i) k rows)
+    → Right (wrong_along (Some i.times.dep) rows) → first_timed k (map times_of_row rows) ≡ Some j → AllByRecursion (λ e. part i j m ≤ℤ Event.arr e) (walk (Some i) k rows)
 rise i j m [] k h p up e right is = tt
 rise i j m (r ∷ rest) k h p up e right is =
-    rise_step i j m r rest k (times_of r) h p up e right is (λ is' right'. rise i j m rest (k + 1) (omega (arith, h)) p up (last_timed (times_of r) rest e) right' is')
+    rise_step i j m r rest k (times_of_row r) h p up e right is (λ is' right'. rise i j m rest (k + 1) (omega (arith, h)) p up (last_timed (times_of_row r) rest e) right' is')
 
 abbrev IsSince : Event → Type 0
 IsSince e = pos 0 ≤ℤ e.arr
@@ -141,7 +141,7 @@ IsOnward e f = e.dep ≤ℤ f.arr
 onward_step : (r : StopTime) (rest : List StopTime) (k : ℕ) (i : Timepoint) (t : Option Times) → i.at < k → EndTimed t rest
     → Right (wrong_times (Some i.times.dep) r t ++ wrong_along (departed_by (Some i.times.dep) t) rest)
     → ((j : Timepoint) → j.at < k + 1 → Right (wrong_along (Some j.times.dep) rest) → AllPairs IsOnward (walk (Some j) (k + 1) rest))
-    → AllPairs IsOnward (event_of r (own_or t (between (Some i) (first_timed (k + 1) (map times_of rest)) k)) ∷ walk (timed_or k t (Some i)) (k + 1) rest)
+    → AllPairs IsOnward (event_of r (own_or t (between (Some i) (first_timed (k + 1) (map times_of_row rest)) k)) ∷ walk (timed_or k t (Some i)) (k + 1) rest)
 onward_step r rest k i (Some t) p e right more =
     let timed = timed_right i.times.dep r t (wrong_along (Some t.dep) rest) right in
     AllPairs-cons IsOnward _ _
@@ -158,15 +158,15 @@ onward_step r rest k i None p e right more =
 -- each event is left before a later one is reached
 onward : (rows : List StopTime) (k : ℕ) (i : Timepoint) → i.at < k → LastTimed rows → Right (wrong_along (Some i.times.dep) rows) → AllPairs IsOnward (walk (Some i) k rows)
 onward [] k i p e right = λ i j d before below. absurd (omega (arith, below))
-onward (r ∷ rest) k i p e right = onward_step r rest k i (times_of r) p e right (λ j p' right'. onward rest (k + 1) j p' (last_timed (times_of r) rest e) right')
+onward (r ∷ rest) k i p e right = onward_step r rest k i (times_of_row r) p e right (λ j p' right'. onward rest (k + 1) j p' (last_timed (times_of_row r) rest e) right')
 
 file_time_low : (t : ℤ) → IsFileTime t → negsuc 86399 ≤ℤ t
 file_time_low t h = let a = h.least in omega (arith, ints, a)
 
-sound_step : (stops : ℕ) (r : StopTime) (rest : List StopTime) (k : ℕ) (i : Timepoint) (t : Option Times) → r.stop < stops → IfSome t AreFileTimes → AllTimed (map times_of rest) → AreFileTimes i.times → i.at < k
+sound_step : (stops : ℕ) (r : StopTime) (rest : List StopTime) (k : ℕ) (i : Timepoint) (t : Option Times) → r.stop < stops → IfSome t AreFileTimes → AllTimed (map times_of_row rest) → AreFileTimes i.times → i.at < k
     → EndTimed t rest → Right (wrong_times (Some i.times.dep) r t ++ wrong_along (departed_by (Some i.times.dep) t) rest)
     → ((j : Timepoint) → AreFileTimes j.times → j.at < k + 1 → Right (wrong_along (Some j.times.dep) rest) → AllByRecursion (IsSoundEvent stops) (walk (Some j) (k + 1) rest))
-    → AllByRecursion (IsSoundEvent stops) (event_of r (own_or t (between (Some i) (first_timed (k + 1) (map times_of rest)) k)) ∷ walk (timed_or k t (Some i)) (k + 1) rest)
+    → AllByRecursion (IsSoundEvent stops) (event_of r (own_or t (between (Some i) (first_timed (k + 1) (map times_of_row rest)) k)) ∷ walk (timed_or k t (Some i)) (k + 1) rest)
 sound_step stops r rest k i (Some t) s within all a p e right more =
     let timed = timed_right i.times.dep r t (wrong_along (Some t.dep) rest) right in (
       record { stop = s; earliest = file_time_low t.arr within.arr; waits = timed.waits; latest = within.dep.most },
@@ -176,7 +176,7 @@ sound_step stops r rest k i None s within all a p e right more =
     let next = next_timed i.times.dep k None r rest e right in
     let j = next.row in
     let after = next.after in
-    let found = rw next.is at (after_by (map times_of rest) (k + 1) all) in
+    let found = rw next.is at (after_by (map times_of_row rest) (k + 1) all) in
     let least = part_least i j k in
     let most = part_most i j k after next.onward in
     let low = a.dep.least in
@@ -197,22 +197,22 @@ sound stops (r ∷ rest) k i s h a p e right =
     let own = All-head HasFileTimes r rest h in
     let later = All-tail HasFileTimes r rest h in
     let stops_later = All-tail (λ r. StopTime.stop r < stops) r rest s in
-    sound_step stops r rest k i (times_of r) (All-head (λ r. StopTime.stop r < stops) r rest s) (times_within r.arr r.dep own.arr own.dep) (all_timed rest later) a p e right
-    (λ j a' p' right'. sound stops rest (k + 1) j stops_later later a' p' (last_timed (times_of r) rest e) right')
+    sound_step stops r rest k i (times_of_row r) (All-head (λ r. StopTime.stop r < stops) r rest s) (times_within r.arr r.dep own.arr own.dep) (all_timed rest later) a p e right
+    (λ j a' p' right'. sound stops rest (k + 1) j stops_later later a' p' (last_timed (times_of_row r) rest e) right')
 
-end_timed : (r : StopTime) (rest : List StopTime) → is_none (times_of (last_row r rest)) ≡ false → EndTimed (times_of r) rest
+end_timed : (r : StopTime) (rest : List StopTime) → is_none (times_of_row (last_row r rest)) ≡ false → EndTimed (times_of_row r) rest
 end_timed r [] h = h
 end_timed r (s ∷ rest) h = end_timed s rest h
 
 -- what is known of the rows of a trip with which nothing is wrong
 pub record TripRight (r : StopTime) (rest : List StopTime) : Type 0 where
   pub times : Times
-  pub first : times_of r ≡ Some times
+  pub first : times_of_row r ≡ Some times
   pub last : LastTimed rest
   pub waits : times.arr ≤ℤ times.dep
   pub along : Right (wrong_along (Some times.dep) rest)
 
-trip_right_at : (r : StopTime) (rest : List StopTime) (t : Option Times) → times_of r ≡ t → is_none t ≡ false → LastTimed rest → Right (wrong_times None r t ++ wrong_along (departed_by None t) rest) → TripRight r rest
+trip_right_at : (r : StopTime) (rest : List StopTime) (t : Option Times) → times_of_row r ≡ t → is_none t ≡ false → LastTimed rest → Right (wrong_times None r t ++ wrong_along (departed_by None t) rest) → TripRight r rest
 trip_right_at r rest None e n l h = absurd cc
 trip_right_at r rest (Some t) e n l h =
     let both = one_right (int_lt t.dep t.arr) _ (first_wrong (wrong_along (Some t.dep) rest)) h in
@@ -221,8 +221,8 @@ trip_right_at r rest (Some t) e n l h =
 
 trip_right : (r s : StopTime) (rest : List StopTime) → Right (wrong_trip_times (r ∷ s ∷ rest)) → TripRight r (s ∷ rest)
 trip_right r s rest h =
-    let both = two_right (is_none (times_of r)) (is_none (times_of (last_row s rest))) _ _ (first_wrong (wrong_along None (r ∷ s ∷ rest))) h in
-    trip_right_at r (s ∷ rest) (times_of r) refl both.0 (end_timed s rest both.1) both.2
+    let both = two_right (is_none (times_of_row r)) (is_none (times_of_row (last_row s rest))) _ _ (first_wrong (wrong_along None (r ∷ s ∷ rest))) h in
+    trip_right_at r (s ∷ rest) (times_of_row r) refl both.0 (end_timed s rest both.1) both.2
 
 walk_sound : (stops : ℕ) (r : StopTime) (rest : List StopTime) → All (λ r. StopTime.stop r < stops) (r ∷ rest) → All HasFileTimes (r ∷ rest) → TripRight r rest
     → AllByRecursion (IsSoundEvent stops) (walk None 0 (r ∷ rest)) × AllPairs IsOnward (walk None 0 (r ∷ rest)) × AllByRecursion IsSince (walk None 0 (r ∷ rest))
@@ -239,9 +239,9 @@ walk_sound stops r rest s h right =
       latest = within.dep.most;
     } in
     let P : Option Times → Type 0 =
-    λ o. AllByRecursion (IsSoundEvent stops) (event_of r (own_or o (between None (first_timed 1 (map times_of rest)) 0)) ∷ walk (timed_or 0 o None) 1 rest)
-    × AllPairs IsOnward (event_of r (own_or o (between None (first_timed 1 (map times_of rest)) 0)) ∷ walk (timed_or 0 o None) 1 rest)
-    × AllByRecursion IsSince (event_of r (own_or o (between None (first_timed 1 (map times_of rest)) 0)) ∷ walk (timed_or 0 o None) 1 rest) in
+    λ o. AllByRecursion (IsSoundEvent stops) (event_of r (own_or o (between None (first_timed 1 (map times_of_row rest)) 0)) ∷ walk (timed_or 0 o None) 1 rest)
+    × AllPairs IsOnward (event_of r (own_or o (between None (first_timed 1 (map times_of_row rest)) 0)) ∷ walk (timed_or 0 o None) 1 rest)
+    × AllByRecursion IsSince (event_of r (own_or o (between None (first_timed 1 (map times_of_row rest)) 0)) ∷ walk (timed_or 0 o None) 1 rest) in
     subst P (sym right.first) (
       (event, sound stops rest 1 i (All-tail (λ r. StopTime.stop r < stops) r rest s) later within (omega arith) right.last right.along),
       AllPairs-cons IsOnward (event_of r t) (walk (Some i) 1 rest)

@@ -18,7 +18,7 @@ use Rattle.gtfs_rows.specs.Faults.{unless_wrong}
 use Rattle.service_trips.specs.Rides.{AreSoundEvents, IsSoundRide}
 use Rattle.service_trips.specs.declared.frequency.TripFrequency.{TripFrequency}
 use Rattle.service_trips.specs.Starts.{names_trip, starts}
-use Rattle.service_trips.specs.ServiceDay.{FeedTrips, ride_of, id_of, moved, first_departure, starting_at, trip_starting_at, trips_of, trips_where, trips_at, service_trips}
+use Rattle.service_trips.specs.ServiceDay.{FeedTrips, ride_of_trip, id_of, moved, first_departure, starting_at, trip_starting_at, trips_of, trips_where, trips_at, service_trips}
 use Rattle.service_trips.specs.TimetableTrips.{DayRunsData, is_shown, last_departure, reckoned, shown, timetable_trips}
 use Rattle.service_trips.specs.ShownRides.{IsRideOrNone}
 use Rattle.service_trips.specs.Limits.{has_beyond, is_beyond, moves_beyond, wrong_frequency, check_frequencies}
@@ -110,24 +110,24 @@ where_sound n false id fs ride sound keeps = All-nil (HasSound n)
 where_sound n true id fs ride sound keeps = row_sound n id fs ride sound keeps
 
 -- a check that nothing fails
-checked : (feed : FeedTrips) (fs rows rows' : List TripFrequency) → unless_wrong (map (wrong_frequency feed) fs) rows ≡ Ok rows' → All (λ f. moves_beyond (ride_of feed (TripFrequency.trip_row f)) f ≡ false) fs
-checked feed [] rows rows' ok = All-nil (λ f. moves_beyond (ride_of feed (TripFrequency.trip_row f)) f ≡ false)
+checked : (feed : FeedTrips) (fs rows rows' : List TripFrequency) → unless_wrong (map (wrong_frequency feed) fs) rows ≡ Ok rows' → All (λ f. moves_beyond (ride_of_trip feed (TripFrequency.trip_row f)) f ≡ false) fs
+checked feed [] rows rows' ok = All-nil (λ f. moves_beyond (ride_of_trip feed (TripFrequency.trip_row f)) f ≡ false)
 checked feed (f ∷ fs) rows rows' ok =
-    elim (cases_Bool (moves_beyond (ride_of feed f.trip_row) f)) [
+    elim (cases_Bool (moves_beyond (ride_of_trip feed f.trip_row) f)) [
       | inl t ↦ absurd (let h = rw t at ok in cc)
-      | inr e ↦ All-cons (λ f. moves_beyond (ride_of feed (TripFrequency.trip_row f)) f ≡ false) f fs e (checked feed fs rows rows' (let h = rw e at ok in h))
+      | inr e ↦ All-cons (λ f. moves_beyond (ride_of_trip feed (TripFrequency.trip_row f)) f ≡ false) f fs e (checked feed fs rows rows' (let h = rw e at ok in h))
     ]
 
 -- the rows that name a trip keep its times within
-of_trip_within : (feed : FeedTrips) (trip : ℕ) (fs : List TripFrequency) → All (λ f. moves_beyond (ride_of feed (TripFrequency.trip_row f)) f ≡ false) fs → All (KeepsWithin (ride_of feed trip)) (filter (names_trip trip) fs)
-of_trip_within feed trip [] keeps = All-nil (KeepsWithin (ride_of feed trip))
+of_trip_within : (feed : FeedTrips) (trip : ℕ) (fs : List TripFrequency) → All (λ f. moves_beyond (ride_of_trip feed (TripFrequency.trip_row f)) f ≡ false) fs → All (KeepsWithin (ride_of_trip feed trip)) (filter (names_trip trip) fs)
+of_trip_within feed trip [] keeps = All-nil (KeepsWithin (ride_of_trip feed trip))
 of_trip_within feed trip (f ∷ fs) keeps =
-    let rest = of_trip_within feed trip fs (All-tail (λ f. moves_beyond (ride_of feed (TripFrequency.trip_row f)) f ≡ false) f fs keeps) in
-    let here = All-head (λ f. moves_beyond (ride_of feed (TripFrequency.trip_row f)) f ≡ false) f fs keeps in
+    let rest = of_trip_within feed trip fs (All-tail (λ f. moves_beyond (ride_of_trip feed (TripFrequency.trip_row f)) f ≡ false) f fs keeps) in
+    let here = All-head (λ f. moves_beyond (ride_of_trip feed (TripFrequency.trip_row f)) f ≡ false) f fs keeps in
     elim (cases_Bool (f.trip_row == trip)) [
       | inl t ↦
           let same : f.trip_row ≡ trip = grind (arith, nat_tests, t) in
-          rw t (All-cons (KeepsWithin (ride_of feed trip)) f (filter (names_trip trip) fs) (rw same at here) rest)
+          rw t (All-cons (KeepsWithin (ride_of_trip feed trip)) f (filter (names_trip trip) fs) (rw same at here) rest)
       | inr e ↦ rw e rest
     ]
 
@@ -136,12 +136,12 @@ sound_ride_at n [] k sound = λ some. absurd (omega (arith, some))
 sound_ride_at n (r ∷ rs) zero sound = All-head (IsSoundRide n) r rs sound
 sound_ride_at n (r ∷ rs) (suc k) sound = sound_ride_at n rs k (All-tail (IsSoundRide n) r rs sound)
 
-rows_sound : (n : ℕ) (feed : FeedTrips) (runs : List Bool) (ks : List ℕ) → All (IsSoundRide n) feed.rides → All (λ f. moves_beyond (ride_of feed (TripFrequency.trip_row f)) f ≡ false) feed.frequencies
+rows_sound : (n : ℕ) (feed : FeedTrips) (runs : List Bool) (ks : List ℕ) → All (IsSoundRide n) feed.rides → All (λ f. moves_beyond (ride_of_trip feed (TripFrequency.trip_row f)) f ≡ false) feed.frequencies
     → All (HasSound n) (flat_map (trips_at feed runs) ks)
 rows_sound n feed runs [] sound keeps = All-nil (HasSound n)
 rows_sound n feed runs (k ∷ ks) sound keeps =
     All-append (HasSound n) (trips_at feed runs k) (flat_map (trips_at feed runs) ks)
-    (where_sound n (slice_index_or runs k false) (id_of feed k) (filter (names_trip k) feed.frequencies) (ride_of feed k) (sound_ride_at n feed.rides k sound) (of_trip_within feed k feed.frequencies keeps))
+    (where_sound n (slice_index_or runs k false) (id_of feed k) (filter (names_trip k) feed.frequencies) (ride_of_trip feed k) (sound_ride_at n feed.rides k sound) (of_trip_within feed k feed.frequencies keeps))
     (rows_sound n feed runs ks sound keeps)
 
 -- an item of a list, whatever stands for one that is not there

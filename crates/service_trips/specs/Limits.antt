@@ -10,7 +10,7 @@ use Rattle.gtfs_rows.specs.declared.fault.FeedFault.{FeedFault}
 use Rattle.gtfs_rows.specs.declared.fault.FeedFault.TheVariants as fault
 use Rattle.service_trips.specs.declared.frequency.TripFrequency.{TripFrequency}
 use Rattle.service_trips.specs.Starts.{starts}
-use Rattle.service_trips.specs.ServiceDay.{FeedTrips, ride_of, starting_at}
+use Rattle.service_trips.specs.ServiceDay.{FeedTrips, ride_of_trip, starting_at}
 use Rattle.service_trips.specs.TimetableTrips.{DayRunsData, timetable_trips}
 use Rattle.service_trips.specs.Sizes.{check_size}
 use Rattle.gtfs_rows.specs.declared.columns.frequencies.TheConstants as frequencies
@@ -30,7 +30,7 @@ moves_beyond ride f = list_any (λ start. list_any has_beyond (starting_at ride 
 -- the fault of such a row
 abbrev pub wrong_frequency : FeedTrips → TripFrequency → Option FeedFault
 wrong_frequency feed f =
-    fault_if (moves_beyond (ride_of feed f.trip_row) f)
+    fault_if (moves_beyond (ride_of_trip feed f.trip_row) f)
     (fault.BeyondDay (spot file.Frequencies f.row frequencies.START_TIME))
 
 -- the rows of frequencies.txt, or the first fault of one

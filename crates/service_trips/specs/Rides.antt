@@ -9,7 +9,7 @@ use Rattle.service_trips.specs.declared.times.Times.{Times}
 use Rattle.gtfs_rows.specs.Faults.{unless_wrong}
 use Rattle.service_trips.specs.StopTimes.{stop_times}
 use Rattle.service_trips.specs.TimeFaults.{wrong_trips}
-use Rattle.service_trips.specs.Times.{times_of, times_at}
+use Rattle.service_trips.specs.Times.{times_of_row, times_at}
 
 -- the event that a row gives
 abbrev pub event_of : StopTime → Times → Event
@@ -23,7 +23,7 @@ events_from times k (r ∷ rest) = event_of r (times_at times k) ∷ events_from
 
 -- the events of a trip whose rows stand in order
 abbrev pub events_in : List StopTime → List Event
-events_in ordered = events_from (map times_of ordered) 0 ordered
+events_in ordered = events_from (map times_of_row ordered) 0 ordered
 
 -- the events of a trip that runs and has at least two stop times; no other trip has any
 abbrev pub ride_in : Bool → List StopTime → List Event

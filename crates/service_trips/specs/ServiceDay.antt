@@ -22,8 +22,8 @@ id_of feed trip =
     row.TripData.id
     (slice_index_or feed.rows trip (record { row = 0; service = []; id = [] }))
 
-abbrev pub ride_of : FeedTrips → ℕ → List Event
-ride_of feed trip = slice_index_or feed.rides trip []
+abbrev pub ride_of_trip : FeedTrips → ℕ → List Event
+ride_of_trip feed trip = slice_index_or feed.rides trip []
 
 -- an event with its times moved by so many seconds
 abbrev pub moved : ℤ → Event → Event
@@ -70,7 +70,7 @@ trips_where true id frequencies events = trips_of id frequencies events
 abbrev pub trips_at : FeedTrips → List Bool → ℕ → List TripData
 trips_at feed runs trip =
     trips_where (slice_index_or runs trip false) (id_of feed trip)
-    (filter (names_trip trip) feed.frequencies) (ride_of feed trip)
+    (filter (names_trip trip) feed.frequencies) (ride_of_trip feed trip)
 
 -- The trips of a service day, in the order of trips.txt, by whether the service of each row runs on
 -- it.

@@ -8,12 +8,12 @@ use Rattle.service_trips.specs.declared.stop_time.StopTime.{StopTime}
 use Rattle.service_trips.specs.declared.times.Times.{Times}
 use Rattle.gtfs_rows.specs.Faults.{spot, fault_if}
 use Rattle.service_trips.specs.StopTimes.{stop_times}
-use Rattle.service_trips.specs.Times.{times_of}
+use Rattle.service_trips.specs.Times.{times_of_row}
 use Rattle.gtfs_rows.specs.declared.columns.stop_times.TheConstants as stop_times
 
 -- the first row, or the last, of a trip has no time
 abbrev pub wrong_end : StopTime → Option FeedFault
-wrong_end r = fault_if (is_none (times_of r))
+wrong_end r = fault_if (is_none (times_of_row r))
     (fault.NoEndTime (spot file.StopTimes r.row stop_times.ARRIVAL_TIME))
 
 -- a time is less than the departure of the timed row before it
@@ -40,7 +40,7 @@ departed_by departed (Some t) = Some t.dep
 abbrev pub wrong_along : Option ℤ → List StopTime → List (Option FeedFault)
 wrong_along departed [] = []
 wrong_along departed (r ∷ rest) =
-    wrong_times departed r (times_of r) ++ wrong_along (departed_by departed (times_of r)) rest
+    wrong_times departed r (times_of_row r) ++ wrong_along (departed_by departed (times_of_row r)) rest
 
 -- the last of rows, of which one comes first
 abbrev pub last_row : StopTime → List StopTime → StopTime

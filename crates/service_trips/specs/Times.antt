@@ -22,8 +22,8 @@ times_by (Some arr) None = Some (record { arr = arr; dep = arr })
 times_by (Some arr) (Some dep) = Some (record { arr = arr; dep = dep })
 
 -- the times of a row; it is timed where it has them
-abbrev pub times_of : StopTime → Option Times
-times_of r = times_by r.arr r.dep
+abbrev pub times_of_row : StopTime → Option Times
+times_of_row r = times_by r.arr r.dep
 
 -- the timed row at a place, or else another one
 abbrev pub timed_or : ℕ → Option Times → Option Timepoint → Option Timepoint

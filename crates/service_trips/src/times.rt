@@ -1,6 +1,6 @@
 //! When a trip arrives and departs at each of its stop times.
 ghost use Rattle.std.specs.Prelude.{◌≡◌, ◌≤◌, ◌<◌, ◌^◌, ◌+◌, length, map, drop, IfSome};
-ghost use Rattle.service_trips.specs.Times.{times_of, first_timed, nearest_before, nearest_after, between, own_or, AreFileTimes};
+ghost use Rattle.service_trips.specs.Times.{times_of_row, first_timed, nearest_before, nearest_after, between, own_or, AreFileTimes};
 
 use crate::StopTime;
 use tb_base::Sec;
@@ -21,7 +21,7 @@ pub struct Timepoint {
 
 /// The times of a row. Where one of the two is given, it stands for both.
 pub fn times_of(row: &StopTime) -> Option<Times>
-    ensures { result ≡ times_of row.now }
+    ensures { result ≡ times_of_row row.now }
 {
     match row.arr {
         Some(arr) => match row.dep {
@@ -39,7 +39,7 @@ pub fn times_of(row: &StopTime) -> Option<Times>
 pub fn first_timed(rows: &[StopTime], from: usize) -> Option<Timepoint>
     requires within { from ≤ length rows.now }
     requires fits { length rows.now < 2 ^ 32 }
-    ensures { result ≡ first_timed from (drop from (map times_of rows.now)) }
+    ensures { result ≡ first_timed from (drop from (map times_of_row rows.now)) }
 {
     for k in from..rows.len() {
         if let Some(times) = times_of(&rows[k]) {
@@ -56,8 +56,8 @@ pub fn first_timed(rows: &[StopTime], from: usize) -> Option<Timepoint>
 pub fn nearest_after(rows: &[StopTime], k: usize, here: Option<Timepoint>) -> Option<Timepoint>
     requires within { k < length rows.now }
     requires fits { length rows.now < 2 ^ 32 }
-    requires here { here ≡ first_timed k (drop k (map times_of rows.now)) }
-    ensures { result ≡ nearest_after (map times_of rows.now) k }
+    requires here { here ≡ first_timed k (drop k (map times_of_row rows.now)) }
+    ensures { result ≡ nearest_after (map times_of_row rows.now) k }
 {
     match times_of(&rows[k]) {
         Some(_) => first_timed(rows, k + 1),
@@ -69,8 +69,8 @@ pub fn nearest_after(rows: &[StopTime], k: usize, here: Option<Timepoint>) -> Op
 pub fn nearest_before(rows: &[StopTime], k: usize, earlier: Option<Timepoint>) -> Option<Timepoint>
     requires within { k < length rows.now }
     requires fits { length rows.now < 2 ^ 32 }
-    requires earlier { earlier ≡ nearest_before (map times_of rows.now) k }
-    ensures { result ≡ nearest_before (map times_of rows.now) (k + 1) }
+    requires earlier { earlier ≡ nearest_before (map times_of_row rows.now) k }
+    ensures { result ≡ nearest_before (map times_of_row rows.now) (k + 1) }
 {
     match times_of(&rows[k]) {
         Some(times) => Some(Timepoint {
@@ -91,7 +91,7 @@ pub fn times_at(
     requires fits { k < 2 ^ 32 }
     requires before { IfSome before (λ i. (i.at < k) × AreFileTimes i.times) }
     requires after { IfSome after (λ j. (k < j.at) × AreFileTimes j.times) }
-    ensures { result ≡ own_or (times_of row.now) (between before after k) }
+    ensures { result ≡ own_or (times_of_row row.now) (between before after k) }
 {
     match times_of(row) {
         Some(own) => own,
