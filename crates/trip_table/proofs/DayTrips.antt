@@ -21,7 +21,7 @@ use Rattle.tb_base.specs.declared.days.Horizon.{Horizon}
 use Rattle.tb_base.specs.ServiceDays.{other_days, service_days}
 use Rattle.service_day.specs.NearDays.{date_of_day}
 use Rattle.trip_table.specs.References.{Rows}
-use Rattle.trip_table.specs.Day.{runs_on, runs_if, runs_of, rides_of, trips_on}
+use Rattle.trip_table.specs.Day.{runs_on, runs_if, runs_of, rides_of_rows, trips_on}
 
 -- a value that passes a check is the one that was checked
 pub unless_wrong-value : {A : Type 0} (wrong : List (Option FeedFault)) (x y : A) → unless_wrong wrong x ≡ Ok y → x ≡ y
@@ -55,7 +55,7 @@ date_first rows date horizon runs others r o = λ i. record { day = Date; runs =
 
 -- trips of these rows, events and service days are those that are meant
 pub trips_meant : {X : Type 0} (view : X → List TripData) (rows : Rows) (frequencies : List TripFrequency) (date : ℕ) (horizon : Horizon) (trips : List row.TripData) (rides : List (List Event)) (days : List DayRunsData) (result : Result X RowsFault)
-    → trips ≡ rows.trips → rides_of rows ≡ Ok rides → days ≡ map (runs_of rows date) (service_days horizon)
+    → trips ≡ rows.trips → rides_of_rows rows ≡ Ok rides → days ≡ map (runs_of rows date) (service_days horizon)
     → Yields IsRefused result view (checked_trips (record { rows = trips; rides = rides; frequencies = frequencies }) days) → Yields IsRefused result view (trips_on rows frequencies date horizon)
 trips_meant view rows frequencies date horizon trips rides days result t r d meant =
     let meant_is : checked_trips (record { rows = trips; rides = rides; frequencies = frequencies }) days ≡ trips_on rows frequencies date horizon =

@@ -20,10 +20,10 @@ use Rattle.service_trips.specs.Limits.{check_frequencies, checked_trips}
 use Rattle.service_trips.specs.ServiceDay.{FeedTrips}
 use Rattle.service_trips.specs.Sizes.{check_size, event_count}
 use Rattle.service_trips.specs.TimetableTrips.{DayRunsData, timetable_trips}
-use Rattle.trip_table.specs.Day.{AreClosedOrTested, DayParts, IsTimetableOf, IsTimetableOfParts, Then, day_parts, given_footpaths, parts_after_rows, rides_of, runs_of, timetable, trips_on}
+use Rattle.trip_table.specs.Day.{AreClosedOrTested, DayParts, IsTimetableOf, IsTimetableOfParts, Then, day_parts, given_footpaths, parts_after_rows, rides_of_rows, runs_of, timetable, trips_on}
 use Rattle.trip_table.specs.Farther.{IsNoNearer}
 use Rattle.trip_table.specs.Feed.{Feed}
-use Rattle.trip_table.specs.References.{Rows, frequencies_of, rows_of, transfers_of}
+use Rattle.trip_table.specs.References.{Rows, frequencies_of, rows_of, transfers_of_feed}
 use Rattle.trip_table.proofs.DayTrips.{unless_wrong-value}
 use Rattle.trip_table.proofs.Determined.{settled_unique}
 use Rattle.trip_table.proofs.Steps.{one_value, stepped}
@@ -102,7 +102,7 @@ farther_has_all feed day near far T U no_nearer is also =
     let p = parts_of near.close (day_parts feed day near) T is in
     let q = parts_of far.close (day_parts feed day far) U also in
     let rows = both (rows_of feed) (parts_after_rows feed day near) (parts_after_rows feed day far) p.0 q.0 p.1 q.1 in
-    let transfers = both (transfers_of feed rows.0.stops) _ _ p.0 q.0 rows.2 rows.3 in
+    let transfers = both (transfers_of_feed feed rows.0.stops) _ _ p.0 q.0 rows.2 rows.3 in
     let frequencies = both (frequencies_of feed rows.0.trips) _ _ p.0 q.0 transfers.2 transfers.3 in
     let some = stepped (trips_on rows.0 frequencies.0 day near.horizon) _ p.0 frequencies.2 in
     let more = stepped (trips_on rows.0 frequencies.0 day far.horizon) _ q.0 frequencies.3 in
@@ -111,7 +111,7 @@ farther_has_all feed day near far T U no_nearer is also =
     let one = one_value (record { stops = rows.0.stops; footpaths = given.0; trips = some.0 }) p.0 given.2 in
     let other = one_value (record { stops = rows.0.stops; footpaths = others.0; trips = more.0 }) q.0 others.2 in
     let paths : given.0 ≡ others.0 = one_value given.0 others.0 (sym given.1 ∙ same_given rows.0.stops near far transfers.0 no_nearer.change no_nearer.station ∙ others.1) in
-    let rides = both (rides_of rows.0) _ _ some.0 more.0 some.1 more.1 in
+    let rides = both (rides_of_rows rows.0) _ _ some.0 more.0 some.1 more.1 in
     let trips = trips_among rows.0 _ day (service_days near.horizon) (service_days far.horizon) some.0 more.0 no_nearer.days rides.2 rides.3 in
     let settled = p.2 in
     let settled' = q.2 in

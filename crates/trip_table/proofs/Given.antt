@@ -23,7 +23,7 @@ use Rattle.tb_base.specs.Soundness.{IsSoundFootpaths}
 use Rattle.footpaths.proofs.Sound.{secs_day, sound_paths}
 use Rattle.tb_base.proofs.Lists.{length-filter_le}
 use Rattle.trip_table.specs.Feed.{Feed, sized, rows_in, file_rows, or_missing, required}
-use Rattle.trip_table.specs.References.{Rows, rows_of, stops_of, services_of, trips_of, times_of, transfer_rows_of, transfers_of, frequencies_of}
+use Rattle.trip_table.specs.References.{Rows, rows_of, stops_of, services_of, trips_of_feed, times_of_feed, transfer_rows_of, transfers_of_feed, frequencies_of}
 use Rattle.trip_table.specs.Day.{DayParts, day_parts, given_footpaths, trips_on, breach_fault, timetable, KeepTheLaw, AreClosedOrTested, IsTimetableOf, IsTimetableOfParts, Then}
 use Rattle.trip_table.proofs.Steps.{one_value, stepped}
 use Rattle.trip_table.proofs.DayTrips.{unless_wrong-value}
@@ -82,8 +82,8 @@ stops_given : (feed : Feed) (rows : Rows) → rows_of feed ≡ Ok rows → stops
 stops_given feed rows e =
     let a = stepped (stops_of feed) _ rows e in
     let b = stepped (services_of feed) _ rows a.2 in
-    let c = stepped (trips_of feed) _ rows b.2 in
-    let d = stepped (times_of feed a.0 c.0) _ rows c.2 in
+    let c = stepped (trips_of_feed feed) _ rows b.2 in
+    let d = stepped (times_of_feed feed a.0 c.0) _ rows c.2 in
     let same : record { stops = a.0; services = b.0; trips = c.0; times = d.0 } ≡ rows = one_value (record { stops = a.0; services = b.0; trips = c.0; times = d.0 }) rows d.2 in
     a.1 ∙ ap (λ (r : Rows). Ok r.stops) same
 
@@ -92,7 +92,7 @@ short_option : (feed : Feed) (o : Option (List TransferData)) → file_rows feed
 short_option feed None e = All-nil (λ r. TakesAtMostADay (TransferData.rule r))
 short_option feed (Some rows) e = let text = text_of feed file.Transfers transfer_row rows e in rows_day text.0 rows text.1
 
-short : (feed : Feed) (stops : List StopData) (transfers : List TransferData) → transfers_of feed stops ≡ Ok transfers → All (λ r. TakesAtMostADay (TransferData.rule r)) transfers
+short : (feed : Feed) (stops : List StopData) (transfers : List TransferData) → transfers_of_feed feed stops ≡ Ok transfers → All (λ r. TakesAtMostADay (TransferData.rule r)) transfers
 short feed stops transfers e =
     let rows = stepped (transfer_rows_of feed) (check_transfers stops) transfers e in
     let read = stepped (file_rows feed file.Transfers transfer_row) (λ rows. Ok (unwrap_or rows [])) rows.0 rows.1 in
@@ -113,7 +113,7 @@ parts_sound : (feed : Feed) (day : ℕ) (options : Options) (parts : DayParts) �
 unfolding day_parts
 parts_sound feed day options parts h k e =
     let rows = stepped (rows_of feed) _ parts e in
-    let transfers = stepped (transfers_of feed rows.0.stops) _ parts rows.2 in
+    let transfers = stepped (transfers_of_feed feed rows.0.stops) _ parts rows.2 in
     let frequencies = stepped (frequencies_of feed rows.0.trips) _ parts transfers.2 in
     let given = given_footpaths rows.0.stops options transfers.0 in
     let trips = stepped (trips_on rows.0 frequencies.0 day options.horizon) _ parts frequencies.2 in

@@ -25,7 +25,7 @@ use Rattle.service_trips.specs.Sizes.{check_size, event_count}
 use Rattle.service_trips.specs.TimeFaults.{wrong_trips}
 use Rattle.service_trips.specs.TimetableTrips.{DayRunsData, timetable_trips}
 use Rattle.service_trips.specs.declared.frequency.TripFrequency.{TripFrequency}
-use Rattle.trip_table.specs.Day.{AreClosedOrTested, DayParts, HasFarPair, HasTooMany, IsTimetableOfParts, Then, breach_fault, given_footpaths, rides_of, trips_on}
+use Rattle.trip_table.specs.Day.{AreClosedOrTested, DayParts, HasFarPair, HasTooMany, IsTimetableOfParts, Then, breach_fault, given_footpaths, rides_of_rows, trips_on}
 use Rattle.trip_table.specs.Feed.{Feed, sized}
 use Rattle.trip_table.specs.LeftFeed.{IsLeftOf, IsLenientOf, IsTimetableLeft, LeftData, feed_files, gone_trips, leave_starts, left_after_rows, left_data, left_frequencies, left_rows, left_start, left_starts, left_transfers, named_frequencies, parts_left, sized_all, start_unless, text_at}
 use Rattle.trip_table.specs.References.{Rows}
@@ -88,7 +88,7 @@ given_end stops options transfers f e = count_ends (paths_of (length (platforms 
 record IsRight (left : LeftData) : Type 0 where
   transfers : check_transfers left.rows.stops left.transfers ≡ Ok left.transfers
   times : (x : List (List Event)) → unless_wrong (wrong_trips left.rows.times 0 (length left.rows.trips)) x ≡ Ok x
-  starts : (rides : List (List Event)) → rides_of left.rows ≡ Ok rides → check_frequencies (record { rows = left.rows.trips; rides = rides; frequencies = left.frequencies }) ≡ Ok left.frequencies
+  starts : (rides : List (List Event)) → rides_of_rows left.rows ≡ Ok rides → check_frequencies (record { rows = left.rows.trips; rides = rides; frequencies = left.frequencies }) ≡ Ok left.frequencies
 
 one_value : {A : Type 0} (x y : A) → (let r : Result A FeedFault = Ok x in r) ≡ Ok y → x ≡ y
 one_value x y e = cc
@@ -105,7 +105,7 @@ starts_fine : (feed : FeedTrips) (rows y : List TripFrequency) → unless_wrong 
 starts_fine feed [] y = refl
 starts_fine feed (r ∷ rest) y = ap (λ (o : Option FeedFault). unless_wrong (o ∷ map (wrong_frequency feed) (map (left_start feed.rides) rest)) y) (start_fine feed r) ∙ starts_fine feed rest y
 
-starts_right : (rows : Rows) (gone : List Bool) (text : Option (List ℕ)) (left : List TripFrequency) → (left_frequencies rows gone text).end ≡ Ok left → (rides : List (List Event)) → rides_of rows ≡ Ok rides → check_frequencies (record { rows = rows.trips; rides = rides; frequencies = left }) ≡ Ok left
+starts_right : (rows : Rows) (gone : List Bool) (text : Option (List ℕ)) (left : List TripFrequency) → (left_frequencies rows gone text).end ≡ Ok left → (rides : List (List Event)) → rides_of_rows rows ≡ Ok rides → check_frequencies (record { rows = rows.trips; rides = rides; frequencies = left }) ≡ Ok left
 starts_right rows gone text left e rides is = let a = look_gives (named_frequencies rows.trips gone text) (left_starts rows) left e in by_rows a.0 a.2
   where
     feed : FeedTrips
@@ -114,7 +114,7 @@ starts_right rows gone text left e rides is = let a = look_gives (named_frequenc
     by_rows : (named : List TripFrequency) → (left_starts rows named).end ≡ Ok left → check_frequencies feed ≡ Ok left
     by_rows [] q = subst (λ (l : List TripFrequency). unless_wrong (map (wrong_frequency feed) l) left ≡ Ok left) (one_value [] left q) refl
     by_rows (f ∷ others) q =
-        let b = look_gives (silent (rides_of rows)) (leave_starts (f ∷ others)) left q in
+        let b = look_gives (silent (rides_of_rows rows)) (leave_starts (f ∷ others)) left q in
         let same : b.0 ≡ rides = one_value b.0 rides (sym b.1 ∙ is) in
         let made : map (left_start b.0) (f ∷ others) ≡ left = one_value (map (left_start b.0) (f ∷ others)) left b.2 in
         let kept : map (left_start rides) (f ∷ others) ≡ left = subst (λ (r : List (List Event)). map (left_start r) (f ∷ others) ≡ left) same made in
@@ -140,7 +140,7 @@ parts_end day options left right f e =
     either (check_transfers left.rows.stops left.transfers) _ f (good_step (check_transfers left.rows.stops left.transfers) left.transfers right.transfers)
     (λ transfers is g q.
     either (trips_on left.rows left.frequencies day options.horizon) _ g
-    (λ h r. either (rides_of left.rows) _ h (good_step (rides_of left.rows) rides.0 rides.1) (λ found there k s. trips_end (record { rows = left.rows.trips; rides = found; frequencies = left.frequencies }) _ (right.starts found there) k s) r)
+    (λ h r. either (rides_of_rows left.rows) _ h (good_step (rides_of_rows left.rows) rides.0 rides.1) (λ found there k s. trips_end (record { rows = left.rows.trips; rides = found; frequencies = left.frequencies }) _ (right.starts found there) k s) r)
     (λ trips there h r. either (given_footpaths left.rows.stops options transfers) _ h (λ k s. given_end left.rows.stops options transfers k s) (λ footpaths so k s. never_ends _ k s) r) q) e
 
 law_end : (stops : List StopData) (breach : LawFault) (f : FeedFault) → f ≡ breach_fault stops breach → bearer f ≡ None

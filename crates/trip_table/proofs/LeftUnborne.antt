@@ -24,7 +24,7 @@ use Rattle.footpaths.specs.Stops.{check_stops, stop_id}
 use Rattle.service_trips.specs.Broken.{broken_trips}
 use Rattle.service_trips.specs.Rides.{rides_on}
 use Rattle.service_trips.specs.TimeFaults.{wrong_trips}
-use Rattle.trip_table.specs.Day.{rides_of}
+use Rattle.trip_table.specs.Day.{rides_of_rows}
 use Rattle.gtfs_rows.specs.declared.columns.frequencies.TheConstants as frequencies
 use Rattle.service_trips.specs.declared.broken.TripFault.{TripFault}
 use Rattle.service_trips.specs.declared.frequency.TripFrequency.{TripFrequency}
@@ -240,18 +240,18 @@ rows_right texts rows e x =
     subst (λ (rows : Rows). unless_wrong (wrong_trips rows.times 0 (length rows.trips)) x ≡ Ok x) same (left_rides_right a.0 c.0 (text_at texts 4) d.0 x d.1)
 
 -- so each trip has its events
-pub rides_right : (rows : Rows) → ((x : List (List Event)) → unless_wrong (wrong_trips rows.times 0 (length rows.trips)) x ≡ Ok x) → (rides : List (List Event)) × (rides_of rows ≡ Ok rides)
+pub rides_right : (rows : Rows) → ((x : List (List Event)) → unless_wrong (wrong_trips rows.times 0 (length rows.trips)) x ≡ Ok x) → (rides : List (List Event)) × (rides_of_rows rows ≡ Ok rides)
 rides_right rows right =
     let runs = map (λ t. true) rows.trips in
     let rides = rides_on rows.times runs (length runs) in
     (rides, ap (λ n. unless_wrong (wrong_trips rows.times 0 n) rides) (length-map rows.trips (λ t. true)) ∙ right rides)
 
-starts_unborne : (rows : Rows) → (rides : List (List Event)) × (rides_of rows ≡ Ok rides) → (named : List TripFrequency) → Unborne (left_starts rows named)
+starts_unborne : (rows : Rows) → (rides : List (List Event)) × (rides_of_rows rows ≡ Ok rides) → (named : List TripFrequency) → Unborne (left_starts rows named)
 starts_unborne rows rides [] = given (Ok []) [] refl
 starts_unborne rows rides (f ∷ others) =
-    looks (silent (rides_of rows)) (leave_starts (f ∷ others)) (given (rides_of rows) rides.0 rides.1) (λ found is. given (Ok (map (left_start found) (f ∷ others))) (map (left_start found) (f ∷ others)) refl)
+    looks (silent (rides_of_rows rows)) (leave_starts (f ∷ others)) (given (rides_of_rows rows) rides.0 rides.1) (λ found is. given (Ok (map (left_start found) (f ∷ others))) (map (left_start found) (f ∷ others)) refl)
 
-pub frequencies_unborne : (rows : Rows) → (rides : List (List Event)) × (rides_of rows ≡ Ok rides) → (gone : List Bool) (text : Option (List ℕ)) → Unborne (left_frequencies rows gone text)
+pub frequencies_unborne : (rows : Rows) → (rides : List (List Event)) × (rides_of_rows rows ≡ Ok rides) → (gone : List Bool) (text : Option (List ℕ)) → Unborne (left_frequencies rows gone text)
 frequencies_unborne rows rides gone text = looks (named_frequencies rows.trips gone text) (left_starts rows) (named_unborne rows.trips gone text) (λ named is. starts_unborne rows rides named)
 
 rows_unborne_of : (texts : List (Option (List ℕ))) → Unborne (left_rows texts)

@@ -27,10 +27,10 @@ use Rattle.service_trips.specs.declared.stop_time.StopTime.{StopTime}
 use Rattle.tb_base.specs.TimetableData.{TimetableData}
 use Rattle.tb_base.specs.declared.table.Event.{Event}
 use Rattle.trip_table.specs.AskedDay.{AreFaultsOf}
-use Rattle.trip_table.specs.Day.{DayParts, IsTimetableOf, IsTimetableOfParts, Then, day_parts, given_footpaths, parts_after_rows, parts_on, rides_of}
+use Rattle.trip_table.specs.Day.{DayParts, IsTimetableOf, IsTimetableOfParts, Then, day_parts, given_footpaths, parts_after_rows, parts_on, rides_of_rows}
 use Rattle.trip_table.specs.Feed.{Feed, file_rows, or_missing, rows_in, sized}
 use Rattle.trip_table.specs.LeftFeed.{IsLeftOf, IsLenientOf, IsTimetableLeft, LeftData, apart_times, bad, bad_time, duplicate_stop, fault_of, feed_files, gone_trips, good, good_time, keep_unless, leave_found, leave_orphans, leave_starts, leave_trips, left_after_rows, left_data, left_frequencies, left_frequency, left_rows, left_services, left_start, left_starts, left_stops, left_times, left_transfers, left_trips, name_row, named_frequencies, named_frequency, names_gone, no_starts, or_no_starts, or_nothing, parts_left, sieve_file, sift, sift_found, sized_all, start_faults, start_unless, tell_found, text_at, timed_rows, times_in, twins, unless_bad, without_trips, wrong_in, wrong_start}
-use Rattle.trip_table.specs.References.{Rows, ServiceData, check_named, check_services, duplicate_service, duplicate_trip, frequencies_of, numbered_frequency, numbered_row, rows_after_services, rows_after_stops, rows_after_trips, rows_of, service_id, services_of, stops_of, times_of, transfers_of, trip_id, trip_number, trips_of, unknown_trip, wrong_calendar, wrong_names, wrong_time, wrong_trip, wrong_twice}
+use Rattle.trip_table.specs.References.{Rows, ServiceData, check_named, check_services, duplicate_service, duplicate_trip, frequencies_of, numbered_frequency, numbered_row, rows_after_services, rows_after_stops, rows_after_trips, rows_of, service_id, services_of, stops_of, times_of_feed, transfers_of_feed, trip_id, trip_number, trips_of_feed, unknown_trip, wrong_calendar, wrong_names, wrong_time, wrong_trip, wrong_twice}
 use Rattle.trip_table.specs.Sieves.{Sieved, and_look, look_on, silent}
 use Rattle.trip_table.proofs.LeftUnborne.{transfers_right}
 use Rattle.trip_table.proofs.SiftedRight.{sifted_right}
@@ -263,7 +263,7 @@ same_starts rides (f ∷ rest) e = by_fault (wrong_start rides f) (λ q. same_st
 quiet_starts : (rows : Rows) (named ys : List TripFrequency) → Quiet (left_starts rows named) ys → named ≡ ys
 quiet_starts rows [] ys q = one [] ys q.given
 quiet_starts rows (f ∷ others) ys q =
-    let a = quiet_look (silent (rides_of rows)) (leave_starts (f ∷ others)) ys q in
+    let a = quiet_look (silent (rides_of_rows rows)) (leave_starts (f ∷ others)) ys q in
     sym (same_starts a.0 (f ∷ others) a.2.told) ∙ one (map (left_start a.0) (f ∷ others)) ys a.2.given
 
 -- the bytes of each file are those of the feed
@@ -323,11 +323,11 @@ quiet_rows feed texts rows t q =
     ap (λ m. and_then (and_then m (λ rows. and_then (check_rows wrong_calendar (unwrap_or rows [])) (λ _. Ok rows))) (λ found. and_then (file_rows feed file.CalendarDates date_row) (check_services found))) (file_read feed file.Calendar calendar_row (text_at texts 1) t.calendar)
     ∙ ap (λ m. and_then (and_then (rows_in file.Calendar calendar_row (text_at texts 1)) (λ rows. and_then (check_rows wrong_calendar (unwrap_or rows [])) (λ _. Ok rows))) (λ found. and_then m (check_services found))) (file_read feed file.CalendarDates date_row (text_at texts 2) t.dates)
     ∙ quiet_services (text_at texts 1) (text_at texts 2) b.0 b.1 in
-    let trips : trips_of feed ≡ Ok c.0 = ap (λ m. and_then (and_then m (or_missing file.Trips)) (check_rows wrong_trip)) (file_read feed file.Trips trip.trip_row (text_at texts 3) t.trips) ∙ quiet_trips (text_at texts 3) c.0 c.1 in
-    let times : times_of feed a.0 c.0 ≡ Ok d.0 =
+    let trips : trips_of_feed feed ≡ Ok c.0 = ap (λ m. and_then (and_then m (or_missing file.Trips)) (check_rows wrong_trip)) (file_read feed file.Trips trip.trip_row (text_at texts 3) t.trips) ∙ quiet_trips (text_at texts 3) c.0 c.1 in
+    let times : times_of_feed feed a.0 c.0 ≡ Ok d.0 =
     ap (λ m. and_then (and_then m (or_missing file.StopTimes)) (check_rows (wrong_time a.0 c.0))) (file_read feed file.StopTimes (numbered_row a.0 c.0) (text_at texts 4) t.times) ∙ quiet_times a.0 c.0 (text_at texts 4) d.0 d.1 in
     step (stops_of feed) (rows_after_stops feed) a.0 (Ok rows) stops
-    (step (services_of feed) (rows_after_services feed a.0) b.0 (Ok rows) services (step (trips_of feed) (rows_after_trips feed a.0 b.0) c.0 (Ok rows) trips (step (times_of feed a.0 c.0) _ d.0 (Ok rows) times d.2.given)))
+    (step (services_of feed) (rows_after_services feed a.0) b.0 (Ok rows) services (step (trips_of_feed feed) (rows_after_trips feed a.0 b.0) c.0 (Ok rows) trips (step (times_of_feed feed a.0 c.0) _ d.0 (Ok rows) times d.2.given)))
 
 -- what is left is what the feed has
 quiet_parts : (feed : Feed) (day : ℕ) (options : Options) (texts : List (Option (List ℕ))) (left : LeftData) → AreTexts feed texts → Quiet (left_data texts) left → day_parts feed day options ≡ parts_left day options left
@@ -339,14 +339,14 @@ quiet_parts feed day options texts left t q =
     let c = quiet_look (left_frequencies a.0 gone (text_at texts 6)) _ left b.2 in
     let d = quiet_look (named_frequencies a.0.trips gone (text_at texts 6)) (left_starts a.0) c.0 c.1 in
     let same : record { rows = a.0; transfers = b.0; frequencies = c.0 } ≡ left = one (record { rows = a.0; transfers = b.0; frequencies = c.0 }) left c.2.given in
-    let transfers : transfers_of feed a.0.stops ≡ Ok b.0 =
+    let transfers : transfers_of_feed feed a.0.stops ≡ Ok b.0 =
     ap (λ m. and_then (and_then m (λ rows. Ok (unwrap_or rows []))) (check_transfers a.0.stops)) (file_read feed file.Transfers transfer_row (text_at texts 5) t.transfers) ∙ quiet_transfers a.0.stops (text_at texts 5) b.0 b.1 in
     let frequencies : frequencies_of feed a.0.trips ≡ Ok c.0 =
     ap (λ m. and_then (and_then m (λ rows. Ok (unwrap_or rows []))) (λ rows. check_named a.0.trips (map (numbered_frequency a.0.trips) rows))) (file_read feed file.Frequencies frequency_row (text_at texts 6) t.frequencies)
     ∙ quiet_named a.0.trips gone (text_at texts 6) d.0 d.1 ∙ ap Ok (quiet_starts a.0 d.0 c.0 d.2) in
     let given = given_footpaths a.0.stops options b.0 in
     step (rows_of feed) (parts_after_rows feed day options) a.0 (parts_left day options left) (quiet_rows feed texts a.0 t a.1)
-    (step (transfers_of feed a.0.stops) _ b.0 (parts_left day options left) transfers
+    (step (transfers_of_feed feed a.0.stops) _ b.0 (parts_left day options left) transfers
     (step (frequencies_of feed a.0.trips) (λ frequencies. parts_on a.0 frequencies day options.horizon given) c.0 (parts_left day options left) frequencies
     (subst (λ (l : LeftData). parts_on a.0 c.0 day options.horizon given ≡ parts_left day options l) same
     (sym (step (check_transfers a.0.stops b.0) (λ transfers. parts_on a.0 c.0 day options.horizon (given_footpaths a.0.stops options transfers)) b.0 (parts_on a.0 c.0 day options.horizon given) (transfers_right a.0.stops (text_at texts 5) b.0 b.1.given) refl)))))

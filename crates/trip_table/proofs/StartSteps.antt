@@ -15,7 +15,7 @@ use Rattle.gtfs_rows.specs.declared.fault.RowsFault.TheVariants as why
 use Rattle.service_trips.specs.Limits.{moves_beyond}
 use Rattle.service_trips.specs.Starts.{IsGoodFrequency}
 use Rattle.service_trips.specs.declared.frequency.TripFrequency.{TripFrequency}
-use Rattle.trip_table.specs.Day.{rides_of}
+use Rattle.trip_table.specs.Day.{rides_of_rows}
 use Rattle.trip_table.specs.LeftFeed.{leave_starts, left_start, left_starts, start_faults, start_unless, wrong_start}
 use Rattle.trip_table.specs.References.{Rows}
 use Rattle.trip_table.specs.Sieves.{EndsBy, Sieved, Sieves, after, and_look, ended, silent}
@@ -56,17 +56,17 @@ none_named rows [] told e = silently told (Ok []) (Ok []) refl
 none_named rows (x ∷ others) told e = absurd (omega (arith, e))
 
 -- trips whose times are wrong end it
-pub rides_end : (rows : Rows) (named : List TripFrequency) (told : List FeedFault) (f : RowsFault) → 0 < length named → IsRefused (rides_of rows) f → EndsBy (left_starts rows named) told told f
+pub rides_end : (rows : Rows) (named : List TripFrequency) (told : List FeedFault) (f : RowsFault) → 0 < length named → IsRefused (rides_of_rows rows) f → EndsBy (left_starts rows named) told told f
 rides_end rows [] told f some e = absurd (omega (arith, some))
-rides_end rows (x ∷ others) told (why.Feed f) some e = stop told told (silent (rides_of rows)) f (leave_starts (x ∷ others)) (silently told (rides_of rows) (Err f) e)
+rides_end rows (x ∷ others) told (why.Feed f) some e = stop told told (silent (rides_of_rows rows)) f (leave_starts (x ∷ others)) (silently told (rides_of_rows rows) (Err f) e)
 rides_end rows (x ∷ others) told why.Memory some e = tt
 
 -- the rows as they are left, and what is told
-pub starts_left : (rows : Rows) (named left : List TripFrequency) (before now : List FeedFault) (rides : List (List Event)) → 0 < length named → rides_of rows ≡ Ok rides → now ≡ before ++ flat_map (start_faults rides) named → left ≡ map (left_start rides) named
+pub starts_left : (rows : Rows) (named left : List TripFrequency) (before now : List FeedFault) (rides : List (List Event)) → 0 < length named → rides_of_rows rows ≡ Ok rides → now ≡ before ++ flat_map (start_faults rides) named → left ≡ map (left_start rides) named
     → after before (left_starts rows named) ≡ ended now (Ok left)
 starts_left rows [] left before now rides some is told kept = absurd (omega (arith, some))
 starts_left rows (x ∷ others) left before now rides some is told kept =
-    on before before (silent (rides_of rows)) rides (leave_starts (x ∷ others)) (silently before (rides_of rows) (Ok rides) is) ∙ rw (told, kept) refl
+    on before before (silent (rides_of_rows rows)) rides (leave_starts (x ∷ others)) (silently before (rides_of_rows rows) (Ok rides) is) ∙ rw (told, kept) refl
 
 one_trip : (n : ℕ) (o : Option FeedFault) (f : TripFrequency) → f.trip_row < n → TripFrequency.trip_row (start_unless o f) < n
 one_trip n None f h = h

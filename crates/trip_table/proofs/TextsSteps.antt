@@ -5,7 +5,7 @@ use Rattle.std.proofs.lemmas.List.{drop_all}
 use Rattle.gtfs_rows.specs.Steps.{and_then, prepend}
 use Rattle.gtfs_rows.specs.declared.fault.FeedFile.{FeedFile}
 use Rattle.gtfs_rows.specs.declared.fault.FeedFault.{FeedFault}
-use Rattle.trip_table.specs.Answers.{IsRefused}
+use Rattle.trip_table.specs.Answers.{IsDayRefused}
 use Rattle.trip_table.specs.Feed.{Feed, sized}
 use Rattle.trip_table.specs.LeftFeed.{sized_all}
 use Rattle.trip_table.specs.declared.day_fault.DayFault.{DayFault}
@@ -27,8 +27,8 @@ file_more feed files i file all texts new text h at e pushed before =
     ∙ ap (λ l. prepend l (sized_all feed (drop (i + 1) files))) (sym pushed)
 
 -- it isn't
-pub file_refused : (feed : Feed) (files : List FeedFile) (i : ℕ) (file : FeedFile) (all : Result (List (Option (List ℕ))) FeedFault) (texts : List (Option (List ℕ))) (f : DayFault) → i < length files → file ≡ get_or files i file → IsRefused (sized file (feed file)) f
-    → all ≡ prepend texts (sized_all feed (drop i files)) → IsRefused all f
+pub file_refused : (feed : Feed) (files : List FeedFile) (i : ℕ) (file : FeedFile) (all : Result (List (Option (List ℕ))) FeedFault) (texts : List (Option (List ℕ))) (f : DayFault) → i < length files → file ≡ get_or files i file → IsDayRefused (sized file (feed file)) f
+    → all ≡ prepend texts (sized_all feed (drop i files)) → IsDayRefused all f
 file_refused feed files i file all texts (why.Feed f) h at e before =
     before ∙ ap (prepend texts) (next_file feed files i file h at ∙ ap (λ r. and_then r (λ text. prepend (text ∷ []) (sized_all feed (drop (i + 1) files)))) e)
 file_refused feed files i file all texts why.ReadFault h at e before = tt

@@ -11,7 +11,7 @@ use Rattle.gtfs_rows.specs.declared.fault.FeedFault.TheVariants as fault
 use Rattle.gtfs_rows.specs.declared.fault.RowsFault.{RowsFault}
 use Rattle.gtfs_rows.specs.declared.fault.RowsFault.TheVariants as rows_why
 use Rattle.trip_table.specs.Feed.{sized, path_in}
-use Rattle.trip_table.specs.Answers.{IsRefused, feed_of}
+use Rattle.trip_table.specs.Answers.{IsDayRefused, feed_of}
 use Rattle.trip_table.specs.declared.day_fault.DayFault.{DayFault}
 use Rattle.trip_table.specs.declared.day_fault.DayFault.TheVariants as why
 
@@ -19,7 +19,7 @@ pub rows_refused : {A B : Type 0} (m : Result A FeedFault) (next : A → Result 
 rows_refused m next (rows_why.Feed f) h = rw h refl
 rows_refused m next rows_why.Memory h = tt
 
-pub refused : {A B : Type 0} (m : Result A FeedFault) (next : A → Result B FeedFault) (f : DayFault) → IsRefused m f → IsRefused (and_then m next) f
+pub refused : {A B : Type 0} (m : Result A FeedFault) (next : A → Result B FeedFault) (f : DayFault) → IsDayRefused m f → IsDayRefused (and_then m next) f
 refused m next (why.Feed f) h = rw h refl
 refused m next why.ReadFault h = tt
 refused m next why.Memory h = tt

@@ -20,14 +20,14 @@ path_in dir file = dir ++ codes "/" ++ file_name file
 abbrev pub feed_in : FileList → List ℕ → Feed
 feed_in files dir file = file_at files (path_in dir file)
 
-abbrev pub check_size : FeedFile → List ℕ → Result (List ℕ) FeedFault
-check_size file bytes =
+abbrev pub check_file_size : FeedFile → List ℕ → Result (List ℕ) FeedFault
+check_file_size file bytes =
     if nat_le (length bytes) 1073741824 then Ok bytes else Err (fault.FileTooLarge file)
 
 -- the bytes of a file, where it is there
 abbrev pub sized : FeedFile → Option (List ℕ) → Result (Option (List ℕ)) FeedFault
 sized file None = Ok None
-sized file (Some bytes) = and_then (check_size file bytes) (λ text. Ok (Some text))
+sized file (Some bytes) = and_then (check_file_size file bytes) (λ text. Ok (Some text))
 
 -- the rows in a file's bytes, where it is there
 abbrev pub rows_in : {A : Type 0} → FeedFile → (RawRow → Result (Option A) FeedFault) →

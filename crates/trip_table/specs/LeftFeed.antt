@@ -31,7 +31,7 @@ use Rattle.service_trips.specs.Faults.{first_wrong}
 use Rattle.service_trips.specs.Limits.{wrong_frequency}
 use Rattle.trip_table.specs.Feed.{Feed, sized, rows_in, or_missing}
 use Rattle.trip_table.specs.References.{Rows, ServiceData, service_id, duplicate_service, duplicate_trip, trip_id, wrong_twice, wrong_trip, trip_number, numbered_row, wrong_names, wrong_time, repeats, check_services, numbered_frequency, check_named, unknown_trip}
-use Rattle.trip_table.specs.Day.{DayParts, IsTimetableOf, IsTimetableOfParts, Then, given_footpaths, parts_on, rides_of}
+use Rattle.trip_table.specs.Day.{DayParts, IsTimetableOf, IsTimetableOfParts, Then, given_footpaths, parts_on, rides_of_rows}
 use Rattle.trip_table.specs.Sieves.{Sieved, ended, silent, after, and_look}
 
 -- what a row gives: nothing where it is bad
@@ -331,7 +331,7 @@ leave_starts rows rides =
 abbrev pub left_starts : Rows → List TripFrequency → Sieved (List TripFrequency)
 left_starts rows [] = silent (Ok [])
 left_starts rows (f ∷ others) =
-    and_look (silent (rides_of rows)) (leave_starts (f ∷ others))
+    and_look (silent (rides_of_rows rows)) (leave_starts (f ∷ others))
 
 -- frequencies.txt: bad rows, rows that name a trip that isn't there, and rows that move a time of
 -- their trip beyond a day

@@ -8,7 +8,7 @@ ghost use Rattle.gtfs_rows.specs.Refused.{IsRefused, Yields};
 ghost use Rattle.footpaths.specs.Stops.{platforms};
 ghost use Rattle.service_trips.specs.Rides.{IsSoundRide};
 ghost use Rattle.service_trips.specs.TimetableTrips.{DayRunsData};
-ghost use Rattle.trip_table.specs.Day.{runs_if, runs_on, runs_of, rides_of, trips_on};
+ghost use Rattle.trip_table.specs.Day.{runs_if, runs_on, runs_of, rides_of_rows, trips_on};
 
 use crate::rows::FeedRows;
 use gtfs_rows::{RowsFault, TripRow};
@@ -100,7 +100,7 @@ fn all_rows(alloc: Global, rows: &FeedRows, answer: bool) -> Result<Vec<bool>, M
 /// The events of each row of trips.txt, or the first thing that is wrong with their times.
 pub fn all_rides(alloc: Global, rows: &FeedRows) -> Result<Vec<Vec<Event>>, RowsFault>
     ensures rides { Yields IsRefused result (λ rides. map (λ ride. ride.items) rides.items)
-        (rides_of rows.now) }
+        (rides_of_rows rows.now) }
     ensures long { IfOk result (λ rides. length rides.items ≡ length rows.now.trips) }
     ensures sound { IfOk result (λ rides.
         All (λ ride. IsSoundRide (length (platforms rows.now.stops)) ride.items) rides.items) }

@@ -6,7 +6,7 @@ ghost use Rattle.gtfs_rows.specs.Columns.{row_limit};
 ghost use Rattle.gtfs_rows.specs.Faults.{spot};
 ghost use Rattle.gtfs_rows.specs.Refused as rows;
 ghost use Rattle.trip_table.specs.Feed.{path_in, sized, rows_in, file_rows};
-ghost use Rattle.trip_table.specs.Answers.{IsRefused, Leaves, feed_of};
+ghost use Rattle.trip_table.specs.Answers.{IsDayRefused, Leaves, feed_of};
 
 use crate::DayFault;
 use gtfs_rows::{FeedFault, FeedFile, RowReader, RowsFault, Spot, typed_rows};
@@ -43,7 +43,7 @@ pub fn take<F: Folder>(
 ) -> Result<Option<Vec<u8>>, DayFault>
     requires { F.faults folder.old < 2 ^ 64 - 1 }
     ensures told { IsSome (F.files folder.old) →
-        Yields IsRefused result (option_map (λ v. v.items))
+        Yields IsDayRefused result (option_map (λ v. v.items))
         (sized file (feed_of (F.files folder.old) dir.now file)) }
     ensures within { IfOk result (λ taken. IfSome taken (λ v. length v.items ≤ 1_073_741_824)) }
     ensures leaves { Leaves (F.files folder.old) (F.files folder.new) (F.faults folder.old)
@@ -92,7 +92,7 @@ pub fn file_rows<F: Folder, R: RowReader>(
 ) -> Result<Option<Vec<R::Row>>, DayFault>
     requires { F.faults folder.old < 2 ^ 64 - 1 }
     ensures told { IsSome (F.files folder.old) →
-        Yields IsRefused result (option_map (λ v. v.items))
+        Yields IsDayRefused result (option_map (λ v. v.items))
         (file_rows (feed_of (F.files folder.old) dir.now) R.file (R.reading reader.now)) }
     ensures some_bytes { IfOk result
         (λ rows. IfSome rows

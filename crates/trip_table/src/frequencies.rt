@@ -3,7 +3,7 @@ ghost use Rattle.std.specs.Prelude.{◌≡◌, ◌≤◌, ◌<◌, ◌-◌, ◌^
 ghost use Rattle.gtfs_rows.specs.Refused.{Yields};
 ghost use Rattle.gtfs_rows.specs.Refused as refusal;
 ghost use Rattle.service_trips.specs.Starts.{IsGoodFrequency};
-ghost use Rattle.trip_table.specs.Answers.{IsRefused, Leaves, feed_of};
+ghost use Rattle.trip_table.specs.Answers.{IsDayRefused, Leaves, feed_of};
 ghost use Rattle.trip_table.specs.References.{numbered_frequency, check_named, frequency_rows_of, frequencies_of};
 
 use crate::DayFault;
@@ -24,7 +24,7 @@ fn frequency_rows_of<F: Folder>(
 ) -> Result<Vec<FrequencyRow>, DayFault>
     requires { F.faults folder.old < 2 ^ 64 - 1 }
     ensures told { IsSome (F.files folder.old) →
-        Yields IsRefused result (λ rows. rows.items)
+        Yields IsDayRefused result (λ rows. rows.items)
         (frequency_rows_of (feed_of (F.files folder.old) dir.now)) }
     ensures few { IfOk result (λ rows. length rows.items ≤ 200000) }
     ensures leaves { Leaves (F.files folder.old) (F.files folder.new) (F.faults folder.old)
@@ -113,7 +113,7 @@ pub fn read_frequencies<F: Folder>(
 ) -> Result<FrequencyTable, DayFault>
     requires { F.faults folder.old < 2 ^ 64 - 1 }
     ensures told { IsSome (F.files folder.old) →
-        Yields IsRefused result (λ table. table.rows)
+        Yields IsDayRefused result (λ table. table.rows)
         (frequencies_of (feed_of (F.files folder.old) dir.now) trips.now) }
     ensures trips { IfOk result (λ table. table.trips ≡ length trips.now) }
     ensures leaves { Leaves (F.files folder.old) (F.files folder.new) (F.faults folder.old)

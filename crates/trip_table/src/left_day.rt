@@ -2,7 +2,7 @@
 ghost use Rattle.std.specs.Prelude.{◌≡◌, ◌≤◌, ◌<◌, ◌-◌, ◌^◌, [], All, IfOk, IfSome, IsSome, length, map, option_map};
 ghost use Rattle.gtfs_rows.specs.Refused.{Yields};
 ghost use Rattle.footpaths.specs.Limits.{AreWithinADay};
-ghost use Rattle.trip_table.specs.Answers.{Gives, GivesRows, IsRefused, Leaves, feed_of};
+ghost use Rattle.trip_table.specs.Answers.{Gives, GivesRows, IsDayRefused, Leaves, feed_of};
 ghost use Rattle.trip_table.specs.LeftFeed.{IsLeft, IsLeftOf, IsLenientOf, IsLeftOfTexts, IsTimetableLeft, feed_files, gone_trips, left_after_rows, left_rows, sized_all, text_at};
 ghost use Rattle.trip_table.specs.References.{Rows};
 ghost use Rattle.trip_table.specs.Sieves.{Sieves};
@@ -35,7 +35,7 @@ fn take_all<F: Folder>(
 ) -> Result<Vec<Option<Vec<u8>>>, DayFault>
     requires { F.faults folder.old < 2 ^ 64 - 1 }
     ensures told { IsSome (F.files folder.old) →
-        Yields IsRefused result (λ texts. map (option_map (λ v. v.items)) texts.items)
+        Yields IsDayRefused result (λ texts. map (option_map (λ v. v.items)) texts.items)
         (sized_all (feed_of (F.files folder.old) dir.now) files.now) }
     ensures within { IfOk result
         (λ texts. All (λ text. IfSome text (λ v. length v.items ≤ 1_073_741_824)) texts.items) }
@@ -259,7 +259,7 @@ pub fn take_feed<F: Folder>(
 ) -> Result<Vec<Option<Vec<u8>>>, DayFault>
     requires { F.faults folder.old < 2 ^ 64 - 1 }
     ensures told { IsSome (F.files folder.old) →
-        Yields IsRefused result (λ texts. map (option_map (λ v. v.items)) texts.items)
+        Yields IsDayRefused result (λ texts. map (option_map (λ v. v.items)) texts.items)
         (sized_all (feed_of (F.files folder.old) dir.now) feed_files) }
     ensures within { IfOk result
         (λ texts. All (λ text. IfSome text (λ v. length v.items ≤ 1_073_741_824)) texts.items) }

@@ -8,9 +8,9 @@ ghost use Rattle.footpaths.specs.Links.{check_transfers};
 ghost use Rattle.footpaths.specs.Stops.{platforms};
 ghost use Rattle.tb_base.specs.TimetableData.{FootpathData};
 ghost use Rattle.tb_base.specs.Soundness.{IsSoundFootpaths};
-ghost use Rattle.trip_table.specs.Answers.{IsCounted, IsRefused, Leaves, feed_of};
+ghost use Rattle.trip_table.specs.Answers.{IsCounted, IsDayRefused, Leaves, feed_of};
 ghost use Rattle.trip_table.specs.Day.{given_footpaths};
-ghost use Rattle.trip_table.specs.References.{transfer_rows_of, transfers_of};
+ghost use Rattle.trip_table.specs.References.{transfer_rows_of, transfers_of_feed};
 
 use crate::DayFault;
 use crate::feed::{file_rows, spot};
@@ -28,7 +28,7 @@ fn transfer_rows_of<F: Folder>(
 ) -> Result<Vec<TransferRow>, DayFault>
     requires { F.faults folder.old < 2 ^ 64 - 1 }
     ensures told { IsSome (F.files folder.old) →
-        Yields IsRefused result (λ rows. rows.items)
+        Yields IsDayRefused result (λ rows. rows.items)
         (transfer_rows_of (feed_of (F.files folder.old) dir.now)) }
     ensures leaves { Leaves (F.files folder.old) (F.files folder.new) (F.faults folder.old)
         (F.faults folder.new) result }
@@ -85,9 +85,9 @@ pub fn read_paths<F: Folder>(
     ensures told { IsSome (F.files folder.old) →
         MatchResult result
         (λ told. (rows : List TransferData)
-        × (transfers_of (feed_of (F.files folder.old) dir.now) stops.now ≡ Ok rows)
+        × (transfers_of_feed (feed_of (F.files folder.old) dir.now) stops.now ≡ Ok rows)
         × IsCounted (given_footpaths stops.now options.now rows) told)
-        (IsRefused (transfers_of (feed_of (F.files folder.old) dir.now) stops.now)) }
+        (IsDayRefused (transfers_of_feed (feed_of (F.files folder.old) dir.now) stops.now)) }
     ensures sound { IfOk result (λ told. IfSome told IsSoundFootpaths) }
     ensures many { IfOk result
         (λ told.

@@ -2,7 +2,7 @@
 ghost use Rattle.std.specs.Prelude.{◌≡◌, ◌≢◌, ◌<◌, ◌-◌, ◌^◌, [], All, IsSome};
 ghost use Rattle.gtfs_rows.specs.Refused.{Yields};
 ghost use Rattle.gtfs_rows.specs.StopsFile.{StopData};
-ghost use Rattle.trip_table.specs.Answers.{IsRefused, Leaves, feed_of};
+ghost use Rattle.trip_table.specs.Answers.{IsDayRefused, Leaves, feed_of};
 ghost use Rattle.trip_table.specs.References.{rows_of, rows_after_stops, rows_after_services, rows_after_trips};
 ghost use Rattle.trip_table.specs.GoodTimes.{AreGoodTimes};
 
@@ -108,7 +108,7 @@ fn rows_after_trips<F: Folder>(
     requires faults { F.faults folder.old < 2 ^ 64 - 1 }
     requires named { All (λ s. StopData.id s ≢ []) stops }
     ensures told { IsSome (F.files folder.old) →
-        Yields IsRefused result (λ x. x)
+        Yields IsDayRefused result (λ x. x)
         (rows_after_trips (feed_of (F.files folder.old) dir.now) stops services trips) }
     ensures leaves { Leaves (F.files folder.old) (F.files folder.new) (F.faults folder.old)
         (F.faults folder.new) result }
@@ -140,7 +140,7 @@ fn rows_after_services<F: Folder>(
     requires faults { F.faults folder.old < 2 ^ 64 - 1 }
     requires named { All (λ s. StopData.id s ≢ []) stops }
     ensures told { IsSome (F.files folder.old) →
-        Yields IsRefused result (λ x. x)
+        Yields IsDayRefused result (λ x. x)
         (rows_after_services (feed_of (F.files folder.old) dir.now) stops services) }
     ensures leaves { Leaves (F.files folder.old) (F.files folder.new) (F.faults folder.old)
         (F.faults folder.new) result }
@@ -165,7 +165,7 @@ fn rows_after_stops<F: Folder>(
     requires faults { F.faults folder.old < 2 ^ 64 - 1 }
     requires named { All (λ s. StopData.id s ≢ []) stops }
     ensures told { IsSome (F.files folder.old) →
-        Yields IsRefused result (λ x. x)
+        Yields IsDayRefused result (λ x. x)
         (rows_after_stops (feed_of (F.files folder.old) dir.now) stops) }
     ensures leaves { Leaves (F.files folder.old) (F.files folder.new) (F.faults folder.old)
         (F.faults folder.new) result }
@@ -188,7 +188,7 @@ fn rows_after_stops<F: Folder>(
 pub fn read_rows<F: Folder>(alloc: Global, folder: &mut F, dir: &str) -> Result<FeedRows, DayFault>
     requires { F.faults folder.old < 2 ^ 64 - 1 }
     ensures told { IsSome (F.files folder.old) →
-        Yields IsRefused result (λ x. x) (rows_of (feed_of (F.files folder.old) dir.now)) }
+        Yields IsDayRefused result (λ x. x) (rows_of (feed_of (F.files folder.old) dir.now)) }
     ensures leaves { Leaves (F.files folder.old) (F.files folder.new) (F.faults folder.old)
         (F.faults folder.new) result }
 {

@@ -3,7 +3,7 @@ ghost use Rattle.std.specs.Prelude.{◌≡◌, ◌<◌, ◌-◌, ◌^◌, Ok, Er
 ghost use Rattle.gtfs_rows.specs.Refused.{Yields};
 ghost use Rattle.gtfs_rows.specs.Faults.{check_rows};
 ghost use Rattle.gtfs_rows.specs.Refused as rows;
-ghost use Rattle.trip_table.specs.Answers.{IsRefused, Leaves, feed_of};
+ghost use Rattle.trip_table.specs.Answers.{IsDayRefused, Leaves, feed_of};
 ghost use Rattle.trip_table.specs.References.{wrong_calendar, calendar_of, check_services, services_of};
 
 use crate::DayFault;
@@ -57,7 +57,7 @@ fn read_calendar<F: Folder>(
 ) -> Result<Option<Vec<CalendarRow>>, DayFault>
     requires { F.faults folder.old < 2 ^ 64 - 1 }
     ensures told { IsSome (F.files folder.old) →
-        Yields IsRefused result (option_map (λ v. v.items))
+        Yields IsDayRefused result (option_map (λ v. v.items))
         (calendar_of (feed_of (F.files folder.old) dir.now)) }
     ensures leaves { Leaves (F.files folder.old) (F.files folder.new) (F.faults folder.old)
         (F.faults folder.new) result }
@@ -104,7 +104,7 @@ pub fn read_services<F: Folder>(
 ) -> Result<ServiceRows, DayFault>
     requires { F.faults folder.old < 2 ^ 64 - 1 }
     ensures told { IsSome (F.files folder.old) →
-        Yields IsRefused result (λ x. x) (services_of (feed_of (F.files folder.old) dir.now)) }
+        Yields IsDayRefused result (λ x. x) (services_of (feed_of (F.files folder.old) dir.now)) }
     ensures leaves { Leaves (F.files folder.old) (F.files folder.new) (F.faults folder.old)
         (F.faults folder.new) result }
 {

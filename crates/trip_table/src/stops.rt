@@ -2,7 +2,7 @@
 ghost use Rattle.std.specs.Prelude.{◌≢◌, ◌<◌, ◌-◌, ◌^◌, [], All, IfOk, IsSome};
 ghost use Rattle.gtfs_rows.specs.Refused.{Yields};
 ghost use Rattle.gtfs_rows.specs.StopsFile.{StopData};
-ghost use Rattle.trip_table.specs.Answers.{IsRefused, Leaves, feed_of};
+ghost use Rattle.trip_table.specs.Answers.{IsDayRefused, Leaves, feed_of};
 ghost use Rattle.trip_table.specs.References.{stops_of};
 
 use crate::DayFault;
@@ -20,7 +20,7 @@ pub fn read_stops<F: Folder>(
 ) -> Result<StopTable, DayFault>
     requires { F.faults folder.old < 2 ^ 64 - 1 }
     ensures told { IsSome (F.files folder.old) →
-        Yields IsRefused result (λ x. x) (stops_of (feed_of (F.files folder.old) dir.now)) }
+        Yields IsDayRefused result (λ x. x) (stops_of (feed_of (F.files folder.old) dir.now)) }
     ensures named { IfOk result (λ stops. All (λ s. StopData.id s ≢ []) stops) }
     ensures leaves { Leaves (F.files folder.old) (F.files folder.new) (F.faults folder.old)
         (F.faults folder.new) result }

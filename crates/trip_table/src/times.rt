@@ -4,10 +4,9 @@ ghost use Rattle.gtfs_rows.specs.Faults.{check_rows};
 ghost use Rattle.gtfs_rows.specs.Refused.{IsRefused, Yields};
 ghost use Rattle.gtfs_rows.specs.TimesFile.{time_data};
 ghost use Rattle.gtfs_rows.specs.declared.fault.FeedFile.TheVariants as file;
-ghost use Rattle.trip_table.specs.Answers as day;
-ghost use Rattle.trip_table.specs.Answers.{Leaves, feed_of};
+ghost use Rattle.trip_table.specs.Answers.{IsDayRefused, Leaves, feed_of};
 ghost use Rattle.trip_table.specs.GoodTimes.{AreGoodTimes};
-ghost use Rattle.trip_table.specs.References.{times_of, numbered, numbered_row, wrong_time, wrong_names, key_of, platform_number};
+ghost use Rattle.trip_table.specs.References.{times_of_feed, numbered, numbered_row, wrong_time, wrong_names, key_of, platform_number};
 
 use crate::DayFault;
 use crate::feed::{file_rows, spot};
@@ -259,8 +258,8 @@ pub fn read_times<F: Folder>(
 ) -> Result<Vec<StopTime>, DayFault>
     requires { F.faults folder.old < 2 ^ 64 - 1 }
     ensures told { IsSome (F.files folder.old) →
-        Yields day.IsRefused result (λ times. times.items)
-        (times_of (feed_of (F.files folder.old) dir.now) stops.now trips.now) }
+        Yields IsDayRefused result (λ times. times.items)
+        (times_of_feed (feed_of (F.files folder.old) dir.now) stops.now trips.now) }
     ensures good { IfOk result (λ times. AreGoodTimes stops.now trips.now times.items) }
     ensures leaves { Leaves (F.files folder.old) (F.files folder.new) (F.faults folder.old)
         (F.faults folder.new) result }
