@@ -29,7 +29,7 @@ use Rattle.segment_queue.specs.Traced.{IsAnswered, IsTracedHit, no_segment, roun
 use Rattle.segment_queue.proofs.Totals.{last_le_events}
 use Rattle.earliest_query.specs.Choices.{ArrivesBy, hits_of}
 use Rattle.earliest_query.specs.UnderWay.{AreBoarded, Covers, AddsSegments, IsHit, IsOutdone, IsQueue, covered_before}
-use Rattle.earliest_query.specs.Ridden.{IsRidden, IsServed}
+use Rattle.earliest_query.specs.Ridden.{IsRidden, IsIndexServed}
 use Rattle.earliest_query.proofs.Reaching.{hit_attained, reached_all, same_values}
 use Rattle.earliest_query.proofs.Following.{get_or-inside}
 use Rattle.earliest_query.proofs.BestSoFar.{IsWalkHit}
@@ -122,7 +122,7 @@ module _ (N : NetData) (Q : QueryData) (D : DeskData) (round : ℕ) (ridden : Is
   all_attained = All-map (IsAttained N.table Q) (λ (h : Hit). h.value) D.hits (All-weaker (IsTracedHit N.table Q D.segments) (λ (h : Hit). IsAttained N.table Q h.value) (λ h t. hit_attained N.table Q D.segments ridden.queue.entered h t) D.hits ridden.traced)
 
   -- something has been made of each index that isn't outdone, and served it
-  module _ (Made : ℕ → ℕ → Type 0) (serves : (n i : ℕ) → Made n i → IsServed N Q D n i) (made : (n i : ℕ) → n < length D.segments → Covers D n i → Made n i ⊎ IsOutdone N D.segments n i) where
+  module _ (Made : ℕ → ℕ → Type 0) (serves : (n i : ℕ) → Made n i → IsIndexServed N Q D n i) (made : (n i : ℕ) → n < length D.segments → Covers D n i → Made n i ⊎ IsOutdone N D.segments n i) where
     abbrev pub parts_of : List RoundSegment
     parts_of = parts N Q D round ridden.queue Made made
 
@@ -153,7 +153,7 @@ module _ (N : NetData) (Q : QueryData) (D : DeskData) (round : ℕ) (ridden : Is
         sooner a b d h k = omega (arith, ints, h, k)
 
   abbrev Served : ℕ → ℕ → Type 0
-  Served n i = IsServed N Q D n i
+  Served n i = IsIndexServed N Q D n i
 
   abbrev pub served_parts : List RoundSegment
   served_parts = parts N Q D round ridden.queue Served ridden.served

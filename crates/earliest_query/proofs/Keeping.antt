@@ -18,7 +18,7 @@ use Rattle.segment_queue.specs.Traced.{IsTracedHit, round_of, segment_of}
 use Rattle.segment_queue.proofs.Distinct.{of_member}
 use Rattle.earliest_query.specs.Choices.{ArrivesBy, hits_of, last_of}
 use Rattle.earliest_query.specs.UnderWay.{Covers, AddsSegments, IsBounded, IsDealtWith, IsDone, IsFollowed, IsHit, IsImproved, IsNewHit, IsArrivalOffered, IsOutdone, IsQueue}
-use Rattle.earliest_query.specs.Ridden.{IsRidden, IsServed}
+use Rattle.earliest_query.specs.Ridden.{IsRidden, IsIndexServed}
 use Rattle.earliest_query.specs.Meeting.{IsMetInTime, IsMetUnlessHit}
 use Rattle.earliest_query.proofs.Meeting.{met-grown}
 use Rattle.earliest_query.proofs.Growing.{extends-long, extends-reached, extends-round, extends-segment, outdone-kept}
@@ -268,16 +268,16 @@ module _ (N : NetData) (Q : QueryData) (D E : DeskData) (best : Option Hit) (fro
   next = omega arith
 
   abbrev Served : ℕ → ℕ → Type 0
-  Served n i = IsServed N Q (record E { hits = D.hits ++ added }) n i ⊎ IsOutdone N E.segments n i
+  Served n i = IsIndexServed N Q (record E { hits = D.hits ++ added }) n i ⊎ IsOutdone N E.segments n i
 
-  served_before : (n i : ℕ) → n < to → IsServed N Q D n i → IsServed N Q (record E { hits = D.hits ++ added }) n i
+  served_before : (n i : ℕ) → n < to → IsIndexServed N Q D n i → IsIndexServed N Q (record E { hits = D.hits ++ added }) n i
   served_before n i h s = record {
     followed = done_before N Q D E best from to round to_is ridden.this_round extends Old Late still by_best n i h s.followed;
     values = λ q secs offer. offers_before N Q D E best from to round to_is ridden.this_round extends Old Late still by_best n i q secs h
         (s.values q secs (offered N Q D E best from to round to_is ridden.this_round extends Old Late still by_best n i q secs h (record { alights = offer.alights; target = offer.target; walks = offer.walks })));
   }
 
-  served_now : (n i : ℕ) → n < to → from ≤ n → IsDealtWith N Q E best n i → IsServed N Q (record E { hits = D.hits ++ added }) n i
+  served_now : (n i : ℕ) → n < to → from ≤ n → IsDealtWith N Q E best n i → IsIndexServed N Q (record E { hits = D.hits ++ added }) n i
   served_now n i h now d =
       let grown = extends-segment D E (suc round) extends n (omega (arith, h, to_is)) in
       let bounded = bounded-same N.table Q E D best n i grown d.bounded in record {

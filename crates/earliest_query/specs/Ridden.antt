@@ -11,7 +11,7 @@ use Rattle.earliest_query.specs.UnderWay.{AreBoarded, Covers, IsFollowed, IsHit,
 
 -- all has been made of index i of segment n: each hop from there has been followed, or some hit is
 -- no worse than to get there; and some hit is no worse than to alight there
-pub record IsServed (N : NetData) (Q : QueryData) (D : DeskData) (n i : ℕ) : Type 0 where
+pub record IsIndexServed (N : NetData) (Q : QueryData) (D : DeskData) (n i : ℕ) : Type 0 where
   pub followed : IsFollowed N D n i
       ⊎ IsHit D.hits (record {
         arrive = arrival_at N.table (segment_of D.segments n).trip i;
@@ -35,7 +35,7 @@ pub record IsRidden (N : NetData) (Q : QueryData) (D : DeskData) (from round : �
   pub boarded : (place : ℕ) → place < length Q.from → AreBoarded N.table Q D place
   -- all has been made of what they cover, where it isn't outdone
   pub served : (n i : ℕ) → n < from → Covers D n i →
-      IsServed N Q D n i ⊎ IsOutdone N D.segments n i
+      IsIndexServed N Q D n i ⊎ IsOutdone N D.segments n i
   -- some hit is no worse than each walk
   pub walks : (p q secs : ℕ) → Contains Q.from p → Contains Q.to q → walk N.table p q ≡ Some secs →
       IsHit D.hits (record { arrive = Q.leave +ℤ pos secs; rides = 0 })

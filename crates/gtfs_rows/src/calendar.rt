@@ -2,7 +2,7 @@
 ghost use Rattle.std.specs.Prelude.{◌≡◌, ◌≤◌, IfErr, length};
 ghost use Rattle.gtfs_rows.specs.CalendarFile.{calendar_row, calendar_rows, flag_in, flag_of, week_in};
 ghost use Rattle.gtfs_rows.specs.LeftOut.{IsOfRow};
-ghost use Rattle.gtfs_rows.specs.Refused.{IsRefused, Yields};
+ghost use Rattle.gtfs_rows.specs.Refused.{AreRowsRefused, Yields};
 ghost use Rattle.gtfs_rows.specs.declared.fault.FeedFile.TheVariants as file;
 
 use crate::civil::date_of;
@@ -45,7 +45,7 @@ fn flag_of(text: &[u8]) -> Option<bool>
 
 fn flag_in(cursor: &RowCursor, column: u8) -> Result<bool, RowsFault>
     requires { 1 ≤ column }
-    ensures meant { Yields IsRefused result (λ x. x) (flag_in cursor.now.current column) }
+    ensures meant { Yields AreRowsRefused result (λ x. x) (flag_in cursor.now.current column) }
     ensures borne { IfErr result (IsOfRow file.Calendar cursor.now.current.row) }
 {
     match flag_of(cursor.cell(column)) {
@@ -56,7 +56,7 @@ fn flag_in(cursor: &RowCursor, column: u8) -> Result<bool, RowsFault>
 
 // The seven days of the week of a row, from Monday on.
 fn week_in(cursor: &RowCursor) -> Result<[bool; 7], RowsFault>
-    ensures meant { Yields IsRefused result (λ x. x) (week_in cursor.now.current) }
+    ensures meant { Yields AreRowsRefused result (λ x. x) (week_in cursor.now.current) }
     ensures borne { IfErr result (IsOfRow file.Calendar cursor.now.current.row) }
 {
     let monday = flag_in(cursor, calendar::MONDAY)?;
@@ -119,7 +119,7 @@ impl RowReader for CalendarReader {
 /// The typed rows of calendar.txt in file order, or the file's first fault.
 pub fn calendar_rows(alloc: Global, bytes: &[u8]) -> Result<Vec<CalendarRow>, RowsFault>
     requires { length bytes.now ≤ 1_073_741_824 }
-    ensures { Yields IsRefused result (λ v. v.items) (calendar_rows bytes.now) }
+    ensures { Yields AreRowsRefused result (λ v. v.items) (calendar_rows bytes.now) }
 {
     typed_rows(alloc, &CalendarReader, bytes)
 }

@@ -5,7 +5,7 @@ ghost use Rattle.std.specs.Str.{is_utf8};
 ghost use Rattle.gtfs_rows.specs.Records.{file_records};
 ghost use Rattle.gtfs_rows.specs.Columns.{column_names};
 ghost use Rattle.gtfs_rows.specs.RawRows.{IsOpened, cut, cut_start, is_blank, is_empty_record, positions, cell, check_columns, table, RowPosition, row_position};
-ghost use Rattle.gtfs_rows.specs.Refused.{IsRefused, Yields};
+ghost use Rattle.gtfs_rows.specs.Refused.{AreRowsRefused, Yields};
 
 use crate::{FeedFault, FeedFile, Memory, Records, RowsFault, Spot};
 use std::alloc::Global;
@@ -145,7 +145,7 @@ fn columns_of(
     file: FeedFile,
     head: &Records,
 ) -> Result<Vec<Option<usize>>, RowsFault>
-    ensures { Yields IsRefused result (λ v. v.items)
+    ensures { Yields AreRowsRefused result (λ v. v.items)
         (check_columns file (map cut head.now.current)
         (positions (column_names file) (map cut head.now.current))) }
 {
@@ -182,7 +182,7 @@ impl<'a> RowCursor<'a> {
     /// columns.
     pub fn open(alloc: Global, file: FeedFile, bytes: &'a [u8]) -> Result<RowCursor<'a>, RowsFault>
         requires { length bytes.now ≤ 1_073_741_824 }
-        ensures { Yields IsRefused result (λ c. c.left) (table file bytes.now) }
+        ensures { Yields AreRowsRefused result (λ c. c.left) (table file bytes.now) }
     {
         if !is_text(bytes) {
             return Err(RowsFault::Feed(FeedFault::NotUtf8(file)));

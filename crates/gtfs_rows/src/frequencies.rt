@@ -1,7 +1,7 @@
 //! The rows of frequencies.txt.
 ghost use Rattle.std.specs.Prelude.{◌≡◌, ◌≤◌, IfSome, length};
 ghost use Rattle.gtfs_rows.specs.FrequenciesFile.{exact_times, frequency_row, frequency_rows, headway_of};
-ghost use Rattle.gtfs_rows.specs.Refused.{IsRefused, Yields};
+ghost use Rattle.gtfs_rows.specs.Refused.{AreRowsRefused, Yields};
 ghost use Rattle.gtfs_rows.specs.declared.fault.FeedFile.TheVariants as file;
 
 use crate::columns::frequencies;
@@ -127,7 +127,7 @@ impl RowReader for FrequencyReader {
 /// whether `exact_times` is set or not.
 pub fn frequency_rows(alloc: Global, bytes: &[u8]) -> Result<Vec<FrequencyRow>, RowsFault>
     requires { length bytes.now ≤ 1_073_741_824 }
-    ensures { Yields IsRefused result (λ v. v.items) (frequency_rows bytes.now) }
+    ensures { Yields AreRowsRefused result (λ v. v.items) (frequency_rows bytes.now) }
 {
     typed_rows(alloc, &FrequencyReader, bytes)
 }

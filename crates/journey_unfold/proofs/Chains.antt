@@ -15,7 +15,7 @@ use Rattle.tb_base.specs.JourneyRules.{walk_legs, legs_after, legs_of}
 use Rattle.segment_queue.specs.declared.desk.Segment.{Segment}
 use Rattle.segment_queue.specs.declared.desk.LastLeg.TheVariants.{OnFoot, Aboard}
 use Rattle.segment_queue.specs.Queue.{DeskData}
-use Rattle.segment_queue.specs.Traced.{IsBoardedFirst, IsEntered, IsHoppedOnto, IsRideHit, IsTraced, IsWalkHit, LegsFollow, RidesFollow, UsesHops, ride_of, round_of, segment_of}
+use Rattle.segment_queue.specs.Traced.{IsBoardedFirst, IsEntered, IsHoppedOnto, IsRideHit, IsTraced, IsWalkHit, LegsFollow, RidesFollow, UsesHops, ride_of_leg, round_of, segment_of}
 use Rattle.plain_rounds.specs.Shown.{IsNearest, last_ride}
 use Rattle.tb_laws.proofs.UTurnLaws.{some}
 use Rattle.segment_queue.proofs.Rounds.{round_behind}
@@ -172,7 +172,7 @@ module _ (T : TimetableData) (Q : QueryData) (D : DeskData) (traced : IsTraced T
             ∙ ap (λ p. walk_legs T origin p ++ RideLeg (seg u.n).trip (seg u.n).board u.at ∷ legs_after T first u.rest u.target) here
 
         pub under-follows : (hops : ℕ → ℕ → List Hop) → UsesHops hops D.segments → LegsFollow hops legs
-        under-follows hops uses = subst (λ rs. RidesFollow hops rs) (sym (ap (filter_map ride_of) spelt ∙ rides-of T origin (first ∷ u.rest) u.target)) (u.follows hops uses)
+        under-follows hops uses = subst (λ rs. RidesFollow hops rs) (sym (ap (filter_map ride_of_leg) spelt ∙ rides-of T origin (first ∷ u.rest) u.target)) (u.follows hops uses)
 
         near_here : IsNearest (λ o. walk T o (stop_at T (seg u.n).trip (seg u.n).board)) Q.from origin
         near_here = subst (λ p. IsNearest (λ o. walk T o p) Q.from origin) here near_from

@@ -16,7 +16,7 @@ use Rattle.tb_base.specs.Sufficiency.{AreSufficient}
 use Rattle.tb_base.specs.TimetableData.{TimetableData, TripData, events_of, no_trip}
 use Rattle.tb_base.specs.Transfers.{kept_hops, numbers_below, numbers_down, transfers_of}
 use Rattle.tb_base.proofs.Lists.{length-filter_le, length-numbers_below, numbers_below-range}
-use Rattle.tb_laws.specs.Rows.{row_of}
+use Rattle.tb_laws.specs.Rows.{transfer_by_hop}
 use Rattle.tb_laws.proofs.KeptLaws.{kept_hops_sufficient}
 use Rattle.transfer_pack.specs.Packed.{PackedHops, hops_rebuilt, packed}
 use Rattle.transfer_pack.proofs.Packing.{packed_past}
@@ -44,7 +44,7 @@ rows_counted hops t (suc n) =
       length-append (flat_map hops (numbers_below n)) (flat_map hops (n ∷ [])),
       length-append (hops n) [],
       length-append (rows_at hops t n) (rows_below hops t n),
-      length-map {B = Transfer} (hops n) (row_of t n),
+      length-map {B = Transfer} (hops n) (transfer_by_hop t n),
       rows_counted hops t n,
     )
 

@@ -19,7 +19,7 @@ use Rattle.tb_base.specs.Walking.{change, change_time}
 use Rattle.tb_base.proofs.Lists.{some-IsSome}
 use Rattle.tb_base.proofs.Ordered.{Member, Contains-from_Member, AllPairs-head, AllPairs-tail}
 use Rattle.tb_laws.proofs.Triangles.{change-same, change-other}
-use Rattle.tb_laws.specs.Rows.{row_of}
+use Rattle.tb_laws.specs.Rows.{transfer_by_hop}
 use Rattle.line_split.specs.LinesData.{LinesData}
 use Rattle.transfer_make.specs.ByBerth.{own_rows, rows_after, rows_at}
 use Rattle.transfer_make.proofs.ByBerth.{event_rows}
@@ -151,7 +151,7 @@ module _ (L M : LinesData) (same : IsUpdated L.table M.table) (t i : ℕ) (times
             subst (λ rs. AreSettled L M rs (candidates_at M t i)) (sym (none L e)) (subst (AreSettled L M []) (sym (none M (e ∙ marks))) nothing)
           where
             none : (N : LinesData) → false ≡ (nat_lt 0 i && (event_at N.table t i).alight) → candidates_at N t i ≡ []
-            none N f = ap (λ b. map (row_of t i) (cond b (hops_if N) [])) (sym f)
+            none N f = ap (λ b. map (transfer_by_hop t i) (cond b (hops_if N) [])) (sym f)
 
     settled_untouched : is_touched_at L M t i ≡ false
     settled_untouched =

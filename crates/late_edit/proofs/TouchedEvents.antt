@@ -11,7 +11,7 @@ use Rattle.tb_base.specs.TimetableData.{events_of}
 use Rattle.tb_base.specs.Transfers.{candidates, numbers_down}
 use Rattle.tb_base.proofs.Members.{All-from_Member, Member-flat_map, Member-flat_map_back}
 use Rattle.tb_base.proofs.Ordered.{Member}
-use Rattle.tb_laws.specs.Rows.{row_of}
+use Rattle.tb_laws.specs.Rows.{transfer_by_hop}
 use Rattle.line_split.specs.LinesData.{LinesData}
 use Rattle.late_edit.specs.Touched.{candidates_at, candidates_of, has_other_events, is_touched, is_touched_at, same_transfer}
 use Rattle.late_edit.proofs.ListFacts.{flat_map-same, list_any-none, Member-numbers_down, Member-numbers_down_back}
@@ -56,7 +56,7 @@ module _ (L M : LinesData) (t : ℕ) (same : has_other_events L.table M.table t 
     untouched_at : is_touched L M t ≡ false → is_touched_at L M t i ≡ false
     untouched_at h =
         or_from (not (pointwise same_transfer (candidates_at L t i) (candidates_at M t i))) (list_any leads (candidates_at L t i))
-        (not_from_true (pointwise same_transfer (candidates_at L t i) (candidates_at M t i)) ((same_rows (candidates_at L t i) (candidates_at M t i)).1 (ap (map (row_of t i)) hops)))
+        (not_from_true (pointwise same_transfer (candidates_at L t i) (candidates_at M t i)) ((same_rows (candidates_at L t i) (candidates_at M t i)).1 (ap (map (transfer_by_hop t i)) hops)))
         (list_any_none leads (candidates_at L t i) (All-from_Member (λ (r : Transfer). leads r ≡ false) (candidates_at L t i) calm_at))
       where
         two : ((has_other_events L.table M.table t || not (pointwise same_transfer (candidates_of L t) (candidates_of M t))) ≡ false) × (list_any leads (candidates_of L t) ≡ false)

@@ -17,7 +17,7 @@ use Rattle.tb_base.specs.Walking.{change_time}
 use Rattle.tb_base.proofs.NumberFacts.{lt-eqb}
 use Rattle.tb_base.proofs.Ordered.{Member}
 use Rattle.tb_base.proofs.Members.{Member-flat_map, Member-flat_map_back, Member-map, Member-map_back, Member-filter_back}
-use Rattle.tb_laws.specs.Rows.{row_of}
+use Rattle.tb_laws.specs.Rows.{transfer_by_hop}
 use Rattle.line_split.specs.LinesData.{LinesData}
 use Rattle.late_edit.specs.Updated.{IsUpdated}
 use Rattle.late_edit.specs.Touched.{candidates_of, has_other_events, is_touched, same_transfer}
@@ -28,22 +28,22 @@ use Rattle.late_edit.proofs.SameEvents.{same_rows, same_trip}
 
 -- the transfers of trip t by the hops of its event i
 abbrev pub rows_at : (ℕ → List Hop) → ℕ → ℕ → List Transfer
-rows_at hops t i = map (row_of t i) (hops i)
+rows_at hops t i = map (transfer_by_hop t i) (hops i)
 
 -- the hop of a row of event i
 abbrev pub hop_at : ℕ → Transfer → Option Hop
 hop_at i r = cond (r.at == i) (Some (record { trip = r.to_trip; at = r.to_at })) None
 
-hops_at-own : (t i : ℕ) (hs : List Hop) (rs : List Transfer) → filter_map (hop_at i) (map (row_of t i) hs ++ rs) ≡ hs ++ filter_map (hop_at i) rs
+hops_at-own : (t i : ℕ) (hs : List Hop) (rs : List Transfer) → filter_map (hop_at i) (map (transfer_by_hop t i) hs ++ rs) ≡ hs ++ filter_map (hop_at i) rs
 hops_at-own t i [] rs = refl
 hops_at-own t i (h ∷ hs) rs =
-    ap (λ b. cons_option (cond b (Some h) None) (filter_map (hop_at i) (map (row_of t i) hs ++ rs))) (eq-eqb i i refl)
+    ap (λ b. cons_option (cond b (Some h) None) (filter_map (hop_at i) (map (transfer_by_hop t i) hs ++ rs))) (eq-eqb i i refl)
     ∙ ap (λ (ks : List Hop). h ∷ ks) (hops_at-own t i hs rs)
 
-hops_at-other : (t i j : ℕ) → (j == i) ≡ false → (hs : List Hop) (rs : List Transfer) → filter_map (hop_at i) (map (row_of t j) hs ++ rs) ≡ filter_map (hop_at i) rs
+hops_at-other : (t i j : ℕ) → (j == i) ≡ false → (hs : List Hop) (rs : List Transfer) → filter_map (hop_at i) (map (transfer_by_hop t j) hs ++ rs) ≡ filter_map (hop_at i) rs
 hops_at-other t i j e [] rs = refl
 hops_at-other t i j e (h ∷ hs) rs =
-    ap (λ b. cons_option (cond b (Some h) None) (filter_map (hop_at i) (map (row_of t j) hs ++ rs))) e
+    ap (λ b. cons_option (cond b (Some h) None) (filter_map (hop_at i) (map (transfer_by_hop t j) hs ++ rs))) e
     ∙ hops_at-other t i j e hs rs
 
 pub hops_at-all : (hops : ℕ → List Hop) (t i n : ℕ) → i < n → filter_map (hop_at i) (flat_map (rows_at hops t) (numbers_down n)) ≡ hops i
@@ -120,9 +120,9 @@ module _ (L M : LinesData) (t : ℕ) (same : IsUpdated L.table M.table) (untouch
 
   hopped : (i : ℕ) → i < length (events_of L.table t) → (h : Hop) → Member h (candidates L.table L.lines t i) → events_of L.table h.trip ≡ events_of M.table h.trip
   hopped i below h m =
-      let row = row_of t i h in
+      let row = transfer_by_hop t i h in
       let there : Member row (candidates_of L t) = Member-flat_map (rows_at (candidates L.table L.lines t) t) i row (numbers_down (length (events_of L.table t))) (Member-numbers_down i (length (events_of L.table t)) below)
-      (Member-map (row_of t i) h (candidates L.table L.lines t i) m) in
+      (Member-map (transfer_by_hop t i) h (candidates L.table L.lines t i) m) in
       same_trip L.table M.table h.trip (list_any-none (λ (r : Transfer). has_other_events L.table M.table r.to_trip) (candidates_of L t) parts.1 row there)
 
   no_turns : (i : ℕ) → i < length (events_of L.table t) → candidates_without_u_turns L.table L.lines t i ≡ candidates_without_u_turns M.table M.lines t i

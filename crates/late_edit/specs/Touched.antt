@@ -8,7 +8,7 @@ use Rattle.tb_base.specs.declared.transfer.Transfer.{Transfer}
 use Rattle.tb_base.specs.Lines.{same_mark}
 use Rattle.tb_base.specs.TimetableData.{TimetableData, events_of}
 use Rattle.tb_base.specs.Transfers.{candidates, numbers_below, transfers_of}
-use Rattle.tb_laws.specs.Rows.{row_of}
+use Rattle.tb_laws.specs.Rows.{transfer_by_hop}
 use Rattle.line_split.specs.LinesData.{LinesData}
 
 -- two events have the same stop, times and marks
@@ -40,7 +40,7 @@ is_touched L M t =
 
 -- the candidates of event i of trip t
 abbrev pub candidates_at : LinesData → ℕ → ℕ → List Transfer
-candidates_at L t i = map (row_of t i) (candidates L.table L.lines t i)
+candidates_at L t i = map (transfer_by_hop t i) (candidates L.table L.lines t i)
 
 -- event i of trip t touches it: it has other candidates, or a trip among them has other events
 abbrev pub is_touched_at : LinesData → LinesData → ℕ → ℕ → Bool

@@ -25,7 +25,7 @@ use Rattle.segment_queue.specs.declared.desk.Hit.{Hit}
 use Rattle.segment_queue.specs.Queue.{DeskData}
 use Rattle.segment_queue.specs.Traced.{round_of, segment_of}
 use Rattle.earliest_query.specs.Meeting.{IsMet, IsMetUnlessHit}
-use Rattle.earliest_query.specs.Ridden.{IsRidden, IsServed}
+use Rattle.earliest_query.specs.Ridden.{IsRidden, IsIndexServed}
 use Rattle.earliest_query.specs.UnderWay.{Covers, IsOutdone}
 use Rattle.earliest_query.proofs.Answering.{searched}
 use Rattle.earliest_query.proofs.Reaching.{no_hits}
@@ -126,7 +126,7 @@ module _ (N : NetData) (Q : QueryData) (D : DeskData) (rounds : ℕ) (ridden : I
 
   -- all has been made of an index, and who alights there has been offered
   abbrev Made : ℕ → ℕ → Type 0
-  Made n i = IsServed N Q D n i × IsMet (HoldsAlighting N.table lists) D n i
+  Made n i = IsIndexServed N Q D n i × IsMet (HoldsAlighting N.table lists) D n i
 
   made : (n i : ℕ) → n < length D.segments → Covers D n i → Made n i ⊎ IsOutdone N D.segments n i
   made n i inside covers = elim (ridden.served n i inside covers) [

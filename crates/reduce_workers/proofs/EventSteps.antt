@@ -6,7 +6,7 @@ use Rattle.tb_base.specs.TimetableData.{TimetableData, events_of}
 use Rattle.tb_base.specs.Lines.{AreDividedInto, AreLines}
 use Rattle.tb_base.specs.Soundness.{IsSound}
 use Rattle.tb_base.specs.Transfers.{candidates, candidates_without_u_turns, transfers_of}
-use Rattle.tb_laws.specs.Rows.{row_of}
+use Rattle.tb_laws.specs.Rows.{transfer_by_hop}
 use Rattle.line_split.specs.LinesData.{LinesData}
 use Rattle.uturn_cut.specs.UTurns.{is_u_turn_row}
 use Rattle.uturn_cut.proofs.Rows.{filter-map}
@@ -15,22 +15,22 @@ use Rattle.reduce_workers.specs.Events.{IsCountedTo, rows_under}
 use Rattle.reduce_workers.proofs.Counts.{generated_most, most, uncut_most}
 
 -- the candidates of an event without the U-turns
-pub event_cut : (T : TimetableData) (lines : List (List ℕ)) (t i : ℕ) → filter (λ r. not (is_u_turn_row T r)) (map (row_of t i) (candidates T lines t i)) ≡ map (row_of t i) (candidates_without_u_turns T lines t i)
-event_cut T lines t i = filter-map (λ r. not (is_u_turn_row T r)) (row_of t i) (candidates T lines t i)
+pub event_cut : (T : TimetableData) (lines : List (List ℕ)) (t i : ℕ) → filter (λ r. not (is_u_turn_row T r)) (map (transfer_by_hop t i) (candidates T lines t i)) ≡ map (transfer_by_hop t i) (candidates_without_u_turns T lines t i)
+event_cut T lines t i = filter-map (λ r. not (is_u_turn_row T r)) (transfer_by_hop t i) (candidates T lines t i)
 
 module _ (T : TimetableData) (t : ℕ) (hops : ℕ → List Hop) where
   next : (i : ℕ) → i + 1 ≡ suc i
   next i = omega arith
 
-  under : (i : ℕ) → length (rows_under t hops (i + 1)) ≡ length (map (row_of t i) (hops i)) + length (rows_under t hops i)
-  under i = ap (λ n. length (rows_under t hops n)) (next i) ∙ length-append (map (row_of t i) (hops i)) (rows_under t hops i)
+  under : (i : ℕ) → length (rows_under t hops (i + 1)) ≡ length (map (transfer_by_hop t i) (hops i)) + length (rows_under t hops i)
+  under i = ap (λ n. length (rows_under t hops n)) (next i) ∙ length-append (map (transfer_by_hop t i) (hops i)) (rows_under t hops i)
 
   -- one event more is counted
-  pub counted_more : (i count more : ℕ) → IsCountedTo T t hops (i + 1) count → more ≡ length (map (row_of t i) (hops i)) → IsCountedTo T t hops i (count + more)
+  pub counted_more : (i count more : ℕ) → IsCountedTo T t hops (i + 1) count → more ≡ length (map (transfer_by_hop t i) (hops i)) → IsCountedTo T t hops i (count + more)
   counted_more i count more h is = omega (arith, h, is, under i)
 
   -- as many as there are at most
-  pub counted_most : (i count more : ℕ) → IsCountedTo T t hops (i + 1) count → more ≡ length (map (row_of t i) (hops i)) → count + more ≤ length (transfers_of T hops t)
+  pub counted_most : (i count more : ℕ) → IsCountedTo T t hops (i + 1) count → more ≡ length (map (transfer_by_hop t i) (hops i)) → count + more ≤ length (transfers_of T hops t)
   counted_most i count more h is = omega (arith, h, is, under i)
 
   -- at the start, and at the end

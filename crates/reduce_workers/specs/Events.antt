@@ -4,12 +4,12 @@ use Rattle.tb_base.specs.declared.transfer.Hop.{Hop}
 use Rattle.tb_base.specs.declared.transfer.Transfer.{Transfer}
 use Rattle.tb_base.specs.TimetableData.{TimetableData}
 use Rattle.tb_base.specs.Transfers.{candidates, candidates_without_u_turns, numbers_down, transfers_of}
-use Rattle.tb_laws.specs.Rows.{row_of}
+use Rattle.tb_laws.specs.Rows.{transfer_by_hop}
 use Rattle.transfer_reduce.specs.Reduced.{IsReducedTo}
 
 -- the transfers of trip t by these hops of its events below i, from the last one down
 abbrev pub rows_under : ℕ → (ℕ → List Hop) → ℕ → List Transfer
-rows_under t hops i = flat_map (λ j. map (row_of t j) (hops j)) (numbers_down i)
+rows_under t hops i = flat_map (λ j. map (transfer_by_hop t j) (hops j)) (numbers_down i)
 
 -- so many transfers by these hops are counted of trip t, from its last event down to event i
 abbrev pub IsCountedTo : TimetableData → ℕ → (ℕ → List Hop) → ℕ → ℕ → Type 0

@@ -9,7 +9,7 @@ use Rattle.tb_base.specs.Profiles.{OfferData, WindowData}
 use Rattle.tb_base.specs.Transfers.{kept_hops}
 use Rattle.tb_base.specs.declared.query.Leg.{Leg}
 use Rattle.tb_base.specs.declared.transfer.Hop.{Hop}
-use Rattle.segment_queue.specs.Traced.{LegsFollow, RidesFollow, ride_of}
+use Rattle.segment_queue.specs.Traced.{LegsFollow, RidesFollow, ride_of_leg}
 use Rattle.answer_json.specs.Shown.{shown_unknown}
 use Rattle.answer_json.specs.declared.frame.Frame.TheVariants as frame
 use Rattle.answer_text.specs.Questions.{needs_mirror}
@@ -52,7 +52,7 @@ kept_changes : (N : NetworkData) → IsNetwork N → {A : Type 0} (legs_of : A �
     All (λ x. LegsFollow (net_of N).hops (legs_of x)) xs → All (λ x. LegsFollow (kept_hops N.table N.lines) (legs_of x)) xs
 kept_changes N sound legs_of xs follow =
     All-weaker (λ x. LegsFollow (net_of N).hops (legs_of x)) (λ x. LegsFollow (kept_hops N.table N.lines) (legs_of x))
-    (λ x h. rides_follow (net_of N).hops (kept_hops N.table N.lines) sound.hops (filter_map ride_of (legs_of x)) h) xs follow
+    (λ x h. rides_follow (net_of N).hops (kept_hops N.table N.lines) sound.hops (filter_map ride_of_leg (legs_of x)) h) xs follow
 
 -- so what is best over a network is best over the kept transfers of its timetable
 pub kept_choices : (N : NetworkData) → IsNetwork N → (Q : QueryData) (choices : List ChoiceData) → AreBestChoices (net_of N) Q choices → AreBestChoices (kept_network N.table N.lines) Q choices

@@ -132,10 +132,10 @@ RidesFollow hops (r ∷ s ∷ rest) =
     Contains (hops r.trip r.alight) (record { trip = s.trip; at = s.board })
     × RidesFollow hops (s ∷ rest)
 
-abbrev pub ride_of : Leg → Option Ride
-ride_of (WalkLeg p q secs) = None
-ride_of (RideLeg t b i) = Some (record { trip = t; board = b; alight = i })
+abbrev pub ride_of_leg : Leg → Option Ride
+ride_of_leg (WalkLeg p q secs) = None
+ride_of_leg (RideLeg t b i) = Some (record { trip = t; board = b; alight = i })
 
 -- the legs change from ride to ride by hops of the set
 abbrev pub LegsFollow : (ℕ → ℕ → List Hop) → List Leg → Type 0
-LegsFollow hops legs = RidesFollow hops (filter_map ride_of legs)
+LegsFollow hops legs = RidesFollow hops (filter_map ride_of_leg legs)

@@ -1,7 +1,7 @@
 //! The events that the stop times of each trip give.
 ghost use Rattle.std.specs.Prelude.{◌≡◌, ◌≤◌, ◌<◌, ◌^◌, ℕ, All, IfOk, IfSome, length, map};
 ghost use Rattle.tb_base.specs.declared.table.Event.{Event};
-ghost use Rattle.gtfs_rows.specs.Refused.{IsRefused, Yields};
+ghost use Rattle.gtfs_rows.specs.Refused.{AreRowsRefused, Yields};
 ghost use Rattle.service_trips.specs.declared.stop_time.StopTime.{StopTime};
 ghost use Rattle.service_trips.specs.StopTimes.{DifferWithinTrips};
 ghost use Rattle.service_trips.specs.Times.{HasFileTimes};
@@ -34,7 +34,7 @@ pub fn rides_of(
     requires trip_count { length runs.now ≤ 2000000 }
     requires sequences { DifferWithinTrips rows.now }
     requires times { All HasFileTimes rows.now }
-    ensures meant { Yields IsRefused result (λ rides. map (λ ride. ride.items) rides.items)
+    ensures meant { Yields AreRowsRefused result (λ rides. map (λ ride. ride.items) rides.items)
         (checked_rides rows.now runs.now) }
 
     // Whatever number of stops the rows name, the trips are sound among so many.

@@ -2,7 +2,7 @@
 ghost use Rattle.std.specs.Prelude.{◌≡◌, ◌≤◌, ◌++◌, ◌∷◌, ℕ, List, All, IfOk, OnOk, flat_map, length, map, sum_by};
 ghost use Rattle.tb_base.specs.TimetableData.{TripData};
 ghost use Rattle.tb_base.specs.Soundness.{IsSoundTrip};
-ghost use Rattle.gtfs_rows.specs.Refused.{IsRefused, Yields};
+ghost use Rattle.gtfs_rows.specs.Refused.{AreRowsRefused, Yields};
 ghost use Rattle.gtfs_rows.specs.TripsFile as row;
 ghost use Rattle.service_trips.specs.Rides.{IsSoundRide};
 ghost use Rattle.service_trips.specs.ShownRides.{IsRideOrNone};
@@ -140,7 +140,7 @@ pub fn timetable_trips(
     requires others { All (λ d. length (DayRunsData.runs d) ≡ length rides.items) others.now }
     requires trips { table.now.trips ≡ length rides.items }
     requires rides { All (λ ride. IsRideOrNone ride.items) rides.items }
-    ensures meant { Yields IsRefused result (λ trips. trips.items)
+    ensures meant { Yields AreRowsRefused result (λ trips. trips.items)
         (checked_trips
         (record {
           rows = rows.now;

@@ -16,7 +16,7 @@ use Rattle.tb_base.specs.Transfers.{candidates, boarding_indexes, earliest_trip,
 use Rattle.tb_base.specs.Walking.{change}
 use Rattle.tb_base.proofs.Ordered.{Member, Contains-from_Member}
 use Rattle.tb_laws.proofs.Triangles.{change-same, change-other}
-use Rattle.tb_laws.specs.Rows.{row_of}
+use Rattle.tb_laws.specs.Rows.{transfer_by_hop}
 use Rattle.line_split.specs.declared.boardings.Boarding.{Boarding}
 use Rattle.line_split.specs.declared.lines.Berth.{Berth}
 use Rattle.line_split.specs.Layout.{AreBoardings, berth_of}
@@ -76,19 +76,19 @@ abbrev row_on : TimetableData → ℕ → ℕ → ℤ → List ℕ → ℕ → O
 row_on T t i time line j = option_map (λ u. record { trip = t; at = i; to_trip = u; to_at = j })
     (cond (may_be_boarded T (get_or line 0 0) j) (option_and_then (λ u. cond (is_own_line_onward line t i u j) None (Some u)) (earliest_trip T line j time)) None)
 
-same_row : (t i j : ℕ) (own : ℕ → Bool) (o : Option ℕ) → option_map (row_of t i) (option_and_then (λ u. cond (own u) None (Some (record { trip = u; at = j }))) o)
+same_row : (t i j : ℕ) (own : ℕ → Bool) (o : Option ℕ) → option_map (transfer_by_hop t i) (option_and_then (λ u. cond (own u) None (Some (record { trip = u; at = j }))) o)
     ≡ option_map (λ u. record { trip = t; at = i; to_trip = u; to_at = j }) (option_and_then (λ u. cond (own u) None (Some u)) o)
 same_row t i j own None = refl
 same_row t i j own (Some u) = by_test (own u)
   where
-    by_test : (b : Bool) → option_map (row_of t i) (cond b None (Some (record { trip = u; at = j }))) ≡ option_map (λ u. record { trip = t; at = i; to_trip = u; to_at = j }) (cond b None (Some u))
+    by_test : (b : Bool) → option_map (transfer_by_hop t i) (cond b None (Some (record { trip = u; at = j }))) ≡ option_map (λ u. record { trip = t; at = i; to_trip = u; to_at = j }) (cond b None (Some u))
     by_test true = refl
     by_test false = refl
 
 module _ (T : TimetableData) (t i q : ℕ) where
   -- where one can change to q
   indexes_rows : (secs x : ℕ) (xs : List ℕ) → change T (stop_at T t i) q ≡ Some secs → (ns : List ℕ) →
-      map (row_of t i) (filter_map (λ j. hop_onto T t i (x ∷ xs) j) (filter (λ j. (stop_at T x j == q) && may_be_boarded T x j) ns))
+      map (transfer_by_hop t i) (filter_map (λ j. hop_onto T t i (x ∷ xs) j) (filter (λ j. (stop_at T x j == q) && may_be_boarded T x j) ns))
       ≡ filter_map (row_on T t i (arrival_at T t i +ℤ pos secs) (x ∷ xs)) (filter (λ j. stop_at T x j == q) ns)
   indexes_rows secs x xs changes [] = refl
   indexes_rows secs x xs changes (n ∷ ns) = by_tests (indexes_rows secs x xs changes ns) (stop_at T x n == q) refl (may_be_boarded T x n) refl
@@ -97,13 +97,13 @@ module _ (T : TimetableData) (t i q : ℕ) where
       here e = ap (option_and_then (λ secs. option_and_then (λ u. cond (is_own_line_onward (x ∷ xs) t i u n) None (Some (record { trip = u; at = n }))) (earliest_trip T (x ∷ xs) n (arrival_at T t i +ℤ pos secs))))
           (ap (change T (stop_at T t i)) (eqb-true (stop_at T x n) q e) ∙ changes)
 
-      by_tests : map (row_of t i) (filter_map (λ j. hop_onto T t i (x ∷ xs) j) (filter (λ j. (stop_at T x j == q) && may_be_boarded T x j) ns)) ≡ filter_map (row_on T t i (arrival_at T t i +ℤ pos secs) (x ∷ xs)) (filter (λ j. stop_at T x j == q) ns)
+      by_tests : map (transfer_by_hop t i) (filter_map (λ j. hop_onto T t i (x ∷ xs) j) (filter (λ j. (stop_at T x j == q) && may_be_boarded T x j) ns)) ≡ filter_map (row_on T t i (arrival_at T t i +ℤ pos secs) (x ∷ xs)) (filter (λ j. stop_at T x j == q) ns)
           → (a : Bool) → a ≡ (stop_at T x n == q) → (b : Bool) → b ≡ may_be_boarded T x n →
-          map (row_of t i) (filter_map (λ j. hop_onto T t i (x ∷ xs) j) (cond (a && b) (n ∷ filter (λ j. (stop_at T x j == q) && may_be_boarded T x j) ns) (filter (λ j. (stop_at T x j == q) && may_be_boarded T x j) ns)))
+          map (transfer_by_hop t i) (filter_map (λ j. hop_onto T t i (x ∷ xs) j) (cond (a && b) (n ∷ filter (λ j. (stop_at T x j == q) && may_be_boarded T x j) ns) (filter (λ j. (stop_at T x j == q) && may_be_boarded T x j) ns)))
           ≡ filter_map (row_on T t i (arrival_at T t i +ℤ pos secs) (x ∷ xs)) (cond a (n ∷ filter (λ j. stop_at T x j == q) ns) (filter (λ j. stop_at T x j == q) ns))
       by_tests more true e true f =
-          map-cons_option (row_of t i) (hop_onto T t i (x ∷ xs) n) (filter_map (λ j. hop_onto T t i (x ∷ xs) j) (filter (λ j. (stop_at T x j == q) && may_be_boarded T x j) ns))
-          ∙ (λ k. cons_option (option_map (row_of t i) (here (sym e) k)) (more k))
+          map-cons_option (transfer_by_hop t i) (hop_onto T t i (x ∷ xs) n) (filter_map (λ j. hop_onto T t i (x ∷ xs) j) (filter (λ j. (stop_at T x j == q) && may_be_boarded T x j) ns))
+          ∙ (λ k. cons_option (option_map (transfer_by_hop t i) (here (sym e) k)) (more k))
           ∙ ap (λ o. cons_option o (filter_map (row_on T t i (arrival_at T t i +ℤ pos secs) (x ∷ xs)) (filter (λ j. stop_at T x j == q) ns)))
           (same_row t i n (λ u. is_own_line_onward (x ∷ xs) t i u n) (earliest_trip T (x ∷ xs) n (arrival_at T t i +ℤ pos secs))
           ∙ ap (λ b. option_map (λ u. record { trip = t; at = i; to_trip = u; to_at = n }) (cond b (option_and_then (λ u. cond (is_own_line_onward (x ∷ xs) t i u n) None (Some u)) (earliest_trip T (x ∷ xs) n (arrival_at T t i +ℤ pos secs))) None)) f)
@@ -121,7 +121,7 @@ module _ (T : TimetableData) (t i q : ℕ) where
       by_test false more = more
 
   line_rows : (secs : ℕ) → change T (stop_at T t i) q ≡ Some secs → (line : List ℕ) →
-      map (row_of t i) (filter_map (λ j. hop_onto T t i line j) (boarding_indexes T line q)) ≡ filter_map (row_on T t i (arrival_at T t i +ℤ pos secs) line) (calls_at T line q)
+      map (transfer_by_hop t i) (filter_map (λ j. hop_onto T t i line j) (boarding_indexes T line q)) ≡ filter_map (row_on T t i (arrival_at T t i +ℤ pos secs) line) (calls_at T line q)
   line_rows secs changes [] = no_line (arrival_at T t i +ℤ pos secs) (calls_at T [] q)
   line_rows secs changes (x ∷ xs) = indexes_rows secs x xs changes (numbers_below (length (events_of T x)))
 
@@ -153,11 +153,11 @@ module _ (T : TimetableData) (t i q : ℕ) where
       ∙ sym (filter_map-flat_map (row_by T lines t i time) (λ l. map (λ j. record { line = l; at = j }) (calls_at T (get_or lines l []) q)) (numbers_below (length lines)))
 
   stop_rows : (lines : List (List ℕ)) (o : Option ℕ) → change T (stop_at T t i) q ≡ o →
-      map (row_of t i) (flat_map (λ line. filter_map (λ j. hop_onto T t i line j) (boarding_indexes T line q)) lines) ≡ rows_after T lines t i q (arrival_at T t i) o
-  stop_rows lines None none = ap (map (row_of t i)) (flat_map-nothing (λ line. filter_map (λ j. hop_onto T t i line j) (boarding_indexes T line q)) lines (line_none none))
+      map (transfer_by_hop t i) (flat_map (λ line. filter_map (λ j. hop_onto T t i line j) (boarding_indexes T line q)) lines) ≡ rows_after T lines t i q (arrival_at T t i) o
+  stop_rows lines None none = ap (map (transfer_by_hop t i)) (flat_map-nothing (λ line. filter_map (λ j. hop_onto T t i line j) (boarding_indexes T line q)) lines (line_none none))
   stop_rows lines (Some secs) changes =
-      map-flat_map (row_of t i) (λ line. filter_map (λ j. hop_onto T t i line j) (boarding_indexes T line q)) lines
-      ∙ flat_map-same (λ line. map (row_of t i) (filter_map (λ j. hop_onto T t i line j) (boarding_indexes T line q))) (λ line. filter_map (row_on T t i (arrival_at T t i +ℤ pos secs) line) (calls_at T line q)) lines (λ line m. line_rows secs changes line)
+      map-flat_map (transfer_by_hop t i) (λ line. filter_map (λ j. hop_onto T t i line j) (boarding_indexes T line q)) lines
+      ∙ flat_map-same (λ line. map (transfer_by_hop t i) (filter_map (λ j. hop_onto T t i line j) (boarding_indexes T line q))) (λ line. filter_map (row_on T t i (arrival_at T t i +ℤ pos secs) line) (calls_at T line q)) lines (λ line m. line_rows secs changes line)
       ∙ berths_rows lines (arrival_at T t i +ℤ pos secs)
 
 -- ---- one event
@@ -208,12 +208,12 @@ module _ (T : TimetableData) (lines : List (List ℕ)) (t i p n : ℕ) (fs : Lis
       (λ k d low high. above p (get_or fs k d).to (from k d low high) (sound k d high).away))
       (λ q low high out. ap (rows_after T lines t i q (arrival_at T t i)) (changes_none q out))
 
-  pub event_rows : (0 < i) → (event_at T t i).alight ≡ true → map (row_of t i) (candidates T lines t i)
+  pub event_rows : (0 < i) → (event_at T t i).alight ≡ true → map (transfer_by_hop t i) (candidates T lines t i)
       ≡ flat_map (λ f. rows_at T lines t i f.to f.secs (arrival_at T t i)) (take n fs) ++ (own_rows T lines t i p (arrival_at T t i) ++ flat_map (λ f. rows_at T lines t i f.to f.secs (arrival_at T t i)) (drop n fs))
   event_rows later alights =
-      ap (λ b. map (row_of t i) (cond b (flat_map (λ q. flat_map (λ line. filter_map (λ j. hop_onto T t i line j) (boarding_indexes T line q)) lines) (numbers_below (length T.stops))) [])) (and_from (nat_lt 0 i) (event_at T t i).alight (first i later) alights)
-      ∙ map-flat_map (row_of t i) (λ q. flat_map (λ line. filter_map (λ j. hop_onto T t i line j) (boarding_indexes T line q)) lines) (numbers_below (length T.stops))
-      ∙ flat_map-same (λ q. map (row_of t i) (flat_map (λ line. filter_map (λ j. hop_onto T t i line j) (boarding_indexes T line q)) lines)) rows_to (numbers_below (length T.stops))
+      ap (λ b. map (transfer_by_hop t i) (cond b (flat_map (λ q. flat_map (λ line. filter_map (λ j. hop_onto T t i line j) (boarding_indexes T line q)) lines) (numbers_below (length T.stops))) [])) (and_from (nat_lt 0 i) (event_at T t i).alight (first i later) alights)
+      ∙ map-flat_map (transfer_by_hop t i) (λ q. flat_map (λ line. filter_map (λ j. hop_onto T t i line j) (boarding_indexes T line q)) lines) (numbers_below (length T.stops))
+      ∙ flat_map-same (λ q. map (transfer_by_hop t i) (flat_map (λ line. filter_map (λ j. hop_onto T t i line j) (boarding_indexes T line q)) lines)) rows_to (numbers_below (length T.stops))
       (λ q m. stop_rows T t i q lines (change T p q) (ap (λ s. change T s q) (sym is)))
       ∙ all_stops
       ∙ flat_map-append rows_to (targets (take n fs)) (p ∷ targets (drop n fs))
@@ -266,7 +266,7 @@ module _ (T : TimetableData) (lines : List (List ℕ)) (t i p n : ℕ) (fs : Lis
     (below : AllWithin (λ f. f.to < p) fs 0 n) (from : AllWithin (λ f. p ≤ f.to) fs n (length fs)) where
   -- the rows before the stop, at it and behind it
   pub alighting_rows : 0 < i → (event_at T t i).alight ≡ true → (arr : ℤ) → arr ≡ arrival_at T t i → (old before own : List Transfer) → before ≡ old ++ flat_map (λ f. rows_at T lines t i f.to f.secs arr) (take n fs) →
-      own ≡ before ++ own_rows T lines t i p arr → own ++ flat_map (λ f. rows_at T lines t i f.to f.secs arr) (take (length fs - n) (drop n fs)) ≡ old ++ map (row_of t i) (candidates T lines t i)
+      own ≡ before ++ own_rows T lines t i p arr → own ++ flat_map (λ f. rows_at T lines t i f.to f.secs arr) (take (length fs - n) (drop n fs)) ≡ old ++ map (transfer_by_hop t i) (candidates T lines t i)
   alighting_rows later alights arr e old before own g h =
       ap (λ ys. ys ++ flat_map (λ f. rows_at T lines t i f.to f.secs arr) (take (length fs - n) (drop n fs))) (h ∙ ap (λ ys. ys ++ own_rows T lines t i p arr) g)
       ∙ ap (λ gs. (old ++ flat_map (λ f. rows_at T lines t i f.to f.secs arr) (take n fs)) ++ own_rows T lines t i p arr ++ flat_map (λ f. rows_at T lines t i f.to f.secs arr) gs) (take_rest fs n)

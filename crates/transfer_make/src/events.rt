@@ -3,7 +3,7 @@ ghost use Rattle.std.specs.Prelude.{◌≡◌, ◌<◌, ◌≤◌, ◌++◌, All
 ghost use Rattle.std.specs.List.{AllWithin};
 ghost use Rattle.tb_base.specs.TimetableData.{events_of, stop_at, MayAlight};
 ghost use Rattle.tb_base.specs.Transfers.{candidates};
-ghost use Rattle.tb_laws.specs.Rows.{row_of};
+ghost use Rattle.tb_laws.specs.Rows.{transfer_by_hop};
 ghost use Rattle.transfer_make.specs.ByBerth.{IsAlighting, own_rows, rows_at};
 
 use super::alighting::Alighting;
@@ -74,7 +74,7 @@ fn add_alighting(
     requires stop { stop ≡ stop_at table.now from.now.trip from.now.at }
     requires alights { MayAlight table.now from.now.trip from.now.at }
     ensures { OnOk result (rows.new.items ≡ rows.old.items
-        ++ map (row_of from.now.trip from.now.at)
+        ++ map (transfer_by_hop from.now.trip from.now.at)
         (candidates table.now lines.now.lines from.now.trip from.now.at)) }
 {
     table.soundness();
@@ -98,7 +98,7 @@ pub fn add_event(
     requires trip { trip < length table.now.trips }
     requires at { at < length (events_of table.now trip) }
     ensures { OnOk result (rows.new.items ≡ rows.old.items
-        ++ map (row_of trip at) (candidates table.now lines.now.lines trip at)) }
+        ++ map (transfer_by_hop trip at) (candidates table.now lines.now.lines trip at)) }
 {
     table.soundness();
     let event = table.event(trip, at as u32);

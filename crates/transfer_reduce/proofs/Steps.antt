@@ -19,23 +19,23 @@ use Rattle.tb_base.proofs.Members.{Member-append}
 use Rattle.tb_base.proofs.NumberFacts.{≤ℤ-trans}
 use Rattle.tb_laws.proofs.TransferLaws.{kept_transfers}
 use Rattle.tb_laws.specs.Labels.{label}
-use Rattle.tb_laws.specs.Rows.{row_of}
+use Rattle.tb_laws.specs.Rows.{transfer_by_hop}
 use Rattle.transfer_reduce.specs.Reduced.{HasRowAt, IsReducedTo, Reduces, alternative_row, hop_from, rows_below}
 use Rattle.transfer_reduce.specs.Reached.{AreLowered, AreShown, hop_alightings}
 use Rattle.transfer_reduce.proofs.Improvement.{improves_is}
 use Rattle.transfer_reduce.proofs.Reaching.{nowhere, stay_not_shown, stay_shown, stops_inside}
 
 -- rows of the events below n stand below n
-rows_lower : (t : ℕ) (f : ℕ → List Hop) (n : ℕ) (x : Transfer) → Member x (flat_map (λ i. map (row_of t i) (f i)) (numbers_down n)) → x.at < n
+rows_lower : (t : ℕ) (f : ℕ → List Hop) (n : ℕ) (x : Transfer) → Member x (flat_map (λ i. map (transfer_by_hop t i) (f i)) (numbers_down n)) → x.at < n
 rows_lower t f zero x m = absurd m
-rows_lower t f (suc n) x m = by_case (λ k. rows_lower t f n x k) (Member-append x (map (row_of t n) (f n)) (flat_map (λ i. map (row_of t i) (f i)) (numbers_down n)) m)
+rows_lower t f (suc n) x m = by_case (λ k. rows_lower t f n x k) (Member-append x (map (transfer_by_hop t n) (f n)) (flat_map (λ i. map (transfer_by_hop t i) (f i)) (numbers_down n)) m)
   where
-    at_n : (hs : List Hop) → Member x (map (row_of t n) hs) → x.at ≡ n
+    at_n : (hs : List Hop) → Member x (map (transfer_by_hop t n) hs) → x.at ≡ n
     at_n [] m = absurd m
     at_n (h ∷ hs) (inl e) = ap (λ (r : Transfer). r.at) (sym e)
     at_n (h ∷ hs) (inr m) = at_n hs m
 
-    by_case : (Member x (flat_map (λ i. map (row_of t i) (f i)) (numbers_down n)) → x.at < n) → Member x (map (row_of t n) (f n)) ⊎ Member x (flat_map (λ i. map (row_of t i) (f i)) (numbers_down n)) → x.at < suc n
+    by_case : (Member x (flat_map (λ i. map (transfer_by_hop t i) (f i)) (numbers_down n)) → x.at < n) → Member x (map (transfer_by_hop t n) (f n)) ⊎ Member x (flat_map (λ i. map (transfer_by_hop t i) (f i)) (numbers_down n)) → x.at < suc n
     by_case more (inl k) = omega (arith, at_n (f n) k)
     by_case more (inr k) = let h : x.at < n = more k in omega (arith, h)
 
@@ -62,7 +62,7 @@ module _ (T : TimetableData) (sound : IsSound T) (lines : List (List ℕ)) (t : 
       head : drop taken rows ≡ x ∷ drop (taken + 1) rows
       head = drop_more rows taken x below ∙ ap (λ y. y ∷ drop (taken + 1) rows) (sym is)
 
-      by_hops : (hops : List Hop) (earlier : List (List Event)) → drop taken rows ≡ map (row_of t i) hops ++ rows_below T lines t n → kept_rows ≡ (firsts ++ take kept rows) ++ filter_map (alternative_row t) (improving_alternatives T t earlier (map (hop_from i) hops ++ before i))
+      by_hops : (hops : List Hop) (earlier : List (List Event)) → drop taken rows ≡ map (transfer_by_hop t i) hops ++ rows_below T lines t n → kept_rows ≡ (firsts ++ take kept rows) ++ filter_map (alternative_row t) (improving_alternatives T t earlier (map (hop_from i) hops ++ before i))
           → AreShown T labels earlier → (hops ≡ []) ⊎ (0 < length earlier) → Reduces T lines t firsts (cond b (set rows kept x) rows) new n i (taken + 1) (cond b (kept + 1) kept)
       by_hops [] earlier left done shown begun =
           let m : Member x (rows_below T lines t n) = subst (λ ys. Member x ys) (sym head ∙ left) (inl refl) in
@@ -71,13 +71,13 @@ module _ (T : TimetableData) (sound : IsSound T) (lines : List (List ℕ)) (t : 
       by_hops (h ∷ hs) [] left done shown (inr some) = absurd (omega (arith, some))
       by_hops (h ∷ hs) (es ∷ ess) left done shown begun = by_test b refl
         where
-          both : x ∷ drop (taken + 1) rows ≡ row_of t i h ∷ (map (row_of t i) hs ++ rows_below T lines t n)
+          both : x ∷ drop (taken + 1) rows ≡ transfer_by_hop t i h ∷ (map (transfer_by_hop t i) hs ++ rows_below T lines t n)
           both = sym head ∙ left
 
-          own : x ≡ row_of t i h
+          own : x ≡ transfer_by_hop t i h
           own = cc both
 
-          behind : drop (taken + 1) rows ≡ map (row_of t i) hs ++ rows_below T lines t n
+          behind : drop (taken + 1) rows ≡ map (transfer_by_hop t i) hs ++ rows_below T lines t n
           behind = cc both
 
           inside : All (λ e. e.stop < length T.stops) (alightings T t (hop_from i h))
@@ -99,9 +99,9 @@ module _ (T : TimetableData) (sound : IsSound T) (lines : List (List ℕ)) (t : 
             left = drop-set-lt (taken + 1) rows kept x (omega (arith, order)) ∙ behind;
             done = done
                 ∙ ap (λ c. (firsts ++ take kept rows) ++ filter_map (alternative_row t) (cond c (hop_from i h ∷ improving_alternatives T t (alightings T t (hop_from i h) ∷ es ∷ ess) (map (hop_from i) hs ++ before i)) (improving_alternatives T t (alightings T t (hop_from i h) ∷ es ∷ ess) (map (hop_from i) hs ++ before i)))) (improvement ∙ sym e)
-                ∙ sym (append_assoc (firsts ++ take kept rows) (row_of t i h ∷ []) (filter_map (alternative_row t) (improving_alternatives T t (alightings T t (hop_from i h) ∷ es ∷ ess) (map (hop_from i) hs ++ before i))))
+                ∙ sym (append_assoc (firsts ++ take kept rows) (transfer_by_hop t i h ∷ []) (filter_map (alternative_row t) (improving_alternatives T t (alightings T t (hop_from i h) ∷ es ∷ ess) (map (hop_from i) hs ++ before i))))
                 ∙ ap (λ ys. ys ++ (filter_map (alternative_row t) (improving_alternatives T t (alightings T t (hop_from i h) ∷ es ∷ ess) (map (hop_from i) hs ++ before i))))
-                (append_assoc firsts (take kept rows) (row_of t i h ∷ []) ∙ ap (λ ys. firsts ++ ys) (ap (λ y. take kept rows ++ y ∷ []) (sym own) ∙ sym (take_more_set rows kept x (omega (arith, order, below)))));
+                (append_assoc firsts (take kept rows) (transfer_by_hop t i h ∷ []) ∙ ap (λ ys. firsts ++ ys) (ap (λ y. take kept rows ++ y ∷ []) (sym own) ∙ sym (take_more_set rows kept x (omega (arith, order, below)))));
             shown = now_shown;
             begun = inr (omega arith);
           }
@@ -117,7 +117,7 @@ module _ (T : TimetableData) (sound : IsSound T) (lines : List (List ℕ)) (t : 
           }
 
   -- the event before is taken up: one may stay there
-  pub next_step : (firsts rows : List Transfer) (labels new : List (Option ℤ)) (n i taken kept : ℕ) → n ≤ i → drop taken rows ≡ map (row_of t i) (candidates_without_u_turns T lines t i) ++ rows_below T lines t n → (i ≡ 0 → new ≡ labels) → (0 < i → AreLowered T t i (i + 1) labels new) → IsReducedTo T lines t (suc i) (firsts ++ take kept rows) labels → Reduces T lines t firsts rows new n i taken kept
+  pub next_step : (firsts rows : List Transfer) (labels new : List (Option ℤ)) (n i taken kept : ℕ) → n ≤ i → drop taken rows ≡ map (transfer_by_hop t i) (candidates_without_u_turns T lines t i) ++ rows_below T lines t n → (i ≡ 0 → new ≡ labels) → (0 < i → AreLowered T t i (i + 1) labels new) → IsReducedTo T lines t (suc i) (firsts ++ take kept rows) labels → Reduces T lines t firsts rows new n i taken kept
   next_step firsts rows labels new n i taken kept few left none lowered r = by_mark (nat_lt 0 i && (event_at T t i).alight) refl
     where
       rows_with : (b : Bool) → b ≡ (nat_lt 0 i && (event_at T t i).alight) → alternatives_at T lines t i ≡ cond b (record { at = i; hop = None } ∷ map (hop_from i) (candidates_without_u_turns T lines t i)) []
@@ -145,7 +145,7 @@ module _ (T : TimetableData) (sound : IsSound T) (lines : List (List ℕ)) (t : 
         hops = [];
         earlier = r.earlier;
         few = few;
-        left = left ∙ ap (λ hs. map (row_of t i) hs ++ rows_below T lines t n)
+        left = left ∙ ap (λ hs. map (transfer_by_hop t i) hs ++ rows_below T lines t n)
             (ap (λ b. filter (λ h. not (is_u_turn T t i h)) (cond b (flat_map (λ q. flat_map (λ line. filter_map (λ j. hop_onto T t i line j) (boarding_indexes T line q)) lines) (numbers_below (length T.stops))) [])) (sym e));
         done = r.done ∙ ap (λ xs. (firsts ++ take kept rows) ++ filter_map (alternative_row t) (improving_alternatives T t r.earlier (xs ++ before i))) (rows_with false e);
         shown = by_place (cases_lt 0 i) (sym e);
@@ -168,10 +168,10 @@ module _ (T : TimetableData) (sound : IsSound T) (lines : List (List ℕ)) (t : 
       IsReducedTo T lines t i (firsts ++ take kept rows) labels × (drop taken rows ≡ rows_below T lines t n)
   event_done firsts rows labels n i taken kept away r = by_hops r.hops r.left r.done
     where
-      by_hops : (hops : List Hop) → drop taken rows ≡ map (row_of t i) hops ++ rows_below T lines t n → kept_rows ≡ (firsts ++ take kept rows) ++ filter_map (alternative_row t) (improving_alternatives T t r.earlier (map (hop_from i) hops ++ before i))
+      by_hops : (hops : List Hop) → drop taken rows ≡ map (transfer_by_hop t i) hops ++ rows_below T lines t n → kept_rows ≡ (firsts ++ take kept rows) ++ filter_map (alternative_row t) (improving_alternatives T t r.earlier (map (hop_from i) hops ++ before i))
           → IsReducedTo T lines t i (firsts ++ take kept rows) labels × (drop taken rows ≡ rows_below T lines t n)
       by_hops (h ∷ hs) left done =
-          let first = drop_head taken rows (record { trip = 0; at = 0; to_trip = 0; to_at = 0 }) (row_of t i h) (map (row_of t i) hs ++ rows_below T lines t n) left in
+          let first = drop_head taken rows (record { trip = 0; at = 0; to_trip = 0; to_at = 0 }) (transfer_by_hop t i h) (map (transfer_by_hop t i) hs ++ rows_below T lines t n) left in
           absurd (away (first.0, ap (λ (y : Transfer). y.at) first.1))
       by_hops [] left done = (record { earlier = r.earlier; done = done; shown = r.shown }, left)
 

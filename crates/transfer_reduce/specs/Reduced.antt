@@ -6,7 +6,7 @@ use Rattle.tb_base.specs.declared.transfer.Hop.{Hop}
 use Rattle.tb_base.specs.declared.transfer.Transfer.{Transfer}
 use Rattle.tb_base.specs.TimetableData.{TimetableData}
 use Rattle.tb_base.specs.Transfers.{Alternative, alternatives_at, candidates_without_u_turns, improving_alternatives, kept_alternatives, numbers_down}
-use Rattle.tb_laws.specs.Rows.{row_of}
+use Rattle.tb_laws.specs.Rows.{transfer_by_hop}
 use Rattle.transfer_reduce.specs.Reached.{AreShown}
 
 -- what stands for a transfer that isn't there
@@ -19,7 +19,7 @@ HasRowAt rows i n = (n < length rows) × (Transfer.at (slice_index_or rows n no_
 
 -- the transfer by an alternative of trip t, if it hops
 abbrev pub alternative_row : ℕ → Alternative → Option Transfer
-alternative_row t a = option_map (row_of t a.at) a.hop
+alternative_row t a = option_map (transfer_by_hop t a.at) a.hop
 
 -- the alternative of hopping at event i
 abbrev pub hop_from : ℕ → Hop → Alternative
@@ -28,7 +28,7 @@ hop_from i h = record { at = i; hop = Some h }
 -- the transfers by the candidates of the events of trip t below n that are no U-turns
 abbrev pub rows_below : TimetableData → List (List ℕ) → ℕ → ℕ → List Transfer
 rows_below T lines t n =
-    flat_map (λ j. map (row_of t j) (candidates_without_u_turns T lines t j)) (numbers_down n)
+    flat_map (λ j. map (transfer_by_hop t j) (candidates_without_u_turns T lines t j)) (numbers_down n)
 
 -- From the last event of trip t down to event i these are kept. The alternatives there have been
 -- looked at, and the times show where they bring one, and when.
@@ -48,7 +48,7 @@ pub record Reduces (T : TimetableData) (lines : List (List ℕ)) (t : ℕ)
   pub hops : List Hop
   pub earlier : List (List Event)
   pub few : n ≤ i
-  pub left : drop taken rows ≡ map (row_of t i) hops ++ rows_below T lines t n
+  pub left : drop taken rows ≡ map (transfer_by_hop t i) hops ++ rows_below T lines t n
   pub done : filter_map (alternative_row t) (kept_alternatives T lines t)
       ≡ (before ++ take kept rows) ++ filter_map (alternative_row t)
       (improving_alternatives T t earlier

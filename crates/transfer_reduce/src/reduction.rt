@@ -2,7 +2,7 @@
 ghost use Rattle.std.specs.Prelude.{◌≡◌, ◌<◌, ◌≤◌, ◌+◌, ◌++◌, ◌↔◌, [], ℕ, IsTrue, List, drop, length, map, slice_index_or, slice_set, take};
 ghost use Rattle.tb_base.specs.TimetableData.{events_of};
 ghost use Rattle.tb_base.specs.Transfers.{candidates_without_u_turns, kept_hops, transfers_of};
-ghost use Rattle.tb_laws.specs.Rows.{row_of};
+ghost use Rattle.tb_laws.specs.Rows.{transfer_by_hop};
 ghost use Rattle.transfer_reduce.specs.Tried.{AreTried};
 ghost use Rattle.transfer_reduce.specs.Reduced.{HasRowAt, IsReducedTo, Reduces, rows_below};
 ghost use Rattle.tb_base.specs.declared.transfer.Transfer.{Transfer};
@@ -134,7 +134,7 @@ fn take_event<C: Calls>(
     ensures taken { result.taken ≤ length rows.old }
     ensures kept { result.kept ≤ result.taken }
     ensures reduced { (lines : List (List ℕ)) (n : ℕ) (before : List Transfer) → n ≤ done.at →
-        drop done.taken rows.old ≡ map (row_of trip done.at)
+        drop done.taken rows.old ≡ map (transfer_by_hop trip done.at)
         (candidates_without_u_turns table.now lines trip done.at)
         ++ rows_below table.now lines trip n →
         IsReducedTo table.now lines trip (done.at + 1) (before ++ take done.kept rows.old)
@@ -180,7 +180,7 @@ pub fn reduce_event<C: Calls>(
     ensures labels { labels.new.table ≡ table.now }
     ensures tried { AreTried table.now labels.new.times tried.new }
     ensures reduced { (lines : List (List ℕ)) (before : List Transfer) → rows.old.items
-        ≡ map (row_of trip at) (candidates_without_u_turns table.now lines trip at) →
+        ≡ map (transfer_by_hop trip at) (candidates_without_u_turns table.now lines trip at) →
         IsReducedTo table.now lines trip (at + 1) before labels.old.times →
         IsReducedTo table.now lines trip at (before ++ rows.new.items) labels.new.times }
 {

@@ -4,7 +4,7 @@ use Rattle.std.proofs.lemmas.List.FromFn.{length-map-range_with_len}
 use Rattle.tb_base.specs.declared.table.Event.{Event}
 use Rattle.tb_base.specs.TimetableData.{TripData}
 use Rattle.gtfs_rows.specs.Faults.{unless_wrong}
-use Rattle.gtfs_rows.specs.Refused.{IsRefused, Yields}
+use Rattle.gtfs_rows.specs.Refused.{AreRowsRefused, Yields}
 use Rattle.gtfs_rows.specs.Steps.{and_then}
 use Rattle.gtfs_rows.specs.TripsFile as row
 use Rattle.gtfs_rows.specs.declared.fault.FeedFault.{FeedFault}
@@ -56,9 +56,9 @@ date_first rows date horizon runs others r o = λ i. record { day = Date; runs =
 -- trips of these rows, events and service days are those that are meant
 pub trips_meant : {X : Type 0} (view : X → List TripData) (rows : Rows) (frequencies : List TripFrequency) (date : ℕ) (horizon : Horizon) (trips : List row.TripData) (rides : List (List Event)) (days : List DayRunsData) (result : Result X RowsFault)
     → trips ≡ rows.trips → rides_of_rows rows ≡ Ok rides → days ≡ map (runs_of rows date) (service_days horizon)
-    → Yields IsRefused result view (checked_trips (record { rows = trips; rides = rides; frequencies = frequencies }) days) → Yields IsRefused result view (trips_on rows frequencies date horizon)
+    → Yields AreRowsRefused result view (checked_trips (record { rows = trips; rides = rides; frequencies = frequencies }) days) → Yields AreRowsRefused result view (trips_on rows frequencies date horizon)
 trips_meant view rows frequencies date horizon trips rides days result t r d meant =
     let meant_is : checked_trips (record { rows = trips; rides = rides; frequencies = frequencies }) days ≡ trips_on rows frequencies date horizon =
     (λ i. checked_trips (record { rows = t i; rides = rides; frequencies = frequencies }) (d i))
     ∙ sym (ap (λ (m : Result (List (List Event)) FeedFault). and_then m (λ rides. checked_trips (record { rows = rows.trips; rides = rides; frequencies = frequencies }) (map (runs_of rows date) (service_days horizon)))) r) in
-    subst (λ (m : Result (List TripData) FeedFault). Yields IsRefused result view m) meant_is meant
+    subst (λ (m : Result (List TripData) FeedFault). Yields AreRowsRefused result view m) meant_is meant

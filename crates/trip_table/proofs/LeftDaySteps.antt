@@ -3,7 +3,7 @@ use Rattle.std.proofs.Common.{◌≡◌, ◌∙◌, refl, sym, ap, subst, inr, �
 use Rattle.std.specs.Prelude.{Result, Ok, Err, is_some}
 use Rattle.tb_base.specs.TimetableData.{TimetableData}
 use Rattle.gtfs_rows.specs.LeftOut.{bearer}
-use Rattle.gtfs_rows.specs.Refused as refusal
+use Rattle.gtfs_rows.specs.Refused.{AreRowsRefused}
 use Rattle.gtfs_rows.specs.Steps.{and_then}
 use Rattle.gtfs_rows.specs.TransfersFile.{TransferData}
 use Rattle.gtfs_rows.specs.declared.fault.FeedFault.{FeedFault}
@@ -33,7 +33,7 @@ transfers_good day options left result e h =
     GivesRows (Then (and_then m (λ transfers. parts_on left.rows left.frequencies day options.horizon (given_footpaths left.rows.stops options transfers))) (IsTimetableOfParts options.close)) result) (sym e) h
 
 -- they are refused
-pub transfers_bad : (day : ℕ) (options : Options) (left : LeftData) (f : RowsFault) → refusal.IsRefused (check_transfers left.rows.stops left.transfers) f → IsRowsFault (IsTimetableLeft day options left) f
+pub transfers_bad : (day : ℕ) (options : Options) (left : LeftData) (f : RowsFault) → AreRowsRefused (check_transfers left.rows.stops left.transfers) f → IsRowsFault (IsTimetableLeft day options left) f
 transfers_bad day options left (rows.Feed f) e =
     subst
     (λ (m : Result (List TransferData) FeedFault).

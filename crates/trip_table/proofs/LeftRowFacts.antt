@@ -4,7 +4,7 @@ use Rattle.std.specs.Prelude.{Result, Ok, Err, All, IfOk, filter, not}
 use Rattle.std.proofs.lemmas.List.Elements.{All-push, All-head, All-tail, All-nil, All-filter}
 use Rattle.gtfs_rows.specs.Faults.{wrong_after}
 use Rattle.gtfs_rows.specs.RawRows.{RawRow, typed_rows}
-use Rattle.gtfs_rows.specs.Refused.{IsRefused, Yields}
+use Rattle.gtfs_rows.specs.Refused.{AreRowsRefused, Yields}
 use Rattle.gtfs_rows.specs.StopsFile.{StopData, stop_row}
 use Rattle.gtfs_rows.specs.TripsFile.{TripData}
 use Rattle.gtfs_rows.specs.declared.fault.FeedFile.{FeedFile}
@@ -82,7 +82,7 @@ pub times_there : (stops : List StopData) (trips : List TripData) (text : List �
 times_there stops trips text rows = rows_all HasFileTimes file.StopTimes (good_time stops trips) (λ raw x e. timed_row stops trips raw x (good_time_is stops trips (numbered_row stops trips raw) x e).0) text rows
 
 -- what a step gives has what all that it may give has
-pub given_has : {A : Type 0} (P : A → Type 0) (meant : Result A FeedFault) (result : Result A RowsFault) → Yields IsRefused result (λ x. x) meant → ((x : A) → meant ≡ Ok x → P x) → IfOk result P
+pub given_has : {A : Type 0} (P : A → Type 0) (meant : Result A FeedFault) (result : Result A RowsFault) → Yields AreRowsRefused result (λ x. x) meant → ((x : A) → meant ≡ Ok x → P x) → IfOk result P
 given_has P meant (Ok x) h f = f x h
 given_has P meant (Err g) h f = tt
 
@@ -92,7 +92,7 @@ names_there stops trips text rows =
     rows_all (λ r. wrong_names stops trips r ≡ None) file.StopTimes (good_time stops trips) (λ raw x e. (good_time_is stops trips (numbered_row stops trips raw) x e).1) text rows
 
 -- rows that are read come of some bytes
-pub bytes_given : {V A : Type 0} (items : V → List A) (here : FeedFile) (read : RawRow → Result (Option A) FeedFault) (bytes : List ℕ) (result : Result V RowsFault) → Yields IsRefused result items (typed_rows here read bytes)
+pub bytes_given : {V A : Type 0} (items : V → List A) (here : FeedFile) (read : RawRow → Result (Option A) FeedFault) (bytes : List ℕ) (result : Result V RowsFault) → Yields AreRowsRefused result items (typed_rows here read bytes)
     → IfOk result (λ v. (x : List ℕ) × (typed_rows here read x ≡ Ok (items v)))
 bytes_given items here read bytes (Ok v) h = (bytes, h)
 bytes_given items here read bytes (Err f) h = tt

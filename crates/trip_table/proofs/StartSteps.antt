@@ -5,7 +5,7 @@ use Rattle.std.proofs.lemmas.List.{get_or-map}
 use Rattle.std.proofs.lemmas.List.Elements.{All-cons, All-head, All-nil, All-tail}
 use Rattle.tb_base.specs.declared.table.Event.{Event}
 use Rattle.gtfs_rows.specs.Faults.{fault_if, spot}
-use Rattle.gtfs_rows.specs.Refused.{IsRefused}
+use Rattle.gtfs_rows.specs.Refused.{AreRowsRefused}
 use Rattle.gtfs_rows.specs.declared.columns.frequencies.TheConstants as frequencies
 use Rattle.gtfs_rows.specs.declared.fault.FeedFile.TheVariants as file
 use Rattle.gtfs_rows.specs.declared.fault.FeedFault.{FeedFault}
@@ -56,7 +56,7 @@ none_named rows [] told e = silently told (Ok []) (Ok []) refl
 none_named rows (x ∷ others) told e = absurd (omega (arith, e))
 
 -- trips whose times are wrong end it
-pub rides_end : (rows : Rows) (named : List TripFrequency) (told : List FeedFault) (f : RowsFault) → 0 < length named → IsRefused (rides_of_rows rows) f → EndsBy (left_starts rows named) told told f
+pub rides_end : (rows : Rows) (named : List TripFrequency) (told : List FeedFault) (f : RowsFault) → 0 < length named → AreRowsRefused (rides_of_rows rows) f → EndsBy (left_starts rows named) told told f
 rides_end rows [] told f some e = absurd (omega (arith, some))
 rides_end rows (x ∷ others) told (why.Feed f) some e = stop told told (silent (rides_of_rows rows)) f (leave_starts (x ∷ others)) (silently told (rides_of_rows rows) (Err f) e)
 rides_end rows (x ∷ others) told why.Memory some e = tt

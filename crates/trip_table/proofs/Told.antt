@@ -4,7 +4,7 @@ use Rattle.std.specs.Prelude.{Result, Err, nat_le, IsSome, IfSome}
 use Rattle.std.proofs.lemmas.Bool.Decides.{nat_tests}
 use Rattle.tb_io.specs.Files.{FileList, file_at}
 use Rattle.gtfs_rows.specs.Steps.{and_then}
-use Rattle.gtfs_rows.specs.Refused as rows
+use Rattle.gtfs_rows.specs.Refused.{AreRowsRefused}
 use Rattle.gtfs_rows.specs.declared.fault.FeedFile.{FeedFile}
 use Rattle.gtfs_rows.specs.declared.fault.FeedFault.{FeedFault}
 use Rattle.gtfs_rows.specs.declared.fault.FeedFault.TheVariants as fault
@@ -15,7 +15,7 @@ use Rattle.trip_table.specs.Answers.{IsDayRefused, feed_of}
 use Rattle.trip_table.specs.declared.day_fault.DayFault.{DayFault}
 use Rattle.trip_table.specs.declared.day_fault.DayFault.TheVariants as why
 
-pub rows_refused : {A B : Type 0} (m : Result A FeedFault) (next : A → Result B FeedFault) (f : RowsFault) → rows.IsRefused m f → rows.IsRefused (and_then m next) f
+pub rows_refused : {A B : Type 0} (m : Result A FeedFault) (next : A → Result B FeedFault) (f : RowsFault) → AreRowsRefused m f → AreRowsRefused (and_then m next) f
 rows_refused m next (rows_why.Feed f) h = rw h refl
 rows_refused m next rows_why.Memory h = tt
 

@@ -4,7 +4,7 @@ ghost use Rattle.std.specs.List.{list_any};
 ghost use Rattle.tb_base.specs.Soundness.{IsSoundTrip};
 ghost use Rattle.tb_base.specs.TimetableData.{TripData};
 ghost use Rattle.gtfs_rows.specs.TripsFile as row;
-ghost use Rattle.gtfs_rows.specs.Refused.{IsRefused, Yields};
+ghost use Rattle.gtfs_rows.specs.Refused.{AreRowsRefused, Yields};
 ghost use Rattle.footpaths.specs.Stops.{platforms};
 ghost use Rattle.service_trips.specs.Rides.{IsSoundRide};
 ghost use Rattle.service_trips.specs.TimetableTrips.{DayRunsData};
@@ -99,7 +99,7 @@ fn all_rows(alloc: Global, rows: &FeedRows, answer: bool) -> Result<Vec<bool>, M
 
 /// The events of each row of trips.txt, or the first thing that is wrong with their times.
 pub fn all_rides(alloc: Global, rows: &FeedRows) -> Result<Vec<Vec<Event>>, RowsFault>
-    ensures rides { Yields IsRefused result (λ rides. map (λ ride. ride.items) rides.items)
+    ensures rides { Yields AreRowsRefused result (λ rides. map (λ ride. ride.items) rides.items)
         (rides_of_rows rows.now) }
     ensures long { IfOk result (λ rides. length rides.items ≡ length rows.now.trips) }
     ensures sound { IfOk result (λ rides.
@@ -122,7 +122,7 @@ pub(crate) fn trips_on(
     horizon: Horizon,
 ) -> Result<Vec<Trip>, RowsFault>
     requires { frequencies.now.trips ≡ length rows.now.trips }
-    ensures trips { Yields IsRefused result (λ trips. trips.items)
+    ensures trips { Yields AreRowsRefused result (λ trips. trips.items)
         (trips_on rows.now frequencies.now.rows date.now horizon) }
     ensures trip_count { IfOk result (λ trips. length trips.items ≤ 500000) }
     ensures event_count { IfOk result

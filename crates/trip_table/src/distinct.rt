@@ -4,7 +4,7 @@ ghost use Rattle.footpaths.specs.Stops.{stop_id};
 ghost use Rattle.trip_table.specs.LeftFeed.{duplicate_stop, sift};
 ghost use Rattle.trip_table.specs.Sieves.{after, ended};
 ghost use Rattle.gtfs_rows.specs.Faults.{check_rows};
-ghost use Rattle.gtfs_rows.specs.Refused.{IsRefused};
+ghost use Rattle.gtfs_rows.specs.Refused.{AreRowsRefused};
 ghost use Rattle.gtfs_rows.specs.declared.fault.FeedFault.{FeedFault};
 ghost use Rattle.trip_table.specs.References.{service_id, duplicate_service, trip_id, duplicate_trip, wrong_twice};
 
@@ -81,7 +81,7 @@ pub fn distinct_ids<R: Identified>(
     ensures { MatchResult result
         (λ ids. (check_rows (λ _. wrong_twice R.id R.duplicate) rows.now ≡ Ok rows.now)
         × (ids ≡ map R.id rows.now))
-        (IsRefused (check_rows (λ _. wrong_twice R.id R.duplicate) rows.now)) }
+        (AreRowsRefused (check_rows (λ _. wrong_twice R.id R.duplicate) rows.now)) }
 {
     let mut ids = NameIndex::new(alloc, key);
     for row in rows {

@@ -1,10 +1,9 @@
 //! The files of a feed, taken from a folder.
 ghost use Rattle.std.specs.Prelude.{◌≡◌, ◌≤◌, ◌<◌, ◌-◌, ◌^◌, ℕ, List, Ok, Some, None, IfOk, IfSome, IsSome, option_map, length, string_bytes};
-ghost use Rattle.gtfs_rows.specs.Refused.{Yields};
+ghost use Rattle.gtfs_rows.specs.Refused.{AreRowsRefused, Yields};
 ghost use Rattle.gtfs_rows.specs.RawRows.{typed_rows};
 ghost use Rattle.gtfs_rows.specs.Columns.{row_limit};
 ghost use Rattle.gtfs_rows.specs.Faults.{spot};
-ghost use Rattle.gtfs_rows.specs.Refused as rows;
 ghost use Rattle.trip_table.specs.Feed.{path_in, sized, rows_in, file_rows};
 ghost use Rattle.trip_table.specs.Answers.{IsDayRefused, Leaves, feed_of};
 
@@ -67,7 +66,7 @@ fn rows_in<R: RowReader>(
     bytes: Option<Vec<u8>>,
 ) -> Result<Option<Vec<R::Row>>, RowsFault>
     requires { IfSome bytes (λ v. length v.items ≤ 1_073_741_824) }
-    ensures rows { Yields rows.IsRefused result (option_map (λ v. v.items))
+    ensures rows { Yields AreRowsRefused result (option_map (λ v. v.items))
         (rows_in R.file (R.reading reader.now) (option_map (λ v. v.items) bytes)) }
     ensures some_bytes { IfOk result
         (λ rows. IfSome rows

@@ -1,7 +1,6 @@
 //! The rows of frequencies.txt, by the numbers of their trips.
 ghost use Rattle.std.specs.Prelude.{◌≡◌, ◌≤◌, ◌<◌, ◌-◌, ◌^◌, All, Ok, Err, IfOk, IsSome, MatchOption, length, map};
-ghost use Rattle.gtfs_rows.specs.Refused.{Yields};
-ghost use Rattle.gtfs_rows.specs.Refused as refusal;
+ghost use Rattle.gtfs_rows.specs.Refused.{AreRowsRefused, Yields};
 ghost use Rattle.service_trips.specs.Starts.{IsGoodFrequency};
 ghost use Rattle.trip_table.specs.Answers.{IsDayRefused, Leaves, feed_of};
 ghost use Rattle.trip_table.specs.References.{numbered_frequency, check_named, frequency_rows_of, frequencies_of};
@@ -92,7 +91,7 @@ pub fn table_of(
     rows: Vec<FrequencyRow>,
 ) -> Result<FrequencyTable, RowsFault>
     requires { length rows.items ≤ 200000 }
-    ensures rows { Yields refusal.IsRefused result (λ table. table.rows)
+    ensures rows { Yields AreRowsRefused result (λ table. table.rows)
         (check_named trips.now (map (numbered_frequency trips.now) rows.items)) }
     ensures trips { IfOk result (λ table. table.trips ≡ length trips.now) }
 {

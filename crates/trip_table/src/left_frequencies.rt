@@ -1,6 +1,6 @@
 //! What is left of frequencies.txt where bad rows give no start.
 ghost use Rattle.std.specs.Prelude.{◌≡◌, ◌≤◌, [], Err, IfOk, IfSome, MatchResult, Ok, Some, length, map, option_map, unwrap_or};
-ghost use Rattle.gtfs_rows.specs.Refused.{IsRefused, Yields};
+ghost use Rattle.gtfs_rows.specs.Refused.{AreRowsRefused, Yields};
 ghost use Rattle.gtfs_rows.specs.Steps.{and_then};
 ghost use Rattle.gtfs_rows.specs.declared.fault.FeedFile.TheVariants as file;
 ghost use Rattle.trip_table.specs.Feed.{rows_in};
@@ -51,7 +51,7 @@ fn named(
     gone: &[bool],
     cursor: &RowCursor,
 ) -> Result<Option<FrequencyRow>, RowsFault>
-    ensures { Yields IsRefused result (λ x. x)
+    ensures { Yields AreRowsRefused result (λ x. x)
         (named_frequency trips.now gone.now cursor.now.current) }
 {
     match FrequencyReader.read(alloc, cursor) {
@@ -158,7 +158,7 @@ fn left_table(
     text: Option<&[u8]>,
 ) -> Result<FrequencyTable, RowsFault>
     requires { IfSome text (λ bytes. length bytes.now ≤ 1_073_741_824) }
-    ensures rows { Yields IsRefused result (λ table. table.rows)
+    ensures rows { Yields AreRowsRefused result (λ table. table.rows)
         (and_then
         (rows_in file.Frequencies (left_frequency trips.now gone.now)
         (option_map (λ bytes. bytes.now) text.entry))
@@ -183,7 +183,7 @@ fn bad_frequencies(
     text: Option<&[u8]>,
 ) -> Result<Option<Vec<FeedFault>>, RowsFault>
     requires { IfSome text (λ bytes. length bytes.now ≤ 1_073_741_824) }
-    ensures { Yields IsRefused result (option_map (λ v. v.items))
+    ensures { Yields AreRowsRefused result (option_map (λ v. v.items))
         (rows_in file.Frequencies (bad (named_frequency trips.now gone.now))
         (option_map (λ bytes. bytes.now) text.entry)) }
 {

@@ -3,7 +3,7 @@ ghost use Rattle.std.specs.Prelude.{◌≡◌, ◌≢◌, ◌≤◌, ◌<◌, �
 ghost use Rattle.std.specs.List.{list_any};
 ghost use Rattle.footpaths.specs.Stops.{check_stops, has_stop_id, lacks_parent, stop_id};
 ghost use Rattle.gtfs_rows.specs.Faults.{check_rows};
-ghost use Rattle.gtfs_rows.specs.Refused.{IsRefused, Yields};
+ghost use Rattle.gtfs_rows.specs.Refused.{AreRowsRefused, Yields};
 ghost use Rattle.gtfs_rows.specs.StopsFile.{StopData};
 ghost use Rattle.trip_table.specs.LeftFeed.{duplicate_stop, leave_orphans, left_stops, orphan_fault};
 ghost use Rattle.trip_table.specs.References.{wrong_twice};
@@ -162,7 +162,7 @@ fn without_orphans(
 // The table of rows, or the first thing that is wrong with them.
 fn table_of(alloc: Global, key: HashKey, rows: &[StopRow]) -> Result<StopTable, RowsFault>
     requires { length rows.now ≤ 100000 }
-    ensures { Yields IsRefused result (λ x. x) (check_stops rows.now) }
+    ensures { Yields AreRowsRefused result (λ x. x) (check_stops rows.now) }
 {
     match StopTable::new(alloc, key, rows) {
         Ok(table) => Ok(table),

@@ -4,7 +4,7 @@ ghost use Rattle.std.specs.List.{list_any};
 ghost use Rattle.gtfs_rows.specs.Columns.{row_limit};
 ghost use Rattle.gtfs_rows.specs.RawRows.{typed_rows};
 ghost use Rattle.gtfs_rows.specs.Steps.{and_then};
-ghost use Rattle.gtfs_rows.specs.Refused.{IsRefused, Yields};
+ghost use Rattle.gtfs_rows.specs.Refused.{AreRowsRefused, Yields};
 ghost use Rattle.gtfs_rows.specs.declared.fault.FeedFile.TheVariants as file;
 ghost use Rattle.service_trips.specs.Broken.{broken_trips};
 ghost use Rattle.service_trips.specs.declared.broken.TripFault.{TripFault};
@@ -102,7 +102,7 @@ fn rows_by<R: RowReader>(
     text: Option<&[u8]>,
 ) -> Result<Vec<R::Row>, RowsFault>
     requires { IfSome text (λ bytes. length bytes.now ≤ 1_073_741_824) }
-    ensures rows { Yields IsRefused result (λ v. v.items)
+    ensures rows { Yields AreRowsRefused result (λ v. v.items)
         (and_then (rows_in R.file (R.reading reader.now) (option_map (λ bytes. bytes.now) text.entry))
         (or_missing R.file)) }
     ensures bytes { IfOk result
@@ -123,7 +123,7 @@ fn bad_times(
     text: Option<&[u8]>,
 ) -> Result<Vec<TripFault>, RowsFault>
     requires { IfSome text (λ bytes. length bytes.now ≤ 1_073_741_824) }
-    ensures { Yields IsRefused result (λ v. v.items)
+    ensures { Yields AreRowsRefused result (λ v. v.items)
         (times_in (bad_time stops.now trips.now) (option_map (λ bytes. bytes.now) text.entry)).end }
 {
     let reader = time_reader(alloc, stops, trips)?;
@@ -138,7 +138,7 @@ fn good_times(
     text: Option<&[u8]>,
 ) -> Result<Vec<StopTime>, RowsFault>
     requires { IfSome text (λ bytes. length bytes.now ≤ 1_073_741_824) }
-    ensures rows { Yields IsRefused result (λ v. v.items)
+    ensures rows { Yields AreRowsRefused result (λ v. v.items)
         (times_in (good_time stops.now trips.now) (option_map (λ bytes. bytes.now) text.entry)).end }
     ensures trips { IfOk result
         (λ v. All (λ r. StopTime.trip_row r < length trips.now) v.items) }

@@ -1,7 +1,6 @@
 //! Change times and footpaths from transfers.txt.
 ghost use Rattle.std.specs.Prelude.{◌≡◌, ◌<◌, ◌-◌, ◌^◌, List, Ok, IfOk, IfSome, IsSome, MatchResult, length};
-ghost use Rattle.gtfs_rows.specs.Refused.{Yields};
-ghost use Rattle.gtfs_rows.specs.Refused as refusal;
+ghost use Rattle.gtfs_rows.specs.Refused.{AreRowsRefused, Yields};
 ghost use Rattle.gtfs_rows.specs.TransfersFile.{TransferData};
 ghost use Rattle.footpaths.specs.Limits.{AreWithinADay};
 ghost use Rattle.footpaths.specs.Links.{check_transfers};
@@ -51,7 +50,7 @@ pub(crate) fn given_footpaths(
     ensures told { MatchResult result
         (λ told. (check_transfers stops.now rows.now ≡ Ok rows.now)
         × IsCounted (given_footpaths stops.now options.now rows.now) told)
-        (refusal.IsRefused (check_transfers stops.now rows.now)) }
+        (AreRowsRefused (check_transfers stops.now rows.now)) }
     ensures sound { IfOk result (λ told. IfSome told IsSoundFootpaths) }
     ensures many { IfOk result
         (λ told.

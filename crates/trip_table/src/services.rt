@@ -36,7 +36,7 @@ fn check_calendar(
     key: HashKey,
     calendar: &Option<Vec<CalendarRow>>,
 ) -> Result<(), RowsFault>
-    ensures { Yields rows.IsRefused result
+    ensures { Yields rows.AreRowsRefused result
         (λ _. unwrap_or (option_map (λ v. v.items) calendar.now) [])
         (check_rows wrong_calendar (unwrap_or (option_map (λ v. v.items) calendar.now) [])) }
 {

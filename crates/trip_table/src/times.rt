@@ -1,7 +1,7 @@
 //! The rows of stop_times.txt, by the numbers of what their ids name.
 ghost use Rattle.std.specs.Prelude.{◌≡◌, ◌<◌, ◌≤◌, ◌-◌, ◌^◌, IfOk, IsSome, length};
 ghost use Rattle.gtfs_rows.specs.Faults.{check_rows};
-ghost use Rattle.gtfs_rows.specs.Refused.{IsRefused, Yields};
+ghost use Rattle.gtfs_rows.specs.Refused.{AreRowsRefused, Yields};
 ghost use Rattle.gtfs_rows.specs.TimesFile.{time_data};
 ghost use Rattle.gtfs_rows.specs.declared.fault.FeedFile.TheVariants as file;
 ghost use Rattle.trip_table.specs.Answers.{IsDayRefused, Leaves, feed_of};
@@ -139,7 +139,7 @@ pub fn check_times(
     trips: &TripRowTable,
     rows: &[StopTime],
 ) -> Result<(), RowsFault>
-    ensures { Yields IsRefused result (λ _. rows.now)
+    ensures { Yields AreRowsRefused result (λ _. rows.now)
         (check_rows (wrong_time stops.now trips.now) rows.now) }
 {
     let mut least = zeros(alloc, trips.rows().len())?;
@@ -172,7 +172,7 @@ fn check_keys(
     trips: &TripRowTable,
     rows: &[StopTime],
 ) -> Result<(), RowsFault>
-    ensures { Yields IsRefused result (λ _. rows.now)
+    ensures { Yields AreRowsRefused result (λ _. rows.now)
         (check_rows (wrong_time stops.now trips.now) rows.now) }
 {
     let mut seen = SeenKeys::new(alloc);

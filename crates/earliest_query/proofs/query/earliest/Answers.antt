@@ -1,6 +1,6 @@
 use Rattle.tb_base.specs.Network.{NetData}
 use Rattle.segment_queue.specs.Queue.{DeskData}
-use Rattle.earliest_query.specs.Ridden.{IsServed}
+use Rattle.earliest_query.specs.Ridden.{IsIndexServed}
 use Rattle.earliest_query.proofs.Sorting.{are_parts}
 use Rattle.earliest_query.proofs.Answering.{answered, served_parts, served_search}
 use Rattle.earliest_query.proofs.query.earliest.Goals as goal
@@ -16,4 +16,4 @@ returns-clause-searched g c =
     let D : DeskData = c.run.new.desk in
     let round = c.run.ensures.ridden.0 in
     let ridden = c.run.ensures.ridden.1 in
-    (served_parts N Q D round ridden, are_parts N Q D round ridden.queue (λ n i. IsServed N Q D n i) ridden.served, served_search N Q D round ridden)
+    (served_parts N Q D round ridden, are_parts N Q D round ridden.queue (λ n i. IsIndexServed N Q D n i) ridden.served, served_search N Q D round ridden)

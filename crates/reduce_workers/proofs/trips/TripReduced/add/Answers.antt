@@ -2,7 +2,7 @@ use Rattle.std.proofs.Common.{◌≡◌, ◌∙◌, ◌++◌, length, map, ap, s
 use Rattle.std.specs.Prelude.{filter, not}
 use Rattle.std.proofs.lemmas.Grind.{common_steps}
 use Rattle.tb_base.specs.Transfers.{candidates, candidates_without_u_turns}
-use Rattle.tb_laws.specs.Rows.{row_of}
+use Rattle.tb_laws.specs.Rows.{transfer_by_hop}
 use Rattle.uturn_cut.specs.UTurns.{is_u_turn_row}
 use Rattle.transfer_reduce.specs.Reduced.{IsReducedTo}
 use Rattle.reduce_workers.proofs.EventSteps.{counted_more, counted_most, event_cut, trip_generated, trip_uncut}
@@ -14,8 +14,8 @@ overflow_add-self c =
     let lines = c.args.lines.now.lines in
     let t = c.args.trip in
     let at = c.args.at in
-    let items : c.add_event.new.rows.items ≡ map (row_of c.args.trip c.args.at) (candidates c.args.table.now c.args.lines.now.lines c.args.trip c.args.at)
-    = c.in_ok-add_event.ensures ∙ ap (λ xs. xs ++ map (row_of t at) (candidates T lines t at)) c.requires.found in
+    let items : c.add_event.new.rows.items ≡ map (transfer_by_hop c.args.trip c.args.at) (candidates c.args.table.now c.args.lines.now.lines c.args.trip c.args.at)
+    = c.in_ok-add_event.ensures ∙ ap (λ xs. xs ++ map (transfer_by_hop t at) (candidates T lines t at)) c.requires.found in
     let long : c.len.result ≡ length c.add_event.new.rows.items = grind (arith, common_steps) in
     let few = trip_generated T c.args.lines.now c.requires.lines c.soundness.ensures c.soundness-2.ensures.lines c.soundness-2.ensures.divided t (omega (arith, c.requires.trip)) in
     let most = counted_most T t (candidates T lines t) at c.args.self.now.generated c.len.result c.requires.done.generated_to (long ∙ ap length items) in
@@ -27,9 +27,9 @@ overflow_add-self-2 c =
     let lines = c.args.lines.now.lines in
     let t = c.args.trip in
     let at = c.args.at in
-    let items : c.add_event.new.rows.items ≡ map (row_of c.args.trip c.args.at) (candidates c.args.table.now c.args.lines.now.lines c.args.trip c.args.at)
-    = c.in_ok-add_event.ensures ∙ ap (λ xs. xs ++ map (row_of t at) (candidates T lines t at)) c.requires.found in
-    let cut : c.cut_by.new.rows.items ≡ map (row_of c.args.trip c.args.at) (candidates_without_u_turns c.args.table.now c.args.lines.now.lines c.args.trip c.args.at)
+    let items : c.add_event.new.rows.items ≡ map (transfer_by_hop c.args.trip c.args.at) (candidates c.args.table.now c.args.lines.now.lines c.args.trip c.args.at)
+    = c.in_ok-add_event.ensures ∙ ap (λ xs. xs ++ map (transfer_by_hop t at) (candidates T lines t at)) c.requires.found in
+    let cut : c.cut_by.new.rows.items ≡ map (transfer_by_hop c.args.trip c.args.at) (candidates_without_u_turns c.args.table.now c.args.lines.now.lines c.args.trip c.args.at)
     = c.cut_by.ensures ∙ ap (filter (λ r. not (is_u_turn_row T r))) items ∙ event_cut T lines t at in
     let long : c.len-2.result ≡ length c.cut_by.new.rows.items = grind (arith, common_steps) in
     let few = trip_uncut T c.args.lines.now c.requires.lines c.soundness.ensures c.soundness-2.ensures.lines c.soundness-2.ensures.divided t (omega (arith, c.requires.trip)) in
@@ -42,10 +42,10 @@ returns-clause-done c =
     let lines = c.args.lines.now.lines in
     let t = c.args.trip in
     let at = c.args.at in
-    let items : c.add_event.new.rows.items ≡ map (row_of c.args.trip c.args.at) (candidates c.args.table.now c.args.lines.now.lines c.args.trip c.args.at)
-    = c.in_ok-add_event.ensures ∙ ap (λ xs. xs ++ map (row_of t at) (candidates T lines t at)) c.requires.found in
+    let items : c.add_event.new.rows.items ≡ map (transfer_by_hop c.args.trip c.args.at) (candidates c.args.table.now c.args.lines.now.lines c.args.trip c.args.at)
+    = c.in_ok-add_event.ensures ∙ ap (λ xs. xs ++ map (transfer_by_hop t at) (candidates T lines t at)) c.requires.found in
     let long : c.len.result ≡ length c.add_event.new.rows.items = grind (arith, common_steps) in
-    let cut : c.cut_by.new.rows.items ≡ map (row_of c.args.trip c.args.at) (candidates_without_u_turns c.args.table.now c.args.lines.now.lines c.args.trip c.args.at)
+    let cut : c.cut_by.new.rows.items ≡ map (transfer_by_hop c.args.trip c.args.at) (candidates_without_u_turns c.args.table.now c.args.lines.now.lines c.args.trip c.args.at)
     = c.cut_by.ensures ∙ ap (filter (λ r. not (is_u_turn_row T r))) items ∙ event_cut T lines t at in
     let long_cut : c.len-2.result ≡ length c.cut_by.new.rows.items = grind (arith, common_steps) in
     record {
