@@ -172,17 +172,17 @@ impl<S: Scan> Search<'_, S> {
     // Looks at the indices that a segment covers one by one, and weighs to alight there. It ends
     // where one gets no earlier than the best hit so far arrives, and where it is clipped: there
     // the trip before on the line has been entered, in which one is there as early with no more
-    // rides. Answers what it has seen before, too.
+    // rides. Answers what it has seen before.
     fn weigh_events<L: Ledger, A: AtEvent<S>>(
         &self,
         desk: &Desk,
         n: u32,
         end: u32,
         round: u32,
-        so_far: Option<Hit>,
+        best: &mut Option<Hit>,
         also: &mut A,
         steps: &mut Steps<L>,
-    ) -> (Option<Hit>, Option<Seen>)
+    ) -> Option<Seen>
     where
         S: Look<L>,
         requires queue { IsQueue (S.net self.now.scan.now) self.now.query.now desk.now round }
@@ -193,16 +193,16 @@ impl<S: Scan> Search<'_, S> {
         requires clipped { (s : Segment) → slice_get desk.now.segments n ≡ Some s →
             IsClipped (S.net self.now.scan.now) desk.now.marks s end }
         ensures seen { All (IsSoundNote (S.net self.now.scan.now) desk.now.segments round)
-            (notes_of n result.1) }
+            (notes_of n result) }
         ensures weighed { (i : ℕ) → Covers desk.now n i →
-            IsWeighedOff (S.net self.now.scan.now) self.now.query.now desk.now result.0
-            (notes_of n result.1) n i
+            IsWeighedOff (S.net self.now.scan.now) self.now.query.now desk.now best.new
+            (notes_of n result) n i
             ⊎ IsOutdone (S.net self.now.scan.now) desk.now.segments n i }
         ensures improved { IsImproved (S.net self.now.scan.now).table self.now.query.now desk.now
-            round so_far result.0 }
+            round best.old best.new }
         ensures met { (i : ℕ) → Covers desk.now n i →
             IsMetInTime (S.net self.now.scan.now) (A.has_met also.new (S.net self.now.scan.now))
-            desk.now result.0 n i }
+            desk.now best.new n i }
         ensures ready { (later : ℕ) → round ≤ later →
             A.is_ready also.new (S.net self.now.scan.now) self.now.query.now later }
         ensures still_met { (t i r : ℕ) → A.has_met also.old (S.net self.now.scan.now) t i r →
@@ -212,21 +212,20 @@ impl<S: Scan> Search<'_, S> {
         let scan = self.scan;
         scan.soundness();
         let Some(segment) = desk.segment(n) else {
-            return (so_far, None);
+            return None;
         };
-        let mut best = so_far;
         let mut seen = None;
         for before in segment.board..end {
             let at = before + 1;
             let visit = scan.visit(segment.trip, at, steps);
             also.meet(self, &segment, at, round, &visit);
-            self.weigh(&mut best, &visit, n, at, round);
-            if is_late(&best, &visit) {
-                return (best, seen);
+            self.weigh(best, &visit, n, at, round);
+            if is_late(best, &visit) {
+                return seen;
             }
             seen = Some(seen_on(seen, visit.seen));
         }
-        (best, seen)
+        seen
     }
 
     // Weighs a segment, and notes what was seen of it to go on from.
@@ -236,10 +235,10 @@ impl<S: Scan> Search<'_, S> {
         n: u32,
         end: u32,
         round: u32,
-        so_far: Option<Hit>,
+        best: &mut Option<Hit>,
         also: &mut A,
         steps: &mut Steps<L>,
-    ) -> Option<Hit>
+    )
     where
         S: Look<L>,
         requires queue { IsQueue (S.net self.now.scan.now) self.now.query.now desk.old round }
@@ -258,14 +257,14 @@ impl<S: Scan> Search<'_, S> {
             desk.new.notes }
         ensures kept { (note : Note) → Contains desk.old.notes note → Contains desk.new.notes note }
         ensures weighed { (i : ℕ) → Covers desk.old n i →
-            IsWeighedOff (S.net self.now.scan.now) self.now.query.now desk.old result
+            IsWeighedOff (S.net self.now.scan.now) self.now.query.now desk.old best.new
             desk.new.notes n i
             ⊎ IsOutdone (S.net self.now.scan.now) desk.old.segments n i }
         ensures improved { IsImproved (S.net self.now.scan.now).table self.now.query.now desk.old
-            round so_far result }
+            round best.old best.new }
         ensures met { (i : ℕ) → Covers desk.old n i →
             IsMetInTime (S.net self.now.scan.now) (A.has_met also.new (S.net self.now.scan.now))
-            desk.old result n i }
+            desk.old best.new n i }
         ensures ready { (later : ℕ) → round ≤ later →
             A.is_ready also.new (S.net self.now.scan.now) self.now.query.now later }
         ensures still_met { (t i r : ℕ) → A.has_met also.old (S.net self.now.scan.now) t i r →
@@ -274,9 +273,8 @@ impl<S: Scan> Search<'_, S> {
             ≤ length desk.old.notes + covered_indices (segment_of desk.old.segments n) }
         ensures steps { steps.new ≤ steps.old + covered_indices (segment_of desk.old.segments n) }
     {
-        let (best, seen) = self.weigh_events(desk, n, end, round, so_far, also, steps);
+        let seen = self.weigh_events(desk, n, end, round, best, also, steps);
         note_down(desk, n, seen);
-        best
     }
 
     // Weighs the segments of a round, from one number up to another.
@@ -327,7 +325,7 @@ impl<S: Scan> Search<'_, S> {
             desk.clip_ahead(self.scan, next, stop, &mut ends);
             for n in next..stop {
                 let end = ends[(n - next) as usize];
-                best = self.weigh_segment(desk, n, end, round, best, also, steps);
+                self.weigh_segment(desk, n, end, round, &mut best, also, steps);
             }
             next = stop;
         }

@@ -126,7 +126,7 @@ loop-before-preserved g c =
     let look = c.visit-visit.ensures in
     let on = c.seen_on.ensures in
     record {
-      weighed = weighed_on N Q D n c.loop-before.before c.args.round c.args.so_far c.loop-before.best c.weigh.new.best before.weighed w;
+      weighed = weighed_on N Q D n c.loop-before.before c.args.round c.args.best.now c.loop-before.best c.weigh.new.best before.weighed w;
       seen = seen_more N.table (segment_of D.segments n) c.loop-before.seen c.visit-visit.result.seen c.seen_on.result c.loop-before.before before.seen
           (here_seen N.table (segment_of D.segments n) c.in-Some.segment c.visit-visit.result.seen at same look.trip look.first look.last look.seen) on.trip on.last on.first;
       ready = c.meet.ensures.ready;
@@ -169,13 +169,13 @@ returns-then-is_late g c =
     record {
       seen = seen_sound N D.segments (segment_of D.segments n) c.loop-before.seen n c.loop-before.before c.args.round refl c.requires.segment c.requires.round before.within before.seen;
       weighed = λ i covers. inl (record {
-        left = left_late N Q D n c.loop-before.before c.args.round c.args.so_far c.loop-before.best c.weigh.new.best before.weighed w c.soundness.ensures.sound whole late (notes_of n c.loop-before.seen) noted i covers;
-        bounded = bounded_late N Q D n c.loop-before.before c.args.round c.args.so_far c.loop-before.best c.weigh.new.best before.weighed w c.soundness.ensures.sound whole late i covers;
+        left = left_late N Q D n c.loop-before.before c.args.round c.args.best.now c.loop-before.best c.weigh.new.best before.weighed w c.soundness.ensures.sound whole late (notes_of n c.loop-before.seen) noted i covers;
+        bounded = bounded_late N Q D n c.loop-before.before c.args.round c.args.best.now c.loop-before.best c.weigh.new.best before.weighed w c.soundness.ensures.sound whole late i covers;
       });
-      improved = improved_late N Q D n c.loop-before.before c.args.round c.args.so_far c.loop-before.best c.weigh.new.best before.weighed w c.soundness.ensures.sound whole late;
+      improved = improved_late N Q D n c.loop-before.before c.args.round c.args.best.now c.loop-before.best c.weigh.new.best before.weighed w c.soundness.ensures.sound whole late;
       met = λ i covers. elim (before_or_behind i c.loop-before.before) [
         | inl earlier ↦ inl (subst (λ r. g.A.AtEvent.has_met c.meet.new.self N (segment_of D.segments n).trip i r) (sym c.requires.round) (c.meet.ensures.kept (segment_of D.segments n).trip i c.args.round (before.met i covers.onward earlier)))
-        | inr from ↦ inr (inl (late_from N Q D n c.loop-before.before c.args.round c.args.so_far c.loop-before.best c.weigh.new.best before.weighed w c.soundness.ensures.sound whole late i covers (omega (arith, from))))
+        | inr from ↦ inr (inl (late_from N Q D n c.loop-before.before c.args.round c.args.best.now c.loop-before.best c.weigh.new.best before.weighed w c.soundness.ensures.sound whole late i covers (omega (arith, from))))
       ];
       ready = c.meet.ensures.ready;
       still_met = λ t i r was. c.meet.ensures.kept t i r (before.still_met t i r was);

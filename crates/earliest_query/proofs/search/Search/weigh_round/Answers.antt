@@ -56,21 +56,21 @@ loop-n-init g c =
           (sym c.clip_ahead.ensures.same) c.loop-next.invariant.are;
     }
 
-pub weigh_segment-best-requires-clause-queue : goal.weigh_segment-best-requires-clause-queue
-weigh_segment-best-requires-clause-queue g c =
+pub weigh_segment-requires-clause-queue : goal.weigh_segment-requires-clause-queue
+weigh_segment-requires-clause-queue g c =
     let N : NetData = g.S.Scan.net c.args.self.now.scan.now in
     let Q = c.args.self.now.query.now in
     subst (λ d. IsQueue N Q d c.args.round) (sym c.loop-n.invariant.are.rest) (queue-notes N Q c.args.desk.now c.loop-n.desk.notes c.args.round c.requires.queue)
 
-pub weigh_segment-best-requires-clause-segment : goal.weigh_segment-best-requires-clause-segment
-weigh_segment-best-requires-clause-segment g c = omega (arith, c.loop-n-test.true, c.min-ahead.ensures, c.loop-next-test.true, c.requires.to, ap (λ (d : DeskData). length d.segments) c.loop-n.invariant.are.rest)
+pub weigh_segment-requires-clause-segment : goal.weigh_segment-requires-clause-segment
+weigh_segment-requires-clause-segment g c = omega (arith, c.loop-n-test.true, c.min-ahead.ensures, c.loop-next-test.true, c.requires.to, ap (λ (d : DeskData). length d.segments) c.loop-n.invariant.are.rest)
 
-pub weigh_segment-best-requires-clause-round : goal.weigh_segment-best-requires-clause-round
-weigh_segment-best-requires-clause-round g c =
+pub weigh_segment-requires-clause-round : goal.weigh_segment-requires-clause-round
+weigh_segment-requires-clause-round g c =
     ap (λ (d : DeskData). round_of d.segments c.loop-n.n) c.loop-n.invariant.are.rest ∙ c.requires.rounds c.loop-n.n (omega (arith, c.loop-next.invariant.onward, c.loop-n.invariant.onward)) (omega (arith, c.loop-n-test.true, c.min-ahead.ensures, c.loop-next-test.true))
 
-pub weigh_segment-best-requires-clause-room : goal.weigh_segment-best-requires-clause-room
-weigh_segment-best-requires-clause-room g c =
+pub weigh_segment-requires-clause-room : goal.weigh_segment-requires-clause-room
+weigh_segment-requires-clause-room g c =
     let N : NetData = g.S.Scan.net c.args.self.now.scan.now in
     let D : DeskData = c.args.desk.now in
     omega (
@@ -84,12 +84,12 @@ weigh_segment-best-requires-clause-room g c =
       c.requires.queue.step.fits.notes,
     )
 
-pub weigh_segment-best-requires-clause-notes : goal.weigh_segment-best-requires-clause-notes
-weigh_segment-best-requires-clause-notes g c =
+pub weigh_segment-requires-clause-notes : goal.weigh_segment-requires-clause-notes
+weigh_segment-requires-clause-notes g c =
     subst (λ (d : DeskData). All (IsSoundNote (g.S.Scan.net c.args.self.now.scan.now) d.segments c.args.round) c.loop-n.desk.notes) (sym c.loop-n.invariant.are.rest) c.loop-n.invariant.are.sound
 
-pub weigh_segment-best-requires-clause-clipped : goal.weigh_segment-best-requires-clause-clipped
-weigh_segment-best-requires-clause-clipped g c = λ s is.
+pub weigh_segment-requires-clause-clipped : goal.weigh_segment-requires-clause-clipped
+weigh_segment-requires-clause-clipped g c = λ s is.
     let N : NetData = g.S.Scan.net c.args.self.now.scan.now in
     let rest = c.loop-n.invariant.are.rest in
     let earlier = c.loop-next.invariant.are.rest in
@@ -106,10 +106,10 @@ loop-n-preserved g c =
     let E : DeskData = c.loop-n.desk in
     let before = c.loop-n.invariant.are in
     let rest : E ≡ record D { notes = E.notes } = before.rest in
-    let F : DeskData = c.weigh_segment-best.new.desk in
+    let F : DeskData = c.weigh_segment.new.desk in
     let k : ℕ = c.loop-n.n in
-    let result = c.weigh_segment-best.result in
-    let told = c.weigh_segment-best.ensures in
+    let result = c.weigh_segment.new.best in
+    let told = c.weigh_segment.ensures in
     let inside : k < length D.segments = omega (arith, c.loop-n-test.true, c.min-ahead.ensures, c.loop-next-test.true, c.requires.to) in
     let weighed : (i : ℕ) → Covers (record D { notes = E.notes }) k i → IsWeighedOff N Q (record D { notes = E.notes }) result F.notes k i ⊎ IsOutdone N D.segments k i
     = subst (λ (d : DeskData). (i : ℕ) → Covers d k i → IsWeighedOff N Q d result F.notes k i ⊎ IsOutdone N d.segments k i) rest told.weighed in
@@ -123,8 +123,8 @@ loop-n-preserved g c =
         sound = subst (λ (d : DeskData). All (IsSoundNote N d.segments c.args.round) F.notes) rest told.notes;
         weighed = weighed_one_more N Q D E.notes F.notes c.args.from k c.args.round c.args.so_far c.loop-n.best result inside told.kept improved before.weighed weighed;
         improved = improved_one_weighed N Q D E.notes F.notes c.args.from k c.args.round c.args.so_far c.loop-n.best result inside told.kept improved before.improved;
-        met = met_one_more N Q D E.notes c.args.from k c.args.round c.loop-n.best result inside improved (g.A.AtEvent.has_met c.loop-n.also N) (g.A.AtEvent.has_met c.weigh_segment-best.new.also N) told.still_met before.met
-            (subst (λ (d : DeskData). (i : ℕ) → Covers d k i → IsMetInTime N (g.A.AtEvent.has_met c.weigh_segment-best.new.also N) d result k i) rest told.met);
+        met = met_one_more N Q D E.notes c.args.from k c.args.round c.loop-n.best result inside improved (g.A.AtEvent.has_met c.loop-n.also N) (g.A.AtEvent.has_met c.weigh_segment.new.also N) told.still_met before.met
+            (subst (λ (d : DeskData). (i : ℕ) → Covers d k i → IsMetInTime N (g.A.AtEvent.has_met c.weigh_segment.new.also N) d result k i) rest told.met);
         ready = told.ready;
         still_met = λ t i r was. told.still_met t i r (before.still_met t i r was);
         few = omega (arith, before.few, told.few, covered, sum_by_more covered_indices D.segments k no_segment inside);

@@ -26,9 +26,9 @@ returns g c =
     let Q : QueryData = c.args.self.now.query.now in
     let D : DeskData = c.args.desk.now in
     let F : DeskData = c.note_down.new.desk in
-    let best = c.weigh_events-best.result.0 in
-    let seen : List Note = notes_of c.args.n c.weigh_events-best.result.1 in
-    let told = c.weigh_events-best.ensures in
+    let best = c.weigh_events-seen.new.best in
+    let seen : List Note = notes_of c.args.n c.weigh_events-seen.result in
+    let told = c.weigh_events-seen.ensures in
     let notes : F.notes ≡ D.notes ++ seen = ap (λ (d : DeskData). d.notes) c.note_down.ensures in
     let sound = c.requires.queue.step.segments c.args.n no_segment c.requires.segment in
     record {
@@ -43,6 +43,6 @@ returns g c =
       met = told.met;
       ready = told.ready;
       still_met = told.still_met;
-      few = omega (arith, ap length notes, length-append D.notes seen, few_notes c.args.n c.weigh_events-best.result.1, sound.onward);
+      few = omega (arith, ap length notes, length-append D.notes seen, few_notes c.args.n c.weigh_events-seen.result, sound.onward);
       steps = told.steps;
     }
