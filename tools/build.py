@@ -126,11 +126,14 @@ class Build:
         self.progress = Progress(estimate)
         # when each crate at work was first seen to be, and what was said since the last verdict
         self.begun, self.said = {}, []
+        # crates with a verdict; of the first that failed why, and those at work then, whose proofs
+        # would be lost if the run ended with it
+        self.ended, self.failure, self.awaited = set(), None, set()
 
     def follow(self):
         try:
             has_ended = False
-            while not has_ended:
+            while not has_ended and (self.failure is None or self.awaited):
                 time.sleep(0.2)
                 has_ended = self.run.has_ended()
                 self.see_begun()
@@ -140,12 +143,14 @@ class Build:
         finally:
             self.progress.clear()
             self.run.end()
+        if self.failure is not None:
+            raise BuildError(self.failure)
         if self.run.child.returncode:
             raise BuildError(self.complaint("the build"))
 
     def see_begun(self):
         for name in self.crates.names:
-            if name not in self.progress.done and name not in self.begun:
+            if name not in self.ended and name not in self.begun:
                 if self.crates.is_begun(name):
                     self.begun[name] = time.monotonic()
 
@@ -158,16 +163,24 @@ class Build:
             self.progress.say(waits[1])
         elif not verdict:
             self.said.append(line)
-        elif verdict[2] == "NOT PROVED":
-            raise BuildError(self.complaint(verdict[1]))
         else:
-            self.said = []
             seconds = self.seconds().get(verdict[1], 0)
             self.begun.pop(verdict[1], None)
+            self.ended.add(verdict[1])
+            self.awaited.discard(verdict[1])
             if verdict[2] == "proved":
                 self.progress.proved(verdict[1], seconds, self.seconds())
+            elif verdict[2] == "NOT PROVED":
+                self.fail(verdict[1])
             else:
                 self.progress.kept(verdict[1])
+            self.said = []
+
+    def fail(self, name):
+        if self.failure is None:
+            self.failure, self.awaited = self.complaint(name), set(self.begun)
+            more = f", and waits for {', '.join(self.begun)}" if self.begun else ""
+            self.progress.say(f"{name} failed{more}")
 
     def complaint(self, name):
         lines = [it for it in self.said if it and not OF_NO_USE.match(it)]

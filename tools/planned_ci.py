@@ -3,12 +3,14 @@
 The toolchain begins a proof once the memory that it plans for it is free: two or three times what
 proofs of this repository take. It leaves processors to the tests of a crate that has none, and one
 job to a proof that begins when others can, also where all the rest waits for that proof. Here it
-does none of that: proofs of the longest chain have as many jobs as processors and memory allow.
+does none of that: proofs of the longest chain have as many jobs as processors and memory allow, and
+processors before all others.
 
 What passed it keeps beside itself, and nothing where this user can't write there: then in the
 folder that the first word names. What is proved, and whether what was kept fits, is for it to say,
 as ever. One whose script is made otherwise runs as it is.
 """
+import concurrent.futures
 import ctypes
 import importlib.machinery
 import importlib.util
@@ -28,6 +30,8 @@ PR_SET_PDEATHSIG = 1
 KNOWN, NUMBERS = ("main", "need", "in_lanes"), ("processors", "free")
 # The most jobs of one proof, and the memory of each further one in parts of what the first takes.
 MOST_JOBS, MORE_MEMORY = 4, 0.6
+# By how much work that nothing long waits for is nicer, as nice(1) has it.
+NICER = 10
 
 
 def end_with_parent():
@@ -72,8 +76,21 @@ def longest_chain(tasks):
     return chain
 
 
+def nicer(call):
+    """Has what a task starts yield processors to others."""
+
+    def run(given, jobs):
+        # (a thread has a niceness of its own, which processes that it starts begin with)
+        with concurrent.futures.ThreadPoolExecutor(1, "nicer", os.nice, (NICER,)) as pool:
+            return pool.submit(call, given, jobs).result()
+
+    return run
+
+
 def with_more_jobs(in_lanes, processors, free):
-    """Has the toolchain's tasks run with more jobs for the proofs of the longest chain."""
+    """Has the toolchain's tasks run with more jobs for the proofs of the longest chain, and with
+    processors for these before all others.
+    """
 
     def more(needs, call):
         def with_jobs(given, jobs):
@@ -84,8 +101,8 @@ def with_more_jobs(in_lanes, processors, free):
 
     def run(tasks):
         chain = longest_chain(tasks)
-        changed = {it: (*tasks[it][:3], more(*tasks[it][2:])) for it in chain}
-        return in_lanes({**tasks, **changed})
+        others = {it: (*task[:3], nicer(task[3])) for it, task in tasks.items()}
+        return in_lanes({**others, **{it: (*tasks[it][:3], more(*tasks[it][2:])) for it in chain}})
 
     return run
 

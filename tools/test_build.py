@@ -18,7 +18,8 @@ import sources
 
 # Stands in for `rt ci`: notes when it begins with a crate and ends, and keeps what passed by its
 # source and those below. A file of the folder `wants`, beside that of this script, has it do more
-# at a crate: fail, take long, wait for another run, change a file, or have the program run badly.
+# at a crate: fail, or so beside others that end behind it, take long, wait for another run, change a
+# file, or have the program run badly.
 STAND_IN = """#!/usr/bin/env python3
 import os, sys, time
 HERE = os.path.dirname(os.path.dirname(os.path.realpath(__file__)))
@@ -53,8 +54,17 @@ for line in open("crates.txt"):
     say(f"== {crate}", "fn f: proved", "fn g: proved, may wait")
     if wants("fails"):
         at = os.getcwd() + "/crates/" + crate
+        others = wants("beside").split()
+        for it in others:
+            os.makedirs(f"crates/{it}/out/rlib")
+        time.sleep(1 if others else 0)
         say(f"{at}/src/lib.rt:7:5: error: it is wrong", "statements core: modules loaded=1")
         say("logic=not-proved", f"rt: {crate} NOT PROVED", "0 passed, 1 failed")
+        for it in others:
+            time.sleep(1)
+            note(f"end {it}")
+            say(f"rt: {it} proved")
+        time.sleep(60 if others else 0)
         sys.exit(1)
     if wants("edits"):
         open(wants("edits"), "a").write("// an edit meanwhile")
@@ -232,6 +242,17 @@ class Builds(Checkout):
         self.assertFalse(sources.is_current(self.top))
         self.assertEqual([], self.left())
 
+    def test_a_crate_that_fails_beside_others(self):
+        self.want("mid.fails")
+        self.want("mid.beside", text="side")
+        out, begin = io.StringIO(), time.monotonic()
+        with contextlib.redirect_stdout(out), self.assertRaises(build.BuildError) as caught:
+            build.build(self.top)
+        self.assertLess(time.monotonic() - begin, 30)
+        self.assertIn("\nmid failed, and waits for side\n2 of 4 proved, side ", out.getvalue())
+        self.assertIn("end side", self.events())
+        self.assertIn("it is wrong", str(caught.exception))
+
     def test_a_run_that_fails(self):
         self.want("router.run")
         self.assertIn("rt: FAILED: router (run)", self.why_not())
@@ -392,6 +413,17 @@ class Planned(Checkout):
         self.assertEqual([4, 1, 4, 4], self.jobs(8, 9e9))
         self.assertEqual([2, 1, 2, 2], self.jobs(8, 1.7e9))
         self.assertEqual([1, 1, 1, 1], self.jobs(8, 5e8))
+
+    def test_processors_for_the_longest_chain(self):
+        words = [sys.executable, "-c", "import os; print(os.nice(0))"]
+        call = lambda given, jobs: int(subprocess.run(words, capture_output=True).stdout)
+        tasks = {("low", "proof"): ([], 9, 1, call), ("side", "proof"): ([], 5, 1, call)}
+        in_lanes = lambda given: {it: task[3]({}, 1) for it, task in given.items()}
+        run = planned_ci.with_more_jobs(in_lanes, lambda: 1, lambda: 1)
+        own = os.nice(0)
+        nicer = min(own + planned_ci.NICER, 19)
+        self.assertEqual({("low", "proof"): own, ("side", "proof"): nicer}, run(tasks))
+        self.assertEqual(own, os.nice(0))
 
     def test_no_tasks(self):
         self.assertEqual([], planned_ci.longest_chain({}))
